@@ -1,0 +1,5 @@
+pub mod Decimal
+pub mod Extent
+pub mod Path
+pub mod Ranges
+pub mod Text

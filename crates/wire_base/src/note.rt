@@ -1,0 +1,57 @@
+use crate::{Epoch, RuleNo, Slot, Span, Text};
+
+/// How a file that a scan shows begins.
+#[derive(Debug, Drop, PartialEq, Eq)]
+pub struct Begin {
+    pub slot: Slot,
+    /// The input's number in the settings, from 0.
+    pub input: u32,
+    pub key: Text,
+    pub path: Text,
+    /// The size when it was listed, in bytes.
+    pub size: u64,
+    pub epoch: Epoch,
+    /// The place from which it is read, in bytes.
+    pub base: u64,
+}
+
+/// Why a span is settled.
+#[derive(Clone, Copy, Debug, PartialEq, Eq)]
+pub enum Cause {
+    /// A peer acknowledged its payload.
+    Acked,
+    /// A written rule dropped it.
+    Dropped(RuleNo),
+}
+
+/// What the keeper is told.
+#[derive(Debug, Drop, PartialEq, Eq)]
+pub enum Note {
+    Begin {
+        slot: Slot,
+        key: Text,
+        path: Text,
+        epoch: Epoch,
+        base: u64,
+    },
+    Announce {
+        slot: Slot,
+        epoch: Epoch,
+    },
+    Settle {
+        slot: Slot,
+        epoch: Epoch,
+        span: Span,
+        cause: Cause,
+    },
+    Rename {
+        slot: Slot,
+        scan: u64,
+        path: Text,
+    },
+    Forget {
+        slot: Slot,
+        epoch: Epoch,
+        end: u64,
+    },
+}
