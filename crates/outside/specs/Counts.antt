@@ -1,0 +1,19 @@
+-- Counts of an object of the outside, such as its faults (this project's profile). A count is a 64-bit number that
+-- never falls; where one more does not fit, it stands still.
+use Rattle.std.specs.Prelude.{ℕ, ◌+◌, ◌-◌, ◌^◌, ◌<◌, ◌≤◌, ◌⊎◌, min}
+
+-- the count stands at the end of its type
+abbrev pub IsAtEnd : ℕ → Type 0
+IsAtEnd count = 2 ^ 64 - 1 ≤ count
+
+-- the count rose, or it can rise no more
+abbrev pub Rose : ℕ → ℕ → Type 0
+Rose before now = (before < now) ⊎ IsAtEnd now
+
+-- two counts together
+abbrev pub added_counts : ℕ → ℕ → ℕ
+added_counts count more = min (count + more) (2 ^ 64 - 1)
+
+-- the count after one more
+abbrev pub next_count : ℕ → ℕ
+next_count count = added_counts count 1

@@ -1,0 +1,11 @@
+pub mod Counts
+pub mod DiskImages
+pub mod DiskReads
+pub mod Files
+pub mod Folders
+pub mod Moments
+pub mod Streams
+pub mod Tails
+pub mod Talks
+pub mod Times
+pub mod Wires

@@ -1,0 +1,47 @@
+-- What the calls of a tail tell (Filebeat reference, filestream input; this project's profile). Each call of `length`
+-- and each read into a nonempty buffer is one look; a call that fails is none.
+use Rattle.std.specs.Prelude.{◌≡◌, ℕ, ◌+◌, ◌<◌, ◌≤◌, List, [], ◌∷◌, ◌++◌, length, take, drop, Option, Some, None, Result, MatchResult, MatchBool, nat_lt}
+use Rattle.outside.specs.declared.failed.Failed.{Failed}
+use Rattle.outside.specs.Files.{File, Look, Question, AskedLength, ReadAt, IsNextLook, life_of}
+
+-- the place of its opening in its folder's list, its file with the file's number, and its looks in their order
+pub record TailHistory : Type 0 where
+  pub opening : ℕ
+  pub number : ℕ
+  pub file : File
+  pub looks : List Look
+
+abbrev pub with_look : TailHistory → Look → TailHistory
+with_look told look = record told { looks = told.looks ++ look ∷ [] }
+
+-- the look asked the length and got this answer
+pub record LooksAtLength (told : TailHistory) (answer : ℕ) (after : Option TailHistory) : Type 0 where
+  pub look : Look
+  pub next : IsNextLook told.file told.looks look
+  pub asked : look.question ≡ AskedLength
+  pub answered : look.length ≡ answer
+  pub kept : after ≡ Some (with_look told look)
+
+abbrev pub TellsLength : Option TailHistory → Result ℕ Failed → Option TailHistory → Type 0
+TellsLength None result after = after ≡ None
+TellsLength (Some told) result after = MatchResult result (λ answer. LooksAtLength told answer after) (λ _. after ≡ Some told)
+
+-- the look read at the place: the front of the buffer holds so many bytes of the present life from there, and there
+-- are none only where what is there of that life ends at or before the place
+pub record LooksAtBytes (told : TailHistory) (at : ℕ) (into : List ℕ) (count : ℕ) (after : Option TailHistory) : Type 0 where
+  pub look : Look
+  pub next : IsNextLook told.file told.looks look
+  pub asked : look.question ≡ ReadAt at count
+  pub within : 0 < count → at + count ≤ look.length
+  pub bytes : take count into ≡ take count (drop at (life_of told.file look.life))
+  pub none_only_at_the_end : count ≡ 0 → look.length ≤ at
+  pub kept : after ≡ Some (with_look told look)
+
+-- a read that succeeds into a buffer of some bytes is a look; into an empty one it changes nothing
+abbrev pub TellsBytes : TailHistory → ℕ → List ℕ → ℕ → Option TailHistory → Type 0
+TellsBytes told at [] count after = after ≡ Some told
+TellsBytes told at (byte ∷ bytes) count after = LooksAtBytes told at (byte ∷ bytes) count after
+
+abbrev pub TellsRead : Option TailHistory → ℕ → List ℕ → Result ℕ Failed → Option TailHistory → Type 0
+TellsRead None at into result after = after ≡ None
+TellsRead (Some told) at into result after = MatchResult result (λ count. TellsBytes told at into count after) (λ _. after ≡ Some told)

@@ -1,0 +1,32 @@
+//! The outside world as contracts see it: sources, sinks, folders with their tails, wires with their
+//! links, disks, clocks and bells.
+//!
+//! Each trait says what an object tells of its content, where it tells anything, and which counts
+//! never fall. An object in memory tells everything and a real one nothing; no call changes whether
+//! an object tells. A clause on content speaks where the object tells; clauses on ranges and on
+//! causes hold over every object. What a real file or socket holds is not known to any proof.
+#![tactic(auto)]
+
+mod bell;
+mod clock;
+mod disk;
+mod entry;
+mod failed;
+mod folder;
+mod link;
+mod sink;
+mod source;
+mod tail;
+mod wire;
+
+pub use bell::Bell;
+pub use clock::Clock;
+pub use disk::Disk;
+pub use entry::Entry;
+pub use failed::{Failed, FolderError};
+pub use folder::Folder;
+pub use link::{Link, Recv};
+pub use sink::Sink;
+pub use source::Source;
+pub use tail::Tail;
+pub use wire::Wire;
