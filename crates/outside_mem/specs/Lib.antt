@@ -1,0 +1,4 @@
+pub mod Disks
+pub mod Failures
+pub mod Images
+pub mod Torn

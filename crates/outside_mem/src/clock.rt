@@ -1,0 +1,63 @@
+ghost use Rattle.std.specs.Prelude.{◌≡◌, ◌∷◌, [], ◌<◌, ◌≤◌, ◌-◌, min, Some, IfOk, vec_len, slice_index};
+ghost use Rattle.wire_base.specs.declared.numbers.TheConstants.{MAX_MOMENT};
+
+use outside::Clock;
+use std::alloc::Global;
+use wire_base::{MAX_MOMENT, Moment, NoMemory};
+
+/// A clock that moves by pauses alone; its list begins with the moment at which it starts.
+#[derive(Debug, Drop)]
+pub struct MemClock {
+    moments: Vec<u64>,
+    last: u64,
+    at: u64,
+    questions: u64,
+    faults: u64,
+    ghost begun: { 0 < vec_len moments },
+    ghost ends: { slice_index moments.items (vec_len moments - 1) ≡ last },
+    ghost in_range: { last ≤ MAX_MOMENT },
+    ghost next_in_range: { at ≤ MAX_MOMENT },
+}
+
+impl MemClock {
+    pub fn new(alloc: Global, start: Moment) -> Result<MemClock, NoMemory>
+        ensures { IfOk result (λ clock. ⟦<MemClock as Clock>⟧.moments clock ≡ Some (min start.0 MAX_MOMENT ∷ [])) }
+    {
+        let start = start.0.min(MAX_MOMENT);
+        Ok(MemClock {
+            moments: vec![in alloc; start]?,
+            last: start,
+            at: start,
+            questions: 0,
+            faults: 0,
+        })
+    }
+
+    /// How often there was no memory for a new moment.
+    pub fn starved(&self) -> u64 {
+        self.faults
+    }
+}
+
+impl Clock for MemClock {
+    ghost moments = { λ c. Some c.moments.items };
+
+    ghost questions = { λ c. c.questions };
+
+    ghost faults = { λ c. c.faults };
+
+    fn now(&mut self) -> Moment {
+        self.questions = self.questions.saturating_add(1);
+        if self.last != self.at {
+            match self.moments.push(self.at) {
+                Ok(()) => self.last = self.at,
+                Err(_) => self.faults = self.faults.saturating_add(1),
+            }
+        }
+        Moment(self.last)
+    }
+
+    fn pause(&mut self, ms: u64) {
+        self.at = self.at.saturating_add(ms).min(MAX_MOMENT);
+    }
+}

@@ -1,0 +1,19 @@
+//! The outside world in memory: objects that tell all that they hold and all that was done with them.
+//!
+//! They show that the contracts of the outside can be met, and the worked rows run over them. What is
+//! told is what was done. A call fails where a list names it, or where there is no memory for the
+//! object's own record; `starved` counts the latter.
+#![tactic(auto)]
+
+mod bell;
+mod clock;
+mod disk;
+mod failures;
+mod sink;
+mod source;
+
+pub use bell::MemBell;
+pub use clock::MemClock;
+pub use sink::MemSink;
+pub use source::MemSource;
+

@@ -1,0 +1,55 @@
+ghost use Rattle.std.specs.Prelude.{◌≡◌, ◌≤◌, drop, Some, vec_len, IfOk, OnOk, OnErr};
+
+use crate::failures::Failures;
+use outside::{Failed, Source};
+use std::alloc::Global;
+use wire_base::NoMemory;
+
+/// Bytes to read, all told.
+#[derive(Debug, Drop)]
+pub struct MemSource {
+    bytes: Vec<u8>,
+    at: usize,
+    failures: Failures,
+    ghost within: { at ≤ vec_len bytes },
+}
+
+impl MemSource {
+    pub fn new(alloc: Global, bytes: &[u8]) -> Result<MemSource, NoMemory>
+        ensures { IfOk result (λ source. ⟦<MemSource as Source>⟧.left source ≡ Some bytes.now) }
+    {
+        Ok(MemSource {
+            bytes: bytes.to_vec(alloc)?,
+            at: 0,
+            failures: Failures::new(alloc),
+        })
+    }
+
+    /// Names the reads that fail, counted from 0.
+    pub fn fail_at(&mut self, calls: &[u64]) -> Result<(), NoMemory>
+        ensures { ⟦<MemSource as Source>⟧.left self.new ≡ ⟦<MemSource as Source>⟧.left self.old }
+    {
+        self.failures.fail_at(calls)
+    }
+
+    /// How often it failed for want of memory.
+    pub fn starved(&self) -> u64 {
+        self.failures.starved
+    }
+}
+
+impl Source for MemSource {
+    ghost left = { λ s. Some (drop s.at s.bytes.items) };
+
+    ghost faults = { λ s. s.failures.faults };
+
+    fn read(&mut self, into: &mut [u8]) -> Result<usize, Failed> {
+        if self.failures.next_call_fails() {
+            return Err(Failed);
+        }
+        let count = into.len().min(self.bytes.len() - self.at);
+        into[..count].copy_from_slice(&self.bytes[self.at..self.at + count]);
+        self.at += count;
+        Ok(count)
+    }
+}
