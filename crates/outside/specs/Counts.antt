@@ -1,6 +1,6 @@
 -- Counts of an object of the outside, such as its faults (this project's profile). A count is a 64-bit number that
 -- never falls; where one more does not fit, it stands still.
-use Rattle.std.specs.Prelude.{ℕ, ◌+◌, ◌-◌, ◌^◌, ◌<◌, ◌≤◌, ◌⊎◌, min}
+use Rattle.std.specs.Prelude.{ℕ, ◌+◌, ◌-◌, ◌^◌, ◌<◌, ◌≤◌, ◌⊎◌, min, max}
 
 -- the count stands at the end of its type
 abbrev pub IsAtEnd : ℕ → Type 0
@@ -10,9 +10,9 @@ IsAtEnd count = 2 ^ 64 - 1 ≤ count
 abbrev pub Rose : ℕ → ℕ → Type 0
 Rose before now = (before < now) ⊎ IsAtEnd now
 
--- two counts together
+-- two counts together, or the end of the type
 abbrev pub added_counts : ℕ → ℕ → ℕ
-added_counts count more = min (count + more) (2 ^ 64 - 1)
+added_counts count more = max count (min (count + more) (2 ^ 64 - 1))
 
 -- the count after one more
 abbrev pub next_count : ℕ → ℕ

@@ -1,17 +1,18 @@
 -- Disk images: what a crash may leave (this project's profile). Between two syncs each written range, and what lies
 -- past the old end, may hold any bytes; other bytes stay; a cut may leave the old length or the new.
 use Rattle.std.specs.Prelude.{◌≡◌, ◌⊎◌, ℕ, ◌+◌, ◌≤◌, ◌==◌, if◌then◌else◌, min, max, List, length, take, drop, Option, Some}
+use Rattle.wire_base.specs.declared.numbers.TheConstants.{MAX_PLACE}
 
 -- where a write of n bytes at a place ends; an empty write reaches nowhere
 abbrev pub reach : ℕ → ℕ → ℕ
 reach at n = if n == 0 then 0 else at + n
 
--- new is old after a write of n bytes at `at` that a crash cut short
+-- new is old after a write of n bytes at `at` that a crash cut short; no disk is longer than `MAX_PLACE`
 pub record Torn (at n : ℕ) (old new : List ℕ) : Type 0 where
   pub front : take (min at (length old)) new ≡ take at old
   pub back : drop (at + n) new ≡ drop (at + n) old
   pub no_shorter : length old ≤ length new
-  pub no_longer : length new ≤ max (length old) (reach at n)
+  pub no_longer : length new ≤ max (length old) (min (reach at n) MAX_PLACE)
 
 -- new is old after a cut that a crash kept or lost
 abbrev pub MayBeCut : ℕ → List ℕ → List ℕ → Type 0

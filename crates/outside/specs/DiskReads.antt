@@ -28,3 +28,8 @@ Written (Some before) at bytes result after = IsSome after × OnOk result (after
 abbrev pub Cut : {T : Type 0} → Option (List ℕ) → ℕ → Result T Failed → Option (List ℕ) → Type 0
 Cut None len result after = after ≡ None
 Cut (Some before) len result after = IsSome after × OnOk result (after ≡ Some (take len before))
+
+-- a sync that succeeds leaves the bytes as they read; one that fails may leave any image
+abbrev pub KeepsSynced : {T : Type 0} → Option (List ℕ) → Result T Failed → Option (List ℕ) → Type 0
+KeepsSynced None result after = after ≡ None
+KeepsSynced (Some before) result after = IsSome after × OnOk result (after ≡ Some before)

@@ -1,7 +1,7 @@
 -- Wire history: the connections that failed and the links that were finished, in order (this project's profile).
-use Rattle.std.specs.Prelude.{◌≡◌, ◌⊎◌, ℕ, List, [], ◌∷◌, ◌++◌, Option, Some, None, IsSome, IfOk, Result, MatchResult}
+use Rattle.std.specs.Prelude.{◌≡◌, ◌⊎◌, ℕ, List, [], ◌∷◌, ◌++◌, Option, Some, None, IfOk, Result, Ok, Err, MatchResult}
 use Rattle.outside.specs.declared.failed.Failed.{Failed}
-use Rattle.outside.specs.Counts.{IsAtEnd}
+use Rattle.outside.specs.Counts.{IsAtEnd, next_count}
 use Rattle.outside.specs.Talks.{Talk, no_talk}
 
 -- what became of one connection: it failed, or its link was finished with this talk, so many faults and so many idles
@@ -26,8 +26,13 @@ pub record IsUnused {L : Type 0} (link_faults link_idles link_failed_sends : L �
   pub idles : link_idles link ≡ 0
   pub failed_sends : link_failed_sends link ≡ 0
 
--- the link stands in the list with its talk; of one that tells nothing only that the wire still tells
+-- the link stands in the list with its talk; of one that tells nothing nothing does
 abbrev pub TellsFinishing : Option (List Outcome) → Option Talk → ℕ → ℕ → Option (List Outcome) → Type 0
 TellsFinishing None talk faults idles after = after ≡ None
-TellsFinishing (Some outcomes) None faults idles after = IsSome after
+TellsFinishing (Some outcomes) None faults idles after = after ≡ Some outcomes
 TellsFinishing (Some outcomes) (Some talk) faults idles after = after ≡ Some (outcomes ++ Finished talk faults idles ∷ [])
+
+-- how many links are not finished after a connecting
+abbrev pub count_after_connecting : {L : Type 0} → ℕ → Result L Failed → ℕ
+count_after_connecting count (Ok link) = next_count count
+count_after_connecting count (Err error) = count

@@ -1,7 +1,7 @@
-ghost use Rattle.std.specs.Prelude.{◌≡◌, ℕ, ◌+◌, ◌≤◌, ◌<◌, List, length, take, Option, IfOk, IfSome, OnOk, OnErr};
+ghost use Rattle.std.specs.Prelude.{◌≡◌, ℕ, ◌+◌, ◌≤◌, ◌<◌, List, length, take, Option, IfOk, IfSome, OnOk, OnErr, IsSome};
 ghost use Rattle.outside.specs.Counts.{Rose};
 ghost use Rattle.outside.specs.DiskImages.{Only, Follows, Torn, MayBeCut, Elapses, reach};
-ghost use Rattle.outside.specs.DiskReads.{TellsLength, Reads, Written, Cut};
+ghost use Rattle.outside.specs.DiskReads.{TellsLength, Reads, Written, Cut, KeepsSynced};
 ghost use Rattle.wire_base.specs.Ranges.{IsPlace};
 
 use crate::Failed;
@@ -70,7 +70,7 @@ pub trait Disk {
     /// After a sync that succeeds a crash leaves what a read gives.
     fn sync(&mut self) -> Result<(), Failed>
         ensures durable { OnOk result (Only (contents self.new) (images self.new)) }
-        ensures contents_kept { contents self.new ≡ contents self.old }
+        ensures synced { KeepsSynced (contents self.old) result (contents self.new) }
         ensures images { (image : List ℕ) → images self.new image → images self.old image }
         ensures time { Elapses (moment self.old) (moment self.new) (images_since self.old) (images_since self.new) (images self.new) }
         ensures faults_never_fall { faults self.old ≤ faults self.new }
@@ -78,6 +78,9 @@ pub trait Disk {
 
     /// The disk as it reads is one of its images.
     ghost reads_as_an_image: { (disk : Self) → IfSome (contents disk) (images disk) };
+
+    /// A disk that tells nothing of its bytes tells no image.
+    ghost images_where_told: { (disk : Self) (since : ℕ) (image : List ℕ) → images_since disk since image → IsSome (contents disk) };
 
     /// This moment is one of those since an earlier one.
     ghost counts_now: { (disk : Self) (since : ℕ) (image : List ℕ) → since ≤ moment disk → images disk image → images_since disk since image };

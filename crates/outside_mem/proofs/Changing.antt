@@ -3,8 +3,8 @@ use Rattle.std.proofs.Common.{◌≡◌, ◌⊎◌, inl, inr, ℕ, suc, ◌+◌,
 use Rattle.std.proofs.lemmas.Bool.{cases_lt}
 use Rattle.std.proofs.lemmas.List.{take_all, take-append-le}
 use Rattle.outside.specs.DiskImages.{Follows, Elapses}
-use Rattle.outside_mem.specs.declared.disk.Change.{Change}
-use Rattle.outside_mem.specs.declared.disk.Change.TheVariants.{Wrote, WriteFailed, CutTo, Synced}
+use Rattle.outside_mem.specs.declared.change.Change.{Change}
+use Rattle.outside_mem.specs.declared.change.Change.TheVariants.{Wrote, WriteFailed, CutTo, Synced}
 use Rattle.outside_mem.specs.declared.disk.MemDisk.{MemDisk}
 use Rattle.outside_mem.specs.Disks.{now, Changes}
 use Rattle.outside_mem.specs.Images.{Reading, Write, Cut, after, fresh, after_change, IsImageOf, IsImageSince, MayLeaveBy, IsLeft-pop, reads-after}
@@ -14,7 +14,7 @@ after-push [] r change = refl
 after-push (c ∷ changes) r change = after-push changes (after_change r c) change
 
 follows-change : (r : Reading) (change : Change) → IsImageOf r r.bytes → Follows (MayLeaveBy change) (IsImageOf r) (IsImageOf (after_change r change))
-follows-change r (Wrote at bytes) reads = λ image left. IsLeft-pop r.pending (Write at (length bytes.items)) r.synced image left
+follows-change r (Wrote write) reads = λ image left. IsLeft-pop r.pending (Write write.at (length write.bytes.items)) r.synced image left
 follows-change r (WriteFailed at len) reads = λ image left. IsLeft-pop r.pending (Write at len) r.synced image left
 follows-change r (CutTo len) reads = λ image left. IsLeft-pop r.pending (Cut len) r.synced image left
 follows-change r Synced reads = λ image left. (r.bytes, reads, left)

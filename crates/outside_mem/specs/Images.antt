@@ -4,8 +4,8 @@ use Rattle.std.proofs.Common.{refl, sym, subst, inr, arith}
 use Rattle.std.proofs.lemmas.List.{take_all}
 use Rattle.outside.specs.DiskImages.{Torn, MayBeCut}
 use Rattle.outside.specs.DiskReads.{written}
-use Rattle.outside_mem.specs.declared.disk.Change.{Change}
-use Rattle.outside_mem.specs.declared.disk.Change.TheVariants.{Wrote, WriteFailed, CutTo, Synced}
+use Rattle.outside_mem.specs.declared.change.Change.{Change}
+use Rattle.outside_mem.specs.declared.change.Change.TheVariants.{Wrote, WriteFailed, CutTo, Synced}
 use Rattle.outside_mem.specs.Torn.{Torn-refl, Torn-written}
 
 -- a step that a crash may keep, lose or tear: a write of so many bytes at a place, or a cut to a length
@@ -24,13 +24,13 @@ abbrev pub fresh : List ℕ → Reading
 fresh bytes = record { synced = bytes; pending = []; bytes = bytes }
 
 abbrev pub pending_of : Change → List Pending
-pending_of (Wrote at bytes) = Write at (length bytes.items) ∷ []
+pending_of (Wrote write) = Write write.at (length write.bytes.items) ∷ []
 pending_of (WriteFailed at len) = Write at len ∷ []
 pending_of (CutTo len) = Cut len ∷ []
 pending_of Synced = []
 
 abbrev pub after_change : Reading → Change → Reading
-after_change r (Wrote at bytes) = record { synced = r.synced; pending = r.pending ++ Write at (length bytes.items) ∷ []; bytes = written r.bytes at bytes.items }
+after_change r (Wrote write) = record { synced = r.synced; pending = r.pending ++ Write write.at (length write.bytes.items) ∷ []; bytes = written r.bytes write.at write.bytes.items }
 after_change r (WriteFailed at len) = record { synced = r.synced; pending = r.pending ++ Write at len ∷ []; bytes = r.bytes }
 after_change r (CutTo len) = record { synced = r.synced; pending = r.pending ++ Cut len ∷ []; bytes = take len r.bytes }
 after_change r Synced = fresh r.bytes
@@ -54,7 +54,7 @@ IsImageOf r image = IsLeft r.pending r.synced image
 
 -- what a change may leave where a crash tears it
 abbrev pub MayLeaveBy : Change → List ℕ → List ℕ → Type 0
-MayLeaveBy (Wrote at bytes) old new = Torn at (length bytes.items) old new
+MayLeaveBy (Wrote write) old new = Torn write.at (length write.bytes.items) old new
 MayLeaveBy (WriteFailed at len) old new = Torn at len old new
 MayLeaveBy (CutTo len) old new = MayBeCut len old new
 MayLeaveBy Synced old new = new ≡ old
@@ -78,7 +78,8 @@ IsLeft-pop (first ∷ steps) step bytes image is = let rest = IsLeft-pop steps s
 
 -- what a read gives is an image, also after one more change
 pub reads-after_change : (r : Reading) (change : Change) → IsImageOf r r.bytes → IsImageOf (after_change r change) (after_change r change).bytes
-reads-after_change r (Wrote at bytes) is = IsLeft-push r.pending (Write at (length bytes.items)) r.synced r.bytes _ is (Torn-written r.bytes at bytes.items)
+reads-after_change r (Wrote write) is =
+    IsLeft-push r.pending (Write write.at (length write.bytes.items)) r.synced r.bytes _ is (Torn-written r.bytes write.at write.bytes.items (omega (arith, write.in_range, write.bytes.ok.0)))
 reads-after_change r (WriteFailed at len) is = IsLeft-push r.pending (Write at len) r.synced r.bytes _ is (Torn-refl at len r.bytes)
 reads-after_change r (CutTo len) is = IsLeft-push r.pending (Cut len) r.synced r.bytes _ is (inr refl)
 reads-after_change r Synced is = refl

@@ -1,4 +1,5 @@
 pub mod Disks
 pub mod Failures
 pub mod Images
+pub mod Replays
 pub mod Torn

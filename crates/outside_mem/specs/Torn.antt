@@ -5,32 +5,33 @@ use Rattle.std.proofs.lemmas.Bool.Decides.{nat_tests}
 use Rattle.std.proofs.lemmas.List.{take_min, take-append-le, drop_at, length-replicate, take-take}
 use Rattle.outside.specs.DiskImages.{Torn, reach}
 use Rattle.outside.specs.DiskReads.{written}
+use Rattle.wire_base.specs.Ranges.{IsPlace}
 
 pub Torn-refl : (at n : ℕ) (bytes : List ℕ) → Torn at n bytes bytes
 Torn-refl at n bytes = record { front = take_min at bytes; back = refl; no_shorter = omega arith; no_longer = omega arith }
 
--- bytes, and zeros up to a place
-abbrev pub padded : List ℕ → ℕ → List ℕ
-padded old at = old ++ replicate (at - length old) 0
+-- bytes, and one byte again and again up to a place
+abbrev pub padded : List ℕ → ℕ → ℕ → List ℕ
+padded old at filler = old ++ replicate (at - length old) filler
 
-module _ (old : List ℕ) (at : ℕ) where
-  length-padded : length (take at (padded old at)) ≡ at
-  length-padded = omega (arith, length-take at (padded old at), length-append old (replicate (at - length old) 0), length-replicate {A = ℕ} (at - length old) 0)
+-- bytes with others put over them, and a filler in a gap before these
+abbrev pub patched : List ℕ → ℕ → ℕ → List ℕ → List ℕ
+patched old at filler bytes = take at (padded old at filler) ++ bytes ++ drop (at + length bytes) old
 
-  front-padded : take (min at (length old)) (take at (padded old at)) ≡ take at old
+module _ (old : List ℕ) (at filler : ℕ) where
+  length-padded : length (take at (padded old at filler)) ≡ at
+  length-padded = omega (arith, length-take at (padded old at filler), length-append old (replicate (at - length old) filler), length-replicate {A = ℕ} (at - length old) filler)
+
+  front-padded : take (min at (length old)) (take at (padded old at filler)) ≡ take at old
   front-padded =
-      take-take (min at (length old)) at (old ++ replicate (at - length old) 0) (omega arith)
-      ∙ take-append-le (min at (length old)) old (replicate (at - length old) 0) (omega arith)
+      take-take (min at (length old)) at (padded old at filler) (omega arith)
+      ∙ take-append-le (min at (length old)) old (replicate (at - length old) filler) (omega arith)
       ∙ take_min at old
 
-  pub written_is : (bytes : List ℕ) → 0 < length bytes → written old at bytes ≡ take at (padded old at) ++ bytes ++ drop (at + length bytes) old
-  written_is [] some = absurd (omega arith)
-  written_is (byte ∷ bytes) some = refl
-
-  -- a write of at least one byte
-  some-written : (bytes : List ℕ) → 0 < length bytes → Torn at (length bytes) old (take at (padded old at) ++ bytes ++ drop (at + length bytes) old)
-  some-written bytes some =
-      let front = take at (padded old at) in
+  -- whatever bytes, at least one, are put over the old ones, a torn write may have left them
+  pub Torn-patched : (bytes : List ℕ) → 0 < length bytes → IsPlace (at + length bytes) → Torn at (length bytes) old (patched old at filler bytes)
+  Torn-patched bytes some in_range =
+      let front = take at (padded old at filler) in
       let back = drop (at + length bytes) old in
       let whole : length (front ++ bytes ++ back) ≡ at + length bytes + length back =
       omega (arith, length-padded, length-append (front ++ bytes) back, length-append front bytes) in
@@ -44,8 +45,12 @@ module _ (old : List ℕ) (at : ℕ) where
         no_longer = omega (arith, whole, reaches, length-drop (at + length bytes) old);
       }
 
-  pub Torn-written : (bytes : List ℕ) → Torn at (length bytes) old (written old at bytes)
-  Torn-written [] = Torn-refl at 0 old
-  Torn-written (byte ∷ bytes) =
-      let some : 0 < length (byte ∷ bytes) = omega arith in
-      subst (λ (l : List ℕ). Torn at (length (byte ∷ bytes)) old l) (sym (written_is (byte ∷ bytes) some)) (some-written (byte ∷ bytes) some)
+pub written-patched : (old : List ℕ) (at : ℕ) (bytes : List ℕ) → 0 < length bytes → written old at bytes ≡ patched old at 0 bytes
+written-patched old at [] some = absurd (omega arith)
+written-patched old at (byte ∷ bytes) some = refl
+
+pub Torn-written : (old : List ℕ) (at : ℕ) (bytes : List ℕ) → IsPlace (at + length bytes) → Torn at (length bytes) old (written old at bytes)
+Torn-written old at [] in_range = Torn-refl at 0 old
+Torn-written old at (byte ∷ bytes) in_range =
+    let some : 0 < length (byte ∷ bytes) = omega arith in
+    subst (λ (l : List ℕ). Torn at (length (byte ∷ bytes)) old l) (sym (written-patched old at (byte ∷ bytes) some)) (Torn-patched old at 0 (byte ∷ bytes) some in_range)

@@ -1,21 +1,12 @@
-ghost use Rattle.std.specs.Prelude.{◌≡◌, ◌<◌, ◌+◌, ◌^◌, [], Some, IfOk, OnOk, OnErr, length};
+ghost use Rattle.std.specs.Prelude.{◌≡◌, ◌<◌, ◌≤◌, ◌+◌, ◌⊎◌, [], Some, IfOk, OnOk, OnErr, length, vec_len};
 ghost use Rattle.outside_mem.specs.Images.{after, fresh};
-ghost use Rattle.outside.specs.DiskReads.{written};
 
+use crate::change::{Change, Write};
+use crate::crash::{Filler, Replay, patched};
 use crate::failures::Failures;
 use outside::{Disk, Failed};
-use std::alloc::{AllocError, Global};
-use wire_base::{MAX_PLACE, NoMemory};
-
-/// One change of a disk, kept so that each earlier moment can be told.
-#[derive(Debug, Drop)]
-pub(crate) enum Change {
-    Wrote { at: u64, bytes: Vec<u8> },
-    /// A write that failed, and left its range open.
-    WriteFailed { at: u64, len: usize },
-    CutTo { len: u64 },
-    Synced,
-}
+use std::alloc::Global;
+use wire_base::NoMemory;
 
 /// A disk in memory that may stop at any call, all told: its bytes, and what a crash now or at any
 /// earlier moment may leave.
@@ -30,9 +21,9 @@ pub struct MemDisk {
 }
 
 impl MemDisk {
-    ghost use Rattle.std.specs.Prelude.{IfSome, ◌∷◌, ◌++◌, ◌+◌, length};
+    ghost use Rattle.std.specs.Prelude.{List, ℕ, length};
     ghost use Rattle.outside.specs.DiskImages.{Only};
-    ghost use Rattle.outside_mem.specs.Images.{after_change};
+    ghost use Rattle.outside_mem.specs.Images.{after_change, IsImageOf};
     ghost use Rattle.outside_mem.specs.Disks.{now, Changes, IsUnchanged, StaysOrTears, Writes, Cuts};
 
     /// A disk with these bytes, all of them synced.
@@ -47,6 +38,59 @@ impl MemDisk {
             bytes: bytes.to_vec(alloc)?,
             failures: Failures::new(alloc),
         })
+    }
+
+    /// Names the calls that fail, counted from 0.
+    pub fn fail_at(&mut self, calls: &[u64]) -> Result<(), NoMemory>
+        ensures { now self.new ≡ now self.old }
+    {
+        self.failures.fail_at(calls)
+    }
+
+    /// Lets all calls but the first `calls` fail, counted from when the disk was made.
+    pub fn stop_after(&mut self, calls: u64)
+        ensures { now self.new ≡ now self.old }
+    {
+        self.failures.stop_after(calls);
+    }
+
+    /// How often it failed for want of memory.
+    pub fn starved(&self) -> u64 {
+        self.failures.starved
+    }
+
+    /// The bytes as they read.
+    pub fn bytes(&self) -> &[u8]
+        ensures { ⟦<MemDisk as Disk>⟧.contents self.now ≡ Some result.now }
+    {
+        &self.bytes
+    }
+
+    /// A disk as a crash now may leave it. Pick 1 gives the pending ranges their bytes of the last
+    /// sync, and zeros past the old end; pick 2 gives them the byte `7` and pick 3 the byte `{`; after
+    /// a pending cut these give the old length. Every other pick gives what a read gives.
+    pub fn image(&self, pick: u64) -> Result<MemDisk, NoMemory>
+        ensures image { IfOk result (λ disk. (image : List ℕ) × ⟦<MemDisk as Disk>⟧.images self.now image × (⟦<MemDisk as Disk>⟧.contents disk ≡ Some image)) }
+        ensures reads { (pick ≡ 0) ⊎ (3 < pick) → IfOk result (λ disk. ⟦<MemDisk as Disk>⟧.contents disk ≡ ⟦<MemDisk as Disk>⟧.contents self.now) }
+    {
+        match Filler::of(pick) {
+            None => MemDisk::new(self.alloc, &self.bytes),
+            Some(filler) => {
+                let image = self.torn(filler)?;
+                MemDisk::new(self.alloc, &image)
+            }
+        }
+    }
+
+    /// The bytes of the last sync with each pending range filled.
+    fn torn(&self, filler: Filler) -> Result<Vec<u8>, NoMemory>
+        ensures { IfOk result (λ image. IsImageOf (now self.now) image.items) }
+    {
+        let mut replay = Replay::new(self.alloc, &self.first)?;
+        for change in &self.changes {
+            replay.step(self.alloc, change, filler)?;
+        }
+        Ok(replay.image)
     }
 
     /// Adds one change that leaves the bytes as they read.
@@ -83,13 +127,9 @@ impl MemDisk {
         ensures ok { OnOk result (Writes self.old self.new at bytes.now) }
         ensures err { OnErr result (IsUnchanged self.old self.new) }
     {
-        let end = at.checked_add(bytes.len() as u64).ok_or(NoMemory)?;
-        if end > MAX_PLACE {
-            return Err(NoMemory);
-        }
-        let next = overwritten(self.alloc, &self.bytes, at as usize, bytes)?;
-        let kept = bytes.to_vec(self.alloc)?;
-        self.replace(Change::Wrote { at, bytes: kept }, next)
+        let next = patched(self.alloc, &self.bytes, at, 0, bytes)?;
+        let bytes = bytes.to_vec(self.alloc)?;
+        self.replace(Change::Wrote(Write { at, bytes }), next)
     }
 
     fn try_cut(&mut self, len: u64) -> Result<(), NoMemory>
@@ -100,27 +140,6 @@ impl MemDisk {
         let next = self.bytes[..end].to_vec(self.alloc)?;
         self.replace(Change::CutTo { len }, next)
     }
-}
-
-/// The contents with these bytes written over them, at least one, and zeros in a gap.
-fn overwritten(
-    alloc: Global,
-    contents: &[u8],
-    at: usize,
-    bytes: &[u8],
-) -> Result<Vec<u8>, AllocError>
-    requires some { 0 < length bytes.now }
-    requires fits { at + length bytes.now < 2 ^ 63 }
-    ensures { IfOk result (λ next. next.items ≡ written contents.now at bytes.now) }
-{
-    let start = at.min(contents.len());
-    let end = (at + bytes.len()).min(contents.len());
-    let mut next = contents[..start].to_vec(alloc)?;
-    let gap = vec![in alloc; 0; at - start]?;
-    next.extend_from_slice(&gap)?;
-    next.extend_from_slice(bytes)?;
-    next.extend_from_slice(&contents[end..])?;
-    Ok(next)
 }
 
 impl Disk for MemDisk {
@@ -138,6 +157,8 @@ impl Disk for MemDisk {
     ghost faults = { λ d. d.failures.faults };
 
     ghost reads_as_an_image = { λ d. reads-after d.changes.items (fresh d.first.items) refl };
+
+    ghost images_where_told = { λ d since image left. refl };
 
     ghost counts_now = { λ d since image le is. since-counts_now d.first.items d.changes.items since image le is };
 

@@ -9,6 +9,7 @@ use wire_base::NoMemory;
 #[derive(Debug, Drop)]
 pub(crate) struct Failures {
     failing: Vec<u64>,
+    stopped_at: Option<u64>,
     calls: u64,
     pub(crate) faults: u64,
     pub(crate) starved: u64,
@@ -23,6 +24,7 @@ impl Failures {
     {
         Failures {
             failing: Vec::new(alloc),
+            stopped_at: None,
             calls: 0,
             faults: 0,
             starved: 0,
@@ -37,6 +39,13 @@ impl Failures {
         Ok(())
     }
 
+    /// Lets all calls but the first `calls` fail, as if a list named them.
+    pub(crate) fn stop_after(&mut self, calls: u64)
+        ensures { Stays self.old self.new }
+    {
+        self.stopped_at = Some(calls);
+    }
+
     /// Counts one call, and says whether it fails; then it counts a fault, too.
     pub(crate) fn next_call_fails(&mut self) -> bool
         ensures fails { OnTrue result (Fails self.old self.new) }
@@ -44,7 +53,8 @@ impl Failures {
     {
         let call = self.calls;
         self.calls = call.saturating_add(1);
-        let fails = self.failing.contains(&call);
+        let fails = self.failing.contains(&call)
+            || self.stopped_at.is_some_and(|stop| stop <= call);
         if fails {
             self.faults = self.faults.saturating_add(1);
         }

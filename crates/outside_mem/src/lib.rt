@@ -6,7 +6,9 @@
 #![tactic(auto)]
 
 mod bell;
+mod change;
 mod clock;
+mod crash;
 mod disk;
 mod failures;
 mod sink;
@@ -16,4 +18,3 @@ pub use bell::MemBell;
 pub use clock::MemClock;
 pub use sink::MemSink;
 pub use source::MemSource;
-

@@ -1,0 +1,7 @@
+use Rattle.std.proofs.Common.{take}
+use Rattle.outside_mem.specs.Images.{after, fresh}
+use Rattle.outside_mem.specs.Replays.{StandsFor}
+use Rattle.outside_mem.proofs.disk.MemDisk.torn.Given as goal
+
+abbrev pub invariant-loop-change : goal.invariant-loop-change
+invariant-loop-change l = StandsFor (after (fresh l.self.first.items) (take l.change-index l.self.changes.items)) l.replay
