@@ -1,7 +1,7 @@
 -- File history: files with their lives, and the looks at them (Filebeat reference, filestream input; this project's
 -- profile). A file is a number with its lives. A life is the byte list that it comes to be at last; at each moment one
 -- life is present and a front of it is there, which only grows. A truncation makes the next life present.
-use Rattle.std.specs.Prelude.{◌≡◌, ◌⊎◌, ℕ, ◌<◌, ◌≤◌, List, [], ◌∷◌, length, slice_get, slice_index_or, Option, Some, IfSome}
+use Rattle.std.specs.Prelude.{◌≡◌, ℕ, ◌<◌, ◌≤◌, List, [], ◌∷◌, length, slice_get, slice_index_or, Option, Some, IfSome}
 use Rattle.outside.specs.declared.history.Sight.{Sight}
 use Rattle.outside.specs.declared.history.Look.{Look}
 use Rattle.outside.specs.declared.history.Shown.{Shown}
@@ -22,9 +22,10 @@ pub record IsOfFile (file : File) (sight : Sight) : Type 0 where
   pub within : sight.length ≤ length (life_of file sight.life)
   pub in_range : IsPlace sight.length
 
--- the life never falls, and within a life the length never falls
-abbrev pub IsNoEarlier : Sight → Sight → Type 0
-IsNoEarlier earlier later = (earlier.life < later.life) ⊎ ((earlier.life ≡ later.life) × (earlier.length ≤ later.length))
+-- the life never falls, and while it stays the same the length never falls
+pub record IsNoEarlier (earlier later : Sight) : Type 0 where
+  pub life : earlier.life ≤ later.life
+  pub length : earlier.life ≡ later.life → earlier.length ≤ later.length
 
 -- of each file there is as much as before, or more, or a later life
 abbrev pub NoneEarlier : List Sight → List Sight → Type 0

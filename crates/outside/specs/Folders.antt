@@ -9,8 +9,8 @@ use Rattle.outside.specs.Counts.{IsAtEnd, next_count}
 use Rattle.outside.specs.declared.history.Sight.{Sight}
 use Rattle.outside.specs.declared.history.Look.{Look}
 use Rattle.outside.specs.declared.history.Shown.{Shown}
-use Rattle.outside.specs.Files.{File, IsShownOf, IsNoEarlier, NoneEarlier, sight_of}
-use Rattle.outside.specs.Tails.{TailHistory, last_sight}
+use Rattle.outside.specs.Files.{File, IsShownOf, sight_of}
+use Rattle.outside.specs.Tails.{TailHistory}
 use Rattle.wire_base.specs.Path.{IsBelow}
 use Rattle.wire_base.specs.Ranges.{IsPath, IsPlace}
 
@@ -107,11 +107,6 @@ abbrev pub TellsClosing : Option FolderHistory → Option TailHistory → ℕ �
 TellsClosing None tail faults after = after ≡ None
 TellsClosing (Some told) None faults after = after ≡ Some told
 TellsClosing (Some told) (Some tail) faults after = after ≡ Some (with_event told (Closed tail.opening tail.looks faults))
-
--- the folder knows as much of the file as the tail last saw, where the file is one of the folder's
-abbrev pub Learns : Option TailHistory → List Sight → Type 0
-Learns None states = Unit {0}
-Learns (Some tail) states = IfSome (slice_get states tail.number) (λ state. IsNoEarlier (last_sight tail) state)
 
 -- how many tails are open after an opening
 abbrev pub count_after_opening : {T : Type 0} → ℕ → Result (Option T) FolderError → ℕ

@@ -3,7 +3,7 @@ ghost use Rattle.outside.specs.Counts.{Rose, added_counts};
 ghost use Rattle.outside.specs.declared.history.Sight.{Sight};
 ghost use Rattle.outside.specs.declared.history.Shown.{Shown};
 ghost use Rattle.outside.specs.Files.{NoneEarlier};
-ghost use Rattle.outside.specs.Folders.{FolderHistory, TellsListing, TellsOpening, TellsClosing, Learns, IsListable, StartsFresh, count_after_opening};
+ghost use Rattle.outside.specs.Folders.{FolderHistory, TellsListing, TellsOpening, TellsClosing, IsListable, StartsFresh, count_after_opening};
 
 use crate::{Entry, FolderError, Tail};
 use std::alloc::Global;
@@ -16,8 +16,8 @@ pub trait Folder {
     /// Its files and the list of what was done so far, where they are told.
     ghost told: { Self → Option FolderHistory };
 
-    /// What is there of each file, by its number, as far as listings, openings and closed tails show
-    /// it, where the folder tells anything.
+    /// What a call now finds of each file, by the file's number, where the folder tells anything. Open
+    /// tails may have seen more.
     ghost states: { Self → List Sight };
 
     /// The regular files that a call now finds, where the folder tells anything.
@@ -52,7 +52,6 @@ pub trait Folder {
     fn close(&mut self, tail: Self::Tail)
         ensures told { TellsClosing (told self.old) (Self.Tail.told tail) (Self.Tail.faults tail) (told self.new) }
         ensures states_go_on { NoneEarlier (states self.old) (states self.new) }
-        ensures learns { Learns (Self.Tail.told tail) (states self.new) }
         ensures counts_open_tails { open_tails self.new ≡ open_tails self.old - 1 }
         ensures counts_faults { added_counts (faults self.old) (Self.Tail.faults tail) ≤ faults self.new };
 }

@@ -1,2 +1,4 @@
 mod Changing
+mod Making
+mod Showing
 mod Replaying

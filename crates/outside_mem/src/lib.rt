@@ -11,10 +11,14 @@ mod clock;
 mod crash;
 mod disk;
 mod failures;
+mod script;
 mod sink;
 mod source;
+mod steps;
 
 pub use bell::MemBell;
 pub use clock::MemClock;
+pub use disk::MemDisk;
 pub use sink::MemSink;
 pub use source::MemSource;
+pub use steps::{Due, MemChange, MemFile, MemStep};
