@@ -1,4 +1,4 @@
-ghost use Rattle.std.specs.Prelude.{◌≡◌, ℕ, ◌+◌, ◌<◌, ◌≤◌, ◌↔◌, length, slice_index, slice_range};
+ghost use Rattle.std.specs.Prelude.{◌≡◌, ℕ, ◌+◌, ◌^◌, ◌<◌, ◌≤◌, ◌↔◌, length, slice_index, slice_range};
 ghost use Rattle.std.specs.Option.{SomeIff};
 ghost use Rattle.std.specs.Int.{w32, from_be_bytes};
 ghost use Rattle.lumber_frame.specs.declared.frame.Frame.{Frame};
@@ -42,8 +42,8 @@ pub fn read_frame<'a>(bytes: &'a [u8]) -> FrameRead<'a>
 
 fn read_json<'a>(bytes: &'a [u8]) -> FrameRead<'a>
     requires there { 2 ≤ length bytes.now }
-    requires version { slice_index bytes.now 0 ≡ 0x32 }
-    requires kind { slice_index bytes.now 1 ≡ 0x4a }
+    requires version { slice_index bytes.now 0 ≡ VERSION }
+    requires kind { slice_index bytes.now 1 ≡ JSON }
     ensures { Reads bytes.now result }
 {
     let (Some(sequence), Some(length)) = (number_at(bytes, 2), number_at(bytes, 6)) else {
@@ -67,7 +67,7 @@ fn read_json<'a>(bytes: &'a [u8]) -> FrameRead<'a>
 
 // The number in the four bytes from `at` on, the highest first, where they are there.
 fn number_at(bytes: &[u8], at: usize) -> Option<u32>
-    requires { at < 100 }
+    requires { at + 4 < 2 ^ 64 }
     ensures { SomeIff result (at + 4 ≤ length bytes.now) (from_be_bytes w32 (slice_range bytes.now at (at + 4))) }
 {
     if bytes.len() < at + 4 {
