@@ -155,3 +155,8 @@ fault_stays bytes more at (inr (inr h)) =
         size = subst (λ (four : List ℕ). MAX_PAYLOAD < from_be_bytes w32 four) (sym number) h.1.size;
       },
     ))
+
+-- bytes that are a frame's and then a rest begin with it
+pub begins_from : (bytes : List ℕ) (frame : Frame) (rest : List ℕ) → IsFrame frame → bytes ≡ frame_bytes frame ++ rest → BeginsWithFrame bytes frame (length (frame_bytes frame))
+begins_from bytes frame rest fits is =
+    subst (λ (all : List ℕ). BeginsWithFrame all frame (length (frame_bytes frame))) (sym is) (written frame rest fits)

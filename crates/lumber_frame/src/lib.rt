@@ -11,11 +11,15 @@
 //! no payload is looked into. Nothing here takes memory, sends or receives, or knows what a frame means for a window.
 #![tactic(auto)]
 
+mod acknowledgements;
 mod frame;
 mod laws;
 mod read;
+mod talk;
+mod windows;
 mod write;
 
+pub use acknowledgements::acknowledged;
 pub use frame::{Frame, FrameRead, FrameView};
 pub use laws::{answers_stay, one_form, written_is_read};
 pub use read::read_frame;
