@@ -1,0 +1,4 @@
+pub mod Frames
+pub mod Readings
+pub mod WindowBytes
+pub mod Answering

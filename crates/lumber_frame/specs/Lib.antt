@@ -1,0 +1,6 @@
+pub mod Acknowledged
+pub mod Fault
+pub mod Frame
+pub mod Reading
+pub mod Talk
+pub mod Window

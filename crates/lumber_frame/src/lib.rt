@@ -1,0 +1,29 @@
+//! Frames of Lumberjack v2 as bytes: what a client and its peer send, and what received bytes begin with.
+//!
+//! A frame is `2`, a letter and its numbers, each of four bytes with the highest first. A window, `W`,
+//! says how many JSON frames follow; a JSON frame, `J`, has its sequence, the payload's length in bytes
+//! and the payload; an acknowledgement, `A`, has a sequence. Nothing else is a frame here: not the
+//! compressed and the key/value frames, and no payload longer than `wire_base::MAX_PAYLOAD` bytes.
+//!
+//! The bytes of each frame are a definition of `specs/`, and both directions are proved against it.
+//! What is written is read again, whatever follows. Bytes are read as the one frame that they begin
+//! with, as a fault at its place, or as too short for either. Numbers of any value are read, and
+//! no payload is looked into. Nothing here takes memory, sends or receives, or knows what a frame means for a window.
+#![tactic(auto)]
+
+mod acknowledgements;
+mod frame;
+mod laws;
+mod read;
+mod talk;
+mod windows;
+mod write;
+
+pub use acknowledgements::acknowledged;
+pub use frame::{Frame, FrameRead, FrameView};
+pub use laws::{answers_stay, one_form, written_is_read};
+pub use read::read_frame;
+pub use write::{ack_frame, json_head, window_head};
+
+#[cfg(test)]
+mod tests;
