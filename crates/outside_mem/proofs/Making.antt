@@ -59,7 +59,7 @@ pub read_nothing : (listings calls at : ℕ) (steps : List MemStep) (into : List
 read_nothing listings calls at steps into few = record { made_is = refl; sight_is = refl; shows = Shows-nil at into; life = omega arith; room = omega arith }
 
 -- one change makes at most one life more, and at most so many bytes as it appends
-seen_bounds : (s : Standing) (change : MemChange) → ((changed s change).life ≤ s.life + 1) × (length (changed s change).bytes ≤ length s.bytes + appended_by change)
+pub seen_bounds : (s : Standing) (change : MemChange) → ((changed s change).life ≤ s.life + 1) × (length (changed s change).bytes ≤ length s.bytes + appended_by change)
 seen_bounds s (Append blob) = (omega arith, omega (arith, length-append s.bytes blob))
 seen_bounds s (Truncate kept) = (omega arith, omega (arith, length-take kept s.bytes))
 seen_bounds s (Rename path) = (omega arith, omega arith)

@@ -1,7 +1,10 @@
 pub mod Disks
 pub mod Failures
+pub mod Happenings
 pub mod Images
+pub mod Logs
 pub mod Replays
+pub mod Scripts
 pub mod Steps
 pub mod Torn
 pub mod Windows

@@ -6,15 +6,18 @@
 #![tactic(auto)]
 
 mod bell;
+mod below;
 mod change;
 mod clock;
 mod crash;
 mod disk;
 mod failures;
+mod log;
 mod script;
 mod sink;
 mod source;
 mod steps;
+mod tail;
 
 pub use bell::MemBell;
 pub use clock::MemClock;
@@ -22,3 +25,4 @@ pub use disk::MemDisk;
 pub use sink::MemSink;
 pub use source::MemSource;
 pub use steps::{Due, MemChange, MemFile, MemStep};
+pub use tail::MemTail;
