@@ -1,5 +1,6 @@
 mod Changing
 mod Growing
+mod Listing
 mod Looking
 mod Making
 mod Paths

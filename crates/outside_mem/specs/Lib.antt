@@ -2,9 +2,12 @@ pub mod Disks
 pub mod Failures
 pub mod Happenings
 pub mod Images
+pub mod Listed
 pub mod Logs
+pub mod MemFolders
 pub mod Replays
 pub mod Scripts
 pub mod Steps
 pub mod Torn
+pub mod Tracking
 pub mod Windows

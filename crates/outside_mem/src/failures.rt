@@ -16,7 +16,7 @@ pub(crate) struct Failures {
 }
 
 impl Failures {
-    ghost use Rattle.outside_mem.specs.Failures.{Stays, Fails, Starves};
+    ghost use Rattle.outside_mem.specs.Failures.{Stays, Fails, Starves, Adds};
 
     pub(crate) fn new(alloc: Global) -> Failures
         ensures none { result.faults ≡ 0 }
@@ -67,5 +67,13 @@ impl Failures {
     {
         self.faults = self.faults.saturating_add(1);
         self.starved = self.starved.saturating_add(1);
+    }
+
+    /// Adds the counts of a tail that is closed.
+    pub(crate) fn add(&mut self, other: &Failures)
+        ensures { Adds self.old self.new other.now }
+    {
+        self.faults = self.faults.saturating_add(other.faults);
+        self.starved = self.starved.saturating_add(other.starved);
     }
 }

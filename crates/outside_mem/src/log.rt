@@ -142,4 +142,11 @@ impl Room {
             node: Box::new(alloc, node)?,
         })
     }
+
+    /// Says what the room is for in place of what was said before.
+    pub(crate) fn fill(&mut self, happened: Happened)
+        ensures { happened_in self.new ≡ happened }
+    {
+        self.node.happened = happened;
+    }
 }
