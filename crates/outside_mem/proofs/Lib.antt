@@ -3,6 +3,7 @@ mod Growing
 mod Listing
 mod Looking
 mod Making
+mod Opening
 mod Paths
 mod Showing
 mod Replaying

@@ -139,7 +139,9 @@ impl MemFolder {
         let calls = tracked.calls;
         let begun = tracked.sight(self.listings);
         let script = Arc::try_clone(&tracked.script)?;
-        let opening = self.log.next_place().ok_or(NoMemory)?;
+        let Some(opening) = self.log.next_place() else {
+            return Err(NoMemory);
+        };
         let failures = self.failures_of(path)?;
         let looks = Vec::new(self.alloc);
         let room = Room::new(self.alloc, closed(self.alloc, opening))?;
