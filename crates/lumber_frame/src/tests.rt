@@ -58,19 +58,37 @@ fn window_bytes(rt: HostRuntime) -> Result<(), Fail> {
     Ok(())
 }
 
+/// A window of the payloads `a`, `b` and `c`, of 39 bytes, and one of `d` and `e`, of 28 bytes.
+const WINDOWS: [u8; 67] = [
+    0x32, 0x57, 0, 0, 0, 3, 0x32, 0x4a, 0, 0, 0, 1, 0, 0, 0, 1, 0x61, 0x32, 0x4a, 0, 0, 0, 2, 0, 0,
+    0, 1, 0x62, 0x32, 0x4a, 0, 0, 0, 3, 0, 0, 0, 1, 0x63, 0x32, 0x57, 0, 0, 0, 2, 0x32, 0x4a, 0, 0,
+    0, 1, 0, 0, 0, 1, 0x64, 0x32, 0x4a, 0, 0, 0, 2, 0, 0, 0, 1, 0x65,
+];
+
 #[derive(Clone, Copy)]
-enum Step<'a> {
-    Out(&'a [u8]),
-    In(&'a [u8]),
+enum Step {
+    /// So many more bytes of the windows are sent.
+    Out(usize),
+    /// An acknowledgement is received.
+    Ack(u32),
+    /// One byte is received.
+    In(u8),
 }
 
 fn talk_of(alloc: Global, steps: &[Step]) -> Result<Vec<Piece>, NoMemory> {
     let mut talk = Vec::new(alloc);
+    let mut rest = WINDOWS.as_slice();
     for step in steps {
-        talk.push(match step {
-            Step::Out(bytes) => Piece::Out(Blob::from_bytes(alloc, bytes)?),
-            Step::In(bytes) => Piece::In(Blob::from_bytes(alloc, bytes)?),
-        })?;
+        let piece = match *step {
+            Step::Out(count) => {
+                let (front, back) = rest.split_at(count.min(rest.len()));
+                rest = back;
+                Piece::Out(Blob::from_bytes(alloc, front)?)
+            }
+            Step::Ack(number) => Piece::In(Blob::from_bytes(alloc, &ack_frame(number))?),
+            Step::In(byte) => Piece::In(Blob::from_bytes(alloc, &[byte])?),
+        };
+        talk.push(piece)?;
     }
     Ok(talk)
 }
@@ -83,67 +101,65 @@ fn joined(alloc: Global, payloads: &[Blob]) -> Result<Vec<u8>, NoMemory> {
     Ok(bytes)
 }
 
-/// A window of the payloads `a`, `b` and `c`.
-const FIRST: [u8; 39] = [
-    0x32, 0x57, 0, 0, 0, 3, 0x32, 0x4a, 0, 0, 0, 1, 0, 0, 0, 1, 0x61, 0x32, 0x4a, 0, 0, 0, 2, 0, 0,
-    0, 1, 0x62, 0x32, 0x4a, 0, 0, 0, 3, 0, 0, 0, 1, 0x63,
-];
-
-/// A window of the payloads `d` and `e`.
-const SECOND: [u8; 28] = [
-    0x32, 0x57, 0, 0, 0, 2, 0x32, 0x4a, 0, 0, 0, 1, 0, 0, 0, 1, 0x64, 0x32, 0x4a, 0, 0, 0, 2, 0, 0,
-    0, 1, 0x65,
-];
+fn told(alloc: Global, steps: &[Step]) -> Result<Vec<u8>, NoMemory> {
+    let talk = talk_of(alloc, steps)?;
+    let payloads = acknowledged(alloc, &talk)?;
+    joined(alloc, &payloads)
+}
 
 #[test]
 fn talks_acknowledge(rt: HostRuntime) -> Result<(), Fail> {
     use Step::*;
-    let alloc = rt.alloc();
-    let [none, one, two, three, four] = [0, 1, 2, 3, 4].map(ack_frame);
     let cases: [(&[Step], &[u8]); 16] = [
         (&[], b""),
-        (&[Out(&FIRST)], b""),
-        (&[Out(&FIRST), In(&two)], b"ab"),
+        (&[Out(39)], b""),
+        (&[Out(39), Ack(2)], b"ab"),
         // Too early, and too early by its first byte.
-        (&[In(&one), Out(&FIRST), In(&one)], b""),
+        (&[Ack(1), Out(39), Ack(1)], b""),
         (
             &[
-                Out(&FIRST[..38]),
-                In(&two[..1]),
-                Out(&FIRST[38..]),
-                In(&two[1..]),
+                Out(38),
+                In(0x32),
+                Out(1),
+                In(0x41),
+                In(0),
+                In(0),
+                In(0),
+                In(2),
             ],
             b"",
         ),
-        (&[In(&none), Out(&FIRST), In(&one)], b"a"),
+        (&[Ack(0), Out(39), Ack(1)], b"a"),
         // Repeated and lower: the greatest counts.
-        (&[Out(&FIRST), In(&two), In(&two), In(&one)], b"ab"),
-        (&[Out(&FIRST), In(&one), In(&three)], b"abc"),
+        (&[Out(39), Ack(2), Ack(2), Ack(1)], b"ab"),
+        (&[Out(39), Ack(1), Ack(3)], b"abc"),
         // Too high, and behind it.
-        (&[Out(&FIRST), In(&four), In(&three)], b""),
-        (&[Out(&FIRST), Out(&SECOND), In(&three)], b""),
+        (&[Out(39), Ack(4), Ack(3)], b""),
+        (&[Out(67), Ack(3)], b""),
         // Cut across pieces, and not whole yet.
         (
             &[
-                Out(&FIRST[..20]),
-                Out(&FIRST[20..]),
-                In(&two[..3]),
-                In(&two[3..]),
+                Out(20),
+                Out(19),
+                In(0x32),
+                In(0x41),
+                In(0),
+                In(0),
+                In(0),
+                In(2),
             ],
             b"ab",
         ),
-        (&[Out(&FIRST), In(&two), In(&three[..5])], b"ab"),
+        (&[Out(39), Ack(2), In(0x32), In(0x41), In(0)], b"ab"),
         // Behind a frame that is no acknowledgement.
-        (&[Out(&FIRST), In(&one), In(&SECOND), In(&three)], b"a"),
+        (&[Out(39), Ack(1), In(0x32), In(0x57), Ack(3)], b"a"),
         // The last window that is wholly out is asked.
-        (&[Out(&FIRST), In(&three), Out(&SECOND), In(&one)], b"abcd"),
-        (&[Out(&FIRST), Out(&SECOND), In(&two)], b"de"),
-        (&[Out(&FIRST), Out(&SECOND[..27]), In(&two)], b"ab"),
+        (&[Out(39), Ack(3), Out(28), Ack(1)], b"abcd"),
+        (&[Out(67), Ack(2)], b"de"),
+        (&[Out(66), Ack(2)], b"ab"),
     ];
     for (steps, expected) in cases {
-        let talk = talk_of(alloc, steps)?;
-        let payloads = acknowledged(alloc, &talk)?;
-        assert_eq!(rt; joined(alloc, &payloads)?.as_slice(), expected);
+        assert_eq!(rt; told(rt.alloc(), steps)?.as_slice(), expected);
     }
     Ok(())
 }
