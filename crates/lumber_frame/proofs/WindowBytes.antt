@@ -1,11 +1,11 @@
 -- The bytes of windows: where a window stands in front of bytes, and where none does.
-use Rattle.std.proofs.Common.{◌≡◌, ℕ, suc, ◌+◌, ◌-◌, ◌^◌, ◌<◌, ◌≤◌, List, [], ◌∷◌, ◌++◌, length, refl, sym, ap, subst, ◌∙◌, append_assoc, arith, lit<}
-use Rattle.std.specs.List.{AllByRecursion}
+use Rattle.std.proofs.Common.{◌≡◌, ℕ, suc, ◌+◌, ◌-◌, ◌^◌, ◌<◌, ◌≤◌, List, [], ◌∷◌, ◌++◌, length, refl, sym, ap, subst, ◌∙◌, append_assoc, arith}
+use Rattle.std.specs.List.{AllByRecursion, flat_map}
 use Rattle.std.proofs.lemmas.List.{length-append, append-nil}
 use Rattle.wire_base.specs.declared.parcel.TheConstants.{MAX_PAYLOAD}
 use Rattle.lumber_frame.specs.declared.frame.Frame.TheVariants.{Window, Json}
 use Rattle.lumber_frame.specs.Frame.{IsFrame, frame_bytes}
-use Rattle.lumber_frame.specs.Window.{numbered, IsNumbered, BeginsWithWindow}
+use Rattle.lumber_frame.specs.Window.{numbered, window_bytes, IsNumbered, IsWindow, BeginsWithWindow, AreWindows}
 use Rattle.lumber_frame.proofs.Frames.{one_form}
 
 -- one more payload behind others
@@ -22,10 +22,6 @@ numbered-append sequence (first ∷ payloads) payload =
 all-append : {A : Type 0} (P : A → Type 0) (xs : List A) (x : A) → AllByRecursion P xs → P x → AllByRecursion P (xs ++ x ∷ [])
 all-append P [] x all one = (one, all)
 all-append P (y ∷ ys) x all one = (all.0, all-append P ys x all.1 one)
-
--- no payload is taken yet
-pub none_taken : (bytes : List ℕ) → IsNumbered 1 0 bytes [] bytes
-none_taken bytes = record { counted = refl; each = tt; front = refl }
 
 -- one more payload is taken
 pub one_more : (before : ℕ) (bytes rest after payload : List ℕ) (payloads : List (List ℕ)) → IsNumbered 1 before bytes payloads rest → IsFrame (Json (before + 1) payload) → rest ≡ frame_bytes (Json (before + 1) payload) ++ after → IsNumbered 1 (before + 1) bytes (payloads ++ payload ∷ []) after
@@ -62,32 +58,46 @@ ahead sequence count bytes after payload payloads rest some small fits is number
 window_count : (m n : ℕ) → Window m ≡ Window n → m ≡ n
 window_count m n same = cc
 
--- where the window frame or so many JSON frames are not there, no window is
-pub no_window : (bytes : List ℕ) (count : ℕ) (rest : List ℕ) → bytes ≡ frame_bytes (Window count) ++ rest → count < 2 ^ 32 → ((payloads : List (List ℕ)) (more : List ℕ) → IsNumbered 1 count rest payloads more → ⊥) → (payloads : List (List ℕ)) (more : List ℕ) → BeginsWithWindow bytes payloads more → ⊥
-no_window bytes count rest is small none payloads more begins =
-    let front = begins.front ∙ append_assoc (frame_bytes (Window (length payloads))) (numbered 1 payloads) more in
-    let once = one_form (Window (length payloads)) (Window count) (numbered 1 payloads ++ more) rest begins.is.few small (sym front ∙ is) in
-    let counted : length payloads ≡ count = window_count _ _ once.0 in
-    none payloads more (record { counted = counted; each = begins.is.each; front = sym once.1 })
-
--- no window has the count 0
-pub none_of_zero : (bytes rest : List ℕ) → bytes ≡ frame_bytes (Window 0) ++ rest → (payloads : List (List ℕ)) (more : List ℕ) → BeginsWithWindow bytes payloads more → ⊥
-none_of_zero bytes rest is payloads more begins =
-    let front = begins.front ∙ append_assoc (frame_bytes (Window (length payloads))) (numbered 1 payloads) more in
-    let once = one_form (Window (length payloads)) (Window 0) (numbered 1 payloads ++ more) rest begins.is.few (lit< tt) (sym front ∙ is) in
-    let counted : length payloads ≡ 0 = window_count (length payloads) 0 once.0 in
-    absurd (omega (arith, begins.is.some))
-
--- a window frame and so many JSON frames are a window
-pub one_window : (bytes : List ℕ) (count : ℕ) (rest : List ℕ) (payloads : List (List ℕ)) (more : List ℕ) → 0 < count → count < 2 ^ 32 → bytes ≡ frame_bytes (Window count) ++ rest → IsNumbered 1 count rest payloads more → BeginsWithWindow bytes payloads more
-one_window bytes count rest payloads more some small is numbered_is =
-    let head = ap (λ (n : ℕ). frame_bytes (Window n)) (sym numbered_is.counted) in
-    record {
-      is = record { some = omega (arith, numbered_is.counted); few = omega (arith, numbered_is.counted); each = numbered_is.each };
-      front = is ∙ ap (λ (tail : List ℕ). frame_bytes (Window count) ++ tail) numbered_is.front ∙ ap (λ (front : List ℕ). front ++ (numbered 1 payloads ++ more)) head ∙ sym (append_assoc (frame_bytes (Window (length payloads))) (numbered 1 payloads) more);
-    }
-
 -- numbers that are the same number the same
 pub renumbered : (a b m n : ℕ) (bytes : List ℕ) (payloads : List (List ℕ)) (rest : List ℕ) → a ≡ b → m ≡ n → IsNumbered a m bytes payloads rest → IsNumbered b n bytes payloads rest
 renumbered a b m n bytes payloads rest sequences counts is =
     record { counted = is.counted ∙ counts; each = is.each; front = is.front ∙ ap (λ (k : ℕ). numbered k payloads ++ rest) sequences }
+
+-- ---- bytes are read as windows in one way at most
+
+-- what JSON frames of one count and the rest spell
+numbered_once : (sequence : ℕ) (p q : List (List ℕ)) (x y : List ℕ) → sequence + length p ≤ 2 ^ 32 → length p ≡ length q → AllByRecursion (λ payload. length payload ≤ MAX_PAYLOAD) p → AllByRecursion (λ payload. length payload ≤ MAX_PAYLOAD) q → numbered sequence p ++ x ≡ numbered sequence q ++ y → (p ≡ q) × (x ≡ y)
+numbered_once sequence [] [] x y small counts each_p each_q same = (refl, same)
+numbered_once sequence [] (b ∷ q) x y small counts each_p each_q same = absurd (omega (arith, counts))
+numbered_once sequence (a ∷ p) [] x y small counts each_p each_q same = absurd (omega (arith, counts))
+numbered_once sequence (a ∷ p) (b ∷ q) x y small counts each_p each_q same =
+    let first = sym (append_assoc (frame_bytes (Json sequence a)) (numbered (suc sequence) p) x) ∙ same ∙ append_assoc (frame_bytes (Json sequence b)) (numbered (suc sequence) q) y in
+    let once = one_form (Json sequence a) (Json sequence b) (numbered (suc sequence) p ++ x) (numbered (suc sequence) q ++ y) (omega arith, each_p.0) (omega arith, each_q.0) first in
+    let others = numbered_once (suc sequence) p q x y (omega arith) (omega arith) each_p.1 each_q.1 once.1 in
+    let payload : a ≡ b = cc (once.0) in
+    let payloads : p ≡ q = others.0 in
+    (cc, others.1)
+
+-- no window's bytes begin another's
+window_once : (p q : List (List ℕ)) (x y : List ℕ) → IsWindow p → IsWindow q → window_bytes p ++ x ≡ window_bytes q ++ y → (p ≡ q) × (x ≡ y)
+window_once p q x y is_p is_q same =
+    let first = sym (append_assoc (frame_bytes (Window (length p))) (numbered 1 p) x) ∙ same ∙ append_assoc (frame_bytes (Window (length q))) (numbered 1 q) y in
+    let once = one_form (Window (length p)) (Window (length q)) (numbered 1 p ++ x) (numbered 1 q ++ y) is_p.few is_q.few first in
+    numbered_once 1 p q x y (omega (arith, is_p.few)) (window_count (length p) (length q) once.0) is_p.each is_q.each once.1
+
+windows_once : (v w : List (List (List ℕ))) (x y : List ℕ) → AllByRecursion IsWindow v → AllByRecursion IsWindow w → ((p : List (List ℕ)) (more : List ℕ) → BeginsWithWindow x p more → ⊥) → ((p : List (List ℕ)) (more : List ℕ) → BeginsWithWindow y p more → ⊥) → flat_map window_bytes v ++ x ≡ flat_map window_bytes w ++ y → v ≡ w
+windows_once [] [] x y each_v each_w cut_x cut_y same = refl
+windows_once [] (q ∷ w) x y each_v each_w cut_x cut_y same =
+    absurd (cut_x q (flat_map window_bytes w ++ y) (record { is = each_w.0; front = same ∙ append_assoc (window_bytes q) (flat_map window_bytes w) y }))
+windows_once (p ∷ v) [] x y each_v each_w cut_x cut_y same =
+    absurd (cut_y p (flat_map window_bytes v ++ x) (record { is = each_v.0; front = sym same ∙ append_assoc (window_bytes p) (flat_map window_bytes v) x }))
+windows_once (p ∷ v) (q ∷ w) x y each_v each_w cut_x cut_y same =
+    let first = sym (append_assoc (window_bytes p) (flat_map window_bytes v) x) ∙ same ∙ append_assoc (window_bytes q) (flat_map window_bytes w) y in
+    let once = window_once p q (flat_map window_bytes v ++ x) (flat_map window_bytes w ++ y) each_v.0 each_w.0 first in
+    let window : p ≡ q = once.0 in
+    let others : v ≡ w = windows_once v w x y each_v.1 each_w.1 cut_x cut_y once.1 in
+    cc
+
+-- bytes are these windows and no others
+pub are_once : (bytes : List ℕ) (v w : List (List (List ℕ))) → AreWindows bytes v → AreWindows bytes w → v ≡ w
+are_once bytes v w first second = windows_once v w first.rest second.rest first.each second.each first.cut second.cut (sym first.whole ∙ second.whole)

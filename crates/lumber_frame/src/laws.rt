@@ -3,6 +3,8 @@ ghost use Rattle.lumber_frame.specs.declared.frame.Frame.{Frame};
 ghost use Rattle.lumber_frame.specs.declared.frame.FrameRead.{FrameRead};
 ghost use Rattle.lumber_frame.specs.Frame.{IsFrame, BeginsWithFrame, frame_bytes};
 ghost use Rattle.lumber_frame.specs.Fault.{IsBadAt};
+ghost use Rattle.wire_base.specs.declared.talk.Piece.{Piece};
+ghost use Rattle.lumber_frame.specs.Acknowledged.{Acknowledges};
 ghost use Rattle.lumber_frame.specs.Reading.{Reads, IsWholeOf};
 
 /// A frame has one form, and no frame's bytes begin another's. A law; it computes nothing.
@@ -22,4 +24,9 @@ pub fn answers_stay()
     ensures whole { (bytes more : List ℕ) (frame : Frame) (used : ℕ) →
         BeginsWithFrame bytes frame used → BeginsWithFrame (bytes ++ more) frame used }
     ensures bad { (bytes more : List ℕ) (at : ℕ) → IsBadAt bytes at → IsBadAt (bytes ++ more) at }
+{}
+
+/// A talk acknowledges one list of payloads. A law; it computes nothing.
+pub fn one_reading()
+    ensures { (talk : List Piece) (p q : List (List ℕ)) → Acknowledges talk p → Acknowledges talk q → p ≡ q }
 {}

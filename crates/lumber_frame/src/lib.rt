@@ -1,4 +1,4 @@
-//! Frames of Lumberjack v2 as bytes: what a client and its peer send, and what received bytes begin with.
+//! Frames of Lumberjack v2 as bytes, and what a talk of them acknowledges.
 //!
 //! A frame is `2`, a letter and its numbers, each of four bytes with the highest first. A window, `W`,
 //! says how many JSON frames follow; a JSON frame, `J`, has its sequence, the payload's length in bytes
@@ -7,8 +7,11 @@
 //!
 //! The bytes of each frame are a definition of `specs/`, and both directions are proved against it.
 //! What is written is read again, whatever follows. Bytes are read as the one frame that they begin
-//! with, as a fault at its place, or as too short for either. Numbers of any value are read, and
-//! no payload is looked into. Nothing here takes memory, sends or receives, or knows what a frame means for a window.
+//! with, as a fault at its place, or as too short for either. Numbers of any value are read, and no
+//! payload is looked into. Reading and writing a frame take no memory.
+//!
+//! `acknowledged` says which payloads a talk acknowledges, for the rooms that send and receive. It is
+//! written to be compared with, not to be quick. Nothing here sends, receives or keeps a window.
 #![tactic(auto)]
 
 mod acknowledgements;
@@ -21,7 +24,7 @@ mod write;
 
 pub use acknowledgements::acknowledged;
 pub use frame::{Frame, FrameRead, FrameView};
-pub use laws::{answers_stay, one_form, written_is_read};
+pub use laws::{answers_stay, one_form, one_reading, written_is_read};
 pub use read::read_frame;
 pub use write::{ack_frame, json_head, window_head};
 

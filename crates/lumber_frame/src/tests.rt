@@ -1,5 +1,7 @@
 use crate::*;
+use std::alloc::Global;
 use std::test::Fail;
+use wire_base::{Blob, NoMemory, Piece};
 
 #[test]
 fn frame_reads(rt: HostRuntime) -> Result<(), Fail> {
@@ -53,5 +55,111 @@ fn window_bytes(rt: HostRuntime) -> Result<(), Fail> {
     assert_eq!(rt; window_head(2), [0x32, 0x57, 0, 0, 0, 2]);
     assert_eq!(rt; json_head(1, 131), [0x32, 0x4a, 0, 0, 0, 1, 0, 0, 0, 0x83]);
     assert_eq!(rt; ack_frame(0x0102_0304), [0x32, 0x41, 1, 2, 3, 4]);
+    Ok(())
+}
+
+/// A window of the payloads `a`, `b` and `c`, of 39 bytes, and one of `d` and `e`, of 28 bytes.
+const WINDOWS: [u8; 67] = [
+    0x32, 0x57, 0, 0, 0, 3, 0x32, 0x4a, 0, 0, 0, 1, 0, 0, 0, 1, 0x61, 0x32, 0x4a, 0, 0, 0, 2, 0, 0,
+    0, 1, 0x62, 0x32, 0x4a, 0, 0, 0, 3, 0, 0, 0, 1, 0x63, 0x32, 0x57, 0, 0, 0, 2, 0x32, 0x4a, 0, 0,
+    0, 1, 0, 0, 0, 1, 0x64, 0x32, 0x4a, 0, 0, 0, 2, 0, 0, 0, 1, 0x65,
+];
+
+#[derive(Clone, Copy)]
+enum Step {
+    /// So many more bytes of the windows are sent.
+    Out(usize),
+    /// An acknowledgement is received.
+    Ack(u32),
+    /// One byte is received.
+    In(u8),
+}
+
+fn talk_of(alloc: Global, steps: &[Step]) -> Result<Vec<Piece>, NoMemory> {
+    let mut talk = Vec::new(alloc);
+    let mut rest = WINDOWS.as_slice();
+    for step in steps {
+        let piece = match *step {
+            Step::Out(count) => {
+                let (front, back) = rest.split_at(count.min(rest.len()));
+                rest = back;
+                Piece::Out(Blob::from_bytes(alloc, front)?)
+            }
+            Step::Ack(number) => Piece::In(Blob::from_bytes(alloc, &ack_frame(number))?),
+            Step::In(byte) => Piece::In(Blob::from_bytes(alloc, &[byte])?),
+        };
+        talk.push(piece)?;
+    }
+    Ok(talk)
+}
+
+fn joined(alloc: Global, payloads: &[Blob]) -> Result<Vec<u8>, NoMemory> {
+    let mut bytes = Vec::new(alloc);
+    for payload in payloads {
+        bytes.extend_from_slice(payload.bytes())?;
+    }
+    Ok(bytes)
+}
+
+fn told(alloc: Global, steps: &[Step]) -> Result<Vec<u8>, NoMemory> {
+    let talk = talk_of(alloc, steps)?;
+    let payloads = acknowledged(alloc, &talk)?;
+    joined(alloc, &payloads)
+}
+
+#[test]
+fn talks_acknowledge(rt: HostRuntime) -> Result<(), Fail> {
+    use Step::*;
+    let cases: [(&[Step], &[u8]); 16] = [
+        (&[], b""),
+        (&[Out(39)], b""),
+        (&[Out(39), Ack(2)], b"ab"),
+        // Too early, and too early by its first byte.
+        (&[Ack(1), Out(39), Ack(1)], b""),
+        (
+            &[
+                Out(38),
+                In(0x32),
+                Out(1),
+                In(0x41),
+                In(0),
+                In(0),
+                In(0),
+                In(2),
+            ],
+            b"",
+        ),
+        (&[Ack(0), Out(39), Ack(1)], b"a"),
+        // Repeated and lower: the greatest counts.
+        (&[Out(39), Ack(2), Ack(2), Ack(1)], b"ab"),
+        (&[Out(39), Ack(1), Ack(3)], b"abc"),
+        // Too high, and behind it.
+        (&[Out(39), Ack(4), Ack(3)], b""),
+        (&[Out(67), Ack(3)], b""),
+        // Cut across pieces, and not whole yet.
+        (
+            &[
+                Out(20),
+                Out(19),
+                In(0x32),
+                In(0x41),
+                In(0),
+                In(0),
+                In(0),
+                In(2),
+            ],
+            b"ab",
+        ),
+        (&[Out(39), Ack(2), In(0x32), In(0x41), In(0)], b"ab"),
+        // Behind a frame that is no acknowledgement.
+        (&[Out(39), Ack(1), In(0x32), In(0x57), Ack(3)], b"a"),
+        // The last window that is wholly out is asked.
+        (&[Out(39), Ack(3), Out(28), Ack(1)], b"abcd"),
+        (&[Out(67), Ack(2)], b"de"),
+        (&[Out(66), Ack(2)], b"ab"),
+    ];
+    for (steps, expected) in cases {
+        assert_eq!(rt; told(rt.alloc(), steps)?.as_slice(), expected);
+    }
     Ok(())
 }
