@@ -1,0 +1,4 @@
+mod Items
+mod Matching
+mod Signs
+mod Slashes

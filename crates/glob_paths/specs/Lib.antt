@@ -1,0 +1,4 @@
+pub mod Lead
+pub mod Match
+pub mod Sign
+pub mod Token

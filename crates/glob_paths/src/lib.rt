@@ -1,0 +1,10 @@
+//! Globs: which paths an input covers, what to list, and how deep.
+//!
+//! A glob is seen in contracts as its text. What a text means, which paths it covers, its faults,
+//! its root and its depth are definitions of `specs/`. Nothing here touches a file.
+#![tactic(auto)]
+
+mod class;
+mod part;
+mod parts;
+mod sign;
