@@ -1,3 +1,4 @@
+mod Covering
 mod Items
 mod Matching
 mod Signs

@@ -5,6 +5,11 @@
 #![tactic(auto)]
 
 mod class;
+mod cover;
+mod error;
+mod fault;
 mod part;
 mod parts;
 mod sign;
+
+pub use error::GlobError;
