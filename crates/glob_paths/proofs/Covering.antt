@@ -5,6 +5,7 @@ use Rattle.std.proofs.lemmas.Bool.{false≢true}
 use Rattle.std.specs.List.{AllByRecursion}
 use Rattle.std.specs.Str.{chars}
 use Rattle.wire_base.specs.Path.{parts_of, on_first_part}
+use Rattle.glob_paths.proofs.Slashes.{some_part}
 use Rattle.glob_paths.specs.Token.{Token, tokens}
 use Rattle.glob_paths.specs.Match.{Matches}
 use Rattle.glob_paths.specs.Cover.{Part, deep, named, is_deep, part_of, parts_left, PartsCover}
@@ -56,14 +57,9 @@ pub first_left : (parts : List (List ℕ)) (name : List ℕ) (more : Option (Bor
 first_left parts name None first = first
 first_left parts name (Some rest) first = first
 
-some_part : (text : List ℕ) → parts_of text ≢ []
-some_part [] none = cc
-some_part (byte ∷ bytes) none = by_test (eqb byte 47) (parts_of bytes) none
-  where
-    by_test : (slash : Bool) (parts : List (List ℕ)) → cond slash ([] ∷ parts) (on_first_part byte parts) ≡ [] → ⊥
-    by_test true parts none = cc
-    by_test false [] none = cc
-    by_test false (part ∷ parts) none = cc
+pub first_some : (parts : List (List ℕ)) (name : List ℕ) (more : Option (Bor (List ℕ))) (rest : Bor (List ℕ)) → MatchOption more (parts ≡ name ∷ []) (λ rest. parts ≡ name ∷ parts_of rest.now) → more ≡ Some rest → parts ≡ name ∷ parts_of rest.now
+first_some parts name more rest first is =
+    let P : Option (Bor (List ℕ)) → Type 0 = λ more. MatchOption more (parts ≡ name ∷ []) (λ rest. parts ≡ name ∷ parts_of rest.now) in subst P is first
 
 none_covers : (names : List (List ℕ)) → names ≢ [] → PartsCover [] names → ⊥
 none_covers [] some covers = some refl

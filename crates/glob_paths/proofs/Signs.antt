@@ -8,7 +8,7 @@ use Rattle.glob_paths.specs.declared.sign.Sign.{Sign}
 use Rattle.glob_paths.specs.Sign.{bare, signs_of, signs}
 
 -- a character that is no backslash is a sign of its own
-plain_first : (code : ℕ) (codes : List ℕ) → eqb code 92 ≡ false → signs_of (code ∷ codes) ≡ bare code ∷ signs_of codes
+pub plain_first : (code : ℕ) (codes : List ℕ) → eqb code 92 ≡ false → signs_of (code ∷ codes) ≡ bare code ∷ signs_of codes
 plain_first code [] other = refl
 plain_first code (next ∷ codes) other = rw other refl
 

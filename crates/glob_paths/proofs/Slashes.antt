@@ -1,5 +1,5 @@
 -- How the parts of a path follow from its slashes.
-use Rattle.std.proofs.Common.{◌≡◌, ◌≢◌, ℕ, suc, ◌<◌, List, [], ◌∷◌, ◌++◌, length, get_or, refl, ap, eqb, false, arith}
+use Rattle.std.proofs.Common.{◌≡◌, ◌≢◌, ℕ, suc, ◌<◌, List, [], ◌∷◌, ◌++◌, length, get_or, refl, ap, eqb, Bool, true, false, cond, arith}
 use Rattle.std.proofs.lemmas.Bool.Decides.{nat_tests}
 use Rattle.wire_base.specs.Path.{parts_of, on_first_part}
 
@@ -29,3 +29,12 @@ first_of text part rest split = rw split.0 (parts_of-append part rest (NoSlash-b
 
 pub only_of : (text : List ℕ) → ((i : ℕ) → i < length text → get_or text i 0 ≢ 47) → parts_of text ≡ text ∷ []
 only_of text none = parts_of-whole text (NoSlash-by_index text none)
+
+pub some_part : (text : List ℕ) → parts_of text ≢ []
+some_part [] none = cc
+some_part (byte ∷ bytes) none = by_test (eqb byte 47) (parts_of bytes) none
+  where
+    by_test : (slash : Bool) (parts : List (List ℕ)) → cond slash ([] ∷ parts) (on_first_part byte parts) ≡ [] → ⊥
+    by_test true parts none = cc
+    by_test false [] none = cc
+    by_test false (part ∷ parts) none = cc

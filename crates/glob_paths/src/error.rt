@@ -1,4 +1,4 @@
-use std::alloc::{AllocError, AllocFailed};
+use std::alloc::AllocError;
 use thiserror::Error;
 use wire_base::NoMemory;
 
@@ -23,4 +23,26 @@ pub enum GlobError {
     StarStar { at: usize },
     #[error("out of memory")]
     NoMemory,
+}
+
+impl From<AllocError> for GlobError {
+    ghost use Rattle.std.specs.Prelude.{◌≡◌};
+    ghost use Rattle.glob_paths.specs.declared.error.GlobError.TheVariants.{NoMemory};
+
+    ghost from_gives = { λ _ e. e ≡ NoMemory };
+
+    fn from(_: AllocError) -> Self {
+        GlobError::NoMemory
+    }
+}
+
+impl From<NoMemory> for GlobError {
+    ghost use Rattle.std.specs.Prelude.{◌≡◌};
+    ghost use Rattle.glob_paths.specs.declared.error.GlobError.TheVariants.{NoMemory};
+
+    ghost from_gives = { λ _ e. e ≡ NoMemory };
+
+    fn from(_: NoMemory) -> Self {
+        GlobError::NoMemory
+    }
 }

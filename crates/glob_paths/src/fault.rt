@@ -1,6 +1,5 @@
-ghost use Rattle.std.specs.Prelude.{◌≡◌, ◌+◌, ◌<◌, ◌^◌, ◌∷◌, [], false, length, map, option_copied};
-ghost use Rattle.glob_paths.specs.Fault.{opens, class_fault, sign_fault, signs_fault, part_fault, parts_fault, is_closed, are_bad_items, starts_with_star, is_no_name, some_backwards};
-ghost use Rattle.glob_paths.specs.Cover.{parts_left};
+ghost use Rattle.std.specs.Prelude.{◌≡◌, ◌+◌, ◌<◌, ◌^◌, ◌∷◌, [], false, length, Option, Some, None, IfOk, IfErr};
+ghost use Rattle.glob_paths.specs.Fault.{fault_of, opens, class_fault, sign_fault, signs_fault, part_fault, parts_fault, is_closed, are_bad_items, starts_with_star, is_no_name, some_backwards};
 ghost use Rattle.glob_paths.specs.Sign.{signs};
 ghost use Rattle.glob_paths.specs.Token.{items_of};
 ghost use Rattle.wire_base.specs.Path.{parts_of};
@@ -10,9 +9,27 @@ use crate::class::{behind_caret, first_item};
 use crate::parts::first_part;
 use crate::sign::{Sign, first_sign};
 
+/// The parts behind the first slash of a text without a fault, or its first fault.
+pub fn faultless_parts(text: &str) -> Result<&str, GlobError>
+    ensures ok { IfOk result (λ parts. text.now ≡ 47 ∷ parts.now) }
+    ensures faultless { IfOk result (λ _. fault_of text.now ≡ None) }
+    ensures first_fault { IfErr result (λ fault. fault_of text.now ≡ Some fault) }
+{
+    if text.is_empty() {
+        return Err(GlobError::Empty);
+    }
+    let Some(parts) = text.strip_prefix('/') else {
+        return Err(GlobError::NotAbsolute);
+    };
+    match first_fault(parts, 1) {
+        Some(fault) => Err(fault),
+        None => Ok(parts),
+    }
+}
+
 /// The first fault of the parts of a text, which begins at the place `start`.
-pub fn first_fault(text: &str, start: usize) -> Option<GlobError>
-    requires { start + length text.now < 2 ^ 63 }
+fn first_fault(text: &str, start: usize) -> Option<GlobError>
+    requires { start + length text.now < 2 ^ 64 }
     ensures { result ≡ parts_fault false start (parts_of text.now) }
 {
     let mut seen = false;
@@ -34,7 +51,7 @@ pub fn first_fault(text: &str, start: usize) -> Option<GlobError>
 
 /// The first fault of a part at the place `at`; `seen`: a `**` stood before it.
 fn fault_of_part(part: &str, at: usize, seen: bool) -> Option<GlobError>
-    requires { at + length part.now < 2 ^ 63 }
+    requires { at + length part.now < 2 ^ 64 }
     ensures { result ≡ part_fault seen at part.now }
 {
     if is_no_name(part) {
@@ -58,7 +75,7 @@ fn is_no_name(part: &str) -> bool
 
 /// The first fault of the signs of a part.
 fn fault_of_signs(part: &str, start: usize) -> Option<GlobError>
-    requires { start + length part.now < 2 ^ 63 }
+    requires { start + length part.now < 2 ^ 64 }
     ensures { result ≡ signs_fault false start (signs part.now) }
 {
     let mut inside = false;

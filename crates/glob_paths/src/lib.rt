@@ -8,8 +8,11 @@ mod class;
 mod cover;
 mod error;
 mod fault;
+mod glob;
 mod part;
 mod parts;
+mod root;
 mod sign;
 
 pub use error::GlobError;
+pub use glob::Glob;
