@@ -57,13 +57,16 @@ impl Glob {
 
     /// Takes no memory. It takes at most as many steps as the lengths of the glob and the path
     /// multiplied, and nine times as many with a `**`.
+    ///
+    /// A path that it covers lies below the root within the depth, if it has no empty part behind
+    /// its first slash, which a `*` matches too, and is not the root, which a `**` at the end covers.
     pub fn covers(&self, path: &[u8]) -> bool
         ensures covers { IsTrue result ↔ Covers self.now path.now }
+        ensures within { IsTrue result → IsWithin (root_of self.now) (depth_of self.now) path.now }
+        ensures below { IsTrue result → HasNames path.now → parts_of path.now ≢ folder_parts (root_of self.now)
+            → IsBelow (root_of self.now) (depth_of self.now) path.now }
     {
-        match str::from_utf8(path) {
-            Ok(path) => parts_cover(Some(self.text.as_str()), Some(path)),
-            Err(_) => false,
-        }
+        text_covers(self.text.as_str(), path)
     }
 
     /// The folder to list: the longest row of leading parts without `*`, `?`, `[` and backslash,
@@ -79,5 +82,15 @@ impl Glob {
         ensures { result ≡ depth_of self.now }
     {
         self.depth
+    }
+}
+
+/// Whether the glob of this text covers the path.
+fn text_covers(text: &str, path: &[u8]) -> bool
+    ensures { IsTrue result ↔ Covers text.now path.now }
+{
+    match str::from_utf8(path) {
+        Ok(path) => parts_cover(Some(text), Some(path)),
+        Err(_) => false,
     }
 }
