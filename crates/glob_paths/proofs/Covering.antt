@@ -1,14 +1,11 @@
 -- How covering goes on part by part.
-use Rattle.std.proofs.Common.{◌≡◌, ◌≢◌, ℕ, zero, suc, ◌+◌, ◌-◌, ◌<◌, ◌≤◌, ◌↔◌, Bool, true, false, cond, Option, Some, None, List, [], ◌∷◌, length, take, drop, map, refl, sym, ap, ◌∙◌, subst, arith, IsTrue, MatchOption, option_copied, is_some, not, eqb}
+use Rattle.std.proofs.Common.{◌≡◌, ◌≢◌, ℕ, zero, suc, ◌+◌, ◌-◌, ◌<◌, ◌≤◌, ◌↔◌, Bool, true, false, Option, Some, None, List, [], ◌∷◌, length, take, drop, map, refl, sym, ap, subst, arith, IsTrue, MatchOption, option_copied, is_some, not}
 use denote.Ref.{Bor}
 use Rattle.std.proofs.lemmas.Bool.{false≢true}
 use Rattle.std.specs.List.{AllByRecursion}
-use Rattle.std.specs.Str.{chars}
-use Rattle.wire_base.specs.Path.{parts_of, on_first_part}
+use Rattle.wire_base.specs.Path.{parts_of}
 use Rattle.glob_paths.proofs.Slashes.{some_part}
-use Rattle.glob_paths.specs.Token.{Token, tokens}
-use Rattle.glob_paths.specs.Match.{Matches}
-use Rattle.glob_paths.specs.Cover.{Part, deep, named, is_deep, part_of, parts_left, PartsCover}
+use Rattle.glob_paths.specs.Cover.{Part, part_of, parts_left, PartsCover}
 
 -- how much of a text there is, if there is one
 abbrev pub size_left : Option (List ℕ) → ℕ

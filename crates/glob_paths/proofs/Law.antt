@@ -1,20 +1,18 @@
 -- Each path that a glob covers is its root's, with at most its depth of parts behind.
-use Rattle.std.proofs.Common.{◌≡◌, ◌≢◌, ℕ, zero, suc, ◌+◌, ◌-◌, ◌<◌, ◌≤◌, Bool, true, false, cond, not, ◌&&◌, Some, None, List, [], ◌∷◌, ◌++◌, length, length-drop, drop, map, All, refl, sym, ap, ◌∙◌, subst, eqb, arith}
+use Rattle.std.proofs.Common.{◌≡◌, ◌≢◌, ℕ, ◌+◌, ◌<◌, ◌≤◌, Bool, true, false, cond, not, ◌&&◌, Some, None, List, [], ◌∷◌, ◌++◌, length, length-drop, drop, map, All, refl, sym, ap, ◌∙◌, subst, eqb, arith}
 use Rattle.std.proofs.lemmas.Bool.{false≢true}
 use Rattle.std.proofs.lemmas.Bool.Decides.{nat_tests}
 use Rattle.std.proofs.lemmas.List.Elements.{All-from_recursion, recursion_from_All}
 use Rattle.std.proofs.lemmas.List.{append-nil}
-use Rattle.std.proofs.lemmas.Str.{encodes-chars, IsUtf8-nil}
+use Rattle.std.proofs.lemmas.Str.{IsUtf8-nil}
 use Rattle.std.specs.List.{AllByRecursion, list_all}
-use Rattle.std.specs.Str.{IsUtf8, chars, encode_utf8_all, bytes_eq}
+use Rattle.std.specs.Str.{IsUtf8, bytes_eq}
 use Rattle.wire_base.specs.Path.{parts_of, folder_parts, on_first_part, IsBelow}
-use Rattle.glob_paths.specs.declared.error.GlobError.TheVariants.{Empty, NotAbsolute, BadPart}
-use Rattle.glob_paths.specs.declared.error.GlobError.{GlobError}
+use Rattle.glob_paths.specs.declared.error.GlobError.TheVariants.{NotAbsolute, BadPart}
 use Rattle.glob_paths.specs.Token.{tokens}
-use Rattle.glob_paths.specs.Match.{Matches}
 use Rattle.glob_paths.specs.Cover.{Part, deep, named, is_deep, part_of, PartsCover, Covers}
-use Rattle.glob_paths.specs.Fault.{fault_of, parts_fault, or_else}
-use Rattle.glob_paths.specs.Root.{is_plain, is_plain_byte, leading_parts, other_parts, slashed, or_slash, depth_of_part, depth_of_parts, root_of, depth_of, IsWithin, HasNames}
+use Rattle.glob_paths.specs.Fault.{fault_of, parts_fault}
+use Rattle.glob_paths.specs.Root.{is_plain, is_plain_byte, leading_parts, other_parts, slashed, or_slash, depth_of_parts, root_of, depth_of, IsWithin, HasNames}
 use Rattle.glob_paths.proofs.Slashes.{NoSlash, parts_of-append, parts_of-whole, some_part}
 use Rattle.glob_paths.proofs.Plain.{AllTexts, texts_of, plain_part}
 
@@ -57,14 +55,16 @@ plain_first_name part rest names plain covers utf8 texts =
 follows_at : (part next : List ℕ) (parts names : List (List ℕ)) (test : Bool) → is_plain part ≡ test → PartsCover (map part_of (part ∷ next ∷ parts)) names → IsUtf8 part → AllTexts names → ((left : List (List ℕ)) → PartsCover (map part_of (next ∷ parts)) left → AllTexts left → Follows (next ∷ parts) left) → Follows (part ∷ next ∷ parts) names
 follows_at part next parts names true plain covers utf8 texts more =
     let first = plain_first_name part (map part_of (next ∷ parts)) names plain covers utf8 texts in
-    let rest = more first.0 first.2 first.3 in
-    (rest.0,
-    first.1 ∙ ap (λ left. part ∷ left) rest.1 ∙ ap (λ t. cond t (part ∷ leading_parts (next ∷ parts)) [] ++ rest.0) (sym plain),
-    (let P : Bool → Type 0 = λ t. length rest.0 ≤ depth_of_parts (cond t (other_parts (next ∷ parts)) (part ∷ next ∷ parts)) in subst P (sym plain) rest.2))
-follows_at part next parts names false plain covers utf8 texts more =
-    (names,
-    ap (λ t. cond t (part ∷ leading_parts (next ∷ parts)) [] ++ names) (sym plain),
-    (let P : Bool → Type 0 = λ t. length names ≤ depth_of_parts (cond t (other_parts (next ∷ parts)) (part ∷ next ∷ parts)) in subst P (sym plain) (cover_few (part ∷ next ∷ parts) names covers)))
+    let rest = more first.0 first.2 first.3 in (
+      rest.0,
+      first.1 ∙ ap (λ left. part ∷ left) rest.1 ∙ ap (λ t. cond t (part ∷ leading_parts (next ∷ parts)) [] ++ rest.0) (sym plain),
+      (let P : Bool → Type 0 = λ t. length rest.0 ≤ depth_of_parts (cond t (other_parts (next ∷ parts)) (part ∷ next ∷ parts)) in subst P (sym plain) rest.2),
+    )
+follows_at part next parts names false plain covers utf8 texts more = (
+  names,
+  ap (λ t. cond t (part ∷ leading_parts (next ∷ parts)) [] ++ names) (sym plain),
+  (let P : Bool → Type 0 = λ t. length names ≤ depth_of_parts (cond t (other_parts (next ∷ parts)) (part ∷ next ∷ parts)) in subst P (sym plain) (cover_few (part ∷ next ∷ parts) names covers)),
+)
 
 follows : (parts names : List (List ℕ)) → PartsCover (map part_of parts) names → AllTexts parts → AllTexts names → Follows parts names
 follows [] [] covers texts names' = ([], refl, omega arith)
@@ -120,13 +120,13 @@ lead_named (part ∷ next ∷ parts) some rest is = by_test (is_plain part) is
 absolute_within : (rest path : List ℕ) → IsUtf8 (47 ∷ rest) → parts_fault false 1 (parts_of rest) ≡ None → Covers (47 ∷ rest) path → IsWithin (root_of (47 ∷ rest)) (depth_of (47 ∷ rest)) path
 absolute_within rest path utf8 faultless covers =
     let parts = parts_of rest in
-    let first = plain_first_name [] (map part_of parts) (parts_of path) refl covers.1 IsUtf8-nil (texts_of path covers.0) in
+    let first = plain_first_name [] (map part_of parts) (parts_of path) refl covers.2 IsUtf8-nil (texts_of path covers.0) in
     let found = follows parts first.0 first.2 (texts_of (47 ∷ rest) utf8).1 first.3 in
     let folder = folder_parts-slashed (leading_parts parts) (no_slashes_lead parts (no_slashes rest)) (lead_named parts (first_named parts faultless)) in
     record {
       behind = found.0;
       spelled = first.1 ∙ ap (λ names. [] ∷ names) found.1 ∙ ap (λ front. front ++ found.0) (sym folder);
-      few = found.2
+      few = found.2;
     }
   where
     first_named : (parts : List (List ℕ)) → parts_fault false 1 parts ≡ None → (rest : List (List ℕ)) → parts ≢ [] ∷ rest
@@ -175,11 +175,12 @@ covered_below text path within names other =
       spelled = within.spelled;
       some = more within.behind within.spelled;
       few = within.few;
-      named = named_behind (folder_parts (root_of text)) within.behind (folder_some (root_of text)) (subst P within.spelled names)
+      named = named_behind (folder_parts (root_of text)) within.behind (folder_some (root_of text)) (subst P within.spelled names);
     }
   where
     P : List (List ℕ) → Type 0
     P parts = All IsNamed (drop 1 parts)
+
     more : (behind : List (List ℕ)) → parts_of path ≡ folder_parts (root_of text) ++ behind → 0 < length behind
     more [] spelled = absurd (other (spelled ∙ append-nil (folder_parts (root_of text))))
     more (part ∷ behind) spelled = omega arith

@@ -1,5 +1,5 @@
 -- How matching goes on behind a token, and behind a run.
-use Rattle.std.proofs.Common.{◌≡◌, ℕ, zero, suc, ◌+◌, ◌≤◌, Bool, true, false, cond, ◌&&◌, ◌↔◌, List, [], ◌∷◌, length, drop, eqb, refl, sym, ap, ◌∙◌, subst, arith}
+use Rattle.std.proofs.Common.{◌≡◌, ℕ, zero, suc, ◌≤◌, Bool, true, false, cond, ◌&&◌, ◌↔◌, List, [], ◌∷◌, length, drop, eqb, refl, sym, ap, ◌∙◌, subst, arith}
 use Rattle.std.proofs.lemmas.Bool.Decides.{nat_tests}
 use Rattle.std.proofs.lemmas.Bool.{false≢true}
 use Rattle.std.specs.Str.{chars}
@@ -76,7 +76,7 @@ Comes-token first second codes rest token code comes taken =
       same = (λ m. step.0 (comes.same.0 m), λ m. comes.same.1 (step.1 m));
       later = λ m. let n = comes.later m in
           let found = behind_one token second n.0 (code ∷ rest) (takes_single token code taken) n.2 in
-          (found.0, omega (arith, found.1), found.2)
+          (found.0, omega (arith, found.1), found.2);
     }
 
 -- a run of no character, of one character more, and two runs in a row

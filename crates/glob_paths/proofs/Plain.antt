@@ -1,16 +1,15 @@
 -- The parts of a text are texts without a slash, and a plain part of a glob matches the name that it spells alone.
-use Rattle.std.proofs.Common.{◌≡◌, ◌≢◌, ℕ, ◌<◌, ◌≤◌, Bool, true, false, cond, not, ◌&&◌, List, [], ◌∷◌, ◌++◌, length, get_or, map, refl, sym, ap, ◌∙◌, subst, ⊎_elim, eqb, lit<, arith}
+use Rattle.std.proofs.Common.{◌≡◌, ◌≢◌, ℕ, ◌<◌, ◌≤◌, Bool, true, false, not, ◌&&◌, List, [], ◌∷◌, ◌++◌, map, refl, sym, ap, ◌∙◌, subst, ⊎_elim, eqb, lit<, arith}
 use Rattle.std.proofs.lemmas.Bool.{cases_lt, false≢true}
 use Rattle.std.proofs.lemmas.Bool.Decides.{nat_tests}
 use Rattle.std.proofs.lemmas.List.{append-nil}
-use Rattle.std.proofs.lemmas.Str.{IsUtf8-append, IsUtf8-encode, IsUtf8-nil, inside_one, encode_ascii, encodes-chars, scalars-chars}
+use Rattle.std.proofs.lemmas.Str.{IsUtf8-append, IsUtf8-encode, IsUtf8-nil, inside_one, encode_ascii, encodes-chars}
 use Rattle.std.specs.Char.{encode_utf8, IsScalar}
 use Rattle.std.specs.List.{AllByRecursion, list_all}
 use Rattle.std.specs.Str.{IsUtf8, chars, encode_utf8_all, all_scalars}
 use Rattle.wire_base.specs.Path.{parts_of, on_first_part}
-use Rattle.glob_paths.specs.declared.sign.Sign.{Sign}
-use Rattle.glob_paths.specs.Sign.{bare, signs_of, signs}
-use Rattle.glob_paths.specs.Token.{Token, exactly, takes, tokens, tokens_of}
+use Rattle.glob_paths.specs.Sign.{signs_of, signs}
+use Rattle.glob_paths.specs.Token.{Token, exactly, tokens, tokens_of}
 use Rattle.glob_paths.specs.Match.{Matches}
 use Rattle.glob_paths.specs.Root.{is_plain, is_plain_byte}
 use Rattle.glob_paths.proofs.Signs.{plain_first}
@@ -81,6 +80,7 @@ plain_code code all = ⊎_elim low high (cases_lt code 128)
   where
     low : code < 128 → is_plain_byte code ≡ true
     low small = (both (is_plain_byte code) true (ap (list_all is_plain_byte) (sym (encode_ascii code small)) ∙ all)).0
+
     high : 128 ≤ code → is_plain_byte code ≡ true
     high large =
         let a : eqb code 42 ≡ false = grind (arith, nat_tests) in

@@ -1,6 +1,6 @@
 -- Which paths a glob covers (Filebeat reference, filestream paths; that `**` is at most 8 parts is its default): each
 -- part matches the part of the path in its place, and `**` stands for 0 to 8 whole nonempty parts.
-use Rattle.std.specs.Prelude.{◌≢◌, ℕ, ◌≤◌, Bool, Option, Some, None, List, [], ◌∷◌, length, take, drop, map, if◌then◌else◌}
+use Rattle.std.specs.Prelude.{◌≡◌, ◌≢◌, ℕ, ◌≤◌, Bool, Option, Some, None, List, [], ◌∷◌, length, take, drop, map, slice_get, if◌then◌else◌}
 use Rattle.std.specs.List.{AllByRecursion}
 use Rattle.std.specs.Str.{IsUtf8, bytes_eq, chars}
 use Rattle.wire_base.specs.Path.{parts_of}
@@ -32,9 +32,9 @@ PartsCover (deep ∷ parts) names =
 PartsCover (named tokens ∷ parts) [] = ⊥
 PartsCover (named tokens ∷ parts) (name ∷ names) = Matches tokens (chars name) × PartsCover parts names
 
--- the glob of this text covers the path
+-- the glob of this text covers the path, which begins with a slash as it does
 abbrev pub Covers : List ℕ → List ℕ → Type 0
-Covers text path = IsUtf8 path × PartsCover (meaning text) (parts_of path)
+Covers text path = IsUtf8 path × (slice_get path 0 ≡ Some 47) × PartsCover (meaning text) (parts_of path)
 
 -- the parts of a path from some slash on; where it has ended there are none
 abbrev pub parts_left : Option (List ℕ) → List (List ℕ)

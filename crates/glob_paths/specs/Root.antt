@@ -1,7 +1,7 @@
 -- What to list for a glob: the folder of its longest row of leading plain parts, and how deep (this project's profile).
-use Rattle.std.specs.Prelude.{◌≡◌, ◌≢◌, ℕ, ◌+◌, ◌≤◌, Bool, true, false, not, ◌&&◌, ◌==◌, List, [], ◌∷◌, ◌++◌, length, drop, All, if◌then◌else◌}
+use Rattle.std.specs.Prelude.{◌≡◌, ◌≢◌, ℕ, ◌+◌, ◌≤◌, Bool, not, ◌&&◌, ◌==◌, List, [], ◌∷◌, ◌++◌, length, drop, All, if◌then◌else◌}
 use Rattle.std.specs.List.{list_all}
-use Rattle.wire_base.specs.Path.{parts_of, folder_parts, IsBelow}
+use Rattle.wire_base.specs.Path.{parts_of, folder_parts}
 use Rattle.glob_paths.specs.Cover.{is_deep}
 
 -- it is no `*`, `?`, `[` or backslash

@@ -1,6 +1,5 @@
-ghost use Rattle.std.specs.Prelude.{◌↔◌, IsTrue, map, option_copied};
+ghost use Rattle.std.specs.Prelude.{◌↔◌, ◌∷◌, IsTrue, map, option_copied};
 ghost use Rattle.glob_paths.specs.Cover.{PartsCover, part_of, parts_left, deep};
-ghost use Rattle.std.specs.Prelude.{◌∷◌};
 
 use crate::part::part_matches;
 use crate::parts::first_part;
@@ -11,7 +10,8 @@ pub const MAX_DEEP: u32 = 8;
 /// Whether the parts of a glob that are left cover the parts of a path that are left.
 #[cycle(covering)]
 pub fn parts_cover(pattern: Option<&str>, path: Option<&str>) -> bool
-    ensures { IsTrue result ↔ PartsCover (map part_of (parts_left (option_copied pattern.entry))) (parts_left (option_copied path.entry)) }
+    ensures { IsTrue result
+        ↔ PartsCover (map part_of (parts_left (option_copied pattern.entry))) (parts_left (option_copied path.entry)) }
 {
     let mut pattern = pattern;
     let mut path = path;
@@ -36,18 +36,19 @@ pub fn parts_cover(pattern: Option<&str>, path: Option<&str>) -> bool
 /// Whether a `**` and then the parts of a glob that are left cover the parts of a path that are left.
 #[cycle(covering)]
 fn deep_covers(pattern: Option<&str>, path: Option<&str>) -> bool
-    ensures { IsTrue result ↔ PartsCover (deep ∷ map part_of (parts_left (option_copied pattern.entry))) (parts_left (option_copied path.entry)) }
+    ensures { IsTrue result
+        ↔ PartsCover (deep ∷ map part_of (parts_left (option_copied pattern.entry))) (parts_left (option_copied path.entry)) }
 {
     let mut path = path;
-    for _passed in 0..MAX_DEEP {
+    for _count in 0..MAX_DEEP {
         if parts_cover(pattern, path) {
             return true;
         }
         let Some(rest) = path else {
             return false;
         };
-        let (name, left) = first_part(rest);
-        if name.is_empty() {
+        let (passed, left) = first_part(rest);
+        if passed.is_empty() {
             return false;
         }
         path = left;

@@ -1,14 +1,13 @@
-ghost use Rattle.std.specs.Prelude.{◌≡◌, ◌≢◌, ◌↔◌, ◌⊎◌, Option, Some, None, IsTrue, IfOk, IfErr, MatchOption};
+ghost use Rattle.std.specs.Prelude.{◌≡◌, ◌≢◌, ◌↔◌, ◌⊎◌, Option, Some, None, IsTrue, IfOk, IfErr, slice_get};
 ghost use Rattle.wire_base.specs.Path.{parts_of, folder_parts, IsBelow};
 ghost use Rattle.glob_paths.specs.Cover.{Covers};
 ghost use Rattle.glob_paths.specs.Fault.{fault_of};
 ghost use Rattle.glob_paths.specs.Root.{root_of, depth_of, IsWithin, HasNames};
 ghost use Rattle.glob_paths.specs.declared.error.GlobError.TheVariants.{NoMemory};
 
-use crate::GlobError;
 use crate::cover::parts_cover;
 use crate::fault::faultless_parts;
-use crate::root;
+use crate::{GlobError, root};
 use std::alloc::Global;
 use std::marker::Model;
 use std::str;
@@ -55,8 +54,7 @@ impl Glob {
         })
     }
 
-    /// Takes no memory. It takes at most as many steps as the lengths of the glob and the path
-    /// multiplied, and nine times as many with a `**`.
+    /// Takes no memory, and time of the order of the lengths of the glob and the path multiplied.
     ///
     /// A path that it covers lies below the root within the depth, if it has no empty part behind
     /// its first slash, which a `*` matches too, and is not the root, which a `**` at the end covers.
@@ -89,8 +87,20 @@ impl Glob {
 fn text_covers(text: &str, path: &[u8]) -> bool
     ensures { IsTrue result ↔ Covers text.now path.now }
 {
+    if !is_absolute(path) {
+        return false;
+    }
     match str::from_utf8(path) {
         Ok(path) => parts_cover(Some(text), Some(path)),
         Err(_) => false,
+    }
+}
+
+fn is_absolute(path: &[u8]) -> bool
+    ensures { IsTrue result ↔ (slice_get path.now 0 ≡ Some 47) }
+{
+    match path {
+        [b'/', ..] => true,
+        _ => false,
     }
 }

@@ -16,3 +16,6 @@ mod sign;
 
 pub use error::GlobError;
 pub use glob::Glob;
+
+#[cfg(test)]
+mod tests;

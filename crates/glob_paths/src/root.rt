@@ -60,7 +60,8 @@ pub fn depth_of(text: &str) -> Option<u32>
 fn is_plain(part: &str) -> bool
     ensures { result ≡ is_plain part.now }
 {
-    part.as_bytes()
-        .iter()
-        .all(|byte| *byte != b'*' && *byte != b'?' && *byte != b'[' && *byte != b'\\')
+    part.as_bytes().iter().all(|byte| *byte != b'*'
+        && *byte != b'?'
+        && *byte != b'['
+        && *byte != b'\\')
 }

@@ -12,13 +12,13 @@ decreases-deep_covers l = 2 * size_left (option_copied l.pattern) + 1
 abbrev pub invariant-parts_cover-loop-pattern : goal.invariant-parts_cover-loop-pattern
 invariant-parts_cover-loop-pattern l =
     (PartsCover (map part_of (parts_left (option_copied l.fn.pattern))) (parts_left (option_copied l.fn.path))
-        ↔ PartsCover (map part_of (parts_left (option_copied l.pattern))) (parts_left (option_copied l.path)))
+    ↔ PartsCover (map part_of (parts_left (option_copied l.pattern))) (parts_left (option_copied l.path)))
     × (size_left (option_copied l.pattern) ≤ size_left (option_copied l.fn.pattern))
 
 abbrev pub decreases-parts_cover-loop-pattern : goal.decreases-parts_cover-loop-pattern
 decreases-parts_cover-loop-pattern l = size_left (option_copied l.pattern)
 
-abbrev pub invariant-deep_covers-loop-passed : goal.invariant-deep_covers-loop-passed
-invariant-deep_covers-loop-passed l = (most : ℕ) → l._passed + most ≡ 8 →
+abbrev pub invariant-deep_covers-loop-count : goal.invariant-deep_covers-loop-count
+invariant-deep_covers-loop-count l = (most : ℕ) → l._count + most ≡ 8 →
     (PartsCover (deep ∷ map part_of (parts_left (option_copied l.fn.pattern))) (parts_left (option_copied l.fn.path))
-        ↔ DeepWithin most (map part_of (parts_left (option_copied l.fn.pattern))) (parts_left (option_copied l.path)))
+    ↔ DeepWithin most (map part_of (parts_left (option_copied l.fn.pattern))) (parts_left (option_copied l.path)))

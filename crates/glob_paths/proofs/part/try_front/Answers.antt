@@ -15,10 +15,13 @@ returns-in_default-token_after-clause-leads c =
     front_apart _ _ _ _ _ _ _ _ c.loop-sign.invariant.2 c.in-Some.ensures.cases (sym c.if-is.ensures) c.in-Some-first_char.ensures.cases c.in_default-token_after.ensures.taken
 
 pub loop-sign-preserved : goal.loop-sign-preserved
-loop-sign-preserved c =
-    (search rules, search rules,
-    front_goes _ _ _ _ _ _ _ _ _ c.loop-sign.invariant.2 c.in-Some.ensures.cases c.in-Some-first_char.ensures.cases c.in-Some-token_after.ensures.taken c.in-Some-token_after.ensures.behind,
-    omega (arith, c.in-Some-token_after.ensures.no_longer, c.in-Some.ensures.shorter), omega (arith, c.in-Some-first_char.ensures.shorter))
+loop-sign-preserved c = (
+  search rules,
+  search rules,
+  front_goes _ _ _ _ _ _ _ _ _ c.loop-sign.invariant.2 c.in-Some.ensures.cases c.in-Some-first_char.ensures.cases c.in-Some-token_after.ensures.taken c.in-Some-token_after.ensures.behind,
+  omega (arith, c.in-Some-token_after.ensures.no_longer, c.in-Some.ensures.shorter),
+  omega (arith, c.in-Some-first_char.ensures.shorter),
+)
 
 pub returns-in-None-clause-leads : goal.returns-in-None-clause-leads
 returns-in-None-clause-leads c =
