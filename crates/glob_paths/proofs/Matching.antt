@@ -66,9 +66,6 @@ behind_one token tokens (suc place) [] single m = absurd (no_code token tokens s
 behind_one token tokens (suc place) (code ∷ codes) single m =
     let found = behind_one token tokens place codes single m in (suc found.0, omega (arith, found.1), found.2)
 
-pub Comes-refl : (tokens : List Token) (codes : List ℕ) → Comes tokens codes tokens codes
-Comes-refl tokens codes = record { same = (λ m. m, λ m. m); later = λ m. m }
-
 pub Comes-token : (first second : List Token) (codes rest : List ℕ) (token : Token) (code : ℕ) → Comes first codes (token ∷ second) (code ∷ rest) → takes token code ≡ true → Comes first codes second rest
 Comes-token first second codes rest token code comes taken =
     let step = one_token token second code rest taken in
@@ -89,10 +86,6 @@ run_twice tokens [] (suc n) le m = m
 run_twice tokens (code ∷ codes) (suc n) le m =
     let found = run_twice tokens codes n (omega arith) m in (suc found.0, omega (arith, found.1), found.2)
 
-pub star_comes : (first second : List Token) (codes rest : List ℕ) → Comes first codes (any_run ∷ second) rest → Matches (any_run ∷ first) codes ↔ Matches (any_run ∷ second) rest
-star_comes first second codes rest comes =
-    (λ m. let n = comes.later m in run_twice second rest n.0 n.1 n.2, λ m. run_none first codes (comes.same.1 m))
-
 -- where the tokens do not match at the front, the run takes the first character
 pub run_past : (tokens : List Token) (code : ℕ) (codes : List ℕ) → ¬ (Matches tokens (code ∷ codes)) → Matches (any_run ∷ tokens) (code ∷ codes) ↔ Matches (any_run ∷ tokens) codes
 run_past tokens code codes wrong = (λ m. shorter m.0 m.1 m.2, λ m. (suc m.0, omega (arith, m.1), m.2))
@@ -100,13 +93,6 @@ run_past tokens code codes wrong = (λ m. shorter m.0 m.1 m.2, λ m. (suc m.0, o
     shorter : (n : ℕ) → n ≤ length (code ∷ codes) → Matches tokens (drop n (code ∷ codes)) → Matches (any_run ∷ tokens) codes
     shorter zero le m = absurd (wrong m)
     shorter (suc n) le m = (n, omega arith, m)
-
-pub run_ends : (tokens : List Token) → ¬ (Matches tokens []) → ¬ (Matches (any_run ∷ tokens) [])
-run_ends tokens wrong = λ m. at_end m.0 m.1 m.2
-  where
-    at_end : (n : ℕ) → n ≤ 0 → Matches tokens (drop n []) → ⊥
-    at_end zero le m = wrong m
-    at_end (suc n) le m = omega arith
 
 -- the tokens of a text, by its first sign
 star_no_class : (bare : Bool) (code : ℕ) → (bare && eqb code 42) ≡ true → (bare && eqb code 91) ≡ false

@@ -49,7 +49,7 @@ abbrev pub signs_fault : Bool → ℕ → List Sign → Option GlobError
 signs_fault inside at [] = None
 signs_fault inside at (sign ∷ signs) = or_else (if inside then None else sign_fault at sign signs) (signs_fault (opens inside sign) (at + width sign) signs)
 
--- the part is empty, `.` or `..`
+-- the part is empty, `.` or `..`; 46 is the dot
 abbrev pub is_no_name : List ℕ → Bool
 is_no_name text = bytes_eq text [] || (bytes_eq text (46 ∷ []) || bytes_eq text (46 ∷ 46 ∷ []))
 

@@ -4,6 +4,8 @@ use Rattle.std.specs.Prelude.{ℕ, Bool, true, false, not, ◌&&◌, ◌||◌, �
 use Rattle.glob_paths.specs.declared.sign.Sign.{Sign}
 use Rattle.glob_paths.specs.Sign.{is, signs}
 
+-- In these files 42 is `*`, 63 `?`, 91 `[`, 93 `]`, 45 `-`, 94 `^`, 92 the backslash and 47 the slash.
+
 pub data Token : Type 0 where
   -- `*`
   any_run : Token
@@ -24,7 +26,7 @@ items_of (low ∷ dash ∷ high ∷ signs) = if is 93 low then [] else (if is 45
     then (low.code, high.code) ∷ items_of signs
     else (low.code, low.code) ∷ items_of (dash ∷ high ∷ signs))
 
--- the class that begins behind a `[`; 94 is the caret
+-- the class that begins behind a `[`
 abbrev pub is_negated : List Sign → Bool
 is_negated [] = false
 is_negated (sign ∷ signs) = is 94 sign
@@ -55,7 +57,7 @@ abbrev pub some_item_has : ℕ → List (ℕ × ℕ) → Bool
 some_item_has code [] = false
 some_item_has code (item ∷ items) = (nat_le item.0 code && nat_le code item.1) || some_item_has code items
 
--- one character is what the token asks for; the slash, 47, is no character of a name
+-- one character is what the token asks for; a slash is no character of a name
 abbrev pub takes : Token → ℕ → Bool
 takes any_run code = false
 takes any_one code = not (code == 47)
