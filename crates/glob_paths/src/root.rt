@@ -1,4 +1,4 @@
-ghost use Rattle.std.specs.Prelude.{◌≡◌, IfOk, IfSome, string_bytes};
+ghost use Rattle.std.specs.Prelude.{◌≡◌, ◌<◌, ◌^◌, IfOk, SomeIff, string_bytes};
 ghost use Rattle.glob_paths.specs.Root.{is_plain, leading_parts, other_parts, slashed, or_slash, depth_of_parts};
 ghost use Rattle.wire_base.specs.Path.{parts_of};
 
@@ -41,14 +41,19 @@ pub fn root_text(folder: String) -> Result<Text, AllocError>
 
 /// How many parts of a path the parts of a text stand for at most, if that fits.
 pub fn depth_of(text: &str) -> Option<u32>
-    ensures { IfSome result (λ depth. depth ≡ depth_of_parts (parts_of text.now)) }
+    ensures { SomeIff result
+        (depth_of_parts (parts_of text.now) < 2 ^ 32)
+        (depth_of_parts (parts_of text.now)) }
 {
     let mut depth: u32 = 0;
     let mut rest = text;
     loop {
         let (part, more) = first_part(rest);
         let most = if part == "**" { MAX_DEEP } else { 1 };
-        depth = depth.checked_add(most)?;
+        let Some(deeper) = depth.checked_add(most) else {
+            return None;
+        };
+        depth = deeper;
         let Some(behind) = more else {
             return Some(depth);
         };
