@@ -1,0 +1,194 @@
+use crate::*;
+use std::test::Fail;
+use wire_base::Text;
+
+fn glob(rt: &HostRuntime, text: &str) -> Result<Glob, Fail> {
+    let text = Text::from_bytes(rt.alloc(), text.as_bytes())?;
+    Ok(Glob::read(rt.alloc(), &text)?)
+}
+
+#[test]
+fn glob_covers(rt: HostRuntime) -> Result<(), Fail> {
+    let logs = glob(&rt, "/var/log/*.log")?;
+    assert!(rt; logs.covers(b"/var/log/a.log"));
+    assert!(rt; !logs.covers(b"/var/log/x/a.log"));
+    let deep = glob(&rt, "/l/**/a")?;
+    assert!(rt; deep.covers(b"/l/a"));
+    assert!(rt; deep.covers(b"/l/1/2/3/4/5/6/7/8/a"));
+    assert!(rt; !deep.covers(b"/l/1/2/3/4/5/6/7/8/9/a"));
+    Ok(())
+}
+
+const RUNS: [(&str, &[u8], bool); 34] = [
+    ("/var/log/*.log", b"/var/log/.log", true),
+    ("/var/log/*.log", b"/var/log/a.logs", false),
+    ("/var/log/*.log", b"var/log/a.log", false),
+    ("/var/log/*.log", b"/var/log/", false),
+    ("/a", b"/a", true),
+    ("/a", b"/a/", false),
+    ("/a", b"/A", false),
+    ("/a", b"", false),
+    ("/a", b"a", false),
+    ("/a/*", b"/a/", true),
+    ("/a/*", b"/a", false),
+    ("/a/*/c", b"/a//c", true),
+    ("/a/*/c", b"/a/b/b/c", false),
+    ("/*a*a*b", b"/aab", true),
+    ("/*a*a*b", b"/xaxaxb", true),
+    ("/*a*a*b", b"/ab", false),
+    ("/*a*a*a*a*a*b", b"/aaaaaaaaaaaaaaaaaaaaaaaaaaaaaaaa", false),
+    ("/a*b*c", b"/abcbc", true),
+    ("/a*bc", b"/abbbc", true),
+    ("/a*bc", b"/abcb", false),
+    ("/l/**", b"/l", true),
+    ("/l/**", b"/l/1/2/3/4/5/6/7/8", true),
+    ("/l/**", b"/l/1/2/3/4/5/6/7/8/9", false),
+    ("/l/**", b"/l/", false),
+    ("/l/**/a", b"/l//a", false),
+    ("/l/**/a", b"/l/x/b", false),
+    ("/**/a", b"/a", true),
+    ("/**/*.log", b"/x/y/a.log", true),
+    ("/*", b"/\xff", false),
+    ("/**", b"/a/\xc3", false),
+    ("/[^a]", b"/\xed\xa0\x80", false),
+    ("/*", b"/\xc3\xa9", true),
+    ("/**", b"", false),
+    ("/**", b"/", false),
+];
+
+const CHARACTERS: [(&str, &[u8], bool); 49] = [
+    ("/a?", b"/ab", true),
+    ("/a?", b"/a", false),
+    ("/a?", b"/abc", false),
+    ("/a?b", b"/a/b", false),
+    ("/?", b"/\xc3\xa9", true),
+    ("/??", b"/\xc3\xa9", false),
+    ("/?", b"/\xe2\x82\xac", true),
+    ("/?", b"/\xf0\x9d\x84\x9e", true),
+    ("/[ab]", b"/a", true),
+    ("/[ab]", b"/c", false),
+    ("/[ab]", b"/ab", false),
+    ("/[a-c]", b"/b", true),
+    ("/[a-c]", b"/-", false),
+    ("/[-a]", b"/-", true),
+    ("/[-a]", b"/a", true),
+    ("/[-a]", b"/b", false),
+    ("/[a-]", b"/-", true),
+    ("/[a-]", b"/b", false),
+    ("/[a-c-e]", b"/d", false),
+    ("/[a-c-e]", b"/-", true),
+    ("/[a-c-e]", b"/e", true),
+    ("/[^a]", b"/b", true),
+    ("/[^a]", b"/a", false),
+    ("/[^a]", b"/", false),
+    ("/x[^a]y", b"/x/y", false),
+    ("/x[.-0]y", b"/x/y", false),
+    ("/[a^]", b"/^", true),
+    ("/[^^]", b"/^", false),
+    ("/[^^]", b"/a", true),
+    ("/[\\]]", b"/]", true),
+    ("/[\\]]", b"/\\", false),
+    ("/[a\\]b]", b"/b", true),
+    ("/[a]]", b"/a]", true),
+    ("/[a]]", b"/a", false),
+    ("/]", b"/]", true),
+    ("/\\[a\\]", b"/[a]", true),
+    ("/\\[a\\]", b"/a", false),
+    ("/\\*", b"/*", true),
+    ("/\\*", b"/a", false),
+    ("/a\\**", b"/a*x", true),
+    ("/a\\**", b"/ax", false),
+    ("/\\\\", b"/\\", true),
+    ("/[**]", b"/*", true),
+    ("/[[]", b"/[", true),
+    ("/[\u{e0}-\u{e9}]", b"/\xc3\xa8", true),
+    ("/[\u{e0}-\u{e9}]", b"/\xc3\xaa", false),
+    ("/[a\\-c]", b"/b", false),
+    ("/[\\a-c]", b"/b", true),
+    ("/[+--]", b"/,", true),
+];
+
+#[test]
+fn runs_and_parts_are_covered(rt: HostRuntime) -> Result<(), Fail> {
+    for (pattern, path, covered) in &RUNS {
+        assert_eq!(rt; glob(&rt, pattern)?.covers(path), *covered);
+    }
+    Ok(())
+}
+
+#[test]
+fn characters_and_classes_are_covered(rt: HostRuntime) -> Result<(), Fail> {
+    for (pattern, path, covered) in &CHARACTERS {
+        assert_eq!(rt; glob(&rt, pattern)?.covers(path), *covered);
+    }
+    Ok(())
+}
+
+const REFUSALS: [(&str, GlobError); 35] = [
+    ("", GlobError::Empty),
+    ("a", GlobError::NotAbsolute),
+    ("*/a", GlobError::NotAbsolute),
+    ("\u{e9}", GlobError::NotAbsolute),
+    ("/", GlobError::BadPart { at: 1 }),
+    ("//", GlobError::BadPart { at: 1 }),
+    ("/a/", GlobError::BadPart { at: 3 }),
+    ("/a//b", GlobError::BadPart { at: 3 }),
+    ("/.", GlobError::BadPart { at: 1 }),
+    ("/a/..", GlobError::BadPart { at: 3 }),
+    ("/\u{e9}/.", GlobError::BadPart { at: 4 }),
+    ("/x/../[a", GlobError::BadPart { at: 3 }),
+    ("/[a", GlobError::Unclosed { at: 1 }),
+    ("/a[b/c]", GlobError::Unclosed { at: 2 }),
+    ("/[a\\/b]", GlobError::Unclosed { at: 1 }),
+    ("/[a\\]", GlobError::Unclosed { at: 1 }),
+    ("/a\\", GlobError::Unclosed { at: 2 }),
+    ("/a\\/b", GlobError::Unclosed { at: 2 }),
+    ("/\u{e9}\\", GlobError::Unclosed { at: 3 }),
+    ("/[a/**/**", GlobError::Unclosed { at: 1 }),
+    ("/[]", GlobError::BadRange { at: 1 }),
+    ("/[]a]", GlobError::BadRange { at: 1 }),
+    ("/[^]", GlobError::BadRange { at: 1 }),
+    ("/a/[z-a]", GlobError::BadRange { at: 3 }),
+    ("/\u{e9}[b-a]", GlobError::BadRange { at: 3 }),
+    ("/[a-c-b-a]", GlobError::BadRange { at: 1 }),
+    ("/a**", GlobError::StarStar { at: 2 }),
+    ("/**a", GlobError::StarStar { at: 1 }),
+    ("/***", GlobError::StarStar { at: 1 }),
+    ("/**/**", GlobError::StarStar { at: 4 }),
+    ("/a/**/b/**", GlobError::StarStar { at: 8 }),
+    ("/\\***", GlobError::StarStar { at: 3 }),
+    ("/[a]**", GlobError::StarStar { at: 4 }),
+    ("/*[*]**", GlobError::StarStar { at: 5 }),
+    ("/a**/[b", GlobError::StarStar { at: 2 }),
+];
+
+#[test]
+fn refusals_tell_their_places(rt: HostRuntime) -> Result<(), Fail> {
+    for (pattern, refusal) in &REFUSALS {
+        let text = Text::from_bytes(rt.alloc(), pattern.as_bytes())?;
+        match Glob::read(rt.alloc(), &text) {
+            Ok(_) => assert!(rt; false),
+            Err(found) => assert_eq!(rt; found, *refusal),
+        }
+    }
+    Ok(())
+}
+
+#[test]
+fn a_glob_tells_what_to_list(rt: HostRuntime) -> Result<(), Fail> {
+    let cases = [
+        ("/var/log/*.log", "/var/log", 1),
+        ("/a", "/", 1),
+        ("/a/b", "/a", 1),
+        ("/*/b", "/", 2),
+        ("/l/**/a", "/l", 9),
+        ("/a\\b/c", "/", 2),
+        ("/a/b]/c?/d/[e]", "/a/b]", 3),
+    ];
+    for (pattern, root, depth) in cases {
+        let glob = glob(&rt, pattern)?;
+        assert_eq!(rt; glob.root().as_str(), root);
+        assert_eq!(rt; glob.depth(), depth);
+    }
+    Ok(())
+}
