@@ -1,31 +1,32 @@
-ghost use Rattle.std.specs.Prelude.{◌≡◌, ◌∷◌, [], ◌<◌, ◌≤◌, ◌-◌, min, Some, IfOk, vec_len, slice_index};
+ghost use Rattle.std.specs.Prelude.{◌≡◌, [], ◌<◌, ◌≤◌, ◌-◌, Some, IfOk, vec_len, vec_capacity, slice_index};
 ghost use Rattle.wire_base.specs.declared.numbers.TheConstants.{MAX_MOMENT};
 
 use outside::Clock;
 use std::alloc::Global;
 use wire_base::{MAX_MOMENT, Moment, NoMemory};
 
-/// A clock that moves by pauses alone; its list begins with the moment at which it starts.
+/// A clock that moves by pauses alone. Its list begins with the first moment that it gives.
 #[derive(Debug, Drop)]
 pub struct MemClock {
     moments: Vec<u64>,
+    /// The moment that was given last, or else that at which it starts.
     last: u64,
     at: u64,
     questions: u64,
     faults: u64,
-    ghost begun: { 0 < vec_len moments },
-    ghost ends: { slice_index moments.items (vec_len moments - 1) ≡ last },
+    ghost room: { 0 < vec_capacity moments },
+    ghost ends: { 0 < vec_len moments → slice_index moments.items (vec_len moments - 1) ≡ last },
     ghost in_range: { last ≤ MAX_MOMENT },
     ghost next_in_range: { at ≤ MAX_MOMENT },
 }
 
 impl MemClock {
     pub fn new(alloc: Global, start: Moment) -> Result<MemClock, NoMemory>
-        ensures { IfOk result (λ clock. ⟦<MemClock as Clock>⟧.moments clock ≡ Some (min start.0 MAX_MOMENT ∷ [])) }
+        ensures { IfOk result (λ clock. ⟦<MemClock as Clock>⟧.moments clock ≡ Some []) }
     {
         let start = start.0.min(MAX_MOMENT);
         Ok(MemClock {
-            moments: vec![in alloc; start]?,
+            moments: Vec::with_capacity(alloc, 1)?,
             last: start,
             at: start,
             questions: 0,
@@ -48,7 +49,10 @@ impl Clock for MemClock {
 
     fn now(&mut self) -> Moment {
         self.questions = self.questions.saturating_add(1);
-        if self.last != self.at {
+        if self.moments.is_empty() {
+            self.moments.push_reserved(self.at);
+            self.last = self.at;
+        } else if self.last != self.at {
             match self.moments.push(self.at) {
                 Ok(()) => self.last = self.at,
                 Err(_) => self.faults = self.faults.saturating_add(1),
