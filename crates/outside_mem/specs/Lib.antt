@@ -1,7 +1,11 @@
 pub mod Disks
 pub mod Failures
 pub mod Images
+pub mod LinkHistories
+pub mod MemWires
+pub mod Outcomes
 pub mod Replays
 pub mod Steps
+pub mod Talks
 pub mod Torn
 pub mod Windows

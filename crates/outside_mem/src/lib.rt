@@ -10,15 +10,28 @@ mod change;
 mod clock;
 mod crash;
 mod disk;
+mod failing;
 mod failures;
+mod link;
+mod link_history;
+mod outcomes;
 mod script;
 mod sink;
 mod source;
 mod steps;
+mod talk;
+mod windows;
+mod wire;
 
 pub use bell::MemBell;
 pub use clock::MemClock;
 pub use disk::MemDisk;
+pub use link::MemLink;
 pub use sink::MemSink;
 pub use source::MemSource;
 pub use steps::{Due, MemChange, MemFile, MemStep};
+pub use talk::{MemPiece, MemTalk};
+pub use wire::MemWire;
+
+#[cfg(test)]
+mod tests;
