@@ -76,7 +76,8 @@ impl MemLink {
 
     /// What is left of a link that is finished.
     pub(crate) fn into_end(self) -> LinkEnd
-        ensures { result.history ≡ self.history }
+        ensures history { result.history ≡ self.history }
+        ensures starved { result.starved ≡ self.starved }
     {
         let MemLink {
             alloc: _,
@@ -128,6 +129,7 @@ impl MemLink {
     }
 
     fn starve(&mut self)
+        ensures starved { self.new.starved ≡ next_count self.old.starved }
         ensures history { self.new.history ≡ self.old.history }
         ensures failed_sends { self.new.failed_sends ≡ self.old.failed_sends }
     {

@@ -1,3 +1,4 @@
+use crate::windows::WindowReader;
 use crate::*;
 use lumber_frame::{json_head, window_head};
 use outside::{Failed, Link, Recv, Wire};
@@ -121,6 +122,27 @@ fn pieces_come_after_their_windows(rt: HostRuntime) -> Result<(), Fail> {
         };
         assert_eq!(rt; got, [*b"abc", *b"de\0"], "at {windows}, {closes}");
         assert_eq!(rt; wire.starved(), 0);
+    }
+    Ok(())
+}
+
+#[test]
+fn whole_windows_are_counted(rt: HostRuntime) -> Result<(), Fail> {
+    let alloc = rt.alloc();
+    let cases: [(&[u8], &[u32]); 9] = [
+        (b"2W\0\0\0\0", &[0]),
+        (b"2W\0\0\0\x012J\0\0\0\x01\0\0\0\0", &[1]),
+        (b"2W\0\0\0\02W\0\0\0\x012J\0\0\0\x01\0\0\0\x01{2W", &[0, 1]),
+        (b"2W\0\0\0\x012J\0\0\0\x01\0\0\0\x01", &[]),
+        (b"2W\0\0\0\x012J\0\0\0\x02\0\0\0\0", &[]),
+        (b"2W\0\0\0\x012W\0\0\0\0", &[]),
+        (b"2J\0\0\0\x01\0\0\0\0", &[]),
+        (b"2J\0\0\0\x01\x10\0\0\x01", &[]),
+        (b"2W\0\0\0\02A\0\0\0\02W\0\0\0\0", &[0]),
+    ];
+    for (bytes, counts) in cases {
+        let whole = WindowReader::new().read(alloc, bytes)?;
+        assert_eq!(rt; whole.as_slice(), counts, "of {bytes:?}");
     }
     Ok(())
 }

@@ -38,13 +38,12 @@ impl MemWire {
     ghost use Rattle.outside_mem.specs.MemWires.{IsSame};
 
     /// The connection number i that succeeds, from 0, has talk i, and one past the last talk has `All`.
-    pub fn new(alloc: Global, talks: Vec<MemTalk>) -> Result<MemWire, NoMemory>
+    pub fn new(alloc: Global, mut talks: Vec<MemTalk>) -> Result<MemWire, NoMemory>
         ensures outcomes { IfOk result (λ wire. ⟦<MemWire as Wire>⟧.outcomes wire ≡ Some []) }
         ensures open_links { IfOk result (λ wire. ⟦<MemWire as Wire>⟧.open_links wire ≡ 0) }
         ensures faults { IfOk result (λ wire. ⟦<MemWire as Wire>⟧.faults wire ≡ 0) }
         ensures idles { IfOk result (λ wire. ⟦<MemWire as Wire>⟧.idles wire ≡ 0) }
     {
-        let mut talks = talks;
         talks.reverse();
         Ok(MemWire {
             alloc,
