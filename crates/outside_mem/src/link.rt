@@ -1,6 +1,5 @@
-ghost use Rattle.std.specs.Prelude.{◌≡◌, ◌<◌, ◌≤◌, Some, length, IfOk, OnOk, OnErr};
+ghost use Rattle.std.specs.Prelude.{◌≡◌, Some, IfOk, OnOk, OnErr};
 ghost use Rattle.outside.specs.Counts.{next_count};
-ghost use Rattle.outside.specs.Talks.{IsWithin, Ended};
 ghost use Rattle.outside_mem.specs.LinkHistories.{talk_of, Faults};
 
 use crate::failing::FailingCalls;
