@@ -5,6 +5,7 @@ use Rattle.outside.specs.Counts.{next_count}
 use Rattle.outside.specs.Talks.{Talk}
 use Rattle.outside_mem.specs.declared.link_history.LinkHistory.{LinkHistory}
 
+-- what the trait of links sees of it
 abbrev pub talk_of : LinkHistory → Talk
 talk_of r = record { pieces = r.pieces.items; idled = r.idled }
 

@@ -13,10 +13,12 @@ abbrev pub with_refused : List Outcome → ℕ → List Outcome
 with_refused outcomes zero = outcomes
 with_refused outcomes (suc count) = with_refused outcomes count ++ Refused ∷ []
 
+-- up to the last link that was finished
 abbrev pub told_chain : OutcomeChain → List Outcome
 told_chain Start = []
 told_chain (After' p before refused r) = with_refused (told_chain before) refused ++ Finished (talk_of r) r.faults r.idles ∷ []
 
+-- with the connections that failed since then
 abbrev pub told : Outcomes → List Outcome
 told o = with_refused (told_chain o.last) o.refused
 
