@@ -1,5 +1,6 @@
-ghost use Rattle.std.specs.Prelude.{◌<◌, ◌≤◌, length};
-ghost use Rattle.outside_mem.specs.Talks.{IsAnswer};
+ghost use Rattle.std.specs.Prelude.{◌≡◌, ◌<◌, ◌≤◌, length, min, take};
+ghost use Rattle.outside_mem.specs.Talks.{IsAnswer, Acknowledges};
+ghost use Rattle.outside_mem.specs.declared.talk.MemTalk.TheVariants.{All};
 
 use lumber_frame::ack_frame;
 use wire_base::Blob;
@@ -45,7 +46,8 @@ impl MemTalk {
     /// and so many bytes were received.
     pub(crate) fn give(&self, whole: &[u32], received: usize, into: &mut [u8]) -> Answer
         requires { 0 < length into.old }
-        ensures { IsAnswer (length into.old) result }
+        ensures fits { IsAnswer (length into.old) result }
+        ensures acknowledges { self.now ≡ All → Acknowledges whole.now received into.new result }
     {
         match self {
             MemTalk::All => give_acknowledgement(whole, received, into),
@@ -63,7 +65,8 @@ impl MemTalk {
 
 fn give_acknowledgement(whole: &[u32], received: usize, into: &mut [u8]) -> Answer
     requires { 0 < length into.old }
-    ensures { IsAnswer (length into.old) result }
+    ensures fits { IsAnswer (length into.old) result }
+    ensures acknowledges { Acknowledges whole.now received into.new result }
 {
     match whole.get(received / ACKNOWLEDGEMENT) {
         Some(count) => {
@@ -93,6 +96,8 @@ fn put_front(bytes: &[u8], into: &mut [u8]) -> usize
     requires room { 0 < length into.old }
     ensures at_least_one { 0 < result }
     ensures fits { result ≤ length into.old }
+    ensures shows { take result into.new ≡ take result bytes.now }
+    ensures all_that_fits { result ≡ min (length bytes.now) (length into.old) }
 {
     let count = bytes.len().min(into.len());
     into[..count].copy_from_slice(&bytes[..count]);
