@@ -5,9 +5,13 @@ pub mod Images
 pub mod Listed
 pub mod Logs
 pub mod MemFolders
+pub mod LinkHistories
+pub mod MemWires
+pub mod Outcomes
 pub mod Replays
 pub mod Scripts
 pub mod Steps
+pub mod Talks
 pub mod Torn
 pub mod Tracking
 pub mod Windows

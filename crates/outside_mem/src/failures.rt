@@ -1,16 +1,15 @@
 ghost use Rattle.std.specs.Prelude.{◌≡◌, IfOk, OnOk, OnErr, ◌≤◌};
 ghost use Rattle.std.specs.Bool.{OnFalse, OnTrue};
-ghost use Rattle.outside.specs.Counts.{Rose, next_count};
+ghost use Rattle.outside.specs.Counts.{Rose, next_count, added_counts};
 
+use crate::failing::FailingCalls;
 use std::alloc::Global;
 use wire_base::NoMemory;
 
 /// Which calls on an object fail, and how often it has failed.
 #[derive(Debug, Drop)]
 pub(crate) struct Failures {
-    failing: Vec<u64>,
-    stopped_at: Option<u64>,
-    calls: u64,
+    failing: FailingCalls,
     pub(crate) faults: u64,
     pub(crate) starved: u64,
 }
@@ -23,9 +22,7 @@ impl Failures {
         ensures none_starved { result.starved ≡ 0 }
     {
         Failures {
-            failing: Vec::new(alloc),
-            stopped_at: None,
-            calls: 0,
+            failing: FailingCalls::new(alloc),
             faults: 0,
             starved: 0,
         }
@@ -35,15 +32,14 @@ impl Failures {
     pub(crate) fn fail_at(&mut self, calls: &[u64]) -> Result<(), NoMemory>
         ensures { Stays self.old self.new }
     {
-        self.failing.extend_from_slice(calls)?;
-        Ok(())
+        self.failing.fail_at(calls)
     }
 
     /// Lets all calls but the first `calls` fail, as if a list named them.
     pub(crate) fn stop_after(&mut self, calls: u64)
         ensures { Stays self.old self.new }
     {
-        self.stopped_at = Some(calls);
+        self.failing.stop_after(calls);
     }
 
     /// Counts one call, and says whether it fails; then it counts a fault, too.
@@ -51,10 +47,7 @@ impl Failures {
         ensures fails { OnTrue result (Fails self.old self.new) }
         ensures goes_on { OnFalse result (Stays self.old self.new) }
     {
-        let call = self.calls;
-        self.calls = call.saturating_add(1);
-        let fails = self.failing.contains(&call)
-            || self.stopped_at.is_some_and(|stop| stop <= call);
+        let fails = self.failing.next_fails();
         if fails {
             self.faults = self.faults.saturating_add(1);
         }
@@ -69,11 +62,12 @@ impl Failures {
         self.starved = self.starved.saturating_add(1);
     }
 
-    /// Adds the counts of a tail that is closed.
-    pub(crate) fn add(&mut self, other: &Failures)
-        ensures { Adds self.old self.new other.now }
+    /// Counts the faults of an object that this one gave out, `starved` of them for want of memory.
+    pub(crate) fn include(&mut self, faults: u64, starved: u64)
+        ensures faults { self.new.faults ≡ added_counts self.old.faults faults }
+        ensures starved { self.new.starved ≡ added_counts self.old.starved starved }
     {
-        self.faults = self.faults.saturating_add(other.faults);
-        self.starved = self.starved.saturating_add(other.starved);
+        self.faults = self.faults.saturating_add(faults);
+        self.starved = self.starved.saturating_add(starved);
     }
 }

@@ -282,7 +282,7 @@ impl Folder for MemFolder {
         });
         self.log.note(room);
         add_calls(&mut self.files, number, own_calls);
-        self.failures.add(&failures);
+        self.failures.include(failures.faults, failures.starved);
         self.open_tails = self.open_tails.saturating_sub(1);
     }
 }

@@ -11,21 +11,34 @@ mod change;
 mod clock;
 mod crash;
 mod disk;
+mod failing;
 mod failures;
 mod folder;
+mod link;
+mod link_history;
 mod log;
+mod outcomes;
 mod script;
 mod sink;
 mod source;
 mod steps;
 mod tail;
+mod talk;
 mod tracked;
+mod windows;
+mod wire;
 
 pub use bell::MemBell;
 pub use clock::MemClock;
 pub use disk::MemDisk;
 pub use folder::MemFolder;
+pub use link::MemLink;
 pub use sink::MemSink;
 pub use source::MemSource;
 pub use steps::{Due, MemChange, MemFile, MemStep};
 pub use tail::MemTail;
+pub use talk::{MemPiece, MemTalk};
+pub use wire::MemWire;
+
+#[cfg(test)]
+mod tests;

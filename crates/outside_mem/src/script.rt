@@ -88,7 +88,11 @@ impl Script {
             if !step.due.is_made(listings, calls) {
                 break;
             }
-            let before = if index == 0 { Some(&self.file.path) } else { path };
+            let before = if index == 0 {
+                Some(&self.file.path)
+            } else {
+                path
+            };
             path = renamed(before, &step.change);
         }
         path

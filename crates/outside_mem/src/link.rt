@@ -1,0 +1,193 @@
+ghost use Rattle.std.specs.Prelude.{◌≡◌, Some, IfOk, OnOk, OnErr};
+ghost use Rattle.outside.specs.Counts.{next_count};
+ghost use Rattle.outside_mem.specs.LinkHistories.{talk_of, Faults};
+
+use crate::failing::FailingCalls;
+use crate::link_history::LinkHistory;
+use crate::outcomes::{OutcomeNode, spare_node};
+use crate::talk::{Answer, MemTalk};
+use crate::windows::WindowReader;
+use outside::{Failed, Link, Recv};
+use std::alloc::Global;
+use wire_base::NoMemory;
+
+/// A connection to a peer in memory, all told. It is let go by `MemWire::finish` alone.
+#[derive(Debug)]
+pub struct MemLink {
+    alloc: Global,
+    talk: MemTalk,
+    windows: WindowReader,
+    /// The counts of the whole windows that were sent.
+    whole: Vec<u32>,
+    /// How many bytes were received.
+    received: usize,
+    sends: FailingCalls,
+    recvs: FailingCalls,
+    history: LinkHistory,
+    failed_sends: u64,
+    starved: u64,
+    /// Where its outcome will stand.
+    node: Box<OutcomeNode>,
+}
+
+/// What a wire takes over of a link.
+pub(crate) struct LinkEnd {
+    pub(crate) history: LinkHistory,
+    pub(crate) starved: u64,
+    pub(crate) node: Box<OutcomeNode>,
+}
+
+impl MemLink {
+    ghost use Rattle.outside_mem.specs.LinkHistories.{IsFresh, Stays, Sends};
+
+    /// A link to a peer that answers by `All`.
+    pub(crate) fn new(
+        alloc: Global,
+        sends: FailingCalls,
+        recvs: FailingCalls,
+    ) -> Result<MemLink, NoMemory>
+        ensures fresh { IfOk result (λ link. IsFresh link.history) }
+        ensures no_failed_send { IfOk result (λ link. link.failed_sends ≡ 0) }
+    {
+        Ok(MemLink {
+            alloc,
+            talk: MemTalk::All,
+            windows: WindowReader::new(),
+            whole: Vec::new(alloc),
+            received: 0,
+            sends,
+            recvs,
+            history: LinkHistory::new(alloc),
+            failed_sends: 0,
+            starved: 0,
+            node: spare_node(alloc)?,
+        })
+    }
+
+    /// The same link to a peer that answers by this talk.
+    pub(crate) fn with_talk(mut self, talk: MemTalk) -> MemLink
+        ensures history { result.history ≡ self.history }
+        ensures failed_sends { result.failed_sends ≡ self.failed_sends }
+    {
+        self.talk = talk;
+        self
+    }
+
+    /// What is left of a link that is finished.
+    pub(crate) fn into_end(self) -> LinkEnd
+        ensures history { result.history ≡ self.history }
+        ensures starved { result.starved ≡ self.starved }
+    {
+        let MemLink {
+            alloc: _,
+            talk: _talk,
+            windows: _,
+            whole: _whole,
+            received: _,
+            sends: _sends,
+            recvs: _recvs,
+            history,
+            failed_sends: _,
+            starved,
+            node,
+        } = self;
+        LinkEnd {
+            history,
+            starved,
+            node,
+        }
+    }
+
+    fn try_send(&mut self, piece: &[u8]) -> Result<(), NoMemory>
+        ensures ok { OnOk result (Sends self.old.history piece.now self.new.history) }
+        ensures err { OnErr result (Stays self.old.history self.new.history) }
+        ensures failed_sends { self.new.failed_sends ≡ self.old.failed_sends }
+    {
+        let mut windows = self.windows;
+        let whole = windows.read(self.alloc, piece)?;
+        let known = self.whole.len();
+        self.whole.extend_from_slice(&whole)?;
+        match self.history.send(self.alloc, piece) {
+            Ok(()) => {
+                self.windows = windows;
+                Ok(())
+            }
+            Err(error) => {
+                self.whole.truncate(known);
+                Err(error)
+            }
+        }
+    }
+
+    fn fail_send(&mut self)
+        ensures history { Faults self.old.history self.new.history }
+        ensures failed_sends { self.new.failed_sends ≡ next_count self.old.failed_sends }
+    {
+        self.history.fault();
+        self.failed_sends = self.failed_sends.saturating_add(1);
+    }
+
+    fn starve(&mut self)
+        ensures starved { self.new.starved ≡ next_count self.old.starved }
+        ensures history { self.new.history ≡ self.old.history }
+        ensures failed_sends { self.new.failed_sends ≡ self.old.failed_sends }
+    {
+        self.starved = self.starved.saturating_add(1);
+    }
+}
+
+impl Link for MemLink {
+    ghost told = { λ l. Some (talk_of l.history) };
+
+    ghost faults = { λ l. l.history.faults };
+
+    ghost idles = { λ l. l.history.idles };
+
+    ghost failed_sends = { λ l. l.failed_sends };
+
+    fn send(&mut self, piece: &[u8]) -> Result<usize, Failed> {
+        if self.sends.next_fails() {
+            self.fail_send();
+            return Err(Failed);
+        }
+        if piece.is_empty() {
+            return Ok(0);
+        }
+        match self.try_send(piece) {
+            Ok(()) => Ok(piece.len()),
+            Err(_) => {
+                self.starve();
+                self.fail_send();
+                Err(Failed)
+            }
+        }
+    }
+
+    fn recv(&mut self, into: &mut [u8]) -> Recv {
+        if self.recvs.next_fails() {
+            self.history.fault();
+            return Recv::Failed;
+        }
+        match self.talk.give(&self.whole, self.received, into) {
+            Answer::Bytes(count) => match self.history.receive(self.alloc, &into[..count]) {
+                Ok(()) => {
+                    self.received = self.received.saturating_add(count);
+                    Recv::Got(count)
+                }
+                Err(_) => {
+                    self.starve();
+                    self.history.fault();
+                    Recv::Failed
+                }
+            },
+            Answer::Closed => {
+                self.history.fault();
+                Recv::Closed
+            }
+            Answer::NotYet => {
+                self.history.idle();
+                Recv::NotYet
+            }
+        }
+    }
+}

@@ -1,0 +1,105 @@
+ghost use Rattle.std.specs.Prelude.{◌≡◌, ◌<◌, ◌≤◌, length, min, take};
+ghost use Rattle.outside_mem.specs.Talks.{IsAnswer, Acknowledges};
+ghost use Rattle.outside_mem.specs.declared.talk.MemTalk.TheVariants.{All};
+
+use lumber_frame::ack_frame;
+use wire_base::Blob;
+
+/// How many bytes an acknowledgement has.
+const ACKNOWLEDGEMENT: usize = 6;
+
+/// Bytes that a peer sends once so many whole windows were sent to it.
+#[derive(Debug, Drop, PartialEq, Eq)]
+pub struct MemPiece {
+    pub windows: u64,
+    pub bytes: Blob,
+}
+
+/// What a peer answers.
+#[derive(Debug, Drop, PartialEq, Eq)]
+pub enum MemTalk {
+    /// An acknowledgement of each whole window.
+    All,
+    /// These pieces in their order, and then the end of the connection, where it closes.
+    Pieces { pieces: Vec<MemPiece>, closes: bool },
+}
+
+/// What a peer has for a buffer.
+#[derive(Clone, Copy, Debug, PartialEq, Eq)]
+pub(crate) enum Answer {
+    /// So many bytes, which are in the front of the buffer.
+    Bytes(usize),
+    Closed,
+    NotYet,
+}
+
+/// The piece that is to be received next, and how many of its bytes were.
+#[derive(Clone, Copy)]
+struct Next<'a> {
+    piece: &'a MemPiece,
+    at: usize,
+    ghost within: { at < length piece.now.bytes },
+}
+
+impl MemTalk {
+    /// Puts into the front of the buffer what is due after the whole windows of these counts were sent
+    /// and so many bytes were received.
+    pub(crate) fn give(&self, whole: &[u32], received: usize, into: &mut [u8]) -> Answer
+        requires { 0 < length into.old }
+        ensures fits { IsAnswer (length into.old) result }
+        ensures acknowledges { self.now ≡ All → Acknowledges whole.now received into.new result }
+    {
+        match self {
+            MemTalk::All => give_acknowledgement(whole, received, into),
+            MemTalk::Pieces { pieces, closes } => match next_piece(pieces, received) {
+                Some(next) if next.piece.windows <= whole.len() as u64 => {
+                    Answer::Bytes(put_front(&next.piece.bytes.bytes()[next.at..], into))
+                }
+                Some(_) => Answer::NotYet,
+                None if *closes => Answer::Closed,
+                None => Answer::NotYet,
+            },
+        }
+    }
+}
+
+fn give_acknowledgement(whole: &[u32], received: usize, into: &mut [u8]) -> Answer
+    requires { 0 < length into.old }
+    ensures fits { IsAnswer (length into.old) result }
+    ensures acknowledges { Acknowledges whole.now received into.new result }
+{
+    match whole.get(received / ACKNOWLEDGEMENT) {
+        Some(count) => {
+            let frame = ack_frame(*count);
+            Answer::Bytes(put_front(&frame[received % ACKNOWLEDGEMENT..], into))
+        }
+        None => Answer::NotYet,
+    }
+}
+
+/// The first piece of which not all bytes are among the received ones.
+fn next_piece<'a>(pieces: &'a [MemPiece], received: usize) -> Option<Next<'a>> {
+    let mut at = received;
+    for piece in pieces {
+        let size = piece.bytes.bytes().len();
+        if at < size {
+            return Some(Next { piece, at });
+        }
+        at -= size;
+    }
+    None
+}
+
+/// Puts as many of the bytes as fit into the front of the buffer, and says how many.
+fn put_front(bytes: &[u8], into: &mut [u8]) -> usize
+    requires some { 0 < length bytes.now }
+    requires room { 0 < length into.old }
+    ensures at_least_one { 0 < result }
+    ensures fits { result ≤ length into.old }
+    ensures shows { take result into.new ≡ take result bytes.now }
+    ensures all_that_fits { result ≡ min (length bytes.now) (length into.old) }
+{
+    let count = bytes.len().min(into.len());
+    into[..count].copy_from_slice(&bytes[..count]);
+    count
+}
