@@ -47,8 +47,8 @@ module _ (listings calls more_listings more_calls : ℕ) (listed : listings ≤ 
       by_case later true due = (
         later.0,
         ap (λ b. cond b (step ∷ made more_listings more_calls steps) []) (due_still step.due due)
-        ∙ ap (λ (l : List MemStep). step ∷ l) later.1
-        ∙ ap (λ b. cond b (step ∷ made listings calls steps) [] ++ later.0) (sym due),
+            ∙ ap (λ (l : List MemStep). step ∷ l) later.1
+            ∙ ap (λ b. cond b (step ∷ made listings calls steps) [] ++ later.0) (sym due),
       )
       by_case later false late = (made more_listings more_calls (step ∷ steps), ap (λ b. cond b (step ∷ made listings calls steps) [] ++ made more_listings more_calls (step ∷ steps)) (sym late))
 

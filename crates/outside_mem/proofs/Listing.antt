@@ -176,7 +176,7 @@ pub none_earlier-set : (files : List Tracked) (number : ℕ) (old next : Tracked
 none_earlier-set [] number old next listings within is same more = absurd (omega arith)
 none_earlier-set (tracked ∷ files) zero old next listings within is same more = (
   subst (λ (t : Tracked). IsNoEarlier (state_of listings t) (state_of listings next)) is
-  (subst (λ (s : Arc Script Global). IsNoEarlier (state_of listings old) (sight_at listings next.calls (arc_value s).file.steps.items)) (sym same) (sight_grows listings old.calls listings next.calls (omega arith) more (arc_value old.script).file.steps.items)),
+      (subst (λ (s : Arc Script Global). IsNoEarlier (state_of listings old) (sight_at listings next.calls (arc_value s).file.steps.items)) (sym same) (sight_grows listings old.calls listings next.calls (omega arith) more (arc_value old.script).file.steps.items)),
   none_earlier-refl files listings,
 )
 none_earlier-set (tracked ∷ files) (suc number) old next listings within is same more = (no_earlier-refl (state_of listings tracked), none_earlier-set files number old next listings (omega arith) is same more)

@@ -19,9 +19,3 @@ pub record Starves (old new : Failures) : Type 0 where
   pub faults : new.faults ≡ next_count old.faults
   pub no_less : old.faults ≤ new.faults
   pub starved : new.starved ≡ next_count old.starved
-
--- the counts of the other were added
-pub record Adds (old new other : Failures) : Type 0 where
-  pub faults : new.faults ≡ added_counts old.faults other.faults
-  pub no_less : old.faults ≤ new.faults
-  pub starved : new.starved ≡ added_counts old.starved other.starved

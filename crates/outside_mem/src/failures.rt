@@ -15,7 +15,7 @@ pub(crate) struct Failures {
 }
 
 impl Failures {
-    ghost use Rattle.outside_mem.specs.Failures.{Stays, Fails, Starves, Adds};
+    ghost use Rattle.outside_mem.specs.Failures.{Stays, Fails, Starves};
 
     pub(crate) fn new(alloc: Global) -> Failures
         ensures none { result.faults ≡ 0 }

@@ -213,12 +213,7 @@ impl Folder for MemFolder {
 
     ghost faults = { λ f. f.failures.faults };
 
-    fn list(
-        &mut self,
-        alloc: Global,
-        root: &Text,
-        depth: u32,
-    ) -> Result<Vec<Entry>, FolderError> {
+    fn list(&mut self, alloc: Global, root: &Text, depth: u32) -> Result<Vec<Entry>, FolderError> {
         let listings = self.listings;
         self.listings = listings.saturating_add(1);
         if self.failures.next_call_fails() {

@@ -10,6 +10,7 @@ use std::sync::Arc;
 
 /// An opened file in memory, all told. It goes by the listings and the tail calls that its folder
 /// knew when it was opened, and by its own calls.
+#[derive(Drop)]
 pub struct MemTail {
     pub(crate) script: Arc<Script>,
     pub(crate) number: u64,
