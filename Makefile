@@ -1,0 +1,5 @@
+# `run` and `bench` come with the program.
+.PHONY: test
+
+test:
+	.ci/run
