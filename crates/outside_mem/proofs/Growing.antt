@@ -1,8 +1,8 @@
 -- As listings and tail calls go by, there is never less of a file, and always a front of one of its lives.
-use Rattle.std.proofs.Common.{◌≡◌, ◌⊎◌, inl, inr, ℕ, zero, suc, ◌+◌, ◌-◌, ◌<◌, ◌≤◌, min, Bool, true, false, cond, List, [], ◌∷◌, ◌++◌, length, get_or, take, drop, refl, sym, ◌∙◌, ap, subst, arith, add-one, append_assoc, length-append, length-take, length-drop}
-use Rattle.std.specs.Prelude.{slice_index_or, nat_le}
+use Rattle.std.proofs.Common.{◌≡◌, ℕ, ◌+◌, ◌<◌, ◌≤◌, Bool, true, false, cond, List, [], ◌∷◌, ◌++◌, length, take, refl, sym, ◌∙◌, ap, subst, arith, add-one, append_assoc, length-append}
+use Rattle.std.specs.Prelude.{slice_index_or}
 use Rattle.std.proofs.lemmas.Bool.Decides.{nat_tests}
-use Rattle.std.proofs.lemmas.List.{append-nil, take-append-le, take_min}
+use Rattle.std.proofs.lemmas.List.{append-nil}
 use Rattle.outside.specs.declared.history.Sight.{Sight}
 use Rattle.outside.specs.Files.{File, IsOfFile, IsNoEarlier, life_of}
 use Rattle.outside_mem.specs.declared.steps.Due.{Due}
@@ -10,7 +10,7 @@ use Rattle.outside_mem.specs.declared.steps.Due.TheVariants.{Listings, TailCalls
 use Rattle.outside_mem.specs.declared.steps.MemStep.{MemStep}
 use Rattle.outside_mem.specs.declared.steps.MemChange.{MemChange}
 use Rattle.outside_mem.specs.declared.steps.MemChange.TheVariants.{Append, Truncate, Rename, Remove}
-use Rattle.outside_mem.specs.Steps.{Standing, changed, after_steps, is_due, made, no_bytes, standing_at, sight_at, lives_from, lives_of, with_ended, appended, appended_by, seen}
+use Rattle.outside_mem.specs.Steps.{Standing, changed, after_steps, is_due, made, no_bytes, standing_at, sight_at, lives_from, lives_of, with_ended, appended, seen}
 use Rattle.outside_mem.proofs.Making.{after_steps-append, seen_bounds}
 use Rattle.wire_base.specs.declared.numbers.TheConstants.{MAX_PLACE}
 

@@ -1,5 +1,5 @@
 -- A listing goes from file to file.
-use Rattle.std.proofs.Common.{◌≡◌, ◌⊎◌, ⊎_elim, ℕ, zero, suc, ◌+◌, ◌<◌, ◌≤◌, List, [], ◌∷◌, ◌++◌, length, get_or, take, drop, set, map, Option, Some, None, refl, sym, ◌∙◌, ap, subst, arith, add-zero, append_assoc, length-append, length-take}
+use Rattle.std.proofs.Common.{◌≡◌, ⊎_elim, ℕ, zero, suc, ◌+◌, ◌<◌, ◌≤◌, List, [], ◌∷◌, ◌++◌, length, get_or, take, drop, set, map, Option, Some, None, refl, sym, ◌∙◌, ap, subst, arith, add-zero, append_assoc, length-take}
 use Rattle.std.specs.Prelude.{All, Contains, slice_get, IfSome}
 use Rattle.std.specs.Arc.{arc_value}
 use Rattle.std.specs.declared.sync.Arc.{Arc}
@@ -7,15 +7,14 @@ use Rattle.std.specs.declared.alloc.Global.{Global}
 use Rattle.outside_mem.specs.declared.script.Script.{Script}
 use Rattle.std.specs.Option.{option_map, option_to_list}
 use Rattle.std.proofs.lemmas.List.{take_more, append-nil, take-append-drop, length-map, map-append}
-use Rattle.std.proofs.lemmas.List.Elements.{All-nil, All-cons, All-append, All-push, All-weaker, Contains-append_left, Contains-append_right, Contains-push}
+use Rattle.std.proofs.lemmas.List.Elements.{All-nil, All-cons, All-append, All-push, All-weaker, Contains-append_left, Contains-push}
 use Rattle.std.proofs.lemmas.Option.{slice_get-map, slice_get-get_or}
 use Rattle.outside.specs.declared.entry.Entry.{Entry}
 use Rattle.outside.specs.declared.history.Shown.{Shown}
-use Rattle.outside.specs.declared.history.Sight.{Sight}
-use Rattle.outside.specs.Files.{File, IsShownOf, IsOfFile, NoneEarlier, IsNoEarlier, sight_of}
+use Rattle.outside.specs.Files.{File, IsShownOf, IsOfFile, NoneEarlier, IsNoEarlier}
 use Rattle.outside.specs.Folders.{IsListed, ShowsPresent, IsListable}
 use Rattle.outside_mem.specs.declared.tracked.Tracked.{Tracked}
-use Rattle.outside_mem.specs.Listed.{AddsListed, AddsFound}
+use Rattle.outside_mem.specs.Listed.{AddsFound}
 use Rattle.outside_mem.specs.Scripts.{file_of}
 use Rattle.outside_mem.specs.Steps.{sight_at}
 use Rattle.outside_mem.specs.Tracking.{state_of, path_of, shown_by, shown_of, present_from, states_of, files_of}

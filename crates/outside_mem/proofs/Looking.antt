@@ -1,20 +1,17 @@
 -- What the looks at a file in memory show.
-use Rattle.std.proofs.Common.{◌≡◌, ◌⊎◌, inl, inr, ℕ, ◌+◌, ◌-◌, ◌<◌, ◌≤◌, min, List, [], ◌∷◌, ◌++◌, length, take, drop, Option, Some, refl, sym, ◌∙◌, ap, subst, arith, length-append, length-take, length-drop}
+use Rattle.std.proofs.Common.{◌≡◌, ◌⊎◌, inl, inr, ℕ, ◌-◌, ◌<◌, ◌≤◌, min, List, [], ◌∷◌, ◌++◌, length, take, drop, Some, refl, sym, ◌∙◌, ap, subst, arith, length-take, length-drop}
 use Rattle.std.proofs.lemmas.Bool.{cases_lt}
 use Rattle.std.proofs.lemmas.List.{take-append-le, take_min, take_all, drop-append-le, drop_all}
-use Rattle.std.specs.Prelude.{slice_index_or}
 use Rattle.outside.specs.declared.history.Sight.{Sight}
 use Rattle.outside.specs.declared.history.Look.{Look}
 use Rattle.outside.specs.declared.history.Question.TheVariants.{Length, ReadAt}
-use Rattle.outside.specs.Files.{File, IsOfFile, IsNoEarlier, latest, life_of}
-use Rattle.outside.specs.Tails.{TailHistory, with_look, last_sight, IsNextLook, LooksAtLength, LooksAtBytes, TellsBytes}
+use Rattle.outside.specs.Files.{IsOfFile, IsNoEarlier, latest, life_of}
+use Rattle.outside.specs.Tails.{TailHistory, IsNextLook, LooksAtLength, LooksAtBytes, TellsBytes}
 use Rattle.outside_mem.specs.declared.script.Script.{Script}
 use Rattle.outside_mem.specs.Scripts.{file_of}
-use Rattle.outside_mem.specs.Steps.{sight_at, standing_at, lives_of}
+use Rattle.outside_mem.specs.Steps.{sight_at, standing_at}
 use Rattle.outside_mem.specs.Windows.{window, Shows}
-use Rattle.outside_mem.proofs.Growing.{no_earlier-refl, no_earlier-trans, sight_grows, sight_of_file, standing_front}
-use Rattle.wire_base.specs.declared.numbers.TheConstants.{MAX_PLACE}
-use Rattle.wire_base.specs.Ranges.{IsPlace}
+use Rattle.outside_mem.proofs.Growing.{no_earlier-trans, sight_grows, sight_of_file, standing_front}
 
 latest-push : (looks : List Look) (begun : Sight) (look : Look) → latest begun (looks ++ look ∷ []) ≡ look.sight
 latest-push [] begun look = refl

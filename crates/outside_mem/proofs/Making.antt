@@ -1,12 +1,11 @@
 -- The steps of a file that are made, one after another.
-use Rattle.std.proofs.Common.{◌≡◌, ◌⊎◌, inl, inr, ℕ, zero, suc, ◌+◌, ◌<◌, ◌≤◌, Bool, true, false, cond, List, [], ◌∷◌, ◌++◌, length, get_or, take, drop, Option, Some, None, refl, sym, ◌∙◌, ap, subst, arith, append_assoc, length-append, length-take}
-use Rattle.std.specs.Prelude.{◌==◌, if◌then◌else◌}
-use Rattle.std.proofs.lemmas.List.{take_more, drop_more, take_all, drop_all, append-nil}
+use Rattle.std.proofs.Common.{◌≡◌, ℕ, zero, suc, ◌+◌, ◌<◌, ◌≤◌, true, false, cond, List, [], ◌∷◌, ◌++◌, length, get_or, take, drop, Option, Some, refl, sym, ◌∙◌, ap, subst, arith, append_assoc, length-append, length-take}
+use Rattle.std.proofs.lemmas.List.{take_more, drop_more, drop_all, append-nil}
 use Rattle.outside.specs.declared.history.Sight.{Sight}
 use Rattle.outside_mem.specs.declared.steps.MemStep.{MemStep}
 use Rattle.outside_mem.specs.declared.steps.MemChange.{MemChange}
 use Rattle.outside_mem.specs.declared.steps.MemChange.TheVariants.{Append, Truncate, Rename, Remove}
-use Rattle.outside_mem.specs.Steps.{Standing, changed, after_steps, is_due, made, no_bytes, standing_at, sight_at, appended, appended_by, named, named_after, found_by, path_at, seen}
+use Rattle.outside_mem.specs.Steps.{Standing, changed, after_steps, is_due, made, no_bytes, appended, appended_by, named, named_after, found_by, seen}
 use Rattle.outside_mem.specs.Windows.{Shows}
 use Rattle.outside_mem.proofs.Showing.{Shows-nil}
 use Rattle.wire_base.specs.declared.numbers.TheConstants.{MAX_PLACE}

@@ -1,6 +1,5 @@
 -- Openings of a folder in memory.
-use Rattle.std.proofs.Common.{◌≡◌, ℕ, ◌+◌, List, [], ◌∷◌, ◌++◌, length, map, get_or, Option, Some, refl, sym, ◌∙◌, ap, subst}
-use Rattle.std.specs.Prelude.{slice_get}
+use Rattle.std.proofs.Common.{◌≡◌, ℕ, ◌+◌, List, [], ◌∷◌, ◌++◌, length, get_or, Option, Some, refl, sym, ◌∙◌, ap, subst}
 use Rattle.std.specs.Arc.{arc_value}
 use Rattle.std.specs.Option.{option_map}
 use Rattle.std.specs.declared.alloc.Global.{Global}
@@ -9,7 +8,7 @@ use Rattle.std.proofs.lemmas.Option.{same_Some, get_or_from_slice_get, slice_get
 use Rattle.outside.specs.declared.history.Look.{Look}
 use Rattle.outside.specs.declared.history.Sight.{Sight}
 use Rattle.outside.specs.Files.{File, NoneEarlier}
-use Rattle.outside.specs.Folders.{Event, FolderHistory, OpensFile, Opened, with_event}
+use Rattle.outside.specs.Folders.{Event, FolderHistory, OpensFile, Opened}
 use Rattle.outside.specs.Tails.{TailHistory}
 use Rattle.outside_mem.specs.declared.folder.MemFolder.{MemFolder}
 use Rattle.outside_mem.specs.declared.script.Script.{Script}

@@ -1,12 +1,12 @@
 -- A replay goes on by one change.
-use Rattle.std.proofs.Common.{◌≡◌, ℕ, List, length, take, refl, sym, ◌∙◌, ap, subst, inl, arith}
+use Rattle.std.proofs.Common.{◌≡◌, ℕ, List, length, take, ◌∙◌, ap, inl}
 use Rattle.outside.specs.DiskImages.{Torn}
 use Rattle.outside.specs.DiskReads.{written}
 use Rattle.outside_mem.specs.declared.crash.Replay.{Replay}
 use Rattle.outside_mem.specs.declared.change.Change.TheVariants.{Wrote, WriteFailed, CutTo, Synced}
 use Rattle.outside_mem.specs.declared.change.Write.{Write as WriteMade}
-use Rattle.outside_mem.specs.Images.{Reading, Write, Cut, IsLeft-push}
-use Rattle.outside_mem.specs.Replays.{StandsFor, Follows}
+use Rattle.outside_mem.specs.Images.{Write, Cut, IsLeft-push}
+use Rattle.outside_mem.specs.Replays.{Follows}
 
 module _ (old new : Replay) where
   pub follows_write : (write : WriteMade) → new.reads.items ≡ written old.reads.items write.at write.bytes.items → Torn write.at (length write.bytes.items) old.image.items new.image.items → Follows old new (Wrote write)

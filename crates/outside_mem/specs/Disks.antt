@@ -1,9 +1,8 @@
 -- How a disk in memory changes (this project's profile).
-use Rattle.std.specs.Prelude.{◌≡◌, ◌⊎◌, ℕ, ◌≤◌, List, [], ◌∷◌, ◌++◌, length, take}
+use Rattle.std.specs.Prelude.{◌≡◌, ℕ, List, length, take}
 use Rattle.outside.specs.DiskImages.{reach, Torn, MayBeCut, Follows, Elapses}
 use Rattle.outside.specs.DiskReads.{written}
 use Rattle.outside_mem.specs.declared.change.Change.{Change}
-use Rattle.outside_mem.specs.declared.change.Change.TheVariants.{Synced}
 use Rattle.outside_mem.specs.declared.disk.MemDisk.{MemDisk}
 use Rattle.outside_mem.specs.Images.{Reading, after, fresh, after_change, IsImageOf, IsImageSince, MayLeaveBy}
 use Rattle.wire_base.specs.Ranges.{IsPlace}

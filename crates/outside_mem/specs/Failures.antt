@@ -1,6 +1,6 @@
 -- How the counts of an object in memory change (this project's profile).
 use Rattle.std.specs.Prelude.{◌≡◌, ◌≤◌}
-use Rattle.outside.specs.Counts.{next_count, added_counts}
+use Rattle.outside.specs.Counts.{next_count}
 use Rattle.outside_mem.specs.declared.failures.Failures.{Failures}
 
 -- no fault was counted

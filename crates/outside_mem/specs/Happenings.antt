@@ -1,5 +1,5 @@
 -- What a folder in memory tells of one thing that was done with it, and of a row of them (this project's profile).
-use Rattle.std.specs.Prelude.{ℕ, ◌+◌, List, [], ◌∷◌, ◌++◌, replicate}
+use Rattle.std.specs.Prelude.{◌+◌, List, [], ◌∷◌, ◌++◌, replicate}
 use Rattle.outside.specs.Folders.{Event, Listed, ListingFailed, Opened, NotThere, OpeningFailed, Closed}
 use Rattle.outside_mem.specs.declared.log.Happened.{Happened}
 use Rattle.outside_mem.specs.declared.log.Happened.TheVariants.{Listed as WasListed, Opened as WasOpened, NotThere as WasNotThere, OpeningFailed as WasOpeningFailed, Closed as WasClosed}

@@ -1,5 +1,5 @@
 -- What a disk in memory tells: its bytes and its images after each change since it was made (this project's profile).
-use Rattle.std.specs.Prelude.{◌≡◌, ◌⊎◌, ℕ, ◌+◌, ◌≤◌, List, [], ◌∷◌, ◌++◌, length, take}
+use Rattle.std.specs.Prelude.{◌≡◌, ℕ, ◌≤◌, List, [], ◌∷◌, ◌++◌, length, take}
 use Rattle.std.proofs.Common.{refl, sym, subst, inr, arith}
 use Rattle.std.proofs.lemmas.List.{take_all}
 use Rattle.outside.specs.DiskImages.{Torn, MayBeCut}

@@ -1,14 +1,13 @@
 -- What a listing of a folder in memory shows (this project's profile).
-use Rattle.std.specs.Prelude.{◌≡◌, ◌⊎◌, ℕ, ◌<◌, List, [], ◌∷◌, ◌++◌, length, map, All, Contains, slice_get, Option, Some, None}
+use Rattle.std.specs.Prelude.{◌≡◌, ◌⊎◌, ℕ, ◌<◌, List, [], ◌∷◌, ◌++◌, length, map, All, slice_get, Option, Some, None}
 use Rattle.outside.specs.declared.entry.Entry.{Entry}
 use Rattle.outside.specs.declared.history.Shown.{Shown}
-use Rattle.outside.specs.Files.{IsShownOf}
 use Rattle.outside.specs.Folders.{Listed, IsListed, IsListable, ShowsPresent}
 use Rattle.outside_mem.specs.declared.tracked.Tracked.{Tracked}
 use Rattle.outside_mem.specs.declared.tracked.Listing.{Listing}
 use Rattle.outside_mem.specs.Happenings.{event_of}
 use Rattle.outside_mem.specs.Logs.{happened_in}
-use Rattle.outside_mem.specs.Tracking.{shown_by, path_of, present_from, states_of, files_of}
+use Rattle.outside_mem.specs.Tracking.{path_of, present_from, states_of, files_of}
 
 -- the listing shows what is present below the root, and the log is to say the same
 pub record Lists (files : List Tracked) (listings : ℕ) (root : List ℕ) (depth : ℕ) (listing : Listing) : Type 0 where

@@ -1,5 +1,5 @@
 -- What a folder's log in memory tells (this project's profile).
-use Rattle.std.specs.Prelude.{ℕ, List, ◌++◌, replicate}
+use Rattle.std.specs.Prelude.{List, ◌++◌, replicate}
 use Rattle.outside.specs.Folders.{Event, ListingFailed}
 use Rattle.outside_mem.specs.declared.log.Happened.{Happened}
 use Rattle.outside_mem.specs.declared.log.Log.{Log}

@@ -1,17 +1,13 @@
 -- How a folder in memory changes (this project's profile).
-use Rattle.std.specs.Prelude.{◌≡◌, ℕ, ◌<◌, ◌≤◌, ◌+◌, List, [], ◌∷◌, ◌++◌, length, All, Option, Some, None, Result, Ok, Err, slice_get}
+use Rattle.std.specs.Prelude.{◌≡◌, ℕ, ◌+◌, List, [], ◌∷◌, ◌++◌, length, All, Option, Some, None, slice_get}
 use Rattle.std.specs.Arc.{arc_value}
-use Rattle.outside.specs.declared.failed.FolderError.{FolderError}
-use Rattle.outside.specs.declared.failed.FolderError.TheVariants.{Failed, NoMemory}
-use Rattle.outside.specs.Counts.{next_count}
-use Rattle.outside.specs.Files.{File, IsShownOf, sight_of}
-use Rattle.outside.specs.Folders.{Event, Opened, NotThere, OpeningFailed}
+use Rattle.outside.specs.Files.{File}
+use Rattle.outside.specs.Folders.{Event, Opened, NotThere}
 use Rattle.outside_mem.specs.declared.folder.MemFolder.{MemFolder}
 use Rattle.outside_mem.specs.declared.tail.MemTail.{MemTail}
 use Rattle.outside_mem.specs.declared.tracked.Tracked.{Tracked}
 use Rattle.outside_mem.specs.Listed.{FindsAt}
 use Rattle.outside_mem.specs.Logs.{log_events}
-use Rattle.outside_mem.specs.Scripts.{file_of}
 use Rattle.outside_mem.specs.Tracking.{files_of, state_of, present_from}
 
 abbrev pub folder_events : MemFolder → List Event

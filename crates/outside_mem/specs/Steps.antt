@@ -1,5 +1,5 @@
 -- What the steps of a file in memory make of it (this project's profile).
-use Rattle.std.specs.Prelude.{◌≡◌, ℕ, ◌+◌, Bool, true, false, ◌||◌, nat_le, if◌then◌else◌, List, [], ◌∷◌, ◌++◌, length, take, drop, min, Option, Some, None}
+use Rattle.std.specs.Prelude.{ℕ, ◌+◌, Bool, nat_le, if◌then◌else◌, List, [], ◌∷◌, ◌++◌, length, take, Option, Some, None}
 use Rattle.outside.specs.declared.history.Sight.{Sight}
 use Rattle.outside_mem.specs.declared.steps.Due.{Due}
 use Rattle.outside_mem.specs.declared.steps.Due.TheVariants.{Listings, TailCalls}

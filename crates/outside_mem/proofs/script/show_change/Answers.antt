@@ -1,4 +1,3 @@
-use Rattle.std.proofs.Common.{refl}
 use Rattle.outside_mem.proofs.Showing.{Shows-take}
 use Rattle.outside_mem.proofs.script.show_change.Goals as goal
 

@@ -1,4 +1,4 @@
-use Rattle.std.proofs.Common.{◌≤◌, ℕ, sym, ap, arith}
+use Rattle.std.proofs.Common.{sym, ap, arith}
 use Rattle.outside_mem.specs.declared.tracked.Tracked.{Tracked}
 use Rattle.outside_mem.proofs.Listing.{none_earlier-refl, none_earlier-set, files_of-set}
 use Rattle.outside_mem.proofs.tracked.add_calls.Goals as goal

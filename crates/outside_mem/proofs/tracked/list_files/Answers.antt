@@ -1,8 +1,7 @@
-use Rattle.std.proofs.Common.{◌≡◌, ◌<◌, ℕ, List, length, take, Option, ap, ◌∙◌, subst, arith}
+use Rattle.std.proofs.Common.{◌<◌, ℕ, List, length, Option, ap, ◌∙◌, subst, arith}
 use Rattle.std.proofs.lemmas.List.{take_all}
 use Rattle.outside.specs.declared.history.Shown.{Shown}
 use Rattle.outside.specs.Folders.{Listed}
-use Rattle.outside_mem.specs.declared.tracked.Tracked.{Tracked}
 use Rattle.outside_mem.specs.Happenings.{event_of}
 use Rattle.outside_mem.specs.Listed.{AddsFound}
 use Rattle.outside_mem.proofs.Listing.{listed_more, shows_all}

@@ -1,4 +1,3 @@
-use Rattle.std.proofs.Common.{take}
 use Rattle.outside_mem.proofs.Listing.{IsListedUpTo}
 use Rattle.outside_mem.proofs.tracked.list_files.Given as goal
 

@@ -1,5 +1,5 @@
 use Rattle.std.proofs.Common.{rules, refl}
-use Rattle.outside_mem.proofs.Replaying.{follows_write, follows_failed, follows_cut, follows_sync}
+use Rattle.outside_mem.proofs.Replaying.{follows_write, follows_failed, follows_cut}
 use Rattle.outside_mem.proofs.crash.Replay.step.Goals as goal
 
 pub returns-in_ok-self-in-Wrote : goal.returns-in_ok-self-in-Wrote

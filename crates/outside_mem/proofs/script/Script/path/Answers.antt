@@ -1,4 +1,4 @@
-use Rattle.std.proofs.Common.{◌≡◌, ◌<◌, length, sym, ap, ◌∙◌, arith, rules}
+use Rattle.std.proofs.Common.{◌<◌, length, sym, ap, ◌∙◌, arith, rules}
 use Rattle.outside_mem.proofs.Making.{found_more}
 use Rattle.outside_mem.proofs.script.Script.path.Goals as goal
 

@@ -1,4 +1,4 @@
-use Rattle.std.proofs.Common.{◌≡◌, ◌<◌, length, sym, ap, ◌∙◌, arith}
+use Rattle.std.proofs.Common.{◌<◌, length, sym, ap, ◌∙◌, arith}
 use Rattle.outside_mem.proofs.Making.{read_more}
 use Rattle.outside_mem.proofs.script.Script.read.Goals as goal
 

@@ -1,10 +1,9 @@
-use Rattle.std.proofs.Common.{◌≡◌, ℕ, ◌<◌, ◌≤◌, List, length, arith, refl, sym, subst, ap, ◌∙◌, length-take, length-drop}
+use Rattle.std.proofs.Common.{ℕ, ◌<◌, ◌≤◌, List, length, arith, refl, sym, subst, ap, ◌∙◌, length-take, length-drop}
 use Rattle.std.proofs.lemmas.Bool.Decides.{nat_tests}
 use Rattle.outside_mem.specs.Windows.{window}
 use Rattle.std.specs.Prelude.{drop}
 use Rattle.std.specs.Arc.{arc_value}
 use Rattle.outside.specs.declared.history.Look.{Look}
-use Rattle.outside.specs.declared.history.Sight.{Sight}
 use Rattle.outside.specs.Files.{IsNoEarlier, latest}
 use Rattle.outside_mem.specs.Steps.{sight_at, standing_at}
 use Rattle.outside_mem.proofs.Looking.{still_looked, looked_again, of_file, looks_at_bytes}
