@@ -1,6 +1,7 @@
 -- What the calls of a folder tell: the list of its listings, openings and closings in their order (Filebeat reference,
 -- filestream input; this project's profile).
-use Rattle.std.specs.Prelude.{◌≡◌, ◌⊎◌, ℕ, ◌≤◌, List, [], ◌∷◌, ◌++◌, length, map, All, Contains, slice_get, Option, Some, None, IsSome, IfSome, IfOk, Result, Ok, Err, MatchResult, MatchOption, Vec}
+use Rattle.std.specs.Prelude.{◌≡◌, ◌≢◌, ◌⊎◌, ℕ, List, [], ◌∷◌, ◌++◌, length, map, All, Contains, slice_get, Option, Some, None, IfSome, IfOk, Result, Ok, Err, MatchResult, MatchOption, Vec}
+use Rattle.std.specs.List.{AllByRecursion}
 use Rattle.std.specs.declared.alloc.Global.{Global}
 use Rattle.outside.specs.declared.entry.Entry.{Entry}
 use Rattle.outside.specs.declared.failed.FolderError.{FolderError}
@@ -43,11 +44,17 @@ pub record IsListable (entry : Entry) : Type 0 where
 abbrev pub IsListed : List ℕ → ℕ → Shown → Type 0
 IsListed root depth shown = IsBelow root depth shown.entry.path × IsPath shown.entry.path
 
--- the listing shows each present file below the root, and no other
+-- no file is shown twice
+abbrev pub EachOnce : List Shown → Type 0
+EachOnce [] = Unit {0}
+EachOnce (one ∷ shown) = AllByRecursion (λ other. other.file ≢ one.file) shown × EachOnce shown
+
+-- the listing shows each present file below the root once, and no other
 pub record ShowsPresent (files : List File) (states : List Sight) (present : List Shown) (root : List ℕ) (depth : ℕ) (shown : List Shown) : Type 0 where
   pub of_files : All (IsShownOf files states) shown
   pub only : All (λ one. Contains present one × IsListed root depth one) shown
   pub every : All (λ one. IsListed root depth one → Contains shown one) present
+  pub once : EachOnce shown
 
 pub record ListsFiles (told : FolderHistory) (states : List Sight) (present : List Shown) (root : List ℕ) (depth : ℕ) (entries : List Entry) (after : Option FolderHistory) : Type 0 where
   pub shown : List Shown

@@ -1,5 +1,5 @@
 -- How a run of disk calls goes on, for proofs of what a crash leaves at any of its moments.
-use Rattle.std.specs.Prelude.{ℕ, ◌≤◌, List}
+use Rattle.std.specs.Prelude.{ℕ, List}
 use Rattle.std.proofs.Common.{inl, inr, ⊎_elim, arith}
 use Rattle.outside.specs.DiskImages.{Elapses, LeavesOnly}
 

@@ -1,10 +1,9 @@
 -- What the calls of a tail tell (Filebeat reference, filestream input; this project's profile). Each call of `length`
 -- and each read into a nonempty buffer is one look; a call that fails is none.
-use Rattle.std.specs.Prelude.{◌≡◌, ℕ, ◌+◌, ◌<◌, ◌≤◌, List, [], ◌∷◌, ◌++◌, length, take, drop, Option, Some, None, Result, MatchResult}
+use Rattle.std.specs.Prelude.{◌≡◌, ℕ, ◌+◌, ◌<◌, ◌≤◌, List, [], ◌∷◌, ◌++◌, take, drop, Option, Some, None, Result, MatchResult}
 use Rattle.outside.specs.declared.failed.Failed.{Failed}
 use Rattle.outside.specs.declared.history.Sight.{Sight}
 use Rattle.outside.specs.declared.history.Look.{Look}
-use Rattle.outside.specs.declared.history.Question.{Question}
 use Rattle.outside.specs.declared.history.Question.TheVariants.{Length, ReadAt}
 use Rattle.outside.specs.Files.{File, IsOfFile, IsNoEarlier, latest, life_of}
 

@@ -1,6 +1,6 @@
 -- The talk of a link: what was sent and received, piece by piece, in order (Lumberjack v2 over TCP; this project's
 -- profile).
-use Rattle.std.specs.Prelude.{◌≡◌, ℕ, ◌<◌, ◌≤◌, Bool, true, false, List, [], ◌∷◌, ◌++◌, length, take, Option, Some, None, Result, MatchResult}
+use Rattle.std.specs.Prelude.{◌≡◌, ℕ, ◌<◌, ◌≤◌, Bool, true, false, List, [], ◌∷◌, ◌++◌, take, Option, Some, None, Result, MatchResult}
 use Rattle.outside.specs.declared.failed.Failed.{Failed}
 use Rattle.outside.specs.declared.link.Recv.{Recv}
 use Rattle.outside.specs.declared.link.Recv.TheVariants.{Got, Closed, NotYet, Failed as RecvFailed}

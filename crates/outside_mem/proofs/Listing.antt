@@ -1,6 +1,7 @@
 -- A listing goes from file to file.
 use Rattle.std.proofs.Common.{◌≡◌, ⊎_elim, ℕ, zero, suc, ◌+◌, ◌<◌, ◌≤◌, List, [], ◌∷◌, ◌++◌, length, get_or, take, drop, set, map, Option, Some, None, refl, sym, ◌∙◌, ap, subst, arith, add-zero, append_assoc, length-take}
-use Rattle.std.specs.Prelude.{All, Contains, slice_get, IfSome}
+use Rattle.std.specs.Prelude.{◌≢◌, All, Contains, slice_get, IfSome}
+use Rattle.std.specs.List.{AllByRecursion}
 use Rattle.std.specs.Arc.{arc_value}
 use Rattle.std.specs.declared.sync.Arc.{Arc}
 use Rattle.std.specs.declared.alloc.Global.{Global}
@@ -12,7 +13,7 @@ use Rattle.std.proofs.lemmas.Option.{slice_get-map, slice_get-get_or}
 use Rattle.outside.specs.declared.entry.Entry.{Entry}
 use Rattle.outside.specs.declared.history.Shown.{Shown}
 use Rattle.outside.specs.Files.{File, IsShownOf, IsOfFile, NoneEarlier, IsNoEarlier}
-use Rattle.outside.specs.Folders.{IsListed, ShowsPresent, IsListable}
+use Rattle.outside.specs.Folders.{EachOnce, IsListed, ShowsPresent, IsListable}
 use Rattle.outside_mem.specs.declared.tracked.Tracked.{Tracked}
 use Rattle.outside_mem.specs.Listed.{AddsFound}
 use Rattle.outside_mem.specs.Scripts.{file_of}
@@ -27,9 +28,11 @@ pub record IsListedUpTo (files : List Tracked) (listings : ℕ) (root : List ℕ
   pub of_files : All (IsShownOf (files_of files) (states_of listings files)) shown
   pub only : All (λ one. Contains (present_from 0 listings (take number files)) one × IsListed root depth one) shown
   pub every : All (λ one. IsListed root depth one → Contains shown one) (present_from 0 listings (take number files))
+  pub earlier : AllByRecursion (λ one. one.file < number) shown
+  pub once : EachOnce shown
 
 pub listed_none : (files : List Tracked) (listings : ℕ) (root : List ℕ) (depth : ℕ) → IsListedUpTo files listings root depth 0 [] []
-listed_none files listings root depth = record { entries_shown = refl; in_range = All-nil _; of_files = All-nil _; only = All-nil _; every = All-nil _ }
+listed_none files listings root depth = record { entries_shown = refl; in_range = All-nil _; of_files = All-nil _; only = All-nil _; every = All-nil _; earlier = tt; once = tt }
 
 present_from-push : (files : List Tracked) (tracked : Tracked) (number listings : ℕ) → present_from number listings (files ++ tracked ∷ []) ≡ present_from number listings files ++ option_to_list (shown_of (number + length files) listings tracked)
 present_from-push [] tracked number listings =
@@ -58,6 +61,19 @@ HasOtherPath path one = ¬ (one.entry.path ≡ path)
 -- where it is to be listed it is shown
 abbrev IsOnlyShown : List ℕ → ℕ → List Shown → Shown → Type 0
 IsOnlyShown root depth shown one = IsListed root depth one → Contains shown one
+
+all_push : (P : Shown → Type 0) (shown : List Shown) (one : Shown) → AllByRecursion P shown → P one → AllByRecursion P (shown ++ one ∷ [])
+all_push P [] one all is = (is, tt)
+all_push P (first ∷ shown) one all is = (all.0, all_push P shown one all.1 is)
+
+all_weaker : (P Q : Shown → Type 0) → ((one : Shown) → P one → Q one) → (shown : List Shown) → AllByRecursion P shown → AllByRecursion Q shown
+all_weaker P Q weaker [] all = tt
+all_weaker P Q weaker (one ∷ shown) all = (weaker one all.0, all_weaker P Q weaker shown all.1)
+
+-- a file behind all the others comes once more alone
+once-push : (shown : List Shown) (number : ℕ) (one : Shown) → AllByRecursion (λ o. o.file < number) shown → EachOnce shown → one.file ≡ number → EachOnce (shown ++ one ∷ [])
+once-push [] number one earlier once is = (tt, tt)
+once-push (first ∷ shown) number one earlier once is = (all_push (λ other. other.file ≢ first.file) shown one once.0 (λ same. omega (arith, same, is, earlier.0)), once-push shown number one earlier.1 once.1 is)
 
 module _ (files : List Tracked) (listings number : ℕ) (tracked : Tracked) (within : number < length files) (is : tracked ≡ get_or files number tracked) where
   pub tracked_at : slice_get files number ≡ Some tracked
@@ -99,6 +115,8 @@ module _ (files : List Tracked) (listings number : ℕ) (tracked : Tracked) (wit
           only =
               All-weaker (IsOnList files listings root depth number) (IsOnList files listings root depth (number + 1))
               (λ one there. (subst (λ (l : List Shown). Contains l one) (sym present) (Contains-append_left (present_from 0 listings (take number files)) more one there.0), there.1)) shown so_far.only;
+          earlier = all_weaker (λ o. o.file < number) (λ o. o.file < number + 1) (λ o less. omega (arith, less)) shown so_far.earlier;
+          once = so_far.once;
           every =
               subst (λ (l : List Shown). All (IsOnlyShown root depth shown) l) (sym present)
               (All-append (IsOnlyShown root depth shown) (present_from 0 listings (take number files)) more so_far.every
@@ -106,10 +124,10 @@ module _ (files : List Tracked) (listings number : ℕ) (tracked : Tracked) (wit
         })
 
     -- a listing with one file more
-    with_one : (one : Shown) → IsListed root depth one → IsShownOf (files_of files) (states_of listings files) one → IsListable one.entry
+    with_one : (one : Shown) → one.file ≡ number → IsListed root depth one → IsShownOf (files_of files) (states_of listings files) one → IsListable one.entry
         → present_from 0 listings (take (number + 1) files) ≡ present_from 0 listings (take number files) ++ one ∷ []
         → more_entries ≡ entries ++ one.entry ∷ [] → more_shown ≡ shown ++ one ∷ [] → IsListedUpTo files listings root depth (number + 1) more_entries more_shown
-    with_one one listed of_files listable present added_entry added_one =
+    with_one one is_number listed of_files listable present added_entry added_one =
         subst (λ (e : List Entry). IsListedUpTo files listings root depth (number + 1) e more_shown) (sym added_entry)
         (subst (λ (l : List Shown). IsListedUpTo files listings root depth (number + 1) (entries ++ one.entry ∷ []) l) (sym added_one) record {
           entries_shown = map-append (λ (o : Shown). o.entry) shown (one ∷ []) ∙ ap (λ (e : List Entry). e ++ one.entry ∷ []) so_far.entries_shown;
@@ -120,6 +138,10 @@ module _ (files : List Tracked) (listings number : ℕ) (tracked : Tracked) (wit
               (All-weaker (IsOnList files listings root depth number) (IsOnList files listings root depth (number + 1))
               (λ o there. (subst (λ (l : List Shown). Contains l o) (sym present) (Contains-append_left (present_from 0 listings (take number files)) (one ∷ []) o there.0), there.1)) shown so_far.only)
               (subst (λ (l : List Shown). Contains l one) (sym present) (Contains-push (present_from 0 listings (take number files)) one), listed);
+          earlier =
+              all_push (λ o. o.file < number + 1) shown one
+              (all_weaker (λ o. o.file < number) (λ o. o.file < number + 1) (λ o less. omega (arith, less)) shown so_far.earlier) (omega (arith, is_number));
+          once = once-push shown number one so_far.earlier so_far.once is_number;
           every =
               subst (λ (l : List Shown). All (IsOnlyShown root depth (shown ++ one ∷ [])) l) (sym present)
               (All-push (IsOnlyShown root depth (shown ++ one ∷ [])) (present_from 0 listings (take number files)) one
@@ -140,7 +162,7 @@ module _ (files : List Tracked) (listings number : ℕ) (tracked : Tracked) (wit
             let some : shown_of number listings tracked ≡ Some one = ap (λ (o : Option (List ℕ)). option_map (shown_by number listings tracked) o) path_is in
             let adds_one = subst (λ (o : Option Shown). AddsFound root depth o entries shown more_entries more_shown) some adds in
             let present = present-more ∙ ap (λ (o : Option Shown). present_from 0 listings (take number files) ++ option_to_list o) some in
-            ⊎_elim (λ added. with_one one added.0 (is_shown path) record { path = added.0.1; size = state_in_range.in_range } present added.1 added.2) (λ left. as_before (one ∷ []) (All-cons (λ (o : Shown). ¬ (IsListed root depth o)) one [] left.0 (All-nil (λ (o : Shown). ¬ (IsListed root depth o)))) present left.1 left.2) adds_one
+            ⊎_elim (λ added. with_one one refl added.0 (is_shown path) record { path = added.0.1; size = state_in_range.in_range } present added.1 added.2) (λ left. as_before (one ∷ []) (All-cons (λ (o : Shown). ¬ (IsListed root depth o)) one [] left.0 (All-nil (λ (o : Shown). ¬ (IsListed root depth o)))) present left.1 left.2) adds_one
 
   -- no file that is present so far has the path, nor has this one
   pub none_more : (path : List ℕ) → (path_of listings tracked ≡ Some path → ⊥) → All (λ one. ¬ (one.entry.path ≡ path)) (present_from 0 listings (take number files)) → All (λ one. ¬ (one.entry.path ≡ path)) (present_from 0 listings (take (number + 1) files))
@@ -193,4 +215,5 @@ shows_all files listings root depth number entries shown all listed = record {
   of_files = listed.of_files;
   only = subst (λ (l : List Tracked). All (λ one. Contains (present_from 0 listings l) one × IsListed root depth one) shown) all listed.only;
   every = subst (λ (l : List Tracked). All (λ one. IsListed root depth one → Contains shown one) (present_from 0 listings l)) all listed.every;
+  once = listed.once;
 }

@@ -32,3 +32,14 @@ fn text_refuses_bytes_at_their_place(rt: HostRuntime) -> Result<(), Fail> {
     assert!(rt; matches!(cut, Err(TextError::NotUtf8 { at: 1 })));
     Ok(())
 }
+
+#[test]
+fn blob_keeps_its_bytes_and_want_of_memory_has_a_text(rt: HostRuntime) -> Result<(), Fail> {
+    let alloc = rt.alloc();
+    let blob = Blob::from_bytes(alloc, b"\xff\0")?.copy(alloc)?;
+    assert_eq!(rt; blob.bytes(), b"\xff\0".as_slice());
+    let refusal = NoMemory;
+    let shown = format!(in alloc; "{refusal}")?;
+    assert_eq!(rt; shown.as_str(), "out of memory");
+    Ok(())
+}
