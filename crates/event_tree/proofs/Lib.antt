@@ -1,0 +1,9 @@
+mod Dots
+mod Edits
+mod Entries
+mod Order
+mod PathLaws
+mod Places
+mod Puts
+mod Steps
+mod Takes

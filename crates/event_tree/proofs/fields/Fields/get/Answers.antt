@@ -1,0 +1,14 @@
+use Rattle.std.proofs.Common.{sym, subst, ap, ◌∙◌}
+use Rattle.event_tree.specs.Keys.{IsInOrder, find}
+use Rattle.event_tree.specs.Tree.{pairs_of}
+use Rattle.event_tree.proofs.Entries.{find_entry}
+use Rattle.event_tree.proofs.Places.{find_gap}
+use Rattle.event_tree.proofs.fields.Fields.get.Goals as goal
+
+pub returns-in-Ok : goal.returns-in-Ok
+returns-in-Ok c =
+    rw (← c.self.view_is) (find_entry _ c.self.invariant _ _ _ (rw c.deref.ensures.value at c.in-Ok.ensures.found) c.index.ensures)
+
+pub returns-in-Err : goal.returns-in-Err
+returns-in-Err c =
+    rw (← c.self.view_is) (sym (find_gap _ _ _ (rw c.deref.ensures.value at c.in-Err.ensures.absent)))
