@@ -29,6 +29,14 @@ find-set_other key other v (p ∷ ps) differs = by_case (compare key p.0) refl (
     by_case Equal e h = rw (differs, ← same_key key p.0 e, differs) refl
     by_case Greater e h = rw h refl
 
+pub find-set_not : (key other : List ℕ) (v : TreeValue) (ps : FieldList) → other ≢ key → find other (set_field key v ps) ≡ find other ps
+find-set_not key other v ps differs = find-set_other key other v ps (by_case (compare other key) refl)
+  where
+    by_case : (o : Ordering) → compare other key ≡ o → is_eq o ≡ false
+    by_case Less e = refl
+    by_case Equal e = absurd (differs (same_key other key e))
+    by_case Greater e = refl
+
 pub find-unset_other : (key other : List ℕ) (ps : FieldList) → is_eq (compare other key) ≡ false → find other (unset_field key ps) ≡ find other ps
 find-unset_other key other [] differs = refl
 find-unset_other key other (p ∷ ps) differs = by_case (compare key p.0) refl (find-unset_other key other ps differs)

@@ -1,4 +1,4 @@
-ghost use Rattle.std.specs.Prelude.{◌≡◌, ◌<◌, [], ◌∷◌, ◌++◌, length, IfOk, IfErr, OnOk, OnErr, slice_get, Some, option_map, None, IfNone};
+ghost use Rattle.std.specs.Prelude.{◌≡◌, ◌≢◌, ◌<◌, ℕ, List, [], ◌∷◌, ◌++◌, length, IfOk, IfErr, OnOk, OnErr, slice_get, Some, option_map, None, IfNone};
 ghost use Rattle.event_tree.specs.Tree.{value_of, pairs_of};
 ghost use Rattle.event_tree.specs.Keys.{IsInOrder, find, set_field};
 ghost use Rattle.event_tree.specs.Paths.{map_of, get_at, put_at, remove_at, blocked_at};
@@ -9,7 +9,7 @@ use std::alloc::Global;
 use std::marker::Model;
 use wire_base::{NoMemory, Text};
 
-/// The fields of a map.
+/// The fields of a map, seen as pairs of a key and a value: keys in byte order, each key once.
 #[cycle(tree)]
 #[derive(Debug, Drop)]
 pub struct Fields {
@@ -55,7 +55,16 @@ impl Fields {
         self.entries.len()
     }
 
-    // The value of a key.
+    /// The key and the value at place `i`, in the order of the keys.
+    pub fn at(&self, i: usize) -> (&Text, &Tree)
+        requires { i < length self.now }
+        ensures at { slice_get self.now i ≡ Some (result.0.now, value_of result.1.now) }
+        ensures in_order { IsInOrder self.now }
+    {
+        let entry = &self.entries[i];
+        (&entry.0, &entry.1)
+    }
+
     pub(crate) fn get(&self, key: &Text) -> Option<&Tree>
         ensures { option_map (λ tree. value_of tree.now) result ≡ find key.now self.now }
     {
@@ -68,6 +77,8 @@ impl Fields {
     /// Replaces the key's value. `Err` is want of memory, and gives both back.
     pub fn set(&mut self, key: Text, value: Tree) -> Result<(), (Text, Tree)>
         ensures set { OnOk result (self.new ≡ set_field key (value_of value) self.old) }
+        ensures found { OnOk result (find key self.new ≡ Some (value_of value)) }
+        ensures others { OnOk result ((other : List ℕ) → other ≢ key → find other self.new ≡ find other self.old) }
         ensures kept { OnErr result (self.new ≡ self.old) }
         ensures given_back { IfErr result (λ back. back ≡ (key, value)) }
     {
@@ -136,15 +147,6 @@ impl Fields {
             entries.push((key.copy(alloc)?, value.copy(alloc)?))?;
         }
         Ok(Fields { entries })
-    }
-
-    pub fn at(&self, i: usize) -> (&Text, &Tree)
-        requires { i < length self.now }
-        ensures at { slice_get self.now i ≡ Some (result.0.now, value_of result.1.now) }
-        ensures in_order { IsInOrder self.now }
-    {
-        let entry = &self.entries[i];
-        (&entry.0, &entry.1)
     }
 }
 

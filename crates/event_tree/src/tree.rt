@@ -132,7 +132,7 @@ impl Tree {
         }
         let mut next = self.copy(alloc)?;
         let Some(moved) = next.remove(from) else {
-            return Err(RenameError::Absent);
+            unreachable!()
         };
         next.put_parts(alloc, to.parts(), moved)?;
         *self = next;

@@ -6,7 +6,7 @@ use std::alloc::Global;
 use std::marker::Model;
 use wire_base::NoMemory;
 
-/// A list of trees.
+/// A list of trees, seen as the list of their values.
 #[cycle(tree)]
 #[derive(Debug, Drop)]
 pub struct Trees {
