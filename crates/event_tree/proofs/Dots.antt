@@ -1,6 +1,6 @@
 -- The parts between dots: how far they reach, and where the first empty one stands.
-use Rattle.std.proofs.Common.{◌≡◌, ℕ, suc, ◌+◌, ◌<◌, ◌≤◌, Bool, true, false, cond, List, [], ◌∷◌, ◌++◌, length, get_or, take, drop, Option, Some, None, option_map, refl, sym, ap, ◌∙◌, subst, arith}
-use Rattle.std.specs.List.{slice_split, onto_first}
+use Rattle.std.proofs.Common.{◌≡◌, ℕ, ◌+◌, ◌<◌, Bool, true, false, cond, List, [], ◌∷◌, ◌++◌, length, get_or, take, drop, Option, Some, None, option_map, refl, sym, ap, ◌∙◌, subst, arith}
+use Rattle.std.specs.List.{onto_first}
 use Rattle.std.specs.Prelude.{◌==◌, ◌≢◌, All}
 use Rattle.std.proofs.lemmas.List.{drop_more, take_more, take_all, drop_all, nil_from_length}
 use Rattle.std.proofs.lemmas.List.Elements.{All-push}

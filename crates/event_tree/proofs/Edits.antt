@@ -1,13 +1,11 @@
 -- What an edit of the pairs of a map does to its order and to what each key has.
-use Rattle.std.proofs.Common.{◌≡◌, ◌≢◌, ℕ, zero, suc, ◌<◌, Bool, true, false, List, [], ◌∷◌, length, set, Option, Some, None, refl, sym, ap, ◌∙◌, subst, if◌then◌else◌, arith}
-use Rattle.std.specs.List.{insert, remove}
+use Rattle.std.proofs.Common.{◌≡◌, ◌≢◌, ℕ, Bool, true, false, List, [], ◌∷◌, Some, None, refl, sym, ap, subst, if◌then◌else◌}
 use Rattle.std.specs.Ordering.{match_ordering, is_eq}
 use Rattle.std.specs.declared.cmp.Ordering.{Ordering}
 use Rattle.std.specs.declared.cmp.Ordering.TheVariants.{Less, Equal, Greater}
 use Rattle.event_tree.specs.Value.{TreeValue, FieldList}
 use Rattle.event_tree.specs.Keys.{compare, IsBefore, IsInOrder, find, set_field, unset_field}
-use Rattle.event_tree.specs.Place.{pair_at, IsAt, IsGap}
-use Rattle.event_tree.proofs.Order.{same_key, compare_same, compare_greater, compare_less, compare_trans}
+use Rattle.event_tree.proofs.Order.{same_key, compare_same, compare_less, compare_trans}
 
 -- ---- what a key has after an edit
 

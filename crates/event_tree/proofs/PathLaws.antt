@@ -1,5 +1,5 @@
 -- What stands at each path after a put or a removal.
-use Rattle.std.proofs.Common.{◌≡◌, ℕ, suc, ◌<◌, length, arith, Bool, true, false, List, [], ◌∷◌, Option, Some, None, option_map, refl, sym, ap, ◌∙◌, subst}
+use Rattle.std.proofs.Common.{◌≡◌, ℕ, suc, ◌<◌, length, arith, false, List, [], ◌∷◌, Option, Some, None, option_map, refl, sym, ap, ◌∙◌, subst}
 use Rattle.std.specs.Prelude.{option_and_then, unwrap_or}
 use Rattle.std.specs.Option.{option_map_or}
 use Rattle.std.specs.Ordering.{is_eq}
@@ -7,8 +7,8 @@ use Rattle.std.specs.declared.cmp.Ordering.{Ordering}
 use Rattle.std.specs.declared.cmp.Ordering.TheVariants.{Less, Equal, Greater}
 use Rattle.event_tree.specs.Value.{TreeValue, null, flag, int, str, list, fields, FieldList, pairs_in}
 use Rattle.event_tree.specs.Keys.{compare, find, set_field, unset_field}
-use Rattle.event_tree.specs.Paths.{Parts, fields_in, map_of, member_at, get_at, put_at, with_fields, with_member, remove_at, rename_at, blocked_at, blocked_by, IsApart}
-use Rattle.event_tree.proofs.Order.{same_key, compare_same}
+use Rattle.event_tree.specs.Paths.{Parts, fields_in, map_of, member_at, get_at, put_at, with_fields, with_member, remove_at, blocked_at, blocked_by, IsApart}
+use Rattle.event_tree.proofs.Order.{same_key}
 use Rattle.event_tree.proofs.Edits.{find-set, find-set_other, find-unset, find-unset_other}
 use Rattle.event_tree.proofs.Steps.{pairs_back, get_at-map}
 

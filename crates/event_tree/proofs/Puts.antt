@@ -6,7 +6,7 @@ use Rattle.std.proofs.lemmas.List.{map-set, set-get_or}
 use Rattle.event_tree.specs.Value.{TreeValue, FieldList}
 use Rattle.event_tree.specs.Keys.{IsInOrder, find, set_field}
 use Rattle.event_tree.specs.Place.{IsAt, IsGap}
-use Rattle.event_tree.specs.Paths.{Parts, map_of, put_at, blocked_at, blocked_by}
+use Rattle.event_tree.specs.Paths.{Parts, map_of, put_at, blocked_at}
 use Rattle.event_tree.specs.Tree.{value_of, pair_of, pairs_of}
 use Rattle.event_tree.specs.declared.tree.Tree.{Tree}
 use Rattle.event_tree.proofs.Entries.{find_entry, set_entry, insert_entry}

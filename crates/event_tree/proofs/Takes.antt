@@ -1,13 +1,12 @@
 -- What a removal below a key does to the entries of a map.
-use Rattle.std.proofs.Common.{◌≡◌, ℕ, ◌<◌, List, [], ◌∷◌, length, get_or, set, Option, Some, None, option_map, refl, sym, ap, ◌∙◌, subst, arith}
+use Rattle.std.proofs.Common.{◌≡◌, ℕ, ◌<◌, List, [], ◌∷◌, length, get_or, set, Option, Some, None, refl, sym, ap, ◌∙◌, subst, arith}
 use Rattle.std.specs.List.{remove}
-use Rattle.std.specs.Prelude.{option_and_then}
 use Rattle.std.proofs.lemmas.List.{nil_from_length}
 use Rattle.event_tree.specs.Value.{TreeValue, FieldList}
 use Rattle.event_tree.specs.Keys.{IsInOrder, find, set_field, unset_field}
 use Rattle.event_tree.specs.Place.{IsAt}
 use Rattle.event_tree.specs.Paths.{Parts, map_of, get_at, remove_at, with_member}
-use Rattle.event_tree.specs.Tree.{value_of, pair_of, pairs_of}
+use Rattle.event_tree.specs.Tree.{value_of, pairs_of}
 use Rattle.event_tree.specs.declared.tree.Tree.{Tree}
 use Rattle.event_tree.proofs.Entries.{find_entry, set_entry, remove_entry}
 use Rattle.event_tree.proofs.Edits.{unset_absent, in_order-unset}

@@ -1,5 +1,5 @@
 -- The plain value that a tree of the program stands for (this project's profile).
-use Rattle.std.specs.Prelude.{ℕ, ℤ, Bool, List, map}
+use Rattle.std.specs.Prelude.{ℕ, List, map}
 use Rattle.event_tree.specs.Value.{TreeValue, null, flag, int, str, list, fields, FieldList, as_values, as_members}
 use Rattle.event_tree.specs.declared.tree.Tree.{Tree}
 use Rattle.event_tree.specs.declared.tree.Tree.TheVariants.{Null, Flag, Int, Str, List as ListOf, Map}

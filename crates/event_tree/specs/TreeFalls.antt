@@ -1,5 +1,5 @@
 -- Each tree in a list or a map holds fewer values than it.
-use Rattle.std.specs.Prelude.{◌≡◌, refl, ℕ, ◌+◌, ◌≤◌, max, List, [], ◌∷◌}
+use Rattle.std.specs.Prelude.{◌≡◌, refl, ℕ, ◌≤◌, max, List, [], ◌∷◌}
 use Rattle.std.proofs.Common.{arith}
 use denote.Param.Weighed.{most}
 use Rattle.event_tree.specs.declared.fields.Fields.TheDeep.{deep-Tree, deep-Trees, deep-Fields}

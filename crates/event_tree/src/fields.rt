@@ -1,4 +1,4 @@
-ghost use Rattle.std.specs.Prelude.{◌≡◌, ◌≢◌, ◌<◌, ℕ, List, [], ◌∷◌, ◌++◌, length, IfOk, IfErr, OnOk, OnErr, slice_get, Some, option_map, None, IfNone};
+ghost use Rattle.std.specs.Prelude.{◌≡◌, ◌≢◌, ◌<◌, ℕ, List, [], ◌∷◌, length, IfOk, IfErr, OnOk, OnErr, slice_get, Some, option_map, None, IfNone};
 ghost use Rattle.event_tree.specs.Tree.{value_of, pairs_of};
 ghost use Rattle.event_tree.specs.Keys.{IsInOrder, find, set_field};
 ghost use Rattle.event_tree.specs.Paths.{map_of, get_at, put_at, remove_at, blocked_at};

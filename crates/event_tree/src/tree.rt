@@ -1,4 +1,4 @@
-ghost use Rattle.std.specs.Prelude.{◌≡◌, ◌<◌, ℕ, length, Some, None, option_map, IfOk, IfErr, IfNone, OnOk, OnErr};
+ghost use Rattle.std.specs.Prelude.{◌≡◌, ◌<◌, length, Some, None, option_map, IfOk, IfErr, IfNone, OnOk, OnErr};
 ghost use Rattle.event_tree.specs.Tree.{value_of};
 ghost use Rattle.event_tree.specs.Paths.{Parts, get_at, put_at, blocked_at, remove_at, rename_at, IsApart};
 ghost use Rattle.event_tree.specs.Refusals.{IsPutRefusal, IsRenameRefusal, IsRenamable};

@@ -1,9 +1,8 @@
-use Rattle.std.proofs.Common.{sym, subst, ap, ◌∙◌, arith}
+use Rattle.std.proofs.Common.{sym, subst, arith}
 use Rattle.std.proofs.lemmas.Result.{on_ok_weaker, on_err_weaker}
 use Rattle.event_tree.specs.Keys.{IsInOrder}
-use Rattle.event_tree.specs.Paths.{map_of, put_at}
 use Rattle.event_tree.specs.Tree.{value_of, pairs_of}
-use Rattle.event_tree.proofs.Entries.{set_entry, insert_entry}
+use Rattle.event_tree.proofs.Entries.{set_entry}
 use Rattle.event_tree.proofs.Edits.{in_order-set}
 use Rattle.event_tree.proofs.Puts.{free_below, put_there, kept_there, put_new, new_in_order}
 use Rattle.event_tree.proofs.+put.Goals as goal

@@ -1,4 +1,4 @@
-use Rattle.std.proofs.Common.{Option, Some, None, IfNone, nat_eq, false, true, sym, subst, arith, rules, tests}
+use Rattle.std.proofs.Common.{Option, Some, None, IfNone, sym, subst, rules, tests}
 use Rattle.event_tree.specs.Keys.{IsInOrder}
 use Rattle.event_tree.specs.Tree.{pairs_of}
 use Rattle.event_tree.proofs.Entries.{set_entry}

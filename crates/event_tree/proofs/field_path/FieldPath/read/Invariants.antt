@@ -1,4 +1,4 @@
-use Rattle.std.proofs.Common.{◌≡◌, ◌+◌, ◌≤◌, length, take, drop, option_map}
+use Rattle.std.proofs.Common.{◌≡◌, ◌+◌, length, take, drop, option_map}
 use Rattle.std.specs.Prelude.{◌≢◌, [], All}
 use Rattle.event_tree.specs.Parts.{parts_of, empty_place}
 use Rattle.event_tree.proofs.Dots.{reach}

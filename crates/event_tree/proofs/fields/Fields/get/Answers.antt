@@ -1,6 +1,4 @@
-use Rattle.std.proofs.Common.{sym, subst, ap, ◌∙◌}
-use Rattle.event_tree.specs.Keys.{IsInOrder, find}
-use Rattle.event_tree.specs.Tree.{pairs_of}
+use Rattle.std.proofs.Common.{sym}
 use Rattle.event_tree.proofs.Entries.{find_entry}
 use Rattle.event_tree.proofs.Places.{find_gap}
 use Rattle.event_tree.proofs.fields.Fields.get.Goals as goal
