@@ -31,7 +31,7 @@ impl FieldPath {
         ensures refused { IfErr result (IsPathRefusal text.now) }
     {
         let mut parts = Vec::new(alloc);
-        let mut at = 0;
+        let mut at: usize = 0;
         for part in text.as_str().split('.') {
             if part.is_empty() {
                 return Err(PathError::EmptyPart { at });
