@@ -1,4 +1,4 @@
--- Conditions as a list (Filebeat reference, conditions).
+-- The conditions that are asked together, as their list (Filebeat reference, conditions).
 use Rattle.std.specs.Prelude.{List}
 use Rattle.event_tree.specs.declared.condition_rule.ConditionRule.{ConditionRule}
 use Rattle.event_tree.specs.declared.condition_rules.ConditionRules.{ConditionRules, out-ConditionRules}

@@ -1,4 +1,4 @@
--- Where a key stands among the pairs of a map, or where it belongs.
+-- Where a key stands among the pairs of a map, or where it belongs (this project's profile).
 use Rattle.std.specs.Prelude.{◌≡◌, ℕ, ◌<◌, ◌≤◌, List, [], length, slice_index_or}
 use Rattle.std.specs.declared.cmp.Ordering.TheVariants.{Less}
 use Rattle.event_tree.specs.Value.{TreeValue, null, FieldList}

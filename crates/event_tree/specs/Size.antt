@@ -1,4 +1,4 @@
--- How many values a value holds, itself counted in.
+-- How large a plain value is, so that what it holds is smaller (this project's profile): one more than all its members.
 use Rattle.std.specs.Prelude.{ℕ, suc, ◌+◌, List, [], ◌∷◌}
 use Rattle.event_tree.specs.Value.{TreeValue, null, flag, int, str, list, fields, Values, no_values, value, Members, no_members, member, FieldList}
 

@@ -1,4 +1,4 @@
--- Each tree in a list or a map holds fewer values than it.
+-- Each tree in a list or a map is smaller than it (this project's profile).
 use Rattle.std.specs.Prelude.{◌≡◌, refl, ℕ, ◌≤◌, max, List, [], ◌∷◌}
 use Rattle.std.proofs.Common.{arith}
 use denote.Param.Weighed.{most}

@@ -10,7 +10,7 @@ pub struct TextAt {
 
 pub type TextsAt = ListOf<TextAt>;
 
-/// A field path, and the bounds of the whole number there.
+/// A field path, and the bounds of the whole number there, of which one is given.
 #[derive(Debug, Drop)]
 pub struct Bounds {
     pub path: Text,
@@ -22,7 +22,8 @@ pub struct Bounds {
 
 pub type BoundsList = ListOf<Bounds>;
 
-/// What is asked of an event.
+/// What is asked of an event (Filebeat reference, conditions). Each list has a member, and conditions
+/// are nested at most 16 deep.
 #[cycle(condition)]
 #[derive(Debug, Drop)]
 pub enum ConditionRule {

@@ -6,7 +6,8 @@ use std::alloc::Global;
 use std::marker::Model;
 use wire_base::Text;
 
-/// The parts of a field path, of which there is at least one, and none empty.
+/// The parts of a field path, of which there is at least one, and none empty (Filebeat reference,
+/// processors).
 #[derive(Debug, Drop)]
 pub struct FieldPath {
     parts: Vec<Text>,

@@ -17,7 +17,6 @@ pub struct Fields {
 }
 
 impl Model for Fields {
-    ghost use Rattle.std.specs.Prelude.{List};
     ghost use Rattle.event_tree.specs.Value.{FieldList};
     ghost use Rattle.event_tree.specs.Code.{pairs_code};
     ghost use Rattle.event_tree.specs.Size.{fields_size};
@@ -41,6 +40,7 @@ impl Model for Fields {
 }
 
 impl Fields {
+    /// Takes no memory yet, and keeps the allocator.
     pub fn new(alloc: Global) -> Fields
         ensures { result ≡ [] }
     {
@@ -55,7 +55,7 @@ impl Fields {
         self.entries.len()
     }
 
-    /// The key and the value at place `i`, in the order of the keys.
+    /// The key and the value at place `i`, counted from 0 in the order of the keys.
     pub fn at(&self, i: usize) -> (&Text, &Tree)
         requires { i < length self.now }
         ensures at { slice_get self.now i ≡ Some (result.0.now, value_of result.1.now) }
@@ -138,6 +138,7 @@ impl Fields {
         entry.1.take_parts(later)
     }
 
+    /// Fields of the same keys and values.
     #[cycle(copy)]
     pub fn copy(&self, alloc: Global) -> Result<Fields, NoMemory>
         ensures { IfOk result (λ copy. copy ≡ self.now) }

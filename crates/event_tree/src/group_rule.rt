@@ -9,8 +9,9 @@ pub enum Side {
     Before,
 }
 
-/// How lines become events. The timeouts are in milliseconds, and each variant has the most bytes of
-/// a message that are kept.
+/// How lines become events (Filebeat reference, multiline messages). `count_lines` and `max_lines`
+/// are 1 to 1,000,000, a timeout is 1 to 86,400,000 milliseconds, and `message_max_bytes`, the most
+/// bytes of a message that are kept, is 1 to 16,777,216.
 #[derive(Debug, Drop)]
 pub enum GroupRule {
     /// Each line is an event.

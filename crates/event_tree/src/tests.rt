@@ -135,6 +135,7 @@ fn lists_lend_what_they_were_made_of(rt: HostRuntime) -> Result<(), Fail> {
     let alloc = rt.alloc();
     let texts = Texts::from_vec(vec![in alloc; text(alloc, "a")?, text(alloc, "b")?]?);
     assert_eq!(rt; texts.as_slice().len(), 2);
+    assert_eq!(rt; Hosts::from_vec(Vec::new(alloc)).into_vec().len(), 0);
     let rules = ConditionRules::from_vec(vec![in alloc; ConditionRule::HasFields(texts)]?);
     assert_eq!(rt; rules.as_slice().len(), 1);
     assert_eq!(rt; rules.into_vec().len(), 1);

@@ -7,7 +7,7 @@ use crate::{FieldPath, Fields, PutError, RenameError, Trees};
 use std::alloc::Global;
 use wire_base::{NoMemory, Text};
 
-/// A value of an event.
+/// A value of an event (Filebeat reference, event fields).
 #[cycle(tree)]
 #[derive(Debug, Drop)]
 pub enum Tree {
@@ -139,6 +139,7 @@ impl Tree {
         Ok(())
     }
 
+    /// A tree of the same value.
     #[cycle(copy)]
     pub fn copy(&self, alloc: Global) -> Result<Tree, NoMemory>
         ensures { IfOk result (λ copy. value_of copy ≡ value_of self.now) }

@@ -35,6 +35,7 @@ impl Model for Trees {
 }
 
 impl Trees {
+    /// Takes no memory yet, and keeps the allocator.
     pub fn new(alloc: Global) -> Trees
         ensures { result ≡ [] }
     {
@@ -49,6 +50,7 @@ impl Trees {
         self.trees.len()
     }
 
+    /// The tree at place `i`, counted from 0.
     pub fn at(&self, i: usize) -> &Tree
         requires { i < length self.now }
         ensures { slice_get self.now i ≡ Some (value_of result.now) }
@@ -65,6 +67,7 @@ impl Trees {
         self.trees.push(tree).map_err(|full| full.value)
     }
 
+    /// A list of the same values.
     #[cycle(copy)]
     pub fn copy(&self, alloc: Global) -> Result<Trees, NoMemory>
         ensures { IfOk result (λ copy. copy ≡ self.now) }
