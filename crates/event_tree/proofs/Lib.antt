@@ -5,5 +5,6 @@ mod Order
 mod PathLaws
 mod Places
 mod Puts
+mod Smaller
 mod Steps
 mod Takes

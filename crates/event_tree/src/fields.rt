@@ -2,6 +2,7 @@ ghost use Rattle.std.specs.Prelude.{◌≡◌, ◌≢◌, ◌<◌, ℕ, List, []
 ghost use Rattle.event_tree.specs.Tree.{value_of, pairs_of};
 ghost use Rattle.event_tree.specs.Keys.{IsInOrder, find, set_field};
 ghost use Rattle.event_tree.specs.Paths.{map_of, get_at, put_at, remove_at, blocked_at};
+ghost use Rattle.event_tree.specs.Size.{value_size};
 ghost use Rattle.event_tree.specs.Place.{IsAt, IsGap};
 
 use crate::Tree;
@@ -59,6 +60,7 @@ impl Fields {
     pub fn at(&self, i: usize) -> (&Text, &Tree)
         requires { i < length self.now }
         ensures at { slice_get self.now i ≡ Some (result.0.now, value_of result.1.now) }
+        ensures smaller { value_size (value_of result.1.now) < value_size (map_of self.now) }
         ensures in_order { IsInOrder self.now }
     {
         let entry = &self.entries[i];

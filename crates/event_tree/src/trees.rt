@@ -1,5 +1,7 @@
 ghost use Rattle.std.specs.Prelude.{◌≡◌, ◌<◌, [], ◌∷◌, ◌++◌, length, IfOk, IfErr, OnOk, OnErr, slice_get, Some};
+ghost use Rattle.event_tree.specs.Size.{value_size};
 ghost use Rattle.event_tree.specs.Tree.{value_of};
+ghost use Rattle.event_tree.specs.Value.{list, as_values};
 
 use crate::Tree;
 use std::alloc::Global;
@@ -53,7 +55,8 @@ impl Trees {
     /// The tree at place `i`, counted from 0.
     pub fn at(&self, i: usize) -> &Tree
         requires { i < length self.now }
-        ensures { slice_get self.now i ≡ Some (value_of result.now) }
+        ensures at { slice_get self.now i ≡ Some (value_of result.now) }
+        ensures smaller { value_size (value_of result.now) < value_size (list (as_values self.now)) }
     {
         &self.trees[i]
     }
