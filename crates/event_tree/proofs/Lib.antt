@@ -1,0 +1,10 @@
+mod Dots
+mod Edits
+mod Entries
+mod Order
+mod PathLaws
+mod Places
+mod Puts
+mod Smaller
+mod Steps
+mod Takes

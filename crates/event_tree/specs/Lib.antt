@@ -1,0 +1,11 @@
+pub mod Code
+pub mod Condition
+pub mod Keys
+pub mod Parts
+pub mod Paths
+pub mod Place
+pub mod Refusals
+pub mod Size
+pub mod Tree
+pub mod TreeFalls
+pub mod Value
