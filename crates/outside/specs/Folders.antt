@@ -44,12 +44,12 @@ pub record IsListable (entry : Entry) : Type 0 where
 abbrev pub IsListed : List ℕ → ℕ → Shown → Type 0
 IsListed root depth shown = IsBelow root depth shown.entry.path × IsPath shown.entry.path
 
--- no file is shown twice
+-- no file is shown twice by one path
 abbrev pub EachOnce : List Shown → Type 0
 EachOnce [] = Unit {0}
-EachOnce (one ∷ shown) = AllByRecursion (λ other. other.file ≢ one.file) shown × EachOnce shown
+EachOnce (one ∷ shown) = AllByRecursion (λ other. (other.file ≢ one.file) ⊎ (other.entry.path ≢ one.entry.path)) shown × EachOnce shown
 
--- the listing shows each present file below the root once, and no other
+-- the listing shows each present file below the root once by each of its paths, and no other
 pub record ShowsPresent (files : List File) (states : List Sight) (present : List Shown) (root : List ℕ) (depth : ℕ) (shown : List Shown) : Type 0 where
   pub of_files : All (IsShownOf files states) shown
   pub only : All (λ one. Contains present one × IsListed root depth one) shown

@@ -1,4 +1,4 @@
-ghost use Rattle.std.specs.Prelude.{◌≡◌, ℕ, ◌+◌, ◌<◌, ◌≤◌, length, Option, IfOk, OnErr};
+ghost use Rattle.std.specs.Prelude.{◌≡◌, ℕ, ◌+◌, ◌<◌, ◌≤◌, length, Option, IsSome, IfOk, OnOk, OnErr};
 ghost use Rattle.outside.specs.Counts.{Rose};
 ghost use Rattle.outside.specs.Tails.{TailHistory, TellsLength, TellsRead};
 ghost use Rattle.wire_base.specs.Ranges.{IsPlace};
@@ -28,7 +28,8 @@ pub trait Tail {
         ensures told { TellsLength (told self.old) result (told self.new) }
         ensures numbers_kept { numbers self.new ≡ numbers self.old }
         ensures faults_never_fall { faults self.old ≤ faults self.new }
-        ensures failed_only_where_faults_rose { OnErr result (Rose (faults self.old) (faults self.new)) };
+        ensures failed_only_where_faults_rose { OnErr result (Rose (faults self.old) (faults self.new)) }
+        ensures faults_told_only_by_failures { IsSome (told self.old) → OnOk result (faults self.new ≡ faults self.old) };
 
     /// Reads from place `at` into the front of `into`; 0 into a nonempty buffer only where the present
     /// life ends at or before `at`. A call that fails, or that gets an empty buffer, is no look.
@@ -38,5 +39,6 @@ pub trait Tail {
         ensures told { TellsRead (told self.old) at into.new result (told self.new) }
         ensures numbers_kept { numbers self.new ≡ numbers self.old }
         ensures faults_never_fall { faults self.old ≤ faults self.new }
-        ensures failed_only_where_faults_rose { OnErr result (Rose (faults self.old) (faults self.new)) };
+        ensures failed_only_where_faults_rose { OnErr result (Rose (faults self.old) (faults self.new)) }
+        ensures faults_told_only_by_failures { IsSome (told self.old) → OnOk result (faults self.new ≡ faults self.old) };
 }

@@ -1,5 +1,5 @@
 -- A listing goes from file to file.
-use Rattle.std.proofs.Common.{◌≡◌, ⊎_elim, ℕ, zero, suc, ◌+◌, ◌<◌, ◌≤◌, List, [], ◌∷◌, ◌++◌, length, get_or, take, drop, set, map, Option, Some, None, refl, sym, ◌∙◌, ap, subst, arith, add-zero, append_assoc, length-take}
+use Rattle.std.proofs.Common.{◌≡◌, ◌⊎◌, inl, ⊎_elim, ℕ, zero, suc, ◌+◌, ◌<◌, ◌≤◌, List, [], ◌∷◌, ◌++◌, length, get_or, take, drop, set, map, Option, Some, None, refl, sym, ◌∙◌, ap, subst, arith, add-zero, append_assoc, length-take}
 use Rattle.std.specs.Prelude.{◌≢◌, All, Contains, slice_get, IfSome}
 use Rattle.std.specs.List.{AllByRecursion}
 use Rattle.std.specs.Arc.{arc_value}
@@ -73,7 +73,7 @@ all_weaker P Q weaker (one ∷ shown) all = (weaker one all.0, all_weaker P Q we
 -- a file behind all the others comes once more alone
 once-push : (shown : List Shown) (number : ℕ) (one : Shown) → AllByRecursion (λ o. o.file < number) shown → EachOnce shown → one.file ≡ number → EachOnce (shown ++ one ∷ [])
 once-push [] number one earlier once is = (tt, tt)
-once-push (first ∷ shown) number one earlier once is = (all_push (λ other. other.file ≢ first.file) shown one once.0 (λ same. omega (arith, same, is, earlier.0)), once-push shown number one earlier.1 once.1 is)
+once-push (first ∷ shown) number one earlier once is = (all_push (λ other. (other.file ≢ first.file) ⊎ (other.entry.path ≢ first.entry.path)) shown one once.0 (inl (λ same. omega (arith, same, is, earlier.0))), once-push shown number one earlier.1 once.1 is)
 
 module _ (files : List Tracked) (listings number : ℕ) (tracked : Tracked) (within : number < length files) (is : tracked ≡ get_or files number tracked) where
   pub tracked_at : slice_get files number ≡ Some tracked
