@@ -2,3 +2,8 @@ pub mod Frames
 pub mod Readings
 pub mod WindowBytes
 pub mod Answering
+pub mod Settling
+pub mod Staying
+pub mod WindowsThere
+pub mod GoingOn
+pub mod OneMoreWindow

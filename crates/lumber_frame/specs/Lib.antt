@@ -2,5 +2,6 @@ pub mod Acknowledged
 pub mod Fault
 pub mod Frame
 pub mod Reading
+pub mod Settled
 pub mod Talk
 pub mod Window

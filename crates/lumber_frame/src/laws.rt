@@ -1,11 +1,14 @@
-ghost use Rattle.std.specs.Prelude.{◌≡◌, ℕ, ◌++◌, List, length};
+ghost use Rattle.std.specs.Prelude.{◌≡◌, ℕ, All, Contains, ◌≤◌, List, [], ◌∷◌, ◌++◌, flat_map, length};
 ghost use Rattle.lumber_frame.specs.declared.frame.Frame.{Frame};
 ghost use Rattle.lumber_frame.specs.declared.frame.FrameRead.{FrameRead};
 ghost use Rattle.lumber_frame.specs.Frame.{IsFrame, BeginsWithFrame, frame_bytes};
 ghost use Rattle.lumber_frame.specs.Fault.{IsBadAt};
 ghost use Rattle.wire_base.specs.declared.talk.Piece.{Piece};
+ghost use Rattle.lumber_frame.specs.Talk.{in_bytes, out_bytes};
+ghost use Rattle.lumber_frame.specs.Window.{IsWindow, window_bytes};
 ghost use Rattle.lumber_frame.specs.Acknowledged.{Acknowledges};
 ghost use Rattle.lumber_frame.specs.Reading.{Reads, IsWholeOf};
+ghost use Rattle.lumber_frame.specs.Settled.{IsSettled, ack_bytes};
 
 /// A frame has one form, and no frame's bytes begin another's. A law; it computes nothing.
 pub fn one_form()
@@ -29,4 +32,40 @@ pub fn answers_stay()
 /// A talk acknowledges one list of payloads. A law; it computes nothing.
 pub fn one_reading()
     ensures { (talk : List Piece) (p q : List (List ℕ)) → Acknowledges talk p → Acknowledges talk q → p ≡ q }
+{}
+
+/// In a talk of nothing no window is owed. A law; it computes nothing.
+pub fn nothing_is_settled()
+    ensures { IsSettled [] [] }
+{}
+
+/// One more window is settled by pieces of it and then acknowledgements of it, none above its count and one of them its
+/// count. A law; it computes nothing.
+pub fn a_window_is_settled()
+    ensures { (talk sent heard : List Piece) (windows : List (List (List ℕ))) (payloads : List (List ℕ))
+        (numbers : List ℕ) → IsSettled talk windows → IsWindow payloads →
+        out_bytes sent ≡ window_bytes payloads → in_bytes sent ≡ [] →
+        out_bytes heard ≡ [] → in_bytes heard ≡ ack_bytes numbers →
+        All (λ number. number ≤ length payloads) numbers → Contains numbers (length payloads) →
+        IsSettled ((talk ++ sent) ++ heard) (windows ++ payloads ∷ []) }
+{}
+
+/// A talk whose windows were acknowledged in full acknowledges all their payloads. A law; it computes nothing.
+pub fn settled_is_acknowledged()
+    ensures { (talk : List Piece) (windows : List (List (List ℕ))) → IsSettled talk windows →
+        Acknowledges talk (flat_map (λ window. window) windows) }
+{}
+
+/// What a talk acknowledges it acknowledges still, whatever is sent and received afterwards. A law; it computes nothing.
+pub fn acknowledged_stays()
+    ensures { (talk more : List Piece) (payloads : List (List ℕ)) → Acknowledges talk payloads →
+        (later : List (List ℕ)) × Acknowledges (talk ++ more) later × All (Contains later) payloads }
+{}
+
+/// The payloads of windows that were acknowledged in full stay acknowledged, whatever is sent and received afterwards.
+/// A law; it computes nothing.
+pub fn settled_stays_acknowledged()
+    ensures { (talk more : List Piece) (windows : List (List (List ℕ))) → IsSettled talk windows →
+        (later : List (List ℕ)) × Acknowledges (talk ++ more) later ×
+        All (Contains later) (flat_map (λ window. window) windows) }
 {}

@@ -24,7 +24,10 @@ mod write;
 
 pub use acknowledgements::acknowledged;
 pub use frame::{Frame, FrameRead, FrameView};
-pub use laws::{answers_stay, one_form, one_reading, written_is_read};
+pub use laws::{
+    a_window_is_settled, acknowledged_stays, answers_stay, nothing_is_settled, one_form,
+    one_reading, settled_is_acknowledged, settled_stays_acknowledged, written_is_read,
+};
 pub use read::read_frame;
 pub use write::{ack_frame, json_head, window_head};
 

@@ -1,0 +1,224 @@
+-- One more window that is acknowledged in full.
+use Rattle.std.proofs.Common.{◌≡◌, ℕ, zero, suc, ◌+◌, ◌*◌, ◌-◌, ◌^◌, ◌<◌, ◌≤◌, List, [], ◌∷◌, ◌++◌, length, get_or, refl, sym, ap, subst, ◌∙◌, append_assoc, arith, inl, inr}
+use Rattle.std.specs.List.{All, AllByRecursion, Contains, flat_map}
+use Rattle.std.proofs.Math.Seq.{get_or-append_seam}
+use Rattle.std.proofs.lemmas.Bool.{cases_lt, le-leb}
+use Rattle.std.proofs.lemmas.Bool.Decides.{leb_tells, eqb_tells}
+use Rattle.std.proofs.lemmas.List.{length-append, append-nil, get_or_past}
+use Rattle.std.proofs.lemmas.List.Concat.{flat_map-append}
+use Rattle.std.proofs.lemmas.List.Elements.{recursion_from_All}
+use Rattle.wire_base.specs.declared.talk.Piece.{Piece}
+use Rattle.lumber_frame.specs.declared.frame.Frame.TheVariants.{Ack}
+use Rattle.lumber_frame.specs.Frame.{frame_bytes}
+use Rattle.lumber_frame.specs.Talk.{in_bytes, out_bytes, out_before}
+use Rattle.lumber_frame.specs.Window.{window_bytes, IsWindow}
+use Rattle.lumber_frame.specs.Acknowledged.{Answer, answers, count_at, greatest, whole_within}
+use Rattle.lumber_frame.specs.Settled.{IsSettled, ack_bytes}
+use Rattle.lumber_frame.proofs.Answering.{length-window}
+use Rattle.lumber_frame.proofs.GoingOn.{all_both}
+use Rattle.lumber_frame.proofs.Staying.{in_append, out_append, before_most, whole_stays, count_stays, answers_stay, greatest-append}
+use Rattle.wire_base.specs.declared.talk.Piece.TheVariants.{Out, In}
+
+-- ---- places
+
+-- an acknowledgement takes six bytes
+length-acks : (numbers : List ℕ) → length (ack_bytes numbers) ≡ 6 * length numbers
+length-acks [] = refl
+length-acks (number ∷ numbers) = omega (arith, length-append (frame_bytes (Ack number)) (ack_bytes numbers), length-acks numbers)
+
+-- what was out before a byte of what follows
+before_behind : (talk more : List Piece) (place : ℕ) → out_before (talk ++ more) (length (in_bytes talk) + place) ≡ length (out_bytes talk) + out_before more place
+before_behind [] more place =
+    let same : 0 + place ≡ place = omega arith in
+    omega (arith, ap (out_before more) same)
+before_behind (Out bytes ∷ talk) more place = omega (arith, length-append bytes (out_bytes talk), before_behind talk more place)
+before_behind (In bytes ∷ talk) more place =
+    elim (leb_tells (suc (length (bytes ++ in_bytes talk) + place)) (length bytes)) [
+      | inl is ↦ absurd (omega (arith, is.1, length-append bytes (in_bytes talk)))
+      | inr is ↦
+          let same : length (bytes ++ in_bytes talk) + place - length bytes ≡ length (in_bytes talk) + place = omega (arith, length-append bytes (in_bytes talk)) in
+          rw (is.0, same) (before_behind talk more place)
+    ]
+
+-- ---- windows
+
+-- all windows are within their bytes
+whole_all : (windows : List (List (List ℕ))) (out : ℕ) → out ≡ length (flat_map window_bytes windows) → whole_within windows out ≡ length windows
+whole_all [] out is = refl
+whole_all (window ∷ windows) out is =
+    let size = length-append (window_bytes window) (flat_map window_bytes windows) in
+    let others = whole_all windows (out - length (window_bytes window)) (omega (arith, size, is)) in
+    rw (le-leb (length (window_bytes window)) out (omega (arith, size, is)), others) refl
+
+-- no window is within no bytes
+none_out : (payloads : List (List ℕ)) (out : ℕ) → out ≤ 0 → whole_within (payloads ∷ []) out ≡ 0
+none_out payloads out few =
+    elim (leb_tells (length (window_bytes payloads)) out) [
+      | inl is ↦ absurd (omega (arith, is.1, length-window payloads))
+      | inr is ↦ rw (is.0) refl
+    ]
+
+count_past : (windows : List (List (List ℕ))) (number : ℕ) → length windows < number → count_at windows number ≡ 0
+count_past windows zero past = absurd (omega arith)
+count_past windows (suc before) past = ap length (get_or_past windows before [] (omega arith))
+
+count_last : (windows : List (List (List ℕ))) (payloads : List (List ℕ)) → count_at (windows ++ payloads ∷ []) (suc (length windows)) ≡ length payloads
+count_last windows payloads = ap length (get_or-append_seam windows payloads [] [])
+
+-- ---- answers
+
+-- behind acknowledgements without a fault come the answers of the others
+answers_through : (windows : List (List (List ℕ))) (talk : List Piece) (place : ℕ) (numbers more : List ℕ) → length (answers windows talk place numbers) ≡ length numbers → answers windows talk place (numbers ++ more) ≡ answers windows talk place numbers ++ answers windows talk (place + 6 * length numbers) more
+answers_through windows talk place [] more faultless =
+    let here : place ≡ place + 6 * 0 = omega arith in
+    ap (λ (p : ℕ). answers windows talk p more) here
+answers_through windows talk place (number ∷ numbers) more faultless =
+    elim (leb_tells number (count_at windows (whole_within windows (out_before talk place)))) [
+      | inl is ↦
+          let all = rw (is.0) at faultless in
+          let others = answers_through windows talk (place + 6) numbers more (omega (arith, all)) in
+          let next : place + 6 + 6 * length numbers ≡ place + 6 * suc (length numbers) = omega arith in
+          rw (is.0, others, next) refl
+      | inr is ↦
+          let none = rw (is.0) at faultless in
+          absurd (omega (arith, none))
+    ]
+
+-- each number for one window
+for_window : ℕ → List ℕ → List Answer
+for_window window [] = []
+for_window window (number ∷ numbers) = record { window = window; number = number } ∷ for_window window numbers
+
+length-for_window : (window : ℕ) (numbers : List ℕ) → length (for_window window numbers) ≡ length numbers
+unfolding for_window
+length-for_window window [] = refl
+length-for_window window (number ∷ numbers) = ap suc (length-for_window window numbers)
+
+-- acknowledgements that come when all windows are out are for the last
+answers_last : (windows : List (List (List ℕ))) (talk : List Piece) (place last most : ℕ) (numbers : List ℕ) → ((later : ℕ) → place ≤ later → whole_within windows (out_before talk later) ≡ last) → count_at windows last ≡ most → AllByRecursion (λ number. number ≤ most) numbers → answers windows talk place numbers ≡ for_window last numbers
+unfolding for_window
+answers_last windows talk place last most [] whole count few = refl
+answers_last windows talk place last most (number ∷ numbers) whole count few =
+    let others = answers_last windows talk (place + 6) last most numbers (λ later behind. whole later (omega arith)) count few.1 in
+    let here : whole_within windows (out_before talk place) ≡ last = whole place (omega arith) in
+    rw (here, count, le-leb number most few.0, others) refl
+
+-- no number is given for another window
+greatest_elsewhere : (window last : ℕ) (numbers : List ℕ) → (last ≡ window → ⊥) → greatest window (for_window last numbers) ≡ 0
+unfolding for_window
+greatest_elsewhere window last [] other = refl
+greatest_elsewhere window last (number ∷ numbers) other =
+    elim (eqb_tells last window) [
+      | inl same ↦ absurd (other same.1)
+      | inr is ↦ rw (is.0) (greatest_elsewhere window last numbers other)
+    ]
+
+-- the greatest number is not above the count
+greatest_few : (last most : ℕ) (numbers : List ℕ) → AllByRecursion (λ number. number ≤ most) numbers → greatest last (for_window last numbers) ≤ most
+unfolding for_window
+greatest_few last most [] few = omega arith
+greatest_few last most (number ∷ numbers) few =
+    elim (eqb_tells last last) [
+      | inl is ↦ rw (is.0) (omega (arith, few.0, greatest_few last most numbers few.1))
+      | inr is ↦ absurd (is.1 refl)
+    ]
+
+-- and not below a number that was given
+greatest_many : (last : ℕ) (numbers : List ℕ) (i number : ℕ) → i < length numbers → number ≡ get_or numbers i number → number ≤ greatest last (for_window last numbers)
+unfolding for_window
+greatest_many last [] i number there is = absurd (omega arith)
+greatest_many last (first ∷ numbers) zero number there is =
+    elim (eqb_tells last last) [
+      | inl test ↦ rw (test.0) (omega (arith, is))
+      | inr test ↦ absurd (test.1 refl)
+    ]
+greatest_many last (first ∷ numbers) (suc i) number there is =
+    elim (eqb_tells last last) [
+      | inl test ↦ rw (test.0) (omega (arith, greatest_many last numbers i number (omega arith) is))
+      | inr test ↦ absurd (test.1 refl)
+    ]
+
+-- ---- the talk with one more window
+
+-- what the pieces that follow are
+record IsAnswered (more : List Piece) (payloads : List (List ℕ)) (numbers : List ℕ) : Type 0 where
+  is : IsWindow payloads
+  sent : out_bytes more ≡ window_bytes payloads
+  received : in_bytes more ≡ ack_bytes numbers
+  first : (place : ℕ) → out_before more place ≡ length (window_bytes payloads)
+  few : AllByRecursion (λ number. number ≤ length payloads) numbers
+  full : Contains numbers (length payloads)
+
+small_too : (most : ℕ) (numbers : List ℕ) → most < 2 ^ 32 → AllByRecursion (λ number. number ≤ most) numbers → AllByRecursion (λ number. number < 2 ^ 32) numbers
+small_too most [] small few = tt
+small_too most (number ∷ numbers) small few = (omega (arith, few.0), small_too most numbers small few.1)
+
+-- the answers then are the old ones, and those for the new window
+answers_then : (talk more : List Piece) (windows : List (List (List ℕ))) (payloads : List (List ℕ)) (numbers : List ℕ) → (settled : IsSettled talk windows) → IsAnswered more payloads numbers → answers (windows ++ payloads ∷ []) (talk ++ more) 0 (settled.numbers ++ numbers) ≡ answers windows talk 0 settled.numbers ++ for_window (suc (length windows)) numbers
+answers_then talk more windows payloads numbers settled answered =
+    let all = windows ++ payloads ∷ [] in
+    let old = settled.numbers in
+    let last = suc (length windows) in
+    let received : length (in_bytes talk) ≡ 6 * length old = ap length settled.received ∙ length-acks old in
+    let size = ap length (flat_map-append window_bytes windows (payloads ∷ [])) in
+    let bytes_all : length (out_bytes talk) + length (window_bytes payloads) ≡ length (flat_map window_bytes all) = omega (arith, size, length-append (flat_map window_bytes windows) (window_bytes payloads ++ []), length-append (window_bytes payloads) [], ap length settled.sent) in
+    let within : (out : ℕ) → out ≤ length (out_bytes talk) → whole_within all out ≡ whole_within windows out = λ out few.
+    whole_stays windows (payloads ∷ []) [] out (none_out payloads) (omega (arith, few, ap length settled.sent, length-append (flat_map window_bytes windows) [])) in
+    let before = answers_stay windows (payloads ∷ []) talk more 0 old within (omega (arith, received)) in
+    let through = answers_through all (talk ++ more) 0 old numbers (ap length before ∙ settled.faultless) in
+    let whole : (later : ℕ) → 0 + 6 * length old ≤ later → whole_within all (out_before (talk ++ more) later) ≡ last = λ later behind.
+    let place : later ≡ length (in_bytes talk) + (later - length (in_bytes talk)) = omega (arith, received, behind) in
+    let out = ap (out_before (talk ++ more)) place ∙ before_behind talk more (later - length (in_bytes talk)) in
+    let windows_out = whole_all all (out_before (talk ++ more) later) (omega (arith, out, answered.first (later - length (in_bytes talk)), bytes_all)) in
+    omega (arith, windows_out, length-append windows (payloads ∷ [])) in
+    let now = answers_last all (talk ++ more) (0 + 6 * length old) last (length payloads) numbers whole (count_last windows payloads) answered.few in
+    through ∙ ap (λ (front : List Answer). front ++ answers all (talk ++ more) (0 + 6 * length old) numbers) before ∙ ap (λ (tail : List Answer). answers windows talk 0 old ++ tail) now
+
+-- each window then has its count
+full_then : (windows : List (List (List ℕ))) (payloads : List (List ℕ)) (given : List Answer) (numbers : List ℕ) → ((window : ℕ) → greatest window given ≡ count_at windows window) → AllByRecursion (λ number. number ≤ length payloads) numbers → Contains numbers (length payloads) → (window : ℕ) → greatest window (given ++ for_window (suc (length windows)) numbers) ≡ count_at (windows ++ payloads ∷ []) window
+full_then windows payloads given numbers in_full few full window =
+    let last = suc (length windows) in
+    let both = greatest-append window given (for_window last numbers) in
+    elim (cases_lt (length windows) window) [
+      | inr old ↦ omega (arith, both, in_full window, greatest_elsewhere window last numbers (λ same. omega (arith, same, old)), count_stays windows (payloads ∷ []) window old)
+      | inl past ↦ elim (cases_lt last window) [
+        | inl later ↦ omega (arith, both, in_full window, count_past windows window past, greatest_elsewhere window last numbers (λ same. omega (arith, same, later)), count_past (windows ++ payloads ∷ []) window (omega (arith, later, length-append windows (payloads ∷ []))))
+        | inr here ↦
+            let same : window ≡ last = omega (arith, past, here) in
+            let most = greatest_few last (length payloads) numbers few in
+            let least = greatest_many last numbers full.0 (length payloads) full.1 (sym full.2) in
+            omega (arith, both, in_full window, count_past windows window past, ap (λ (w : ℕ). greatest w (for_window last numbers)) same, ap (count_at (windows ++ payloads ∷ [])) same, count_last windows payloads, most, least)
+      ]
+    ]
+
+one_more : (talk more : List Piece) (windows : List (List (List ℕ))) (payloads : List (List ℕ)) (numbers : List ℕ) → IsSettled talk windows → IsAnswered more payloads numbers → IsSettled (talk ++ more) (windows ++ payloads ∷ [])
+one_more talk more windows payloads numbers settled answered =
+    let given = answers windows talk 0 settled.numbers in
+    let new = for_window (suc (length windows)) numbers in
+    let are = answers_then talk more windows payloads numbers settled answered in
+    let full = full_then windows payloads given numbers settled.in_full answered.few answered.full in
+    record {
+      each = all_both IsWindow windows (payloads ∷ []) settled.each (answered.is, tt);
+      sent = out_append talk more ∙ ap (λ (front : List ℕ). front ++ out_bytes more) settled.sent ∙ ap (λ (tail : List ℕ). flat_map window_bytes windows ++ tail) (answered.sent ∙ sym (append-nil (window_bytes payloads))) ∙ sym (flat_map-append window_bytes windows (payloads ∷ []));
+      numbers = settled.numbers ++ numbers;
+      small = all_both (λ number. number < 2 ^ 32) settled.numbers numbers settled.small (small_too (length payloads) numbers answered.is.few answered.few);
+      received = in_append talk more ∙ ap (λ (front : List ℕ). front ++ in_bytes more) settled.received ∙ ap (λ (tail : List ℕ). ack_bytes settled.numbers ++ tail) answered.received ∙ sym (flat_map-append (λ number. frame_bytes (Ack number)) settled.numbers numbers);
+      faultless = omega (arith, ap length are, length-append given new, length-for_window (suc (length windows)) numbers, settled.faultless, length-append settled.numbers numbers);
+      in_full = λ window. ap (greatest window) are ∙ full window;
+    }
+
+-- one more window is settled by acknowledgements behind it
+pub window_is : (talk sent heard : List Piece) (windows : List (List (List ℕ))) (payloads : List (List ℕ)) (numbers : List ℕ) → IsSettled talk windows → IsWindow payloads → out_bytes sent ≡ window_bytes payloads → in_bytes sent ≡ [] → out_bytes heard ≡ [] → in_bytes heard ≡ ack_bytes numbers → All (λ number. number ≤ length payloads) numbers → Contains numbers (length payloads) → IsSettled ((talk ++ sent) ++ heard) (windows ++ payloads ∷ [])
+window_is talk sent heard windows payloads numbers settled is out silent quiet received few full =
+    let first : (place : ℕ) → out_before (sent ++ heard) place ≡ length (window_bytes payloads) = λ place.
+    let here : place ≡ length (in_bytes sent) + place = omega (arith, ap length silent) in
+    omega (arith, ap (out_before (sent ++ heard)) here, before_behind sent heard place, before_most heard place, ap length quiet, ap length out) in
+    let answered : IsAnswered (sent ++ heard) payloads numbers = record {
+      is = is;
+      sent = out_append sent heard ∙ ap (λ (tail : List ℕ). out_bytes sent ++ tail) quiet ∙ append-nil (out_bytes sent) ∙ out;
+      received = in_append sent heard ∙ ap (λ (front : List ℕ). front ++ in_bytes heard) silent ∙ received;
+      first = first;
+      few = recursion_from_All (λ number. number ≤ length payloads) numbers few;
+      full = full;
+    } in
+    subst (λ (all : List Piece). IsSettled all (windows ++ payloads ∷ [])) (sym (append_assoc talk sent heard)) (one_more talk (sent ++ heard) windows payloads numbers settled answered)

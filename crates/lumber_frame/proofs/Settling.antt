@@ -1,0 +1,58 @@
+-- A talk whose windows were acknowledged in full, and what it acknowledges.
+use Rattle.std.proofs.Common.{◌≡◌, ℕ, zero, suc, ◌+◌, ◌^◌, ◌<◌, List, [], ◌∷◌, ◌++◌, length, get_or, take, refl, sym, ap, ◌∙◌, arith}
+use Rattle.std.specs.List.{AllByRecursion, flat_map}
+use Rattle.std.proofs.lemmas.List.{append-nil, take_all}
+use Rattle.wire_base.specs.declared.talk.Piece.{Piece}
+use Rattle.lumber_frame.specs.declared.frame.Frame.TheVariants.{Ack}
+use Rattle.lumber_frame.specs.Frame.{frame_bytes}
+use Rattle.lumber_frame.specs.Talk.{in_bytes}
+use Rattle.lumber_frame.specs.Window.{BeginsWithWindow, window_bytes}
+use Rattle.lumber_frame.specs.Acknowledged.{Answer, Acknowledges, acknowledgements, answers, count_at, greatest, payloads_by}
+use Rattle.lumber_frame.specs.Settled.{IsSettled, ack_bytes}
+use Rattle.lumber_frame.proofs.Frames.{written}
+use Rattle.lumber_frame.proofs.Answering.{ack_step}
+
+-- no bytes begin with a window
+pub none_in_nothing : (payloads : List (List ℕ)) (more : List ℕ) → BeginsWithWindow [] payloads more → ⊥
+none_in_nothing payloads more begins = absurd cc
+
+-- numbers that are written are read again
+pub numbers_back : (numbers : List ℕ) → AllByRecursion (λ number. number < 2 ^ 32) numbers → acknowledgements (ack_bytes numbers) ≡ numbers
+numbers_back [] small = refl
+numbers_back (number ∷ numbers) small =
+    let first = ack_step (frame_bytes (Ack number) ++ ack_bytes numbers) number 6 (written (Ack number) (ack_bytes numbers) small.0) in
+    first.1 ∙ ap (λ (others : List ℕ). number ∷ others) (numbers_back numbers small.1)
+
+-- windows that were acknowledged in full give all their payloads
+all_given : (given : List Answer) (number : ℕ) (windows : List (List (List ℕ))) → ((i : ℕ) → greatest (number + i) given ≡ length (get_or windows i [])) → payloads_by given number windows ≡ flat_map (λ window. window) windows
+all_given given number [] each = refl
+all_given given number (window ∷ windows) each =
+    let here : number + 0 ≡ number = omega arith in
+    let most : greatest number given ≡ length window = ap (λ (k : ℕ). greatest k given) (sym here) ∙ each 0 in
+    let whole : take (greatest number given) window ≡ window = take_all (greatest number given) window (omega (arith, most)) in
+    let others = all_given given (suc number) windows (λ i.
+    let next : suc number + i ≡ number + suc i = omega arith in
+    ap (λ (k : ℕ). greatest k given) next ∙ each (suc i)) in
+    ap (λ (front : List (List ℕ)). front ++ payloads_by given (suc number) windows) whole ∙ ap (λ (tail : List (List ℕ)). window ++ tail) others
+
+-- what is settled is acknowledged
+pub settled_is : (talk : List Piece) (windows : List (List (List ℕ))) → IsSettled talk windows → Acknowledges talk (flat_map (λ window. window) windows)
+settled_is talk windows settled =
+    let numbers : acknowledgements (in_bytes talk) ≡ settled.numbers = ap acknowledgements settled.received ∙ numbers_back settled.numbers settled.small in
+    let given = answers windows talk 0 settled.numbers in
+    let all = all_given given 1 windows (λ i.
+    let next : 1 + i ≡ suc i = omega arith in
+    ap (λ (k : ℕ). greatest k given) next ∙ settled.in_full (suc i)) in
+    record {
+      windows = windows;
+      sent = record { each = settled.each; rest = []; whole = settled.sent ∙ sym (append-nil (flat_map window_bytes windows)); cut = none_in_nothing };
+      are = sym all ∙ ap (λ (ns : List ℕ). payloads_by (answers windows talk 0 ns) 1 windows) (sym numbers);
+    }
+
+-- nothing is settled in a talk of nothing
+pub nothing : IsSettled [] []
+nothing = record { each = tt; sent = refl; numbers = []; small = tt; received = refl; faultless = refl; in_full = none }
+  where
+    none : (window : ℕ) → greatest window [] ≡ count_at [] window
+    none zero = refl
+    none (suc before) = refl
