@@ -7,3 +7,4 @@ mod Opening
 mod Paths
 mod Showing
 mod Replaying
+mod Talking

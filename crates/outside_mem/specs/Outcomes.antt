@@ -1,6 +1,7 @@
 -- What the chain of a wire in memory tells: the connections that failed and the links that were finished, the first
 -- of them first (this project's profile).
 use Rattle.std.specs.Prelude.{◌≡◌, ◌⊎◌, ℕ, zero, suc, List, [], ◌∷◌, ◌++◌}
+use Rattle.wire_base.specs.declared.talk.Piece.{Piece}
 use Rattle.outside.specs.Counts.{IsAtEnd, next_count}
 use Rattle.outside.specs.Wires.{Outcome, Refused, Finished}
 use Rattle.outside_mem.specs.declared.outcomes.OutcomeChain.{OutcomeChain}
@@ -26,3 +27,9 @@ told o = with_refused (told_chain o.last) o.refused
 pub record Refuses (old new : Outcomes) : Type 0 where
   pub told : (told new ≡ told old ++ Refused ∷ []) ⊎ (IsAtEnd old.refused × (told new ≡ told old))
   pub refused : new.refused ≡ next_count old.refused
+
+-- the pieces of the link that was finished last, or these where none was
+abbrev pub last_talk : List Piece → List Outcome → List Piece
+last_talk pieces [] = pieces
+last_talk pieces (Refused ∷ outcomes) = last_talk pieces outcomes
+last_talk pieces (Finished talk faults idles ∷ outcomes) = last_talk talk.pieces outcomes

@@ -3,7 +3,7 @@ ghost use Rattle.std.specs.Prelude.{◌≡◌, ◌∷◌, ◌++◌, []};
 use crate::link_history::LinkHistory;
 use std::alloc::Global;
 use std::mem;
-use wire_base::NoMemory;
+use wire_base::{NoMemory, Piece};
 
 /// What became of the connections of a wire. Adding to it takes no memory.
 #[derive(Debug, Drop)]
@@ -60,7 +60,7 @@ pub(crate) fn spare_node(alloc: Global) -> Result<Box<OutcomeNode>, NoMemory> {
 
 impl Outcomes {
     ghost use Rattle.outside.specs.Wires.{Refused, Finished};
-    ghost use Rattle.outside_mem.specs.Outcomes.{told, Refuses};
+    ghost use Rattle.outside_mem.specs.Outcomes.{told, last_talk, Refuses};
     ghost use Rattle.outside_mem.specs.LinkHistories.{talk_of};
 
     pub(crate) fn new() -> Outcomes
@@ -70,6 +70,16 @@ impl Outcomes {
         Outcomes {
             last: OutcomeChain::Start,
             refused: 0,
+        }
+    }
+
+    /// The talk of the link that was finished last; none where no link was.
+    pub(crate) fn last_talk(&self) -> &[Piece]
+        ensures { result.now ≡ last_talk [] (told self.now) }
+    {
+        match &self.last {
+            OutcomeChain::Start => &[],
+            OutcomeChain::After(node) => &node.history.pieces,
         }
     }
 

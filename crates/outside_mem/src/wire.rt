@@ -1,4 +1,4 @@
-ghost use Rattle.std.specs.Prelude.{◌≡◌, ◌≤◌, Some, [], IfOk};
+ghost use Rattle.std.specs.Prelude.{◌≡◌, ◌≤◌, Some, [], IfOk, IfSome};
 
 use crate::failing::FailingCalls;
 use crate::failures::Failures;
@@ -7,7 +7,7 @@ use crate::outcomes::Outcomes;
 use crate::talk::MemTalk;
 use outside::{Failed, Wire};
 use std::alloc::Global;
-use wire_base::{Host, NoMemory};
+use wire_base::{Host, NoMemory, Piece};
 
 /// The calls that fail on the link of one number.
 #[derive(Debug, Drop)]
@@ -36,6 +36,7 @@ pub struct MemWire {
 impl MemWire {
     ghost use Rattle.outside_mem.specs.LinkHistories.{IsFresh};
     ghost use Rattle.outside_mem.specs.MemWires.{IsSame};
+    ghost use Rattle.outside_mem.specs.Outcomes.{last_talk};
 
     /// The connection number i that succeeds, from 0, has talk i, and one past the last talk has `All`.
     pub fn new(alloc: Global, mut talks: Vec<MemTalk>) -> Result<MemWire, NoMemory>
@@ -74,6 +75,13 @@ impl MemWire {
         self.link_failures
             .push(LinkFailures { link, sends, recvs })?;
         Ok(())
+    }
+
+    /// What was sent and received over the link that was finished last; nothing where none was.
+    pub fn last_talk(&self) -> &[Piece]
+        ensures { IfSome (⟦<MemWire as Wire>⟧.outcomes self.now) (λ outcomes. result.now ≡ last_talk [] outcomes) }
+    {
+        self.outcomes.last_talk()
     }
 
     /// How often it failed for want of memory, its finished links included.
