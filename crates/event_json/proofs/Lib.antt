@@ -1,0 +1,7 @@
+mod Dates
+mod JsonTexts
+mod MomentTexts
+mod PayloadTexts
+mod ReplacedTexts
+mod Sendings
+mod Worked

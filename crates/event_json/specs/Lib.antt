@@ -1,0 +1,6 @@
+pub mod Data
+pub mod Envelope
+pub mod Json
+pub mod Moment
+pub mod Payload
+pub mod Replaced
