@@ -1,0 +1,36 @@
+//! The outside world itself: objects over std's files and sockets that meet the traits of `outside`
+//! and tell nothing of what they hold.
+//!
+//! Each opens at its first call, asks std again where a signal cut a call short, and counts a fault
+//! at each call of std that failed. What a file or a peer gives is known to no proof; ranges, counts
+//! and causes are. An object keeps the handle it reaches the system by: any type with the bounds
+//! that its calls name, such as a reference to the program's runtime.
+#![tactic(auto)]
+
+mod area;
+mod bell;
+mod clock;
+mod counted;
+mod disk;
+mod folder;
+mod link;
+mod marks;
+mod sink;
+mod source;
+mod steady;
+mod tail;
+mod walk;
+mod wire;
+
+pub use bell::FileBell;
+pub use clock::SystemClock;
+pub use disk::FileDisk;
+pub use folder::DirFolder;
+pub use link::TcpLink;
+pub use sink::StdSink;
+pub use source::FileSource;
+pub use tail::FileTail;
+pub use wire::TcpWire;
+
+#[cfg(test)]
+mod tests;

@@ -1,0 +1,22 @@
+use crate::*;
+
+/// Takes what may be moved to another thread.
+fn moved<T: Send>(_object: &T) {}
+
+/// Every object may be moved to another thread where its handle may.
+fn objects_move_between_threads<R: Send>(
+    streams: (&FileSource<R>, &StdSink<R>),
+    marks: (&SystemClock<R>, &FileBell<R>),
+    files: (&DirFolder<R>, &FileTail, &FileDisk<R>),
+    peers: (&TcpWire<R>, &TcpLink),
+) {
+    moved(streams.0);
+    moved(streams.1);
+    moved(marks.0);
+    moved(marks.1);
+    moved(files.0);
+    moved(files.1);
+    moved(files.2);
+    moved(peers.0);
+    moved(peers.1);
+}
