@@ -1,0 +1,154 @@
+-- A file that is read piece by piece.
+use Rattle.std.proofs.Common.{◌≡◌, ℕ, ◌<◌, ◌≤◌, List, [], ◌∷◌, ◌++◌, length, take, drop, Option, Some, None, Ok, Err, IfSome, append-nil, refl, sym, ◌∙◌, ap, subst, append_assoc, arith}
+use Rattle.outside.specs.declared.history.Look.{Look}
+use Rattle.outside.specs.declared.history.Question.{Question}
+use Rattle.outside.specs.declared.history.Question.TheVariants.{Length, ReadAt}
+use Rattle.outside.specs.declared.failed.Failed.{Failed}
+use Rattle.outside.specs.Files.{File, life_of}
+use Rattle.outside.specs.Tails.{TailHistory, with_look, TellsLength, TellsRead, LooksAtLength, LooksAtBytes}
+use Rattle.beat_run.specs.Reading.{ReadsPiece, EndsReading, AddsBytes, bytes_read, bytes_of_look}
+
+-- a tail that told goes on telling
+abbrev pub KeepsTelling : Option TailHistory → Option TailHistory → Type 0
+KeepsTelling None after = Unit {0}
+KeepsTelling (Some told) None = ⊥
+KeepsTelling (Some told) (Some now) = Unit {0}
+
+pub tells_itself : (told : Option TailHistory) → KeepsTelling told told
+tells_itself None = tt
+tells_itself (Some told) = tt
+
+-- the two looks of a read into a buffer of some bytes
+record TwoLooks (told : TailHistory) (place count : ℕ) (after : Option TailHistory) : Type 0 where
+  asked : Look
+  asks : asked.question ≡ Length
+  reaches : place ≤ asked.sight.length
+  read : Look
+  reads : read.question ≡ ReadAt place count
+  kept : after ≡ Some (with_look (with_look told asked) read)
+
+two_looks : (told : TailHistory) (place count : ℕ) (byte : ℕ) (bytes : List ℕ) (after : Option TailHistory) →
+    ReadsPiece (Some told) place (byte ∷ bytes) count after → TwoLooks told place count after
+two_looks told place count byte bytes after reads =
+    let first : LooksAtLength told reads.length reads.between = reads.asked in
+    let R : Option TailHistory → Type 0 = λ b. TellsRead b place (byte ∷ bytes) (Ok count) after in
+    let second : LooksAtBytes (with_look told first.look) place (byte ∷ bytes) count after = subst R first.kept reads.read in
+    record {
+      asked = first.look;
+      asks = first.asked;
+      reaches = omega (arith, reads.reaches, first.answered);
+      read = second.look;
+      reads = second.asked;
+      kept = second.kept;
+    }
+
+pub reads_on : (start told : Option TailHistory) (place count : ℕ) (into : List ℕ) (after : Option TailHistory) →
+    0 < length into → KeepsTelling start told → ReadsPiece told place into count after → KeepsTelling start after
+reads_on None told place count into after some keeps reads = tt
+reads_on (Some start) None place count into after some keeps reads = absurd keeps
+reads_on (Some start) (Some told) place count [] after some keeps reads = absurd (omega arith)
+reads_on (Some start) (Some told) place count (byte ∷ bytes) after some keeps reads =
+    let looks = two_looks told place count byte bytes after reads in
+    let P : Option TailHistory → Type 0 = λ o. KeepsTelling (Some start) o in
+    subst P (sym looks.kept) tt
+
+pub reads_end : (start told : Option TailHistory) (place count : ℕ) (into : List ℕ) (after : Option TailHistory) →
+    0 < length into → count ≡ 0 → KeepsTelling start told → ReadsPiece told place into count after → EndsReading start after
+reads_end None told place count into after some none keeps reads = tt
+reads_end (Some start) None place count into after some none keeps reads = absurd keeps
+reads_end (Some start) (Some told) place count [] after some none keeps reads = absurd (omega arith)
+reads_end (Some start) (Some told) place count (byte ∷ bytes) after some none keeps reads =
+    let looks = two_looks told place count byte bytes after reads in
+    record {
+      history = with_look (with_look told looks.asked) looks.read;
+      told = looks.kept;
+      ended = record {
+        place = place;
+        before = told.looks;
+        asked = looks.asked.sight;
+        read = looks.read.sight;
+        reaches = looks.reaches;
+        looks_are =
+            append_assoc told.looks (looks.asked ∷ []) (looks.read ∷ [])
+            ∙ ap (λ (q : Question). told.looks ++ record { question = q; sight = looks.asked.sight } ∷ looks.read ∷ []) looks.asks
+            ∙ ap (λ (q : Question). told.looks ++ record { question = Length; sight = looks.asked.sight } ∷ record { question = q; sight = looks.read.sight } ∷ [])
+            (looks.reads ∙ ap (λ (n : ℕ). ReadAt place n) none);
+      };
+    }
+
+-- the bytes of further looks
+bytes_read-append : (file : File) (looks more : List Look) → bytes_read file (looks ++ more) ≡ bytes_read file looks ++ bytes_read file more
+bytes_read-append file [] more = refl
+bytes_read-append file (look ∷ looks) more =
+    ap (λ (l : List ℕ). bytes_of_look file look.question look.sight ++ l) (bytes_read-append file looks more)
+    ∙ sym (append_assoc (bytes_of_look file look.question look.sight) (bytes_read file looks) (bytes_read file more))
+
+one_look : (told : TailHistory) (look : Look) (question : Question) → look.question ≡ question →
+    bytes_read told.file (told.looks ++ look ∷ []) ≡ bytes_read told.file told.looks ++ bytes_of_look told.file question look.sight
+one_look told look question is =
+    bytes_read-append told.file told.looks (look ∷ [])
+    ∙ ap (λ (l : List ℕ). bytes_read told.file told.looks ++ l) (append-nil (bytes_of_look told.file look.question look.sight))
+    ∙ ap (λ (q : Question). bytes_read told.file told.looks ++ bytes_of_look told.file q look.sight) is
+
+adds_none : (told : TailHistory) (after : Option TailHistory) → after ≡ Some told → AddsBytes told [] after
+adds_none told after is = record {
+  history = told;
+  tail_told = is;
+  same_opening = refl;
+  same_file = refl;
+  added = sym (append-nil (bytes_read told.file told.looks));
+}
+
+adds_asked : (told : TailHistory) (length : ℕ) (after : Option TailHistory) → LooksAtLength told length after → AddsBytes told [] after
+adds_asked told length after looks = record {
+  history = with_look told looks.look;
+  tail_told = looks.kept;
+  same_opening = refl;
+  same_file = refl;
+  added = one_look told looks.look Length looks.asked;
+}
+
+-- a length that could not be asked
+pub asking_fails : (told after : Option TailHistory) (failed : Failed) → TellsLength told (Err failed) after → IfSome told (λ history. AddsBytes history [] after)
+asking_fails None after failed tells = tt
+asking_fails (Some told) after failed tells = adds_none told after tells
+
+-- a length that was asked alone
+pub asking_adds : (told after : Option TailHistory) (length : ℕ) → TellsLength told (Ok length) after → IfSome told (λ history. AddsBytes history [] after)
+asking_adds None after length tells = tt
+asking_adds (Some told) after length tells = adds_asked told length after tells
+
+-- a read that failed behind it
+pub reading_fails : (told between after : Option TailHistory) (length place : ℕ) (into : List ℕ) (failed : Failed) →
+    TellsLength told (Ok length) between → TellsRead between place into (Err failed) after → IfSome told (λ history. AddsBytes history [] after)
+reading_fails None between after length place into failed asks reads = tt
+reading_fails (Some told) between after length place into failed asks reads =
+    let R : Option TailHistory → Type 0 = λ b. TellsRead b place into (Err failed) after in
+    let kept : after ≡ Some (with_look told asks.look) = subst R asks.kept reads in
+    record {
+      history = with_look told asks.look;
+      tail_told = kept;
+      same_opening = refl;
+      same_file = refl;
+      added = one_look told asks.look Length asks.asked;
+    }
+
+-- a read that gave bytes behind it
+pub reading_adds : (told between after : Option TailHistory) (size place count : ℕ) (into : List ℕ) → 0 < length into →
+    TellsLength told (Ok size) between → TellsRead between place into (Ok count) after → IfSome told (λ history. AddsBytes history (take count into) after)
+reading_adds None between after size place count into some asks reads = tt
+reading_adds (Some told) between after size place count [] some asks reads = absurd (omega arith)
+reading_adds (Some told) between after size place count (byte ∷ bytes) some asks reads =
+    let R : Option TailHistory → Type 0 = λ b. TellsRead b place (byte ∷ bytes) (Ok count) after in
+    let second : LooksAtBytes (with_look told asks.look) place (byte ∷ bytes) count after = subst R asks.kept reads in
+    record {
+      history = with_look (with_look told asks.look) second.look;
+      tail_told = second.kept;
+      same_opening = refl;
+      same_file = refl;
+      added =
+          one_look (with_look told asks.look) second.look (ReadAt place count) second.asked
+          ∙ ap (λ (l : List ℕ). l ++ take count (drop place (life_of told.file second.look.sight.life)))
+          (one_look told asks.look Length asks.asked ∙ append-nil (bytes_read told.file told.looks))
+          ∙ ap (λ (l : List ℕ). bytes_read told.file told.looks ++ l) (sym second.bytes);
+    }

@@ -1,0 +1,14 @@
+use Rattle.std.proofs.Common.{rules}
+use Rattle.beat_run.proofs.PieceReads.{asking_adds, reading_adds, reading_fails}
+use Rattle.beat_run.proofs.file.read_piece.Goals as goal
+
+pub returns-then-length-position-clause-bytes : goal.returns-then-length-position-clause-bytes
+returns-then-length-position-clause-bytes g c = asking_adds _ _ _ (rw c.in-Ok.is at c.length.ensures.told)
+
+pub returns-in-Ok-read_at-clause-bytes : goal.returns-in-Ok-read_at-clause-bytes
+returns-in-Ok-read_at-clause-bytes g c =
+    reading_adds _ _ _ _ _ _ _ (search rules) (rw c.in-Ok.is at c.length.ensures.told) (rw c.in-Ok-read_at.is at c.read_at.ensures.told)
+
+pub returns-in-Err-clause-bytes : goal.returns-in-Err-clause-bytes
+returns-in-Err-clause-bytes g c =
+    reading_fails _ _ _ _ _ _ _ (rw c.in-Ok.is at c.length.ensures.told) (rw c.in-Err.is at c.read_at.ensures.told)

@@ -1,0 +1,40 @@
+use Rattle.std.proofs.Common.{rules, arith}
+use Rattle.beat_run.proofs.Shipments.{covers_now, placed_still, taking_goes_on, taking_ends, taking_covers}
+use Rattle.beat_run.proofs.shipment.Shipment.take.Goals as goal
+
+pub loop-used-preserved : goal.loop-used-preserved
+loop-used-preserved g c = record {
+  sound = search rules;
+  placed = placed_still _ _ _ c.in-Line.used _ c.loop-used.left.now c.in-Line.ensures.0 c.in-Line.ensures.1 (omega arith) (rw c.in-Ok.is at c.complete.ensures.placed) c.loop-used.invariant.placed;
+  told = λ bytes is.
+      let taken = c.loop-used.invariant.told bytes is in
+      taking_goes_on _ _ _ _ c.loop-used.self _ bytes c.args.piece.now c.loop-used.left.now c.in-Line.used _ taken
+      c.in-Line.ensures.0 c.in-Line.ensures.1 (omega arith) c.in-Line.ensures.5 (rw c.in-Ok.is at (c.complete.ensures.told _ taken.shipped));
+}
+
+pub returns-in-Err-clause-told : goal.returns-in-Err-clause-told
+returns-in-Err-clause-told g c = λ bytes is.
+    let taken = c.loop-used.invariant.told bytes is in
+    taking_covers _ _ _ _ _ c.loop-used.self bytes c.args.piece.now c.loop-used.left.now taken
+    (rw c.in-Err.is at (c.complete.ensures.told _ taken.shipped))
+
+pub returns-in-Ok-extend_from_slice-clause-told : goal.returns-in-Ok-extend_from_slice-clause-told
+returns-in-Ok-extend_from_slice-clause-told g c = λ bytes is.
+    taking_ends _ _ _ c.loop-used.self _ bytes c.args.piece.now c.loop-used.left.now (c.loop-used.invariant.told bytes is) (search rules) (search rules) (search rules) (search rules)
+
+pub returns-in-Err-extend_from_slice-clause-told : goal.returns-in-Err-extend_from_slice-clause-told
+returns-in-Err-extend_from_slice-clause-told g c = λ bytes is.
+    let taken = c.loop-used.invariant.told bytes is in
+    taking_covers _ _ _ _ _ c.loop-used.self bytes c.args.piece.now c.loop-used.left.now taken (covers_now _ _ _ c.loop-used.self _ taken.shipped)
+
+pub returns-in-Ok-flush-clause-told : goal.returns-in-Ok-flush-clause-told
+returns-in-Ok-flush-clause-told g c = λ bytes is.
+    let taken = c.loop-used.invariant.told bytes is in
+    taking_covers _ _ _ _ _ c.loop-used.self bytes c.args.piece.now c.loop-used.left.now taken
+    (covers_now _ _ _ c.flush.new.self _ (rw c.in-Ok-flush.is at (c.flush.ensures.told _ _ taken.shipped)))
+
+pub returns-in-Err-flush-clause-told : goal.returns-in-Err-flush-clause-told
+returns-in-Err-flush-clause-told g c = λ bytes is.
+    let taken = c.loop-used.invariant.told bytes is in
+    taking_covers _ _ _ _ _ c.loop-used.self bytes c.args.piece.now c.loop-used.left.now taken
+    (rw c.in-Err-flush.is at (c.flush.ensures.told _ _ taken.shipped))

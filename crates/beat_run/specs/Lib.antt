@@ -1,0 +1,17 @@
+pub mod Batches
+pub mod Area
+pub mod Command
+pub mod Ends
+pub mod ExitStatus
+pub mod Finding
+pub mod Followed
+pub mod Form
+pub mod Hearing
+pub mod Keys
+pub mod Lines
+pub mod Payloads
+pub mod Reading
+pub mod Serving
+pub mod Shipping
+pub mod Talking
+pub mod Writing

@@ -1,0 +1,45 @@
+-- Reading a file: each read follows a look at the length, which is not below the place (Filebeat reference, filestream
+-- input; this project's profile).
+use Rattle.std.specs.Prelude.{◌≡◌, ℕ, ◌≤◌, List, [], ◌∷◌, ◌++◌, take, drop, Option, Some, None, Ok}
+use Rattle.outside.specs.declared.history.Look.{Look}
+use Rattle.outside.specs.declared.history.Question.{Question}
+use Rattle.outside.specs.declared.history.Question.TheVariants.{Length, ReadAt}
+use Rattle.outside.specs.declared.history.Sight.{Sight}
+use Rattle.outside.specs.Files.{File, life_of}
+use Rattle.outside.specs.Tails.{TailHistory, TellsLength, TellsRead}
+use Rattle.beat_run.specs.Followed.{HasEndLook}
+
+-- a look at the length, and then a read at the place that gave so many bytes
+pub record ReadsPiece (told : Option TailHistory) (place : ℕ) (into : List ℕ) (count : ℕ) (after : Option TailHistory) : Type 0 where
+  pub length : ℕ
+  pub reaches : place ≤ length
+  pub between : Option TailHistory
+  pub asked : TellsLength told (Ok length) between
+  pub read : TellsRead between place into (Ok count) after
+
+-- a tail that tells goes on telling, and its last looks are the file's end look
+pub record HasEnded (after : Option TailHistory) : Type 0 where
+  pub history : TailHistory
+  pub told : after ≡ Some history
+  pub ended : HasEndLook history.looks
+
+abbrev pub EndsReading : Option TailHistory → Option TailHistory → Type 0
+EndsReading None after = Unit {0}
+EndsReading (Some told) after = HasEnded after
+
+-- the bytes that the reads of a file gave, one read behind the other
+abbrev pub bytes_of_look : File → Question → Sight → List ℕ
+bytes_of_look file Length sight = []
+bytes_of_look file (ReadAt place count) sight = take count (drop place (life_of file sight.life))
+
+abbrev pub bytes_read : File → List Look → List ℕ
+bytes_read file [] = []
+bytes_read file (look ∷ looks) = bytes_of_look file look.question look.sight ++ bytes_read file looks
+
+-- the tail looked on, and its reads gave these bytes
+pub record AddsBytes (told : TailHistory) (bytes : List ℕ) (after : Option TailHistory) : Type 0 where
+  pub history : TailHistory
+  pub tail_told : after ≡ Some history
+  pub same_opening : history.opening ≡ told.opening
+  pub same_file : history.file ≡ told.file
+  pub added : bytes_read history.file history.looks ≡ bytes_read told.file told.looks ++ bytes

@@ -1,0 +1,78 @@
+ghost use Rattle.std.specs.Prelude.{◌≡◌, ◌+◌, ◌<◌, ◌≤◌, [], length, take, IfErr, IfOk, IfSome, OnOk, MatchResult};
+ghost use Rattle.wire_base.specs.Ranges.{IsPlace};
+ghost use Rattle.beat_run.specs.Ends.{IsReadingEnd, IsShippingEnd};
+ghost use Rattle.beat_run.specs.Serving.{HasSettled};
+ghost use Rattle.beat_run.specs.Shipping.{IsFileCovered, IsUnused};
+ghost use Rattle.beat_run.specs.Reading.{AddsBytes, EndsReading, ReadsPiece};
+
+use crate::form::Form;
+use crate::peer::Worker;
+use crate::shipment::Shipment;
+use crate::status::{Lack, Status};
+use outside::{Clock, Tail, Wire};
+use std::alloc::Global;
+use std::sync::Wait;
+
+/// So many bytes are read at once at most.
+pub const PIECE: usize = 16_384;
+
+/// Reads at the position, after a look at the length. No byte is the file's end.
+pub fn read_piece<T: Tail>(tail: &mut T, position: u64, piece: &mut [u8]) -> Result<usize, Status>
+    requires { 0 < length piece.old }
+    ensures within { IfOk result (λ count. count ≤ length piece.old) }
+    ensures in_range { IfOk result (λ count. 0 < count → IsPlace (position + count)) }
+    ensures read { IfOk result (λ count. ReadsPiece (T.told tail.old) position piece.new count (T.told tail.new)) }
+    ensures bytes { IfSome (T.told tail.old) (λ told. MatchResult result (λ count. AddsBytes told (take count piece.new) (T.told tail.new)) (λ _. AddsBytes told [] (T.told tail.new))) }
+    ensures ends { IfErr result (IsReadingEnd (T.faults tail.old) (T.faults tail.new)) }
+    ensures faults_never_fall { T.faults tail.old ≤ T.faults tail.new }
+{
+    let Ok(length) = tail.length() else {
+        return Err(Status::FolderFault);
+    };
+    if length < position {
+        return Err(Status::Unbuilt { what: Lack::Life });
+    }
+    match tail.read_at(position, piece) {
+        Ok(count) => Ok(count),
+        Err(_) => Err(Status::FolderFault),
+    }
+}
+
+/// Reads the file to its end and ships its lines.
+pub fn ship_file<X: Wait, T: Tail, W: Wire, K: Clock>(
+    rt: &X,
+    alloc: Global,
+    form: &Form,
+    tail: &mut T,
+    worker: &mut Worker<W::Link>,
+    wire: &mut W,
+    clock: &mut K,
+    shipment: &mut Shipment,
+) -> Result<(), Status>
+    requires { IsUnused shipment.old }
+    ensures covered { IfSome (T.told tail.old) (λ start. start.looks ≡ [] → HasSettled W.Link.told worker.old.link [] →
+        IsFileCovered W.Link.told form.now.path worker.new.link shipment.new.offset start (T.told tail.new)) }
+    ensures ended { OnOk result (EndsReading (T.told tail.old) (T.told tail.new)) }
+    ensures ends { IfErr result (IsShippingEnd (T.faults tail.old) (T.faults tail.new)) }
+    ensures faults_never_fall { T.faults tail.old ≤ T.faults tail.new }
+{
+    let mut piece = [0u8; PIECE];
+    for _ in rt.forever() {
+        match read_piece(tail, shipment.position(), &mut piece) {
+            Ok(0) => return shipment.flush(rt, worker, wire, &form.host, clock),
+            Ok(count) => {
+                match shipment.take(rt, alloc, form, &piece[..count], worker, wire, clock) {
+                    Ok(()) => {}
+                    Err(status) => return Err(status),
+                }
+            }
+            Err(status) => {
+                return match shipment.flush(rt, worker, wire, &form.host, clock) {
+                    Ok(()) => Err(status),
+                    Err(failure) => Err(failure),
+                };
+            }
+        }
+    }
+    unreachable!()
+}

@@ -1,0 +1,204 @@
+ghost use Rattle.std.specs.Prelude.{◌≡◌, ℕ, ◌++◌, ◌<◌, ◌≤◌, List, [], length, take, Option, Some, None, Err, IsSome, IfOk, IfErr, OnOk, MatchResult};
+ghost use Rattle.outside.specs.Talks.{Talk};
+ghost use Rattle.beat_run.specs.Ends.{IsSendingEnd};
+ghost use Rattle.beat_run.specs.Hearing.{IsHeardAs};
+ghost use Rattle.beat_run.specs.Serving.{HasServed, HasSettled, IsWindowOf};
+ghost use Rattle.beat_run.specs.Talking.{HearsAll, IsFrontHeard, SendsAll};
+
+use crate::status::Status;
+use lumber_frame::{
+    FrameRead, FrameView, a_window_is_settled, nothing_is_settled, read_frame, window_head,
+};
+use outside::{Clock, Link, Recv, Wire};
+use std::mem;
+use std::sync::Wait;
+use wire_base::Host;
+
+/// How long the run waits before it asks a peer again, in milliseconds.
+const PAUSE: u64 = 100;
+
+/// How many bytes an acknowledgement has.
+const ACKNOWLEDGEMENT: usize = 6;
+
+/// The first failure of the one worker ends the run.
+const UNREACHABLE: Status = Status::Unreachable {
+    worker: 0,
+    failures: 1,
+};
+
+/// The one worker, with its link once it has connected.
+pub struct Worker<L> {
+    link: Option<L>,
+}
+
+impl<L: Link> Worker<L> {
+    pub fn new() -> Worker<L>
+        ensures { HasSettled L.told result.link [] }
+    {
+        Worker { link: None }
+    }
+
+    /// Gives the link back.
+    pub fn end<W: Wire<Link = L>>(self, wire: &mut W) {
+        let Worker { link } = self;
+        match link {
+            Some(link) => wire.finish(link),
+            None => {}
+        }
+    }
+
+    /// Sends the window of these JSON frames and waits until the peer has acknowledged all of it.
+    pub fn deliver<X: Wait, W: Wire<Link = L>, K: Clock>(
+        &mut self,
+        rt: &X,
+        wire: &mut W,
+        host: &Host,
+        clock: &mut K,
+        frames: &[u8],
+        count: u32,
+    ) -> Result<(), Status>
+        ensures told { (earlier payloads : List (List ℕ)) → HasSettled L.told self.old.link earlier → IsWindowOf payloads frames.now count →
+            MatchResult result (λ _. HasSettled L.told self.new.link (earlier ++ payloads)) (λ _. HasServed L.told self.new.link earlier) }
+        ensures ends { IfErr result IsSendingEnd }
+    {
+        self.connect(wire, host)?;
+        match &mut self.link {
+            Some(link) => serve(rt, link, clock, frames, count),
+            None => unreachable!(),
+        }
+    }
+
+    // Makes a link where there is none yet.
+    fn connect<W: Wire<Link = L>>(&mut self, wire: &mut W, host: &Host) -> Result<(), Status>
+        ensures there { OnOk result (IsSome self.new.link) }
+        ensures told { (payloads : List (List ℕ)) → HasSettled L.told self.old.link payloads →
+            MatchResult result (λ _. HasSettled L.told self.new.link payloads) (λ _. HasServed L.told self.new.link payloads) }
+        ensures ends { IfErr result IsSendingEnd }
+    {
+        if self.link.is_some() {
+            return Ok(());
+        }
+        match wire.connect(host) {
+            Ok(link) => {
+                nothing_is_settled();
+                self.put(link);
+                Ok(())
+            }
+            Err(_) => Err(UNREACHABLE),
+        }
+    }
+
+    fn put(&mut self, link: L)
+        requires { self.old.link ≡ None }
+        ensures { self.new.link ≡ Some link }
+    {
+        match mem::replace(&mut self.link, Some(link)) {
+            None => {}
+            Some(_) => unreachable!(),
+        }
+    }
+}
+
+// Sends one window over the link, and waits for its acknowledgement.
+fn serve<X: Wait, L: Link, K: Clock>(
+    rt: &X,
+    link: &mut L,
+    clock: &mut K,
+    frames: &[u8],
+    count: u32,
+) -> Result<(), Status>
+    ensures told { (earlier payloads : List (List ℕ)) → HasSettled L.told (Some link.old) earlier → IsWindowOf payloads frames.now count →
+        MatchResult result (λ _. HasSettled L.told (Some link.new) (earlier ++ payloads)) (λ _. HasServed L.told (Some link.new) earlier) }
+    ensures ends { IfErr result IsSendingEnd }
+{
+    send_all(link, &window_head(count))?;
+    send_all(link, frames)?;
+    await_acknowledgement(rt, link, clock, count)?;
+    a_window_is_settled();
+    Ok(())
+}
+
+fn send_all<L: Link>(link: &mut L, bytes: &[u8]) -> Result<(), Status>
+    ensures told { SendsAll (L.told link.old) bytes.now result (L.told link.new) }
+    ensures ends { IfErr result IsSendingEnd }
+{
+    let mut left = bytes;
+    while !left.is_empty() {
+        match link.send(left) {
+            Ok(count) => left = &left[count..],
+            Err(_) => return Err(UNREACHABLE),
+        }
+    }
+    Ok(())
+}
+
+fn await_acknowledgement<X: Wait, L: Link, K: Clock>(
+    rt: &X,
+    link: &mut L,
+    clock: &mut K,
+    count: u32,
+) -> Result<(), Status>
+    ensures told { HearsAll (L.told link.old) count result (L.told link.new) }
+    ensures ends { IfErr result IsSendingEnd }
+{
+    let mut frame = [0u8; ACKNOWLEDGEMENT];
+    let mut filled = 0;
+    for _ in rt.forever() {
+        filled = hear(link, clock, &mut frame, filled)?;
+        match heard_of(&frame[..filled]) {
+            Heard::Acknowledgement(number) if number == count => return Ok(()),
+            Heard::Acknowledgement(number) if number < count => filled = 0,
+            Heard::Front => {}
+            _ => return Err(UNREACHABLE),
+        }
+    }
+    unreachable!()
+}
+
+// Receives once into the rest of the frame, or waits a little where nothing has come.
+fn hear<L: Link, K: Clock>(
+    link: &mut L,
+    clock: &mut K,
+    frame: &mut [u8],
+    filled: usize,
+) -> Result<usize, Status>
+    requires { filled < length frame.old }
+    ensures within { IfOk result (λ count. count ≤ length frame.old) }
+    ensures told { (start : Option Talk) (count : ℕ) → IsFrontHeard start count (take filled frame.old) (L.told link.old) →
+        MatchResult result (λ filled. IsFrontHeard start count (take filled frame.new) (L.told link.new)) (λ status. HearsAll start count (Err status) (L.told link.new)) }
+    ensures ends { IfErr result IsSendingEnd }
+{
+    match link.recv(&mut frame[filled..]) {
+        Recv::Got(more) => Ok(filled + more),
+        Recv::NotYet => {
+            clock.pause(PAUSE);
+            Ok(filled)
+        }
+        Recv::Closed | Recv::Failed => Err(UNREACHABLE),
+    }
+}
+
+// What the bytes of a peer are.
+#[derive(Clone, Copy)]
+enum Heard {
+    /// The front of an acknowledgement.
+    Front,
+    Acknowledgement(u32),
+    Fault,
+}
+
+fn heard_of(bytes: &[u8]) -> Heard
+    requires { length bytes.now ≤ ACKNOWLEDGEMENT }
+    ensures { IsHeardAs bytes.now result }
+{
+    match read_frame(bytes) {
+        FrameRead::Whole {
+            frame: FrameView::Ack(number),
+            ..
+        } => Heard::Acknowledgement(number),
+        FrameRead::Short
+            if bytes.len() < ACKNOWLEDGEMENT && matches!(bytes, [] | [_] | [_, b'A', ..]) =>
+            Heard::Front,
+        _ => Heard::Fault,
+    }
+}

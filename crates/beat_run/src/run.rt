@@ -1,0 +1,147 @@
+ghost use Rattle.std.specs.Prelude.{Some, ◌≡◌, ◌↔◌, ◌≤◌, take, IfErr, IfOk, IfSome, IsErrOf, MatchResult, OnOk};
+ghost use Rattle.outside.specs.Counts.{Rose};
+ghost use Rattle.beat_run.specs.Area.{area_bytes};
+ghost use Rattle.beat_run.specs.Command.{IsNoCommand};
+ghost use Rattle.beat_run.specs.Ends.{IsRunEnd, IsShippingEnd, RefusesForm};
+ghost use Rattle.beat_run.specs.Followed.{IsFollowed, Followed};
+ghost use Rattle.beat_run.specs.Form.{IsNoForm, IsPlainPath};
+ghost use Rattle.beat_run.specs.Keys.{path_key, path_row};
+ghost use Rattle.beat_run.specs.declared.settings.TheConstants.{LIMIT};
+
+use crate::area::{check_blank, start_area};
+use crate::arguments::settings_file;
+use crate::file::ship_file;
+use crate::find::{Found, find};
+use crate::form::Form;
+use crate::peer::Worker;
+use crate::report::Ending;
+use crate::settings::read_settings;
+use crate::shipment::Shipment;
+use crate::status::{Lack, Status};
+use outside::{Clock, Disk, Folder, Source, Wire};
+use std::alloc::Global;
+use std::sync::Wait;
+use wire_base::{Epoch, NoMemory, Row, Text};
+
+/// Everything but the printing.
+pub fn run<X: Wait, F: Folder, W: Wire, D: Disk, K: Clock, R: Source>(
+    rt: &X,
+    alloc: Global,
+    words: &[Text],
+    settings: &mut R,
+    folder: &mut F,
+    wire: &mut W,
+    area: &mut D,
+    clock: &mut K,
+) -> Result<Ending, Status>
+    ensures usage { IsErrOf result Status.Usage ↔ IsNoCommand words.now }
+    ensures other_form_only { IsErrOf result (Status.Unbuilt Lack.Settings) → IfSome (R.left settings.old) (λ bytes. IsNoForm (take LIMIT bytes)) }
+    ensures other_form_refused { IfSome (R.left settings.old) (λ bytes. IsNoForm (take LIMIT bytes) → MatchResult result (λ _. ⊥) RefusesForm) }
+    ensures followed { IfOk result (λ _. Followed (R.left settings.old) (F.told folder.old) (F.told folder.new)) }
+    ensures stored { IfOk result (λ ending. IfSome (D.contents area.old) (λ _. D.contents area.new ≡ Some (area_bytes ending.row))) }
+    ensures disk_fault { IsErrOf result Status.DiskFault → Rose (D.faults area.old) (D.faults area.new) }
+    ensures folder_fault { IsErrOf result Status.FolderFault → Rose (F.faults folder.old) (F.faults folder.new) }
+    ensures source_fault { IsErrOf result Status.SourceFault → Rose (R.faults settings.old) (R.faults settings.new) }
+    ensures ends { IfErr result IsRunEnd }
+{
+    if settings_file(words).is_none() {
+        return Err(Status::Usage);
+    }
+    let form = read_settings(alloc, settings)?;
+    check_blank(area)?;
+    let mut ending = Ending {
+        row: None,
+        gone: None,
+        shipped: 0,
+        dropped: 0,
+    };
+    let met = follow(rt, alloc, &form, folder, wire, clock, &mut ending);
+    start_area(alloc, area, ending.row.as_ref())?;
+    met?;
+    Ok(ending)
+}
+
+// Ships the file of the path, where there is one.
+fn follow<X: Wait, F: Folder, W: Wire, K: Clock>(
+    rt: &X,
+    alloc: Global,
+    form: &Form,
+    folder: &mut F,
+    wire: &mut W,
+    clock: &mut K,
+    ending: &mut Ending,
+) -> Result<(), Status>
+    requires { IsPlainPath form.now.path }
+    ensures followed { OnOk result (IfSome (F.told folder.old) (λ told. IsFollowed form.now.path told (F.told folder.new))) }
+    ensures ends { IfErr result (IsShippingEnd (F.faults folder.old) (F.faults folder.new)) }
+    ensures faults_never_fall { F.faults folder.old ≤ F.faults folder.new }
+{
+    // Made first, so that none of its memory is wanted once lines were acknowledged.
+    let row = row_of(alloc, form, 0)?;
+    match find(alloc, folder, &form.path)? {
+        Found::NotListed => Ok(()),
+        Found::Gone => {
+            ending.gone = Some(form.path.copy(alloc)?);
+            Ok(())
+        }
+        Found::Tail(mut tail) => {
+            let mut worker = Worker::new();
+            let mut shipment = Shipment::new(alloc);
+            let met = ship_file(
+                rt,
+                alloc,
+                form,
+                &mut tail,
+                &mut worker,
+                wire,
+                clock,
+                &mut shipment,
+            );
+            worker.end(wire);
+            folder.close(tail);
+            note(row, &shipment, ending);
+            met
+        }
+    }
+}
+
+// The row and the counts of what was shipped.
+fn note(row: Row, shipment: &Shipment, ending: &mut Ending)
+    ensures row { ending.new.row ≡ Some (record row { offset = shipment.now.offset }) }
+    ensures shipped { ending.new.shipped ≡ shipment.now.shipped }
+    ensures dropped { ending.new.dropped ≡ shipment.now.dropped }
+{
+    let Row {
+        key,
+        path,
+        epoch,
+        ..
+    } = row;
+    ending.row = Some(Row {
+        key,
+        path,
+        epoch,
+        offset: shipment.offset,
+    });
+    ending.shipped = shipment.shipped;
+    ending.dropped = shipment.dropped;
+}
+
+fn row_of(alloc: Global, form: &Form, offset: u64) -> Result<Row, NoMemory>
+    ensures { IfOk result (λ row. row ≡ path_row form.now offset) }
+{
+    Ok(Row {
+        key: key_of(alloc, form)?,
+        path: form.path.copy(alloc)?,
+        epoch: Epoch(0),
+        offset,
+    })
+}
+
+fn key_of(alloc: Global, form: &Form) -> Result<Text, NoMemory>
+    ensures { IfOk result (λ key. key ≡ path_key form.now.id form.now.path) }
+{
+    let id = form.id.as_str();
+    let path = form.path.as_str();
+    Ok(Text::from_string(format!(in alloc; "filestream::{id}::path::{path}")?))
+}

@@ -1,0 +1,94 @@
+ghost use Rattle.std.specs.Prelude.{◌≡◌, ◌⊎◌, ◌≤◌, take, vec_len, Option, Some, IfSome};
+ghost use Rattle.outside.specs.Counts.{Rose};
+ghost use Rattle.beat_run.specs.Area.{area_bytes};
+ghost use Rattle.wire_base.specs.declared.row.Row.{Row};
+ghost use Rattle.beat_run.specs.Command.{IsNoCommand};
+ghost use Rattle.beat_run.specs.Ends.{IsPrintingEnd, RefusesForm};
+ghost use Rattle.beat_run.specs.Followed.{Followed};
+ghost use Rattle.beat_run.specs.Form.{IsNoForm};
+ghost use Rattle.beat_run.specs.declared.settings.TheConstants.{LIMIT};
+
+use crate::report::{Ending, report_text, status_line};
+use crate::run::run;
+use crate::status::{Lack, Status};
+use crate::write::write_all;
+use outside::{Bell, Clock, Disk, Folder, Sink, Source, Wire};
+use std::alloc::Global;
+use std::sync::Wait;
+use std::thread::Threads;
+use wire_base::Text;
+
+/// The whole run.
+pub fn ship<
+    X: Threads + Wait + Sync,
+    F: Folder,
+    W: Wire + Send,
+    D: Disk + Send,
+    K: Clock,
+    B: Bell,
+    S: Sink,
+    R: Source,
+>(
+    rt: &X,
+    alloc: Global,
+    words: &[Text],
+    settings: &mut R,
+    folder: &mut F,
+    wires: &mut Vec<W>,
+    area_a: &mut D,
+    _area_b: &mut D,
+    clock: &mut K,
+    _bell: &mut B,
+    out: &mut S,
+) -> Status
+where
+    F::Tail: Send,
+    W::Link: Send,
+    requires { vec_len wires.old ≡ 16 }
+    ensures usage_only_for_other_words { result ≡ Status.Usage → IsNoCommand words.now }
+    ensures other_words_are_usage { IsNoCommand words.now → (result ≡ Status.Usage) ⊎ (result ≡ Status.OutFault) }
+    ensures unbuilt_settings_only_of_another_form { result ≡ Status.Unbuilt Lack.Settings → IfSome (R.left settings.old) (λ bytes. IsNoForm (take LIMIT bytes)) }
+    ensures another_form_is_unbuilt { IfSome (R.left settings.old) (λ bytes. IsNoForm (take LIMIT bytes) → RefusesForm result) }
+    ensures done_only_where_the_file_was_followed { result ≡ Status.Done → Followed (R.left settings.old) (F.told folder.old) (F.told folder.new) }
+    ensures done_only_with_a_started_area { result ≡ Status.Done → IfSome (D.contents area_a.old) (λ _. (row : Option Row) × (D.contents area_a.new ≡ Some (area_bytes row))) }
+    ensures disk_fault_only_where_the_area_failed { result ≡ Status.DiskFault → Rose (D.faults area_a.old) (D.faults area_a.new) }
+    ensures folder_fault_only_where_the_folder_failed { result ≡ Status.FolderFault → Rose (F.faults folder.old) (F.faults folder.new) }
+    ensures out_fault_only_where_the_sink_failed { result ≡ Status.OutFault → Rose (S.faults out.old) (S.faults out.new) }
+    ensures source_fault_only_where_the_source_failed { result ≡ Status.SourceFault → Rose (R.faults settings.old) (R.faults settings.new) }
+{
+    match run(
+        rt,
+        alloc,
+        words,
+        settings,
+        folder,
+        &mut wires[0],
+        area_a,
+        clock,
+    ) {
+        Ok(ending) => print_report(alloc, &ending, out),
+        Err(status) => print_status(status, out),
+    }
+}
+
+fn print_report<S: Sink>(alloc: Global, ending: &Ending, out: &mut S) -> Status
+    ensures { IsPrintingEnd (S.faults out.old) (S.faults out.new) result }
+{
+    match report_text(alloc, ending) {
+        Ok(text) => match write_all(out, text.as_bytes()) {
+            Ok(()) => Status::Done,
+            Err(_) => Status::OutFault,
+        },
+        Err(_) => print_status(Status::NoMemory, out),
+    }
+}
+
+fn print_status<S: Sink>(status: Status, out: &mut S) -> Status
+    ensures printed { (result ≡ status) ⊎ ((result ≡ Status.OutFault) × Rose (S.faults out.old) (S.faults out.new)) }
+    ensures faults_never_fall { S.faults out.old ≤ S.faults out.new }
+{
+    match status_line(&status, out) {
+        Ok(()) => status,
+        Err(_) => Status::OutFault,
+    }
+}
