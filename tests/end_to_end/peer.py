@@ -1,0 +1,245 @@
+#!/usr/bin/env python3
+"""A small Lumberjack v2 receiver on loopback.
+
+For tests: a `Peer` records what it receives, and answers each whole window as its `Behaviour` says. As a
+command it prints each event:
+
+    python3 tests/end_to_end/peer.py [--port PORT]
+"""
+
+import argparse
+import enum
+import socket
+import struct
+import threading
+import time
+from dataclasses import dataclass
+
+# how long a call on a socket waits before it looks whether the receiver is to end
+GLANCE = 0.05
+
+
+class Behaviour(enum.Enum):
+    """What the receiver does once a whole window has come in."""
+
+    WHOLE = "acknowledges the whole window"
+    SINGLE_BYTES = "acknowledges the whole window, each byte sent by itself"
+    COMPRESSED = "answers with the head of a compressed frame"
+    ABOVE = "acknowledges a number above the window's count"
+    SILENT = "closes the connection before any byte"
+    PART = "acknowledges all frames of the window but the last, and closes the connection"
+
+
+@dataclass(frozen=True)
+class Window:
+    count: int
+
+
+@dataclass(frozen=True)
+class Event:
+    sequence: int
+    payload: bytes
+
+
+class Fault(Exception):
+    """The client's bytes break the protocol."""
+
+
+class Frames:
+    """Cuts bytes into frames, however they were cut before."""
+
+    def __init__(self):
+        self._rest = b""
+
+    @property
+    def is_between(self):
+        return not self._rest
+
+    def feed(self, piece):
+        """Yields each frame that is whole."""
+        self._rest += piece
+        while (frame := self._next()) is not None:
+            yield frame
+
+    def _next(self):
+        rest = self._rest
+        if rest[:2] == b"2W" and len(rest) >= 6:
+            self._rest = rest[6:]
+            return Window(*struct.unpack(">I", rest[2:6]))
+        if rest[:2] == b"2J" and len(rest) >= 10:
+            sequence, length = struct.unpack(">II", rest[2:10])
+            if len(rest) < 10 + length:
+                return None
+            self._rest = rest[10 + length :]
+            return Event(sequence, rest[10 : 10 + length])
+        if rest[:2] not in (b"", b"2", b"2W", b"2J"):
+            raise Fault(f"{rest[:2].hex(' ')} begins no frame of a client")
+        return None
+
+
+class Talk:
+    """One connection: its windows, and what is said of them."""
+
+    def __init__(self, link, peer):
+        self._link = link
+        self._peer = peer
+        self._window = []
+        self._count = 0
+
+    @property
+    def is_between(self):
+        return len(self._window) == self._count
+
+    def take(self, frame):
+        """Takes a frame, and answers where it ends a window. True once the receiver wants to hear no more."""
+        if isinstance(frame, Window):
+            if not self.is_between:
+                raise Fault("a window begins within a window")
+            if frame.count < 1:
+                raise Fault("a window of no frame")
+            self._window, self._count = [], frame.count
+            return False
+        if self.is_between:
+            raise Fault("a JSON frame outside a window")
+        if frame.sequence != len(self._window) + 1:
+            raise Fault(f"the sequence {frame.sequence} in place of {len(self._window) + 1}")
+        self._window.append(frame.payload)
+        self._peer.received(frame.payload)
+        return self.is_between and self._answer()
+
+    def _answer(self):
+        behaviour = self._peer.behaviour
+        if behaviour is Behaviour.WHOLE:
+            self._acknowledge(self._count)
+        elif behaviour is Behaviour.SINGLE_BYTES:
+            self._acknowledge(self._count, pause=0.002)
+        elif behaviour is Behaviour.COMPRESSED:
+            self._link.sendall(b"2C")
+        elif behaviour is Behaviour.ABOVE:
+            self._link.sendall(struct.pack(">2sI", b"2A", self._count + 1))
+        elif behaviour is Behaviour.PART and self._count > 1:
+            self._acknowledge(self._count - 1)
+        return behaviour in (Behaviour.SILENT, Behaviour.PART)
+
+    def _acknowledge(self, sequence, pause=None):
+        # noted first: once it is out, the client may end before this thread goes on
+        self._peer.acknowledged += self._window[:sequence]
+        answer = struct.pack(">2sI", b"2A", sequence)
+        if pause is None:
+            self._link.sendall(answer)
+            return
+        for byte in answer:
+            self._link.sendall(bytes([byte]))
+            time.sleep(pause)
+
+
+class Peer:
+    """The receiver, in a thread of its own from `with` on. It serves one connection after the other.
+
+    Read what it recorded after `end`, which waits until all that came in was taken.
+    """
+
+    def __init__(self, behaviour=Behaviour.WHOLE, port=0, tell=None):
+        self.behaviour = behaviour
+        # what was received: the bytes of each connection, all frames and all payloads, in order
+        self.raw = []
+        self.frames = []
+        self.payloads = []
+        # the payloads that an acknowledgement covers, in order
+        self.acknowledged = []
+        # how the client broke the protocol
+        self.faults = []
+        self._tell = tell
+        self._ending = threading.Event()
+        self._listener = socket.create_server(("127.0.0.1", port))
+        self._listener.settimeout(GLANCE)
+        self._thread = threading.Thread(target=self._serve)
+
+    @property
+    def host(self):
+        """Where it listens, as the settings write it."""
+        return "127.0.0.1:%d" % self._listener.getsockname()[1]
+
+    @property
+    def connections(self):
+        return len(self.raw)
+
+    def __enter__(self):
+        self._thread.start()
+        return self
+
+    def __exit__(self, *_):
+        self.end()
+        self._listener.close()
+
+    def end(self):
+        """Takes what still waits, and ends the thread. A client has to have ended before."""
+        self._ending.set()
+        self._thread.join()
+
+    def received(self, payload):
+        self.payloads.append(payload)
+        if self._tell:
+            self._tell(payload)
+
+    def _serve(self):
+        while True:
+            try:
+                link, _ = self._listener.accept()
+            except socket.timeout:
+                # (not before: a connection that waits is one that was made)
+                if self._ending.is_set():
+                    return
+                continue
+            with link:
+                self.raw.append(b"")
+                try:
+                    self._listen(link)
+                except Fault as fault:
+                    self.faults.append(str(fault))
+                except OSError:
+                    # the client went away without a farewell
+                    pass
+
+    def _listen(self, link):
+        link.settimeout(GLANCE)
+        link.setsockopt(socket.IPPROTO_TCP, socket.TCP_NODELAY, 1)
+        frames, talk = Frames(), Talk(link, self)
+        while True:
+            try:
+                piece = link.recv(65536)
+            except socket.timeout:
+                if self._ending.is_set():
+                    return
+                continue
+            if not piece:
+                if not (frames.is_between and talk.is_between):
+                    raise Fault("the connection ended within a window")
+                return
+            self.raw[-1] += piece
+            for frame in frames.feed(piece):
+                self.frames.append(frame)
+                if talk.take(frame):
+                    return
+
+
+def main():
+    words = argparse.ArgumentParser(description="Receives events by Lumberjack v2 on loopback, and prints them.")
+    words.add_argument("--port", type=int, default=5044, help="0 takes a free one (default: 5044)")
+    port = words.parse_args().port
+
+    def show(payload):
+        print(payload.decode(errors="replace"), flush=True)
+
+    with Peer(port=port, tell=show) as peer:
+        print(f"listening on {peer.host}; Ctrl-C ends it", flush=True)
+        try:
+            threading.Event().wait()
+        except KeyboardInterrupt:
+            pass
+    for fault in peer.faults:
+        print(f"the client broke the protocol: {fault}")
+
+
+if __name__ == "__main__":
+    main()
