@@ -1,5 +1,5 @@
 #!/usr/bin/env python3
-"""Times `Glob::covers` from outside, and writes bench/RESULTS.md.
+"""Times single calls from outside, and writes bench/RESULTS.md.
 
 The program `bench_parts` makes one call as often as it is told. What is counted is the processor time of the
 whole program, less that of a run that makes no call.
@@ -18,6 +18,13 @@ PROGRAM = CRATE / "out" / "bench_parts"
 RESULTS = ROOT / "bench" / "RESULTS.md"
 
 LENGTHS = [64, 128, 256, 512, 1024, 2048, 4096]
+MESSAGES = [120, 8192]
+
+# the bytes of a payload that are not of its message
+ENVELOPE = len(
+    '{"@timestamp":"1970-01-01T00:00:00.000Z","input":{"type":"filestream"},'
+    '"log":{"file":{"path":"/var/log/app.log"},"offset":0},"message":""}'
+)
 
 # each figure is the least of so many runs, and each run makes calls for at least so many seconds
 RUNS = 5
@@ -27,16 +34,28 @@ HEAD = """# Times
 
 `make bench` writes this page. What it shows was measured once on one machine; nothing here is promised.
 
+Measured {date} on {cores} cores ({machine}) at a load of {load:.1f}: processor time of `bench_parts`, the least of {runs}
+runs, less the {fixed:.2f} milliseconds or so of a run that makes no call.
+"""
+
+COVERS = """
 ## `Glob::covers`
 
 The glob `/*a*a*a*a*a*b` against the path of a slash and some letters `a`, which it does not cover. The time is bounded
 by the lengths of the glob and the path multiplied, so twice the path should take about twice the time.
 
-Measured {date} on {cores} cores ({machine}) at a load of {load:.1f}: processor time of `bench_parts`, the least of {runs}
-runs, less the {fixed:.2f} milliseconds or so of a run that makes no call.
-
 | Letters | Microseconds a call | Times the row above |
 |---:|---:|---:|
+"""
+
+PAYLOADS = """
+## `event_payload`
+
+The payload of an event whose message is so many letters, beside a plain loop that copies the same message with its
+escapes between quotation marks. Neither has anything to escape.
+
+| Bytes of the message | Payloads a second | Copies a second | Copies for a payload |
+|---:|---:|---:|---:|
 """
 
 
@@ -52,37 +71,56 @@ def spent():
     return usage.ru_utime + usage.ru_stime
 
 
-def time_of(length, turns):
+def time_of(part, length, turns, wanted=None):
     """Seconds that one run takes of the processor."""
     before = spent()
-    ran = subprocess.run([PROGRAM, "covers", str(length), str(turns)], stdout=subprocess.PIPE, check=True)
-    if ran.stdout != b"0\n":
-        raise SystemExit(f"the glob covers the path: {ran.stdout!r}")
+    ran = subprocess.run([PROGRAM, part, str(length), str(turns)], stdout=subprocess.PIPE, check=True)
+    if wanted is not None and ran.stdout != b"%d\n" % wanted:
+        raise SystemExit(f"{part} {length} {turns} answers {ran.stdout!r}")
     return spent() - before
 
 
-def least_time(length, turns):
-    return min(time_of(length, turns) for _ in range(RUNS))
+def least_time(part, length, turns, wanted=None):
+    return min(time_of(part, length, turns, wanted) for _ in range(RUNS))
 
 
-def turns_for(length):
+def turns_for(part, length):
     """How many calls take long enough to be measured."""
     turns = 1000
-    while time_of(length, turns) < LEAST:
+    while time_of(part, length, turns) < LEAST:
         turns *= 2
     return turns
 
 
+def seconds_a_call(part, length, wanted, fixed):
+    turns = turns_for(part, length)
+    return (least_time(part, length, turns, wanted) - fixed) / turns
+
+
+def covers_table(fixed):
+    text, above = COVERS, None
+    for length in LENGTHS:
+        micros = seconds_a_call("covers", length, 0, fixed) * 1e6
+        ratio = f"{micros / above:.2f}" if above else ""
+        print(f"{length:>6} letters {micros:>10.3f} microseconds a call {ratio:>6}", flush=True)
+        text += f"| {length} | {micros:.3f} | {ratio} |\n"
+        above = micros
+    return text
+
+
+def payloads_table(fixed):
+    text = PAYLOADS
+    for length in MESSAGES:
+        payload = seconds_a_call("payloads", length, length + ENVELOPE, fixed)
+        copy = seconds_a_call("escapes", length, length + len('""'), fixed)
+        print(f"{length:>6} bytes {1 / payload:>12.0f} payloads a second, {payload / copy:.2f} copies each", flush=True)
+        text += f"| {length} | {1 / payload:.0f} | {1 / copy:.0f} | {payload / copy:.2f} |\n"
+    return text
+
+
 def main():
     make_program()
-    load, rows, fixed = os.getloadavg()[0], [], 0.0
-    for length in LENGTHS:
-        turns = turns_for(length)
-        fixed = least_time(length, 0)
-        micros = (least_time(length, turns) - fixed) / turns * 1e6
-        ratio = f"{micros / rows[-1][1]:.2f}" if rows else ""
-        rows.append((length, micros, ratio))
-        print(f"{length:>6} letters {micros:>10.3f} microseconds a call {ratio:>6}", flush=True)
+    load, fixed = os.getloadavg()[0], least_time("covers", 0, 0)
     head = HEAD.format(
         date=datetime.date.today().isoformat(),
         cores=os.cpu_count(),
@@ -91,8 +129,7 @@ def main():
         runs=RUNS,
         fixed=fixed * 1e3,
     )
-    table = "".join(f"| {length} | {micros:.3f} | {ratio} |\n" for length, micros, ratio in rows)
-    RESULTS.write_text(head + table)
+    RESULTS.write_text(head + covers_table(fixed) + payloads_table(fixed))
     print(f"written to {RESULTS.relative_to(ROOT)}")
 
 

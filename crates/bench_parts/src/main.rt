@@ -1,16 +1,23 @@
 //! What `bench/` times; no part of the product.
 //!
 //! `covers LENGTH TURNS` asks TURNS times whether a glob of many stars covers a slash and LENGTH
-//! letters, and prints how often it does.
+//! letters, and prints how often it does. `payloads LENGTH TURNS` writes TURNS times the payload of
+//! an event whose message has LENGTH bytes, and prints how many bytes the last one has. `escapes
+//! LENGTH TURNS` does no more than copy the same message, with its escapes, between quotation marks.
 #![tactic(auto)]
+
+mod escapes;
 
 ghost use Rattle.std.specs.Prelude.{◌≡◌};
 ghost use Rattle.glob_paths.specs.Cover.{Covers};
 
+use crate::escapes::escaped;
+use event_json::event_payload;
 use glob_paths::Glob;
+use std::alloc::Global;
 use std::env;
 use std::process::ExitCode;
-use wire_base::{Text, read_decimal};
+use wire_base::{Moment, Text, read_decimal};
 
 /// How often of so many times the glob covers the path.
 fn count_covered(glob: &Glob, path: &[u8], turns: u64) -> u64
@@ -26,21 +33,54 @@ fn count_covered(glob: &Glob, path: &[u8], turns: u64) -> u64
     covered
 }
 
+fn covered(alloc: Global, length: usize, turns: u64) -> anyhow::Result<u64> {
+    let glob = Glob::read(alloc, &Text::from_bytes(alloc, b"/*a*a*a*a*a*b")?)?;
+    let letters = "a".repeat(alloc, length)?;
+    let path = format!(in alloc; "/{letters}")?;
+    Ok(count_covered(&glob, path.as_bytes(), turns))
+}
+
+fn payload_size(alloc: Global, length: usize, turns: u64) -> anyhow::Result<u64> {
+    let path = Text::from_bytes(alloc, b"/var/log/app.log")?;
+    let message = "a".repeat(alloc, length)?;
+    let mut size = 0;
+    for _ in 0..turns {
+        let payload = event_payload(alloc, &path, 0, message.as_bytes(), Moment(0))?;
+        size = payload.map_or(0, |payload| payload.bytes().len());
+    }
+    Ok(size as u64)
+}
+
+fn escaped_size(alloc: Global, length: usize, turns: u64) -> anyhow::Result<u64> {
+    let message = "a".repeat(alloc, length)?;
+    let mut size = 0;
+    for _ in 0..turns {
+        size = escaped(alloc, message.as_bytes())?.len();
+    }
+    Ok(size as u64)
+}
+
 fn main(rt: HostRuntime) -> anyhow::Result<ExitCode> {
     let words: Vec<String> = env::args(&rt)?.collect(rt.alloc())?;
-    let numbers = match words.as_slice() {
-        [_, name, length, turns] if name.as_str() == "covers" => {
-            read_decimal(length.as_bytes()).zip(read_decimal(turns.as_bytes()))
-        }
-        _ => None,
+    let [_, name, length, turns] = words.as_slice() else {
+        return usage(&rt);
     };
+    let numbers = read_decimal(length.as_bytes()).zip(read_decimal(turns.as_bytes()));
     let Some((length, turns)) = numbers else {
-        println!(rt; "usage: bench_parts covers LENGTH TURNS")?;
-        return Ok(ExitCode::from(2));
+        return usage(&rt);
     };
-    let glob = Glob::read(rt.alloc(), &Text::from_bytes(rt.alloc(), b"/*a*a*a*a*a*b")?)?;
-    let letters = "a".repeat(rt.alloc(), usize::try_from(length)?)?;
-    let path = format!(in rt.alloc(); "/{letters}")?;
-    println!(rt; "{}", count_covered(&glob, path.as_bytes(), turns))?;
+    let length = usize::try_from(length)?;
+    let figure = match name.as_str() {
+        "covers" => covered(rt.alloc(), length, turns)?,
+        "payloads" => payload_size(rt.alloc(), length, turns)?,
+        "escapes" => escaped_size(rt.alloc(), length, turns)?,
+        _ => return usage(&rt),
+    };
+    println!(rt; "{figure}")?;
     Ok(ExitCode::SUCCESS)
+}
+
+fn usage(rt: &HostRuntime) -> anyhow::Result<ExitCode> {
+    println!(rt; "usage: bench_parts covers|payloads|escapes LENGTH TURNS")?;
+    Ok(ExitCode::from(2))
 }
