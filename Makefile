@@ -8,6 +8,6 @@ run:
 test:
 	.ci/run
 
-# times what is fast by claim, into bench/RESULTS.md
+# times the program and single calls, into bench/RESULTS.md; wants rustc for what it compares with
 bench:
 	python3 -B bench/run.py

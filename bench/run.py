@@ -1,7 +1,7 @@
 #!/usr/bin/env python3
-"""Times single calls from outside, and writes bench/RESULTS.md.
+"""Times the program and single calls from outside, and writes bench/RESULTS.md.
 
-The program `bench_parts` makes one call as often as it is told. What is counted is the processor time of the
+The program `bench_parts` makes one call as often as it is told. What is counted of it is the processor time of the
 whole program, less that of a run that makes no call.
 """
 
@@ -11,6 +11,8 @@ import platform
 import resource
 import subprocess
 from pathlib import Path
+
+from transport import transport_table
 
 ROOT = Path(__file__).resolve().parents[1]
 CRATE = ROOT / "crates" / "bench_parts"
@@ -34,8 +36,8 @@ HEAD = """# Times
 
 `make bench` writes this page. What it shows was measured once on one machine; nothing here is promised.
 
-Measured {date} on {cores} cores ({machine}) at a load of {load:.1f}: processor time of `bench_parts`, the least of {runs}
-runs, less the {fixed:.2f} milliseconds or so of a run that makes no call.
+Measured {date} on {cores} cores ({machine}) at a load of {load:.1f}. Of single calls the processor time of `bench_parts` is
+shown, the least of {runs} runs, less the {fixed:.2f} milliseconds or so of a run that makes no call.
 """
 
 COVERS = """
@@ -129,7 +131,7 @@ def main():
         runs=RUNS,
         fixed=fixed * 1e3,
     )
-    RESULTS.write_text(head + covers_table(fixed) + payloads_table(fixed))
+    RESULTS.write_text(head + transport_table() + payloads_table(fixed) + covers_table(fixed))
     print(f"written to {RESULTS.relative_to(ROOT)}")
 
 

@@ -3,7 +3,7 @@
 
     python3 tests/end_to_end/run.py [--program PATH] [NAME..]
 
-Names choose tests, also of those that are not yet expected to pass.
+Names choose tests; without any, all are run.
 """
 
 import argparse
@@ -20,9 +20,6 @@ from pathlib import Path
 import program
 from area import area, key_of, row, rows_of, text
 from peer import Behaviour, Peer, Window
-
-# Tests of what is not built yet, by their names.
-NOT_YET = set()
 
 USAGE = "status 2 usage: beat_main -c FILE [--once] [--data DIR] [--generate N]"
 UNREACHABLE = "status 7 unreachable worker 0 failures 1"
@@ -283,9 +280,9 @@ def main():
     every = [it[len("test_") :] for it in vars(EndToEnd) if it.startswith("test_")]
     words = argparse.ArgumentParser(description="Tests the program from outside.")
     words.add_argument("--program", type=Path, help="the program (default: the one that rt ci built)")
-    words.add_argument("names", nargs="*", metavar="NAME", help="a test, also one that is not yet expected to pass")
+    words.add_argument("names", nargs="*", metavar="NAME", help="a test (default: all)")
     given = words.parse_args()
-    unknown = [it for it in [*given.names, *NOT_YET] if it not in every]
+    unknown = [it for it in given.names if it not in every]
     if unknown:
         words.error(f"no test is called {', '.join(unknown)}")
     try:
@@ -296,10 +293,7 @@ def main():
         return 1
     result = Lines()
     for name in given.names or every:
-        if name in NOT_YET and not given.names:
-            print("not yet", name)
-        else:
-            EndToEnd(f"test_{name}").run(result)
+        EndToEnd(f"test_{name}").run(result)
     print(f"end to end: {result.passed} passed, {result.failed} failed")
     return 1 if result.failed else 0
 

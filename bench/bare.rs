@@ -1,0 +1,123 @@
+//! What the program's transport is compared with; no part of the product, and nothing of it is proved.
+//!
+//! `bare send FILE HOST` reads the lines of a file and sends them as the program does: the same payloads but for the
+//! moment, in windows of 2,048, each acknowledged in full before the next. `bare receive TIMES` prints the port at which
+//! it listens, takes so many connections one after another, acknowledges each window once it is there, and prints for
+//! each connection how many events it had.
+
+use std::env;
+use std::error::Error;
+use std::fs::File;
+use std::io::{BufRead, BufReader, Read, Write};
+use std::net::{TcpListener, TcpStream};
+
+const EVENTS: u32 = 2_048;
+
+fn main() -> Result<(), Box<dyn Error>> {
+    let words: Vec<String> = env::args().skip(1).collect();
+    match words.iter().map(String::as_str).collect::<Vec<_>>()[..] {
+        ["send", path, host] => send(path, host),
+        ["receive", times] => receive(times.parse()?),
+        _ => Err("usage: bare send FILE HOST | bare receive TIMES".into()),
+    }
+}
+
+fn send(path: &str, host: &str) -> Result<(), Box<dyn Error>> {
+    let mut file = BufReader::with_capacity(16_384, File::open(path)?);
+    let mut peer = TcpStream::connect(host)?;
+    peer.set_nodelay(true)?;
+    let (mut line, mut frames, mut count, mut offset) = (Vec::new(), Vec::new(), 0, 0);
+    loop {
+        line.clear();
+        let size = file.read_until(b'\n', &mut line)?;
+        if line.pop_if(|last| *last == b'\n').is_some() {
+            count += 1;
+            put_frame(&mut frames, count, path, offset, &line);
+            offset += size;
+        }
+        if count == EVENTS || (size == 0 && count > 0) {
+            send_window(&mut peer, &frames, count)?;
+            frames.clear();
+            count = 0;
+        }
+        if size == 0 {
+            return Ok(());
+        }
+    }
+}
+
+fn put_frame(frames: &mut Vec<u8>, sequence: u32, path: &str, offset: usize, message: &[u8]) {
+    frames.extend_from_slice(b"2J");
+    frames.extend_from_slice(&sequence.to_be_bytes());
+    let at = frames.len();
+    frames.extend_from_slice(&[0; 4]);
+    frames.extend_from_slice(br#"{"@timestamp":"2026-11-27T00:00:00.000Z","input":{"type":"filestream"},"log":{"file":{"path":""#);
+    put_escaped(frames, path.as_bytes());
+    frames.extend_from_slice(br#""},"offset":"#);
+    frames.extend_from_slice(offset.to_string().as_bytes());
+    frames.extend_from_slice(br#"},"message":""#);
+    put_escaped(frames, message);
+    frames.extend_from_slice(br#""}"#);
+    let size = (frames.len() - at - 4) as u32;
+    frames[at..at + 4].copy_from_slice(&size.to_be_bytes());
+}
+
+/// The escapes that the file of the bench may need; no line of it has another.
+fn put_escaped(frames: &mut Vec<u8>, text: &[u8]) {
+    for &byte in text {
+        if matches!(byte, b'"' | b'\\') {
+            frames.push(b'\\');
+        }
+        frames.push(byte);
+    }
+}
+
+fn send_window(peer: &mut TcpStream, frames: &[u8], count: u32) -> Result<(), Box<dyn Error>> {
+    let mut head = *b"2W\0\0\0\0";
+    head[2..].copy_from_slice(&count.to_be_bytes());
+    peer.write_all(&head)?;
+    peer.write_all(frames)?;
+    let mut answer = [0; 6];
+    peer.read_exact(&mut answer)?;
+    head[1] = b'A';
+    if answer == head { Ok(()) } else { Err("the window was not acknowledged in full".into()) }
+}
+
+fn receive(times: usize) -> Result<(), Box<dyn Error>> {
+    let listener = TcpListener::bind("127.0.0.1:0")?;
+    println!("{}", listener.local_addr()?.port());
+    for _ in 0..times {
+        println!("{}", receive_events(listener.accept()?.0)?);
+    }
+    Ok(())
+}
+
+/// How many events came until the peer closed.
+fn receive_events(peer: TcpStream) -> Result<u64, Box<dyn Error>> {
+    let mut from = BufReader::with_capacity(65_536, peer.try_clone()?);
+    let (mut to, mut events, mut window) = (peer, 0, 0);
+    while !from.fill_buf()?.is_empty() {
+        match take(&mut from)? {
+            [b'2', b'W'] => window = u32::from_be_bytes(take(&mut from)?),
+            [b'2', b'J'] => {
+                let sequence = u32::from_be_bytes(take(&mut from)?);
+                let size = u32::from_be_bytes(take(&mut from)?);
+                std::io::copy(&mut from.by_ref().take(size.into()), &mut std::io::sink())?;
+                events += 1;
+                if sequence == window {
+                    let mut answer = *b"2A\0\0\0\0";
+                    answer[2..].copy_from_slice(&window.to_be_bytes());
+                    to.write_all(&answer)?;
+                }
+            }
+            other => return Err(format!("no frame begins with {other:?}").into()),
+        }
+    }
+    Ok(events)
+}
+
+fn take<const SIZE: usize>(from: &mut impl Read) -> Result<[u8; SIZE], Box<dyn Error>> {
+    let mut bytes = [0; SIZE];
+    from.read_exact(&mut bytes)?;
+    Ok(bytes)
+}
