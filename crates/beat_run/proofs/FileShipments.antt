@@ -1,14 +1,18 @@
 -- A file that is read piece by piece and shipped.
-use Rattle.std.proofs.Common.{◌≡◌, ◌≢◌, ℕ, List, [], ◌++◌, All, take, Option, Some, None, Result, Ok, Err, IfSome, MatchResult, refl, sym, ◌∙◌, ap, subst, append-nil}
+use Rattle.std.proofs.Common.{◌≡◌, ◌≢◌, ℕ, List, [], ◌++◌, All, Option, Some, None, Result, Ok, Err, IfSome, MatchResult, OnOk, length, vec_len, ◌+◌, ◌<◌, arith, length-append, refl, sym, ◌∙◌, ap, subst, append-nil}
+use Rattle.std.proofs.lemmas.List.{nil_from_length}
 use Rattle.std.proofs.lemmas.List.Elements.{All-nil}
 use Rattle.outside.specs.Talks.{Talk}
 use Rattle.outside.specs.Tails.{TailHistory}
 use Rattle.beat_run.specs.declared.status.Status.{Status}
 use Rattle.beat_run.specs.declared.shipment.Shipment.{Shipment}
-use Rattle.beat_run.specs.Reading.{AddsBytes, bytes_read}
+use Rattle.beat_run.specs.Followed.{HasEndLook}
+use Rattle.beat_run.specs.Reading.{AddsBytes, ReadsPiece, bytes_read}
 use Rattle.beat_run.specs.Serving.{HasSettled}
-use Rattle.beat_run.specs.Shipping.{IsShipped, IsCovered, IsFileCovered, IsUnused}
-use Rattle.beat_run.proofs.Shipments.{covers_now, none_wait}
+use Rattle.beat_run.specs.Shipping.{IsShipped, IsCovered, IsFileCovered, IsFileWhole, IsSeen, IsUnused, IsWhole}
+use Rattle.beat_run.proofs.PieceReads.{EndsAt, reads_end}
+use Rattle.beat_run.proofs.Services.{settled_serves}
+use Rattle.beat_run.proofs.Shipments.{none_wait}
 
 -- what was read of the file is shipped so far
 pub record IsReadSo {L : Type 0} (told : L → Option Talk) (path : List ℕ) (link : Option L) (shipment : Shipment) (start : TailHistory) (now : Option TailHistory) : Type 0 where
@@ -69,7 +73,7 @@ reading_goes_on told path first link after old new (Some begun) between now piec
 pub reading_stops : {L : Type 0} (told : L → Option Talk) (path : List ℕ) (first link after : Option L) (old : Shipment) (offset : ℕ) (start between now : Option TailHistory) (piece : List ℕ) →
     IsReadWhereTold told path first link old start between → IfSome between (λ history. AddsBytes history piece now) →
     ((bytes : List ℕ) → IsShipped told path link old bytes → IsCovered told path after offset (bytes ++ piece)) →
-    IfSome start (λ begun. begun.looks ≡ [] → HasSettled told first [] → IsFileCovered told path after offset begun now)
+    IfSome start (λ begun. begun.looks ≡ [] → HasSettled told first [] → IsSeen begun (IsFileCovered told path after offset) now)
 reading_stops told path first link after old offset None between now piece was adds takes = tt
 reading_stops told path first link after old offset (Some begun) between now piece was adds takes = λ none settled.
     let so = was none settled in
@@ -81,8 +85,76 @@ reading_stops told path first link after old offset (Some begun) between now pie
       tail_told = more.tail_told;
       same_opening = more.same_opening ∙ so.same_opening;
       same_file = more.same_file ∙ so.same_file;
-      covered = subst P (sym more.added) (takes (bytes_read so.history.file so.history.looks) so.shipped);
+      seen = subst P (sym more.added) (takes (bytes_read so.history.file so.history.looks) so.shipped);
     }
+
+-- nothing waits: the lines that are settled are all
+whole : {L : Type 0} (told : L → Option Talk) (path : List ℕ) (link : Option L) (shipment : Shipment) (bytes : List ℕ) →
+    shipment.batch.size ≡ 0 → IsShipped told path link shipment bytes → IsWhole told path link shipment.offset bytes
+whole told path link shipment bytes empty is =
+    let none : is.waiting ≡ [] = nil_from_length is.waiting (sym is.holds.size ∙ empty) in
+    record {
+      covered = record {
+        settled = is.settled;
+        rest = shipment.rest.items;
+        payloads = is.payloads;
+        lines = is.lines;
+        acknowledged = settled_serves told link is.payloads is.acknowledged;
+        offset_is = is.offset;
+        spelled = is.spelled ∙ ap (λ (l : List ℕ). is.settled ++ (l ++ shipment.rest.items)) none;
+      };
+      complete = is.plain;
+    }
+
+-- so many bytes were read
+position_is : {L : Type 0} (told : L → Option Talk) (path : List ℕ) (link : Option L) (shipment : Shipment) (bytes : List ℕ) →
+    IsShipped told path link shipment bytes → length bytes ≡ shipment.offset + shipment.batch.size + vec_len shipment.rest
+position_is told path link shipment bytes is =
+    omega (arith, ap length is.spelled, length-append is.settled (is.waiting ++ shipment.rest.items), length-append is.waiting shipment.rest.items, is.offset, is.holds.size)
+
+ended : {L : Type 0} (told : L → Option Talk) (path : List ℕ) (link after : Option L) (old new : Shipment) (begun : TailHistory) (between now : Option TailHistory)
+    (place : ℕ) (result : Result (Unit {0}) Status) (so : IsReadSo told path link old begun between) → EndsAt so.history place now →
+    place ≡ old.offset + old.batch.size + vec_len old.rest → OnOk result (new.batch.size ≡ 0) →
+    MatchResult result (λ _. IsShipped told path after new (bytes_read so.history.file so.history.looks)) (λ _. IsCovered told path after new.offset (bytes_read so.history.file so.history.looks)) →
+    MatchResult result (λ _. IsSeen begun (IsFileWhole told path after new.offset) now) (λ _. IsSeen begun (IsFileCovered told path after new.offset) now)
+ended told path link after old new begun between now place (Ok done) so end position empty sent =
+    let W : List ℕ → Type 0 = λ l. IsWhole told path after new.offset l in
+    let E : ℕ → Type 0 = λ n. HasEndLook n end.history.looks in
+    record {
+      history = end.history;
+      tail_told = end.tail_told;
+      same_opening = end.same_opening ∙ so.same_opening;
+      same_file = end.same_file ∙ so.same_file;
+      seen = record {
+        whole = subst W (sym end.none_more) (whole told path after new (bytes_read so.history.file so.history.looks) empty sent);
+        ended = subst E (position ∙ sym (position_is told path link old (bytes_read so.history.file so.history.looks) so.shipped) ∙ sym (ap length end.none_more)) end.ended;
+      };
+    }
+ended told path link after old new begun between now place (Err status) so end position empty sent =
+    let C : List ℕ → Type 0 = λ l. IsCovered told path after new.offset l in
+    record {
+      history = end.history;
+      tail_told = end.tail_told;
+      same_opening = end.same_opening ∙ so.same_opening;
+      same_file = end.same_file ∙ so.same_file;
+      seen = subst C (sym end.none_more) sent;
+    }
+
+-- the end of the file, behind which what waited is sent
+pub reading_ends : {L : Type 0} (told : L → Option Talk) (path : List ℕ) (first link after : Option L) (old new : Shipment) (start between now : Option TailHistory)
+    (place count : ℕ) (into : List ℕ) (result : Result (Unit {0}) Status) →
+    IsReadWhereTold told path first link old start between → ReadsPiece between place into count now → 0 < length into → count ≡ 0 →
+    place ≡ old.offset + old.batch.size + vec_len old.rest → OnOk result (new.batch.size ≡ 0) →
+    ((bytes : List ℕ) → IsShipped told path link old bytes →
+    MatchResult result (λ _. IsShipped told path after new bytes) (λ _. IsCovered told path after new.offset bytes)) →
+    IfSome start (λ begun. begun.looks ≡ [] → HasSettled told first [] →
+    MatchResult result (λ _. IsSeen begun (IsFileWhole told path after new.offset) now) (λ _. IsSeen begun (IsFileCovered told path after new.offset) now))
+reading_ends told path first link after old new None between now place count into result was reads some none position empty sent = tt
+reading_ends told path first link after old new (Some begun) between now place count into result was reads some none position empty sent = λ unused settled.
+    let so = was unused settled in
+    let R : Option TailHistory → Type 0 = λ o. ReadsPiece o place into count now in
+    let end : EndsAt so.history place now = reads_end so.history place count into now some none (subst R so.tail_told reads) in
+    ended told path link after old new begun between now place result so end position empty (sent (bytes_read so.history.file so.history.looks) so.shipped)
 
 -- no byte more
 pub nothing_more : {L : Type 0} (told : L → Option Talk) (path : List ℕ) (after : Option L) (offset : ℕ) (bytes none : List ℕ) → none ≡ [] →
@@ -90,13 +162,3 @@ pub nothing_more : {L : Type 0} (told : L → Option Talk) (path : List ℕ) (af
 nothing_more told path after offset bytes none is covered =
     let P : List ℕ → Type 0 = λ l. IsCovered told path after offset l in
     subst P (sym (append-nil bytes) ∙ ap (λ (l : List ℕ). bytes ++ l) (sym is)) covered
-
--- what waited was sent or not: what was settled is covered
-pub covers_either : {L : Type 0} (told : L → Option Talk) (path : List ℕ) (link : Option L) (shipment : Shipment) (bytes : List ℕ) (result : Result (Unit {0}) Status) →
-    MatchResult result (λ _. IsShipped told path link shipment bytes) (λ _. IsCovered told path link shipment.offset bytes) →
-    IsCovered told path link shipment.offset bytes
-covers_either told path link shipment bytes (Ok done) is = covers_now told path link shipment bytes is
-covers_either told path link shipment bytes (Err status) is = is
-
-pub take_none : (count : ℕ) (bytes : List ℕ) → count ≡ 0 → take count bytes ≡ []
-take_none count bytes none = ap (λ (n : ℕ). take n bytes) none

@@ -5,6 +5,7 @@ mod Finds
 mod Folders
 mod LinePayloads
 mod Marks
+mod Notings
 mod Parts
 mod PathParts
 mod Payloads
@@ -14,5 +15,7 @@ mod SentPieces
 mod Services
 mod SettingsRead
 mod Shipments
+mod Standings
 mod StartedArea
+mod Storings
 mod Words

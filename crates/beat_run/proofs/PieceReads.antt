@@ -6,17 +6,8 @@ use Rattle.outside.specs.declared.history.Question.TheVariants.{Length, ReadAt}
 use Rattle.outside.specs.declared.failed.Failed.{Failed}
 use Rattle.outside.specs.Files.{File, life_of}
 use Rattle.outside.specs.Tails.{TailHistory, with_look, TellsLength, TellsRead, LooksAtLength, LooksAtBytes}
-use Rattle.beat_run.specs.Reading.{ReadsPiece, EndsReading, AddsBytes, bytes_read, bytes_of_look}
-
--- a tail that told goes on telling
-abbrev pub KeepsTelling : Option TailHistory → Option TailHistory → Type 0
-KeepsTelling None after = Unit {0}
-KeepsTelling (Some told) None = ⊥
-KeepsTelling (Some told) (Some now) = Unit {0}
-
-pub tells_itself : (told : Option TailHistory) → KeepsTelling told told
-tells_itself None = tt
-tells_itself (Some told) = tt
+use Rattle.beat_run.specs.Followed.{HasEndLook}
+use Rattle.beat_run.specs.Reading.{ReadsPiece, AddsBytes, bytes_read, bytes_of_look}
 
 -- the two looks of a read into a buffer of some bytes
 record TwoLooks (told : TailHistory) (place count : ℕ) (after : Option TailHistory) : Type 0 where
@@ -40,40 +31,6 @@ two_looks told place count byte bytes after reads =
       read = second.look;
       reads = second.asked;
       kept = second.kept;
-    }
-
-pub reads_on : (start told : Option TailHistory) (place count : ℕ) (into : List ℕ) (after : Option TailHistory) →
-    0 < length into → KeepsTelling start told → ReadsPiece told place into count after → KeepsTelling start after
-reads_on None told place count into after some keeps reads = tt
-reads_on (Some start) None place count into after some keeps reads = absurd keeps
-reads_on (Some start) (Some told) place count [] after some keeps reads = absurd (omega arith)
-reads_on (Some start) (Some told) place count (byte ∷ bytes) after some keeps reads =
-    let looks = two_looks told place count byte bytes after reads in
-    let P : Option TailHistory → Type 0 = λ o. KeepsTelling (Some start) o in
-    subst P (sym looks.kept) tt
-
-pub reads_end : (start told : Option TailHistory) (place count : ℕ) (into : List ℕ) (after : Option TailHistory) →
-    0 < length into → count ≡ 0 → KeepsTelling start told → ReadsPiece told place into count after → EndsReading start after
-reads_end None told place count into after some none keeps reads = tt
-reads_end (Some start) None place count into after some none keeps reads = absurd keeps
-reads_end (Some start) (Some told) place count [] after some none keeps reads = absurd (omega arith)
-reads_end (Some start) (Some told) place count (byte ∷ bytes) after some none keeps reads =
-    let looks = two_looks told place count byte bytes after reads in
-    record {
-      history = with_look (with_look told looks.asked) looks.read;
-      told = looks.kept;
-      ended = record {
-        place = place;
-        before = told.looks;
-        asked = looks.asked.sight;
-        read = looks.read.sight;
-        reaches = looks.reaches;
-        looks_are =
-            append_assoc told.looks (looks.asked ∷ []) (looks.read ∷ [])
-            ∙ ap (λ (q : Question). told.looks ++ record { question = q; sight = looks.asked.sight } ∷ looks.read ∷ []) looks.asks
-            ∙ ap (λ (q : Question). told.looks ++ record { question = Length; sight = looks.asked.sight } ∷ record { question = q; sight = looks.read.sight } ∷ [])
-            (looks.reads ∙ ap (λ (n : ℕ). ReadAt place n) none);
-      };
     }
 
 -- the bytes of further looks
@@ -151,4 +108,41 @@ reading_adds (Some told) between after size place count (byte ∷ bytes) some as
           ∙ ap (λ (l : List ℕ). l ++ take count (drop place (life_of told.file second.look.sight.life)))
           (one_look told asks.look Length asks.asked ∙ append-nil (bytes_read told.file told.looks))
           ∙ ap (λ (l : List ℕ). bytes_read told.file told.looks ++ l) (sym second.bytes);
+    }
+
+-- the tail's last looks are the file's end look, and no byte was read more
+pub record EndsAt (told : TailHistory) (place : ℕ) (after : Option TailHistory) : Type 0 where
+  pub history : TailHistory
+  pub tail_told : after ≡ Some history
+  pub same_opening : history.opening ≡ told.opening
+  pub same_file : history.file ≡ told.file
+  pub none_more : bytes_read history.file history.looks ≡ bytes_read told.file told.looks
+  pub ended : HasEndLook place history.looks
+
+pub reads_end : (told : TailHistory) (place count : ℕ) (into : List ℕ) (after : Option TailHistory) →
+    0 < length into → count ≡ 0 → ReadsPiece (Some told) place into count after → EndsAt told place after
+reads_end told place count [] after some none reads = absurd (omega arith)
+reads_end told place count (byte ∷ bytes) after some none reads =
+    let looks = two_looks told place count byte bytes after reads in
+    record {
+      history = with_look (with_look told looks.asked) looks.read;
+      tail_told = looks.kept;
+      same_opening = refl;
+      same_file = refl;
+      none_more =
+          one_look (with_look told looks.asked) looks.read (ReadAt place 0) (looks.reads ∙ ap (λ (n : ℕ). ReadAt place n) none)
+          ∙ append-nil (bytes_read told.file (told.looks ++ looks.asked ∷ []))
+          ∙ one_look told looks.asked Length looks.asks
+          ∙ append-nil (bytes_read told.file told.looks);
+      ended = record {
+        before = told.looks;
+        asked = looks.asked.sight;
+        read = looks.read.sight;
+        reaches = looks.reaches;
+        looks_are =
+            append_assoc told.looks (looks.asked ∷ []) (looks.read ∷ [])
+            ∙ ap (λ (q : Question). told.looks ++ record { question = q; sight = looks.asked.sight } ∷ looks.read ∷ []) looks.asks
+            ∙ ap (λ (q : Question). told.looks ++ record { question = Length; sight = looks.asked.sight } ∷ record { question = q; sight = looks.read.sight } ∷ [])
+            (looks.reads ∙ ap (λ (n : ℕ). ReadAt place n) none);
+      };
     }

@@ -1,14 +1,13 @@
--- What was done with the folder of one path: it was listed once, and where the path was listed, it was opened and read
--- to its end (Filebeat reference, filestream input; this project's profile).
-use Rattle.std.specs.Prelude.{◌≡◌, ◌≢◌, ◌⊎◌, ℕ, ◌≤◌, List, [], ◌∷◌, ◌++◌, take, All, Option, Some, IfSome}
+-- What was done with the folder of one path: it was listed once, and where the path was listed, it was opened, read and
+-- closed (Filebeat reference, filestream input; this project's profile).
+use Rattle.std.specs.Prelude.{◌≡◌, ◌≢◌, ◌⊎◌, ℕ, ◌≤◌, List, [], ◌∷◌, ◌++◌, length, slice_get, All, Option, Some}
+use Rattle.std.specs.List.{AllByRecursion}
 use Rattle.outside.specs.declared.history.Sight.{Sight}
 use Rattle.outside.specs.declared.history.Look.{Look}
 use Rattle.outside.specs.declared.history.Shown.{Shown}
 use Rattle.outside.specs.declared.history.Question.TheVariants.{Length, ReadAt}
-use Rattle.beat_run.specs.declared.form.Form.{Form}
-use Rattle.beat_run.specs.declared.settings.TheConstants.{LIMIT}
-use Rattle.beat_run.specs.Form.{IsForm}
-use Rattle.outside.specs.Folders.{FolderHistory, with_event, Listed, Opened, NotThere, Closed}
+use Rattle.outside.specs.Files.{File}
+use Rattle.outside.specs.Folders.{FolderHistory, Event, with_event, Listed, ListingFailed, Opened, NotThere, OpeningFailed, Closed}
 
 -- the folder in which the path is: what stands before its last slash, or `/`
 pub record IsFolderOf (path root : List ℕ) : Type 0 where
@@ -17,8 +16,7 @@ pub record IsFolderOf (path root : List ℕ) : Type 0 where
   pub spelled : ((root ≢ []) × (path ≡ root ++ 47 ∷ name)) ⊎ ((root ≡ 47 ∷ []) × (path ≡ 47 ∷ name))
 
 -- the last looks asked the length, which was not below the place, and read at that place, where nothing was
-pub record HasEndLook (looks : List Look) : Type 0 where
-  pub place : ℕ
+pub record HasEndLook (place : ℕ) (looks : List Look) : Type 0 where
   pub before : List Look
   pub asked : Sight
   pub read : Sight
@@ -41,29 +39,38 @@ pub record IsGone (path : List ℕ) (listed : FolderHistory) (shown : List Shown
   pub listed_then : ¬ (IsNotListed path shown)
   pub kept : after ≡ Some (with_event listed (NotThere path))
 
--- the listing showed the path, and the file that was opened by it had its end look
-pub record IsReadToItsEnd (path : List ℕ) (listed : FolderHistory) (shown : List Shown) (after : Option FolderHistory) : Type 0 where
+-- the listing showed the path, and the file that was opened by it was looked at so until its tail was closed
+pub record IsRead (path : List ℕ) (listed : FolderHistory) (shown : List Shown) (Looked : File → List Look → Type 0) (after : Option FolderHistory) : Type 0 where
   pub listed_then : ¬ (IsNotListed path shown)
   pub number : ℕ
   pub begun : Sight
-  pub opening : ℕ
+  pub file : File
+  pub file_is : slice_get listed.files number ≡ Some file
   pub looks : List Look
   pub faults : ℕ
-  pub ended : HasEndLook looks
-  pub kept : after ≡ Some (with_event (with_event listed (Opened path number begun)) (Closed opening looks faults))
+  pub looked : Looked file looks
+  pub kept : after ≡ Some (with_event (with_event listed (Opened path number begun)) (Closed (length listed.events) looks faults))
 
--- the folder of the path was listed, and the path was passed by, was gone, or was read to its end
-pub record IsFollowed (path : List ℕ) (told : FolderHistory) (after : Option FolderHistory) : Type 0 where
+-- the folder of the path was listed, and the path was passed by, was gone, or was opened and looked at so
+pub record IsFollowed (path : List ℕ) (told : FolderHistory) (Looked : File → List Look → Type 0) (after : Option FolderHistory) : Type 0 where
   pub root : List ℕ
   pub folder : IsFolderOf path root
   pub shown : List Shown
   pub cases :
       IsPassedBy path (with_event told (Listed root 1 shown)) shown after
       ⊎ (IsGone path (with_event told (Listed root 1 shown)) shown after
-      ⊎ IsReadToItsEnd path (with_event told (Listed root 1 shown)) shown after)
+      ⊎ IsRead path (with_event told (Listed root 1 shown)) shown Looked after)
 
--- the path that the settings name was followed, as far as the source and the folder tell
-pub record Followed (settings : Option (List ℕ)) (told after : Option FolderHistory) : Type 0 where
-  pub form : Form
-  pub named : IfSome settings (λ bytes. IsForm (take LIMIT bytes) form)
-  pub followed : IfSome told (λ history. IsFollowed form.path history after)
+abbrev pub IsNoOpening : Event → Type 0
+IsNoOpening (Listed root depth shown) = Unit {0}
+IsNoOpening ListingFailed = Unit {0}
+IsNoOpening (Opened path number begun) = ⊥
+IsNoOpening (NotThere path) = Unit {0}
+IsNoOpening (OpeningFailed path) = Unit {0}
+IsNoOpening (Closed opening looks faults) = Unit {0}
+
+-- no file was opened
+pub record IsUnopened (told : FolderHistory) (after : Option FolderHistory) : Type 0 where
+  pub more : List Event
+  pub none : AllByRecursion IsNoOpening more
+  pub kept : after ≡ Some (record told { events = told.events ++ more })

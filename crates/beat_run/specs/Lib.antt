@@ -9,9 +9,12 @@ pub mod Form
 pub mod Hearing
 pub mod Keys
 pub mod Lines
+pub mod Noted
 pub mod Payloads
 pub mod Reading
 pub mod Serving
 pub mod Shipping
+pub mod Standing
+pub mod Stored
 pub mod Talking
 pub mod Writing

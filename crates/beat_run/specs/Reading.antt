@@ -1,13 +1,12 @@
 -- Reading a file: each read follows a look at the length, which is not below the place (Filebeat reference, filestream
 -- input; this project's profile).
-use Rattle.std.specs.Prelude.{◌≡◌, ℕ, ◌≤◌, List, [], ◌∷◌, ◌++◌, take, drop, Option, Some, None, Ok}
+use Rattle.std.specs.Prelude.{◌≡◌, ℕ, ◌≤◌, List, [], ◌∷◌, ◌++◌, take, drop, Option, Some, Ok}
 use Rattle.outside.specs.declared.history.Look.{Look}
 use Rattle.outside.specs.declared.history.Question.{Question}
 use Rattle.outside.specs.declared.history.Question.TheVariants.{Length, ReadAt}
 use Rattle.outside.specs.declared.history.Sight.{Sight}
 use Rattle.outside.specs.Files.{File, life_of}
 use Rattle.outside.specs.Tails.{TailHistory, TellsLength, TellsRead}
-use Rattle.beat_run.specs.Followed.{HasEndLook}
 
 -- a look at the length, and then a read at the place that gave so many bytes
 pub record ReadsPiece (told : Option TailHistory) (place : ℕ) (into : List ℕ) (count : ℕ) (after : Option TailHistory) : Type 0 where
@@ -16,16 +15,6 @@ pub record ReadsPiece (told : Option TailHistory) (place : ℕ) (into : List ℕ
   pub between : Option TailHistory
   pub asked : TellsLength told (Ok length) between
   pub read : TellsRead between place into (Ok count) after
-
--- a tail that tells goes on telling, and its last looks are the file's end look
-pub record HasEnded (after : Option TailHistory) : Type 0 where
-  pub history : TailHistory
-  pub told : after ≡ Some history
-  pub ended : HasEndLook history.looks
-
-abbrev pub EndsReading : Option TailHistory → Option TailHistory → Type 0
-EndsReading None after = Unit {0}
-EndsReading (Some told) after = HasEnded after
 
 -- the bytes that the reads of a file gave, one read behind the other
 abbrev pub bytes_of_look : File → Question → Sight → List ℕ

@@ -2,12 +2,15 @@
 -- no line yet (Filebeat reference, filestream input; this project's profile).
 use Rattle.std.specs.Prelude.{◌≡◌, ◌≢◌, ℕ, ◌+◌, ◌≤◌, List, [], ◌++◌, length, vec_len, All, Option, Some}
 use Rattle.wire_base.specs.declared.numbers.TheConstants.{MAX_PLACE}
+use Rattle.outside.specs.declared.history.Look.{Look}
+use Rattle.outside.specs.Files.{File}
 use Rattle.outside.specs.Tails.{TailHistory}
 use Rattle.outside.specs.Talks.{Talk}
 use Rattle.beat_run.specs.declared.batch.TheConstants.{EVENTS}
 use Rattle.beat_run.specs.declared.lines.TheConstants.{LINE}
 use Rattle.beat_run.specs.declared.shipment.Shipment.{Shipment}
 use Rattle.beat_run.specs.Batches.{HoldsLines}
+use Rattle.beat_run.specs.Followed.{HasEndLook}
 use Rattle.beat_run.specs.Payloads.{AreLines}
 use Rattle.beat_run.specs.Reading.{bytes_read}
 use Rattle.beat_run.specs.Serving.{HasSettled, HasServed}
@@ -50,10 +53,24 @@ pub record IsCovered {L : Type 0} (told : L → Option Talk) (path : List ℕ) (
   pub offset_is : offset ≡ length settled
   pub spelled : bytes ≡ settled ++ rest
 
--- what was read of a file, by the looks at it, is covered up to the offset
-pub record IsFileCovered {L : Type 0} (told : L → Option Talk) (path : List ℕ) (link : Option L) (offset : ℕ) (start : TailHistory) (after : Option TailHistory) : Type 0 where
+-- and no line ends behind the offset
+pub record IsWhole {L : Type 0} (told : L → Option Talk) (path : List ℕ) (link : Option L) (offset : ℕ) (bytes : List ℕ) : Type 0 where
+  pub covered : IsCovered told path link offset bytes
+  pub complete : All (λ byte. byte ≢ 10) covered.rest
+
+-- the tail that was opened so was looked at so
+pub record IsSeen (start : TailHistory) (Seen : File → List Look → Type 0) (after : Option TailHistory) : Type 0 where
   pub history : TailHistory
   pub tail_told : after ≡ Some history
   pub same_opening : history.opening ≡ start.opening
   pub same_file : history.file ≡ start.file
-  pub covered : IsCovered told path link offset (bytes_read history.file history.looks)
+  pub seen : Seen history.file history.looks
+
+-- what was read of the file is covered up to the offset
+abbrev pub IsFileCovered : {L : Type 0} → (L → Option Talk) → List ℕ → Option L → ℕ → File → List Look → Type 0
+IsFileCovered told path link offset file looks = IsCovered told path link offset (bytes_read file looks)
+
+-- it was read to its end, and all its lines are covered
+pub record IsFileWhole {L : Type 0} (told : L → Option Talk) (path : List ℕ) (link : Option L) (offset : ℕ) (file : File) (looks : List Look) : Type 0 where
+  pub whole : IsWhole told path link offset (bytes_read file looks)
+  pub ended : HasEndLook (length (bytes_read file looks)) looks

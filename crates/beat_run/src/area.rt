@@ -34,6 +34,7 @@ pub fn check_blank<D: Disk>(area: &mut D) -> Result<(), Status>
 /// Starts a blank area with at most one row.
 pub fn start_area<D: Disk>(alloc: Global, area: &mut D, row: Option<&Row>) -> Result<(), Status>
     ensures stores_the_row { OnOk result (Stores (option_map (λ row. row.now) row.entry) (D.contents area.old) (D.contents area.new)) }
+    ensures kept_without_memory { IsErrOf result Status.NoMemory → D.contents area.new ≡ D.contents area.old }
     ensures stores_durably { OnOk result (Only (D.contents area.new) (D.images area.new)) }
     ensures ends { IfErr result (IsStoringEnd (D.faults area.old) (D.faults area.new)) }
     ensures faults_never_fall { D.faults area.old ≤ D.faults area.new }

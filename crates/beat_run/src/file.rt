@@ -1,9 +1,11 @@
-ghost use Rattle.std.specs.Prelude.{◌≡◌, ◌+◌, ◌<◌, ◌≤◌, [], length, take, IfErr, IfOk, IfSome, OnOk, MatchResult};
+ghost use Rattle.std.specs.Prelude.{◌≡◌, ◌+◌, ◌<◌, ◌≤◌, ℕ, List, [], length, take, Option, IfErr, IfOk, IfSome, MatchResult};
 ghost use Rattle.wire_base.specs.Ranges.{IsPlace};
 ghost use Rattle.beat_run.specs.Ends.{IsReadingEnd, IsShippingEnd};
 ghost use Rattle.beat_run.specs.Serving.{HasSettled};
-ghost use Rattle.beat_run.specs.Shipping.{IsFileCovered, IsUnused};
-ghost use Rattle.beat_run.specs.Reading.{AddsBytes, EndsReading, ReadsPiece};
+ghost use Rattle.outside.specs.Wires.{Outcome};
+ghost use Rattle.beat_run.specs.Standing.{IsJoined};
+ghost use Rattle.beat_run.specs.Shipping.{IsFileCovered, IsFileWhole, IsSeen, IsUnused};
+ghost use Rattle.beat_run.specs.Reading.{AddsBytes, ReadsPiece};
 
 use crate::form::Form;
 use crate::peer::Worker;
@@ -50,9 +52,10 @@ pub fn ship_file<X: Wait, T: Tail, W: Wire, K: Clock>(
     shipment: &mut Shipment,
 ) -> Result<(), Status>
     requires { IsUnused shipment.old }
-    ensures covered { IfSome (T.told tail.old) (λ start. start.looks ≡ [] → HasSettled W.Link.told worker.old.link [] →
-        IsFileCovered W.Link.told form.now.path worker.new.link shipment.new.offset start (T.told tail.new)) }
-    ensures ended { OnOk result (EndsReading (T.told tail.old) (T.told tail.new)) }
+    ensures seen { IfSome (T.told tail.old) (λ start. start.looks ≡ [] → HasSettled W.Link.told worker.old.link [] →
+        MatchResult result (λ _. IsSeen start (IsFileWhole W.Link.told form.now.path worker.new.link shipment.new.offset) (T.told tail.new))
+        (λ _. IsSeen start (IsFileCovered W.Link.told form.now.path worker.new.link shipment.new.offset) (T.told tail.new))) }
+    ensures joined { (start : Option (List Outcome)) (links : ℕ) → IsJoined W.Link.told start links (W.outcomes wire.old) (W.open_links wire.old) worker.old.link → IsJoined W.Link.told start links (W.outcomes wire.new) (W.open_links wire.new) worker.new.link }
     ensures ends { IfErr result (IsShippingEnd (T.faults tail.old) (T.faults tail.new)) }
     ensures faults_never_fall { T.faults tail.old ≤ T.faults tail.new }
 {
@@ -66,12 +69,10 @@ pub fn ship_file<X: Wait, T: Tail, W: Wire, K: Clock>(
                     Err(status) => return Err(status),
                 }
             }
-            Err(status) => {
-                return match shipment.flush(rt, worker, wire, &form.host, clock) {
-                    Ok(()) => Err(status),
-                    Err(failure) => Err(failure),
-                };
-            }
+            Err(status) => match shipment.flush(rt, worker, wire, &form.host, clock) {
+                Ok(()) => return Err(status),
+                Err(failure) => return Err(failure),
+            },
         }
     }
     unreachable!()

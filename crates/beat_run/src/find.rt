@@ -1,7 +1,7 @@
-ghost use Rattle.std.specs.Prelude.{◌≤◌, IfOk, IfErr, IfSome, MatchBool};
+ghost use Rattle.std.specs.Prelude.{◌≡◌, ◌≤◌, IfOk, IfErr, IfSome, MatchBool, MatchResult};
 ghost use Rattle.beat_run.specs.Ends.{IsFindingEnd, StandsFor};
-ghost use Rattle.beat_run.specs.Finding.{FindsIn, IsFresh, IsNoEntry, OpensAs};
-ghost use Rattle.beat_run.specs.Followed.{IsFolderOf};
+ghost use Rattle.beat_run.specs.Finding.{FindsIn, IsFresh, IsNoEntry, OpensAs, with_found};
+ghost use Rattle.beat_run.specs.Followed.{IsFolderOf, IsUnopened};
 ghost use Rattle.beat_run.specs.Form.{IsPlainPath};
 
 use crate::status::Status;
@@ -22,6 +22,8 @@ pub fn find<F: Folder>(alloc: Global, folder: &mut F, path: &Text) -> Result<Fou
     requires { IsPlainPath path.now }
     ensures told { IfOk result (λ found. IfSome (F.told folder.old) (λ told. FindsIn F.Tail.told path.now told found (F.told folder.new))) }
     ensures fresh { IfOk result (IsFresh F.Tail.faults) }
+    ensures open { MatchResult result (λ found. F.open_tails folder.new ≡ with_found (F.open_tails folder.old) found) (λ _. F.open_tails folder.new ≡ F.open_tails folder.old) }
+    ensures unopened { IfErr result (λ _. IfSome (F.told folder.old) (λ told. IsUnopened told (F.told folder.new))) }
     ensures ends { IfErr result (IsFindingEnd (F.faults folder.old) (F.faults folder.new)) }
     ensures faults_never_fall { F.faults folder.old ≤ F.faults folder.new }
 {
@@ -52,6 +54,8 @@ fn open_listed<F: Folder>(
 ) -> Result<Found<F::Tail>, Status>
     ensures told { IfOk result (λ found. IfSome (F.told folder.old) (λ told. OpensAs F.Tail.told path.now told found (F.told folder.new))) }
     ensures fresh { IfOk result (IsFresh F.Tail.faults) }
+    ensures open { MatchResult result (λ found. F.open_tails folder.new ≡ with_found (F.open_tails folder.old) found) (λ _. F.open_tails folder.new ≡ F.open_tails folder.old) }
+    ensures unopened { IfErr result (λ _. IfSome (F.told folder.old) (λ told. IsUnopened told (F.told folder.new))) }
     ensures ends { IfErr result (IsFindingEnd (F.faults folder.old) (F.faults folder.new)) }
     ensures faults_never_fall { F.faults folder.old ≤ F.faults folder.new }
 {

@@ -1,13 +1,17 @@
-ghost use Rattle.std.specs.Prelude.{◌≡◌, ℕ, ◌++◌, ◌<◌, ◌≤◌, List, [], length, take, Option, Some, None, Err, IsSome, IfOk, IfErr, OnOk, MatchResult};
+ghost use Rattle.std.specs.Prelude.{◌≡◌, ℕ, ◌++◌, ◌<◌, ◌≤◌, List, [], length, take, Option, Some, None, Err, IsSome, IfSome, IfOk, IfErr, OnOk, MatchResult};
+ghost use Rattle.outside.specs.Counts.{IsAtEnd};
 ghost use Rattle.outside.specs.Talks.{Talk};
+ghost use Rattle.outside.specs.Wires.{Outcome};
 ghost use Rattle.beat_run.specs.Ends.{IsSendingEnd};
 ghost use Rattle.beat_run.specs.Hearing.{IsHeardAs};
 ghost use Rattle.beat_run.specs.Serving.{HasServed, HasSettled, IsWindowOf};
+ghost use Rattle.beat_run.specs.Standing.{AreAcknowledged, GoesOn, IsJoined};
 ghost use Rattle.beat_run.specs.Talking.{HearsAll, IsFrontHeard, SendsAll};
 
 use crate::status::Status;
 use lumber_frame::{
-    FrameRead, FrameView, a_window_is_settled, nothing_is_settled, read_frame, window_head,
+    FrameRead, FrameView, a_window_is_settled, nothing_is_settled, read_frame,
+    settled_stays_acknowledged, window_head,
 };
 use outside::{Clock, Link, Recv, Wire};
 use std::mem;
@@ -33,16 +37,25 @@ pub struct Worker<L> {
 
 impl<L: Link> Worker<L> {
     pub fn new() -> Worker<L>
-        ensures { HasSettled L.told result.link [] }
+        ensures settled { HasSettled L.told result.link [] }
+        ensures unlinked { result.link ≡ None }
     {
         Worker { link: None }
     }
 
     /// Gives the link back.
-    pub fn end<W: Wire<Link = L>>(self, wire: &mut W) {
+    pub fn end<W: Wire<Link = L>>(self, wire: &mut W)
+        ensures goes_on { (start : Option (List Outcome)) (links : ℕ) → IsJoined L.told start links (W.outcomes wire.old) (W.open_links wire.old) self.link → GoesOn start (W.outcomes wire.new) }
+        ensures closed { (start : Option (List Outcome)) (links : ℕ) → IsJoined L.told start links (W.outcomes wire.old) (W.open_links wire.old) self.link → ¬ (IsAtEnd links) → W.open_links wire.new ≡ links }
+        ensures acknowledged { (start : Option (List Outcome)) (links : ℕ) (payloads : List (List ℕ)) → IsJoined L.told start links (W.outcomes wire.old) (W.open_links wire.old) self.link →
+            HasServed L.told self.link payloads → IfSome (W.outcomes wire.new) (λ outcomes. AreAcknowledged outcomes payloads) }
+    {
         let Worker { link } = self;
         match link {
-            Some(link) => wire.finish(link),
+            Some(link) => {
+                settled_stays_acknowledged();
+                wire.finish(link);
+            }
             None => {}
         }
     }
@@ -59,6 +72,7 @@ impl<L: Link> Worker<L> {
     ) -> Result<(), Status>
         ensures told { (earlier payloads : List (List ℕ)) → HasSettled L.told self.old.link earlier → IsWindowOf payloads frames.now count →
             MatchResult result (λ _. HasSettled L.told self.new.link (earlier ++ payloads)) (λ _. HasServed L.told self.new.link earlier) }
+        ensures joined { (start : Option (List Outcome)) (links : ℕ) → IsJoined L.told start links (W.outcomes wire.old) (W.open_links wire.old) self.old.link → IsJoined L.told start links (W.outcomes wire.new) (W.open_links wire.new) self.new.link }
         ensures ends { IfErr result IsSendingEnd }
     {
         self.connect(wire, host)?;
@@ -73,6 +87,7 @@ impl<L: Link> Worker<L> {
         ensures there { OnOk result (IsSome self.new.link) }
         ensures told { (payloads : List (List ℕ)) → HasSettled L.told self.old.link payloads →
             MatchResult result (λ _. HasSettled L.told self.new.link payloads) (λ _. HasServed L.told self.new.link payloads) }
+        ensures joined { (start : Option (List Outcome)) (links : ℕ) → IsJoined L.told start links (W.outcomes wire.old) (W.open_links wire.old) self.old.link → IsJoined L.told start links (W.outcomes wire.new) (W.open_links wire.new) self.new.link }
         ensures ends { IfErr result IsSendingEnd }
     {
         if self.link.is_some() {
@@ -109,6 +124,7 @@ fn serve<X: Wait, L: Link, K: Clock>(
 ) -> Result<(), Status>
     ensures told { (earlier payloads : List (List ℕ)) → HasSettled L.told (Some link.old) earlier → IsWindowOf payloads frames.now count →
         MatchResult result (λ _. HasSettled L.told (Some link.new) (earlier ++ payloads)) (λ _. HasServed L.told (Some link.new) earlier) }
+    ensures tells { IsSome (L.told link.old) → IsSome (L.told link.new) }
     ensures ends { IfErr result IsSendingEnd }
 {
     send_all(link, &window_head(count))?;

@@ -1,9 +1,11 @@
-ghost use Rattle.std.specs.Prelude.{Some, ◌≡◌, ◌↔◌, ◌≤◌, take, IfErr, IfOk, IfSome, IsErrOf, MatchResult, OnOk};
-ghost use Rattle.outside.specs.Counts.{Rose};
+ghost use Rattle.std.specs.Prelude.{Some, None, ◌≡◌, ◌↔◌, ◌≤◌, take, IfErr, IfOk, IfSome, IsErrOf, MatchResult, OnOk};
+ghost use Rattle.outside.specs.Counts.{IsAtEnd, Rose};
 ghost use Rattle.beat_run.specs.Area.{area_bytes};
 ghost use Rattle.beat_run.specs.Command.{IsNoCommand};
 ghost use Rattle.beat_run.specs.Ends.{IsRunEnd, IsShippingEnd, RefusesForm};
-ghost use Rattle.beat_run.specs.Followed.{IsFollowed, Followed};
+ghost use Rattle.beat_run.specs.Noted.{IsDrained, IsNoted};
+ghost use Rattle.beat_run.specs.Standing.{GoesOn};
+ghost use Rattle.beat_run.specs.Stored.{IsDone, IsStored, MissesRow};
 ghost use Rattle.beat_run.specs.Form.{IsNoForm, IsPlainPath};
 ghost use Rattle.beat_run.specs.Keys.{path_key, path_row};
 ghost use Rattle.beat_run.specs.declared.settings.TheConstants.{LIMIT};
@@ -37,8 +39,13 @@ pub fn run<X: Wait, F: Folder, W: Wire, D: Disk, K: Clock, R: Source>(
     ensures usage { IsErrOf result Status.Usage ↔ IsNoCommand words.now }
     ensures other_form_only { IsErrOf result (Status.Unbuilt Lack.Settings) → IfSome (R.left settings.old) (λ bytes. IsNoForm (take LIMIT bytes)) }
     ensures other_form_refused { IfSome (R.left settings.old) (λ bytes. IsNoForm (take LIMIT bytes) → MatchResult result (λ _. ⊥) RefusesForm) }
-    ensures followed { IfOk result (λ _. Followed (R.left settings.old) (F.told folder.old) (F.told folder.new)) }
+    ensures done { IfOk result (λ ending. IfSome (F.told folder.old) (λ told. IsDone (R.left settings.old) told (W.outcomes wire.new) (F.told folder.new) (D.contents area.old) (D.contents area.new))) }
+    ensures row { IfSome (F.told folder.old) (λ told. IsStored (R.left settings.old) told (W.outcomes wire.new) (F.told folder.new) (D.contents area.old) (D.contents area.new)
+        (MatchResult result (λ _. ⊥) (MissesRow (D.faults area.old) (D.faults area.new) (D.contents area.old) (D.contents area.new)))) }
     ensures stored { IfOk result (λ ending. IfSome (D.contents area.old) (λ _. D.contents area.new ≡ Some (area_bytes ending.row))) }
+    ensures wire_goes_on { GoesOn (W.outcomes wire.old) (W.outcomes wire.new) }
+    ensures links_finished { ¬ (IsAtEnd (W.open_links wire.old)) → W.open_links wire.new ≡ W.open_links wire.old }
+    ensures tails_closed { ¬ (IsAtEnd (F.open_tails folder.old)) → F.open_tails folder.new ≡ F.open_tails folder.old }
     ensures disk_fault { IsErrOf result Status.DiskFault → Rose (D.faults area.old) (D.faults area.new) }
     ensures folder_fault { IsErrOf result Status.FolderFault → Rose (F.faults folder.old) (F.faults folder.new) }
     ensures source_fault { IsErrOf result Status.SourceFault → Rose (R.faults settings.old) (R.faults settings.new) }
@@ -56,9 +63,14 @@ pub fn run<X: Wait, F: Folder, W: Wire, D: Disk, K: Clock, R: Source>(
         dropped: 0,
     };
     let met = follow(rt, alloc, &form, folder, wire, clock, &mut ending);
-    start_area(alloc, area, ending.row.as_ref())?;
-    met?;
-    Ok(ending)
+    match start_area(alloc, area, ending.row.as_ref()) {
+        Ok(()) => {}
+        Err(status) => return Err(status),
+    }
+    match met {
+        Ok(()) => Ok(ending),
+        Err(status) => Err(status),
+    }
 }
 
 // Ships the file of the path, where there is one.
@@ -71,8 +83,13 @@ fn follow<X: Wait, F: Folder, W: Wire, K: Clock>(
     clock: &mut K,
     ending: &mut Ending,
 ) -> Result<(), Status>
-    requires { IsPlainPath form.now.path }
-    ensures followed { OnOk result (IfSome (F.told folder.old) (λ told. IsFollowed form.now.path told (F.told folder.new))) }
+    requires path { IsPlainPath form.now.path }
+    requires unnoted { ending.old.row ≡ None }
+    ensures drained { OnOk result (IfSome (F.told folder.old) (λ told. IsDrained form.now told (W.outcomes wire.new) ending.new.row (F.told folder.new))) }
+    ensures noted { IfSome (F.told folder.old) (λ told. IsNoted form.now told (W.outcomes wire.new) ending.new.row (F.told folder.new)) }
+    ensures wire_goes_on { GoesOn (W.outcomes wire.old) (W.outcomes wire.new) }
+    ensures links_finished { ¬ (IsAtEnd (W.open_links wire.old)) → W.open_links wire.new ≡ W.open_links wire.old }
+    ensures tails_closed { ¬ (IsAtEnd (F.open_tails folder.old)) → F.open_tails folder.new ≡ F.open_tails folder.old }
     ensures ends { IfErr result (IsShippingEnd (F.faults folder.old) (F.faults folder.new)) }
     ensures faults_never_fall { F.faults folder.old ≤ F.faults folder.new }
 {

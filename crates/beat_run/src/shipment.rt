@@ -1,9 +1,11 @@
-ghost use Rattle.std.specs.Prelude.{◌≡◌, ◌≢◌, ℕ, ◌+◌, ◌++◌, ◌∷◌, [], ◌<◌, ◌≤◌, List, All, length, vec_len, IfErr, OnOk, MatchResult};
+ghost use Rattle.std.specs.Prelude.{◌≡◌, ◌≢◌, ℕ, ◌+◌, ◌++◌, ◌∷◌, [], ◌<◌, ◌≤◌, List, All, Option, length, vec_len, IfErr, OnOk, MatchResult};
 ghost use Rattle.wire_base.specs.Ranges.{IsMoment};
 ghost use Rattle.beat_run.specs.Ends.{IsPieceEnd, IsSendingEnd};
 ghost use Rattle.beat_run.specs.Batches.{HoldsPayloads};
 ghost use Rattle.beat_run.specs.Lines.{IsPlainByte};
 ghost use Rattle.beat_run.specs.Serving.{HasServed, HasSettled};
+ghost use Rattle.outside.specs.Wires.{Outcome};
+ghost use Rattle.beat_run.specs.Standing.{IsJoined};
 ghost use Rattle.beat_run.specs.Shipping.{IsCovered, IsShipped, IsSound, IsUnused};
 
 use crate::batch::{Batch, EVENTS};
@@ -67,6 +69,7 @@ impl Shipment {
         ensures room { OnOk result (self.new.batch.count + self.new.batch.dropped ≡ 0) }
         ensures placed { OnOk result (self.new.offset ≡ self.old.offset + self.old.batch.size) }
         ensures rest_kept { OnOk result (self.new.rest ≡ self.old.rest) }
+        ensures joined { (start : Option (List Outcome)) (links : ℕ) → IsJoined W.Link.told start links (W.outcomes wire.old) (W.open_links wire.old) worker.old.link → IsJoined W.Link.told start links (W.outcomes wire.new) (W.open_links wire.new) worker.new.link }
         ensures ends { IfErr result IsSendingEnd }
     {
         self.send(rt, worker, wire, host, clock)?;
@@ -85,6 +88,7 @@ impl Shipment {
     ) -> Result<(), Status>
         ensures told { (payloads waiting : List (List ℕ)) → HasSettled W.Link.told worker.old.link payloads → HoldsPayloads self.now.batch waiting →
             MatchResult result (λ _. HasSettled W.Link.told worker.new.link (payloads ++ waiting)) (λ _. HasServed W.Link.told worker.new.link payloads) }
+        ensures joined { (start : Option (List Outcome)) (links : ℕ) → IsJoined W.Link.told start links (W.outcomes wire.old) (W.open_links wire.old) worker.old.link → IsJoined W.Link.told start links (W.outcomes wire.new) (W.open_links wire.new) worker.new.link }
         ensures ends { IfErr result IsSendingEnd }
     {
         if self.batch.count == 0 {
@@ -129,6 +133,7 @@ impl Shipment {
             (λ _. IsCovered W.Link.told form.now.path worker.new.link self.new.offset (bytes ++ piece.now)) }
         ensures sound { OnOk result (IsSound self.new) }
         ensures placed { OnOk result (self.new.offset + self.new.batch.size + vec_len self.new.rest ≡ self.old.offset + self.old.batch.size + vec_len self.old.rest + length piece.now) }
+        ensures joined { (start : Option (List Outcome)) (links : ℕ) → IsJoined W.Link.told start links (W.outcomes wire.old) (W.open_links wire.old) worker.old.link → IsJoined W.Link.told start links (W.outcomes wire.new) (W.open_links wire.new) worker.new.link }
         ensures ends { IfErr result IsPieceEnd }
     {
         let now = clock.now();
@@ -184,6 +189,7 @@ impl Shipment {
         ensures sound { OnOk result (IsSound self.new) }
         ensures placed { OnOk result (self.new.offset + self.new.batch.size + vec_len self.new.rest
             ≡ self.old.offset + self.old.batch.size + vec_len self.old.rest + length content.now + 1) }
+        ensures joined { (start : Option (List Outcome)) (links : ℕ) → IsJoined W.Link.told start links (W.outcomes wire.old) (W.open_links wire.old) worker.old.link → IsJoined W.Link.told start links (W.outcomes wire.new) (W.open_links wire.new) worker.new.link }
         ensures ends { IfErr result IsPieceEnd }
     {
         self.make_room(rt, worker, wire, &form.host, clock)?;
@@ -219,6 +225,7 @@ impl Shipment {
         ensures few_dropped { OnOk result (self.new.batch.dropped < EVENTS) }
         ensures placed { OnOk result (self.new.offset + self.new.batch.size ≡ self.old.offset + self.old.batch.size) }
         ensures rest_kept { OnOk result (self.new.rest ≡ self.old.rest) }
+        ensures joined { (start : Option (List Outcome)) (links : ℕ) → IsJoined W.Link.told start links (W.outcomes wire.old) (W.open_links wire.old) worker.old.link → IsJoined W.Link.told start links (W.outcomes wire.new) (W.open_links wire.new) worker.new.link }
         ensures ends { IfErr result IsSendingEnd }
     {
         if self.batch.is_full() {

@@ -1,10 +1,11 @@
-ghost use Rattle.std.specs.Prelude.{◌≡◌, ◌⊎◌, ◌≤◌, take, vec_len, Option, Some, IfSome};
-ghost use Rattle.outside.specs.Counts.{Rose};
+ghost use Rattle.std.specs.Prelude.{◌≡◌, ◌⊎◌, ◌≤◌, drop, take, vec_len, Option, Some, IfSome};
+ghost use Rattle.outside.specs.Counts.{IsAtEnd, Rose};
 ghost use Rattle.beat_run.specs.Area.{area_bytes};
 ghost use Rattle.wire_base.specs.declared.row.Row.{Row};
 ghost use Rattle.beat_run.specs.Command.{IsNoCommand};
 ghost use Rattle.beat_run.specs.Ends.{IsPrintingEnd, RefusesForm};
-ghost use Rattle.beat_run.specs.Followed.{Followed};
+ghost use Rattle.beat_run.specs.Standing.{GoesOn, OnFirst};
+ghost use Rattle.beat_run.specs.Stored.{IsDone, IsStored, MissesRow};
 ghost use Rattle.beat_run.specs.Form.{IsNoForm};
 ghost use Rattle.beat_run.specs.declared.settings.TheConstants.{LIMIT};
 
@@ -49,8 +50,18 @@ where
     ensures other_words_are_usage { IsNoCommand words.now → (result ≡ Status.Usage) ⊎ (result ≡ Status.OutFault) }
     ensures unbuilt_settings_only_of_another_form { result ≡ Status.Unbuilt Lack.Settings → IfSome (R.left settings.old) (λ bytes. IsNoForm (take LIMIT bytes)) }
     ensures another_form_is_unbuilt { IfSome (R.left settings.old) (λ bytes. IsNoForm (take LIMIT bytes) → RefusesForm result) }
-    ensures done_only_where_the_file_was_followed { result ≡ Status.Done → Followed (R.left settings.old) (F.told folder.old) (F.told folder.new) }
-    ensures done_only_with_a_started_area { result ≡ Status.Done → IfSome (D.contents area_a.old) (λ _. (row : Option Row) × (D.contents area_a.new ≡ Some (area_bytes row))) }
+    ensures done_only_where_the_file_was_drained { result ≡ Status.Done → IfSome (F.told folder.old) (λ told. OnFirst W.outcomes wires.old wires.new (λ _ outcomes.
+        IsDone (R.left settings.old) told outcomes (F.told folder.new) (D.contents area_a.old) (D.contents area_a.new))) }
+    ensures stored_row_is_covered { IfSome (F.told folder.old) (λ told. OnFirst W.outcomes wires.old wires.new (λ _ outcomes.
+        IsStored (R.left settings.old) told outcomes (F.told folder.new) (D.contents area_a.old) (D.contents area_a.new)
+        (MissesRow (D.faults area_a.old) (D.faults area_a.new) (D.contents area_a.old) (D.contents area_a.new) result))) }
+    ensures wire_goes_on { OnFirst W.outcomes wires.old wires.new GoesOn }
+    ensures links_finished { OnFirst W.open_links wires.old wires.new (λ old new. ¬ (IsAtEnd old) → new ≡ old) }
+    ensures as_many_wires { vec_len wires.new ≡ vec_len wires.old }
+    ensures other_wires_kept { drop 1 wires.new.items ≡ drop 1 wires.old.items }
+    ensures tails_closed { ¬ (IsAtEnd (F.open_tails folder.old)) → F.open_tails folder.new ≡ F.open_tails folder.old }
+    ensures other_area_kept { _area_b.new ≡ _area_b.old }
+    ensures bell_kept { _bell.new ≡ _bell.old }
     ensures disk_fault_only_where_the_area_failed { result ≡ Status.DiskFault → Rose (D.faults area_a.old) (D.faults area_a.new) }
     ensures folder_fault_only_where_the_folder_failed { result ≡ Status.FolderFault → Rose (F.faults folder.old) (F.faults folder.new) }
     ensures out_fault_only_where_the_sink_failed { result ≡ Status.OutFault → Rose (S.faults out.old) (S.faults out.new) }

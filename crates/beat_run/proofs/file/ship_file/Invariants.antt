@@ -1,7 +1,8 @@
-use Rattle.std.proofs.Common.{◌≤◌}
+use Rattle.std.proofs.Common.{◌≤◌, ℕ, List, Option}
+use Rattle.outside.specs.Wires.{Outcome}
 use Rattle.beat_run.specs.Shipping.{IsSound}
+use Rattle.beat_run.specs.Standing.{IsJoined}
 use Rattle.beat_run.proofs.FileShipments.{IsReadWhereTold}
-use Rattle.beat_run.proofs.PieceReads.{KeepsTelling}
 use Rattle.beat_run.proofs.file.ship_file.Given as goal
 
 abbrev pub invariant-loop : goal.invariant-loop
@@ -9,7 +10,9 @@ invariant-loop g l = record {
   goes_on : (goal.iterator-loop g).can_next l.iterator';
   ends : (goal.iterator-loop g).is_finite l.iterator';
   sound : IsSound l.shipment;
-  telling : KeepsTelling (g.T.Tail.told l.initial.tail) (g.T.Tail.told l.tail);
   faults : g.T.Tail.faults l.initial.tail ≤ g.T.Tail.faults l.tail;
   told : IsReadWhereTold g.W.Link.Link.told l.form.path l.initial.worker.link l.worker.link l.shipment (g.T.Tail.told l.initial.tail) (g.T.Tail.told l.tail);
+  joined : (start : Option (List Outcome)) (links : ℕ) →
+      IsJoined g.W.Link.Link.told start links (g.W.Wire.outcomes l.initial.wire) (g.W.Wire.open_links l.initial.wire) l.initial.worker.link →
+      IsJoined g.W.Link.Link.told start links (g.W.Wire.outcomes l.wire) (g.W.Wire.open_links l.wire) l.worker.link;
 }

@@ -1,8 +1,15 @@
-use Rattle.std.proofs.Common.{◌≡◌, ℕ, List, take, Option, Some, None, IfSome}
+use Rattle.std.proofs.Common.{arith, ◌≡◌, ℕ, List, take, slice_get, Option, Some, None, IfSome, Vec}
+use Rattle.std.specs.Vec.{with_item}
+use Rattle.std.specs.declared.alloc.Global.{Global}
+use Rattle.outside.specs.Counts.{IsAtEnd}
+use Rattle.outside.specs.Folders.{FolderHistory}
+use Rattle.outside.specs.Wires.{Outcome}
+use Rattle.beat_run.specs.Standing.{OnFirst}
+use Rattle.beat_run.specs.Stored.{IsStored, MissesRow}
+use Rattle.beat_run.proofs.Standings.{first_is, first_set, on_first}
+use Rattle.beat_run.proofs.Storings.{done_stored, printed_stored}
 use Rattle.beat_run.specs.declared.settings.TheConstants.{LIMIT}
 use Rattle.beat_run.specs.declared.status.Status.{Status}
-use Rattle.wire_base.specs.declared.row.Row.{Row}
-use Rattle.beat_run.specs.Area.{area_bytes}
 use Rattle.beat_run.specs.Ends.{RefusesForm}
 use Rattle.beat_run.specs.Form.{IsNoForm}
 use Rattle.beat_run.proofs.shipping.ship.Goals as goal
@@ -15,10 +22,28 @@ never_another (Some bytes) status refused = λ none. absurd (refused none)
 pub returns-in-Ok-clause-another_form_is_unbuilt : goal.returns-in-Ok-clause-another_form_is_unbuilt
 returns-in-Ok-clause-another_form_is_unbuilt g c = never_another _ _ c.in-Ok.ensures.other_form_refused
 
-started : (old new : Option (List ℕ)) (row : Option Row) →
-    IfSome old (λ _. new ≡ Some (area_bytes row)) → IfSome old (λ _. (r : Option Row) × (new ≡ Some (area_bytes r)))
-started None new row is = tt
-started (Some bytes) new row is = (row, is)
+first_covered : {W : Type 0} (member : W → Option (List Outcome)) (old new : Vec W Global) (first last : W) (told : Option FolderHistory) (P : FolderHistory → Option (List Outcome) → Type 0) →
+    slice_get old.items 0 ≡ Some first → slice_get new.items 0 ≡ Some last → IfSome told (λ history. P history (member last)) →
+    IfSome told (λ history. OnFirst member old new (λ _ outcomes. P history outcomes))
+first_covered member old new first last None P was is holds = tt
+first_covered member old new first last (Some told) P was is holds = on_first member old new first last (λ _ outcomes. P told outcomes) was is holds
 
-pub returns-in-Ok-clause-done_only_with_a_started_area : goal.returns-in-Ok-clause-done_only_with_a_started_area
-returns-in-Ok-clause-done_only_with_a_started_area g c = λ done. started _ _ c.in-Ok.ending.row c.in-Ok.ensures.stored
+pub returns-in-Ok-clause-stored_row_is_covered : goal.returns-in-Ok-clause-stored_row_is_covered
+returns-in-Ok-clause-stored_row_is_covered g c =
+    first_covered g.W.Wire.outcomes c.args.wires.now (with_item c.args.wires.now 0 c.run.new.wire) c.index_mut.result.now c.run.new.wire _ (λ history outcomes. IsStored (g.R.Source.left c.args.settings.now) history outcomes (g.F.Folder.told c.run.new.folder) (g.D.Disk.contents c.args.area_a.now) (g.D.Disk.contents c.run.new.area)
+    (MissesRow (g.D.Disk.faults c.args.area_a.now) (g.D.Disk.faults c.run.new.area) (g.D.Disk.contents c.args.area_a.now) (g.D.Disk.contents c.run.new.area) c.print_report.result)) (first_is c.args.wires.now.items _ (omega (arith, c.requires)) c.index_mut.ensures.value) (first_set c.args.wires.now c.run.new.wire (omega (arith, c.requires)))
+    (done_stored _ _ _ _ _ _ (MissesRow (g.D.Disk.faults c.args.area_a.now) (g.D.Disk.faults c.run.new.area) (g.D.Disk.contents c.args.area_a.now) (g.D.Disk.contents c.run.new.area) c.print_report.result) (rw c.in-Ok.is at c.run.ensures.row))
+
+pub returns-in-Err-clause-stored_row_is_covered : goal.returns-in-Err-clause-stored_row_is_covered
+returns-in-Err-clause-stored_row_is_covered g c =
+    first_covered g.W.Wire.outcomes c.args.wires.now (with_item c.args.wires.now 0 c.run.new.wire) c.index_mut.result.now c.run.new.wire _ (λ history outcomes. IsStored (g.R.Source.left c.args.settings.now) history outcomes (g.F.Folder.told c.run.new.folder) (g.D.Disk.contents c.args.area_a.now) (g.D.Disk.contents c.run.new.area)
+    (MissesRow (g.D.Disk.faults c.args.area_a.now) (g.D.Disk.faults c.run.new.area) (g.D.Disk.contents c.args.area_a.now) (g.D.Disk.contents c.run.new.area) c.print_status.result)) (first_is c.args.wires.now.items _ (omega (arith, c.requires)) c.index_mut.ensures.value) (first_set c.args.wires.now c.run.new.wire (omega (arith, c.requires)))
+    (printed_stored _ _ _ _ _ _ _ _ _ c.in-Err.status c.print_status.result c.print_status.ensures.printed (rw c.in-Err.is at c.run.ensures.row))
+
+pub returns-in-Ok-clause-links_finished : goal.returns-in-Ok-clause-links_finished
+returns-in-Ok-clause-links_finished g c =
+    on_first g.W.Wire.open_links c.args.wires.now (with_item c.args.wires.now 0 c.run.new.wire) c.index_mut.result.now c.run.new.wire (λ old new. ¬ (IsAtEnd old) → new ≡ old) (first_is c.args.wires.now.items _ (omega (arith, c.requires)) c.index_mut.ensures.value) (first_set c.args.wires.now c.run.new.wire (omega (arith, c.requires))) c.run.ensures.links_finished
+
+pub returns-in-Err-clause-links_finished : goal.returns-in-Err-clause-links_finished
+returns-in-Err-clause-links_finished g c =
+    on_first g.W.Wire.open_links c.args.wires.now (with_item c.args.wires.now 0 c.run.new.wire) c.index_mut.result.now c.run.new.wire (λ old new. ¬ (IsAtEnd old) → new ≡ old) (first_is c.args.wires.now.items _ (omega (arith, c.requires)) c.index_mut.ensures.value) (first_set c.args.wires.now c.run.new.wire (omega (arith, c.requires))) c.run.ensures.links_finished

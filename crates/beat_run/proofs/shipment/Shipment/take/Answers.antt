@@ -10,6 +10,7 @@ loop-used-preserved g c = record {
       let taken = c.loop-used.invariant.told bytes is in
       taking_goes_on _ _ _ _ c.loop-used.self _ bytes c.args.piece.now c.loop-used.left.now c.in-Line.used _ taken
       c.in-Line.ensures.0 c.in-Line.ensures.1 (omega arith) c.in-Line.ensures.5 (rw c.in-Ok.is at (c.complete.ensures.told _ taken.shipped));
+  joined = λ start links is. c.complete.ensures.joined start links (c.loop-used.invariant.joined start links is);
 }
 
 pub returns-in-Err-clause-told : goal.returns-in-Err-clause-told
@@ -38,3 +39,12 @@ returns-in-Err-flush-clause-told g c = λ bytes is.
     let taken = c.loop-used.invariant.told bytes is in
     taking_covers _ _ _ _ _ c.loop-used.self bytes c.args.piece.now c.loop-used.left.now taken
     (rw c.in-Err-flush.is at (c.flush.ensures.told _ _ taken.shipped))
+
+pub returns-in-Err-clause-joined : goal.returns-in-Err-clause-joined
+returns-in-Err-clause-joined g c = λ start links is. c.complete.ensures.joined start links (c.loop-used.invariant.joined start links is)
+
+pub returns-in-Ok-flush-clause-joined : goal.returns-in-Ok-flush-clause-joined
+returns-in-Ok-flush-clause-joined g c = λ start links is. c.flush.ensures.joined start links (c.loop-used.invariant.joined start links is)
+
+pub returns-in-Err-flush-clause-joined : goal.returns-in-Err-flush-clause-joined
+returns-in-Err-flush-clause-joined g c = λ start links is. c.flush.ensures.joined start links (c.loop-used.invariant.joined start links is)

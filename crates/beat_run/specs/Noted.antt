@@ -1,0 +1,55 @@
+-- The row that a run notes for the file of one path: up to its offset, what was read of the file are lines whose
+-- payloads are acknowledged, or that have none (Filebeat reference, filestream input; this project's profile).
+use Rattle.std.specs.Prelude.{◌≡◌, ◌≢◌, ◌⊎◌, ℕ, List, ◌++◌, length, All, Option, Some, None, IfSome}
+use Rattle.wire_base.specs.declared.row.Row.{Row}
+use Rattle.outside.specs.declared.history.Look.{Look}
+use Rattle.outside.specs.declared.history.Shown.{Shown}
+use Rattle.outside.specs.Files.{File}
+use Rattle.outside.specs.Folders.{FolderHistory, with_event, Listed}
+use Rattle.outside.specs.Wires.{Outcome}
+use Rattle.beat_run.specs.declared.form.Form.{Form}
+use Rattle.beat_run.specs.Followed.{HasEndLook, IsFollowed, IsRead, IsUnopened}
+use Rattle.beat_run.specs.Keys.{path_row}
+use Rattle.beat_run.specs.Payloads.{AreLines}
+use Rattle.beat_run.specs.Reading.{bytes_read}
+use Rattle.beat_run.specs.Standing.{AreAcknowledged}
+
+-- the bytes up to the offset are lines whose payloads are acknowledged, or that have none
+pub record IsCoveredUpTo (path : List ℕ) (outcomes : Option (List Outcome)) (offset : ℕ) (bytes : List ℕ) : Type 0 where
+  pub settled : List ℕ
+  pub rest : List ℕ
+  pub payloads : List (List ℕ)
+  pub lines : AreLines path 0 settled payloads
+  pub acknowledged : IfSome outcomes (λ list. AreAcknowledged list payloads)
+  pub offset_is : offset ≡ length settled
+  pub spelled : bytes ≡ settled ++ rest
+
+-- and no line ends behind the offset
+pub record IsWholeUpTo (path : List ℕ) (outcomes : Option (List Outcome)) (offset : ℕ) (bytes : List ℕ) : Type 0 where
+  pub covered : IsCoveredUpTo path outcomes offset bytes
+  pub complete : All (λ byte. byte ≢ 10) covered.rest
+
+-- the row of the path, whose offset covers what the looks read
+pub record NotesCovered (form : Form) (outcomes : Option (List Outcome)) (row : Option Row) (file : File) (looks : List Look) : Type 0 where
+  pub offset : ℕ
+  pub noted : row ≡ Some (path_row form offset)
+  pub covered : IsCoveredUpTo form.path outcomes offset (bytes_read file looks)
+
+-- the looks end at the file's end, and the row's offset is the end of the last line before it
+pub record NotesWhole (form : Form) (outcomes : Option (List Outcome)) (row : Option Row) (file : File) (looks : List Look) : Type 0 where
+  pub offset : ℕ
+  pub noted : row ≡ Some (path_row form offset)
+  pub whole : IsWholeUpTo form.path outcomes offset (bytes_read file looks)
+  pub ended : HasEndLook (length (bytes_read file looks)) looks
+
+-- no file was opened, and there is no row; or one was opened and closed, and its row covers what was read
+pub record IsNoted (form : Form) (told : FolderHistory) (outcomes : Option (List Outcome)) (row : Option Row) (after : Option FolderHistory) : Type 0 where
+  pub root : List ℕ
+  pub shown : List Shown
+  pub cases :
+      (IsUnopened told after × (row ≡ None))
+      ⊎ IsRead form.path (with_event told (Listed root 1 shown)) shown (NotesCovered form outcomes row) after
+
+-- the path was followed to its end
+abbrev pub IsDrained : Form → FolderHistory → Option (List Outcome) → Option Row → Option FolderHistory → Type 0
+IsDrained form told outcomes row after = IsFollowed form.path told (NotesWhole form outcomes row) after
