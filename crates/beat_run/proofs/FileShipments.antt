@@ -2,6 +2,8 @@
 use Rattle.std.proofs.Common.{◌≡◌, ◌≢◌, ℕ, List, [], ◌++◌, All, Option, Some, None, Result, Ok, Err, IfSome, MatchResult, OnOk, length, vec_len, ◌+◌, ◌<◌, arith, length-append, refl, sym, ◌∙◌, ap, subst, append-nil}
 use Rattle.std.proofs.lemmas.List.{nil_from_length}
 use Rattle.std.proofs.lemmas.List.Elements.{All-nil}
+use Rattle.outside.specs.declared.history.Look.{Look}
+use Rattle.outside.specs.Files.{File}
 use Rattle.outside.specs.Talks.{Talk}
 use Rattle.outside.specs.Tails.{TailHistory}
 use Rattle.beat_run.specs.declared.status.Status.{Status}
@@ -9,7 +11,7 @@ use Rattle.beat_run.specs.declared.shipment.Shipment.{Shipment}
 use Rattle.beat_run.specs.Followed.{HasEndLook}
 use Rattle.beat_run.specs.Reading.{AddsBytes, ReadsPiece, bytes_read}
 use Rattle.beat_run.specs.Serving.{HasSettled}
-use Rattle.beat_run.specs.Shipping.{IsShipped, IsCovered, IsFileCovered, IsFileWhole, IsSeen, IsUnused, IsWhole}
+use Rattle.beat_run.specs.Shipping.{IsShipped, IsCovered, IsFileCovered, IsFileWhole, IsSeen, IsUnused}
 use Rattle.beat_run.proofs.PieceReads.{EndsAt, reads_end}
 use Rattle.beat_run.proofs.Services.{settled_serves}
 use Rattle.beat_run.proofs.Shipments.{none_wait}
@@ -43,6 +45,7 @@ reading_starts told path link shipment (Some begun) unused = λ none settled.
         lines = none_wait path 0;
         acknowledged = settled;
         offset = unused.offset;
+        shipped = unused.shipped;
         waiting = [];
         holds = unused.batch path shipment.offset;
         plain = subst A (sym unused.rest) (All-nil (λ (byte : ℕ). byte ≢ 10));
@@ -89,21 +92,26 @@ reading_stops told path first link after old offset (Some begun) between now pie
     }
 
 -- nothing waits: the lines that are settled are all
-whole : {L : Type 0} (told : L → Option Talk) (path : List ℕ) (link : Option L) (shipment : Shipment) (bytes : List ℕ) →
-    shipment.batch.size ≡ 0 → IsShipped told path link shipment bytes → IsWhole told path link shipment.offset bytes
-whole told path link shipment bytes empty is =
+whole : {L : Type 0} (told : L → Option Talk) (path : List ℕ) (link : Option L) (shipment : Shipment) (file : File) (looks : List Look) (bytes : List ℕ) →
+    bytes_read file looks ≡ bytes → shipment.batch.size ≡ 0 → IsShipped told path link shipment bytes → HasEndLook (length (bytes_read file looks)) looks →
+    IsFileWhole told path link shipment file looks
+whole told path link shipment file looks bytes read empty is ended =
     let none : is.waiting ≡ [] = nil_from_length is.waiting (sym is.holds.size ∙ empty) in
     record {
-      covered = record {
-        settled = is.settled;
-        rest = shipment.rest.items;
-        payloads = is.payloads;
-        lines = is.lines;
-        acknowledged = settled_serves told link is.payloads is.acknowledged;
-        offset_is = is.offset;
-        spelled = is.spelled ∙ ap (λ (l : List ℕ). is.settled ++ (l ++ shipment.rest.items)) none;
+      whole = record {
+        covered = record {
+          settled = is.settled;
+          rest = shipment.rest.items;
+          payloads = is.payloads;
+          lines = is.lines;
+          acknowledged = settled_serves told link is.payloads is.acknowledged;
+          offset_is = is.offset;
+          spelled = read ∙ is.spelled ∙ ap (λ (l : List ℕ). is.settled ++ (l ++ shipment.rest.items)) none;
+        };
+        complete = is.plain;
       };
-      complete = is.plain;
+      shipped = is.shipped;
+      ended = ended;
     }
 
 -- so many bytes were read
@@ -116,19 +124,16 @@ ended : {L : Type 0} (told : L → Option Talk) (path : List ℕ) (link after : 
     (place : ℕ) (result : Result (Unit {0}) Status) (so : IsReadSo told path link old begun between) → EndsAt so.history place now →
     place ≡ old.offset + old.batch.size + vec_len old.rest → OnOk result (new.batch.size ≡ 0) →
     MatchResult result (λ _. IsShipped told path after new (bytes_read so.history.file so.history.looks)) (λ _. IsCovered told path after new.offset (bytes_read so.history.file so.history.looks)) →
-    MatchResult result (λ _. IsSeen begun (IsFileWhole told path after new.offset) now) (λ _. IsSeen begun (IsFileCovered told path after new.offset) now)
+    MatchResult result (λ _. IsSeen begun (IsFileWhole told path after new) now) (λ _. IsSeen begun (IsFileCovered told path after new.offset) now)
 ended told path link after old new begun between now place (Ok done) so end position empty sent =
-    let W : List ℕ → Type 0 = λ l. IsWhole told path after new.offset l in
     let E : ℕ → Type 0 = λ n. HasEndLook n end.history.looks in
     record {
       history = end.history;
       tail_told = end.tail_told;
       same_opening = end.same_opening ∙ so.same_opening;
       same_file = end.same_file ∙ so.same_file;
-      seen = record {
-        whole = subst W (sym end.none_more) (whole told path after new (bytes_read so.history.file so.history.looks) empty sent);
-        ended = subst E (position ∙ sym (position_is told path link old (bytes_read so.history.file so.history.looks) so.shipped) ∙ sym (ap length end.none_more)) end.ended;
-      };
+      seen = whole told path after new end.history.file end.history.looks (bytes_read so.history.file so.history.looks) end.none_more empty sent
+          (subst E (position ∙ sym (position_is told path link old (bytes_read so.history.file so.history.looks) so.shipped) ∙ sym (ap length end.none_more)) end.ended);
     }
 ended told path link after old new begun between now place (Err status) so end position empty sent =
     let C : List ℕ → Type 0 = λ l. IsCovered told path after new.offset l in
@@ -148,7 +153,7 @@ pub reading_ends : {L : Type 0} (told : L → Option Talk) (path : List ℕ) (fi
     ((bytes : List ℕ) → IsShipped told path link old bytes →
     MatchResult result (λ _. IsShipped told path after new bytes) (λ _. IsCovered told path after new.offset bytes)) →
     IfSome start (λ begun. begun.looks ≡ [] → HasSettled told first [] →
-    MatchResult result (λ _. IsSeen begun (IsFileWhole told path after new.offset) now) (λ _. IsSeen begun (IsFileCovered told path after new.offset) now))
+    MatchResult result (λ _. IsSeen begun (IsFileWhole told path after new) now) (λ _. IsSeen begun (IsFileCovered told path after new.offset) now))
 reading_ends told path first link after old new None between now place count into result was reads some none position empty sent = tt
 reading_ends told path first link after old new (Some begun) between now place count into result was reads some none position empty sent = λ unused settled.
     let so = was unused settled in

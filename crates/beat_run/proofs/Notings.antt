@@ -15,11 +15,13 @@ use Rattle.outside.specs.Talks.{Talk}
 use Rattle.outside.specs.Wires.{Outcome}
 use Rattle.beat_run.specs.declared.find.Found.TheVariants.{NotListed, Gone, Tail}
 use Rattle.beat_run.specs.declared.form.Form.{Form}
+use Rattle.beat_run.specs.declared.report.Ending.{Ending}
+use Rattle.beat_run.specs.declared.shipment.Shipment.{Shipment}
 use Rattle.beat_run.specs.declared.status.Status.{Status}
 use Rattle.beat_run.specs.Finding.{FindsIn, IsOpened}
 use Rattle.beat_run.specs.Followed.{IsNoOpening, IsNotListed, IsRead, IsUnopened}
 use Rattle.beat_run.specs.Keys.{path_row}
-use Rattle.beat_run.specs.Noted.{IsCoveredUpTo, IsDrained, IsNoted, NotesCovered, NotesWhole}
+use Rattle.beat_run.specs.Noted.{IsCoveredUpTo, IsDrained, IsEmptyEnding, IsGoneEnding, IsNoted, NotesCovered, NotesWhole}
 use Rattle.beat_run.specs.Reading.{bytes_read}
 use Rattle.beat_run.specs.Serving.{HasServed, HasSettled}
 use Rattle.beat_run.specs.Shipping.{IsCovered, IsFileCovered, IsFileWhole, IsSeen}
@@ -128,6 +130,12 @@ covered_up_to told path link offset outcomes bytes ends is = record {
   spelled = is.spelled;
 }
 
+-- what was shipped stands in the ending
+pub record IsNotedSo (form : Form) (shipment : Shipment) (ending : Ending) : Type 0 where
+  pub row : ending.row ≡ Some (path_row form shipment.offset)
+  pub gone : ending.gone ≡ None
+  pub shipped : ending.shipped ≡ shipment.shipped
+
 notes_covered : {L : Type 0} (told : L → Option Talk) (form : Form) (link : Option L) (offset : ℕ) (outcomes : Option (List Outcome)) (row : Option Row) →
     EndsAcknowledged told link outcomes → row ≡ Some (path_row form offset) → (file : File) (looks : List Look) →
     IsFileCovered told form.path link offset file looks → NotesCovered form outcomes row file looks
@@ -137,97 +145,112 @@ notes_covered told form link offset outcomes row ends noted file looks is = reco
   covered = covered_up_to told form.path link offset outcomes (bytes_read file looks) ends is;
 }
 
-notes_whole : {L : Type 0} (told : L → Option Talk) (form : Form) (link : Option L) (offset : ℕ) (outcomes : Option (List Outcome)) (row : Option Row) →
-    EndsAcknowledged told link outcomes → row ≡ Some (path_row form offset) → (file : File) (looks : List Look) →
-    IsFileWhole told form.path link offset file looks → NotesWhole form outcomes row file looks
+notes_whole : {L : Type 0} (told : L → Option Talk) (form : Form) (link : Option L) (shipment : Shipment) (outcomes : Option (List Outcome)) (ending : Ending) →
+    EndsAcknowledged told link outcomes → IsNotedSo form shipment ending → (file : File) (looks : List Look) →
+    IsFileWhole told form.path link shipment file looks → NotesWhole form outcomes ending file looks
 unfolding covered_up_to
-notes_whole told form link offset outcomes row ends noted file looks is = record {
-  offset = offset;
-  noted = noted;
-  whole = record { covered = covered_up_to told form.path link offset outcomes (bytes_read file looks) ends is.whole.covered; complete = is.whole.complete };
+notes_whole told form link shipment outcomes ending ends noted file looks is = record {
+  offset = shipment.offset;
+  noted = noted.row;
+  none_gone = noted.gone;
+  whole = record { covered = covered_up_to told form.path link shipment.offset outcomes (bytes_read file looks) ends is.whole.covered; complete = is.whole.complete };
+  shipped = noted.shipped ∙ is.shipped;
   ended = is.ended;
 }
 
-whole_covered : {L : Type 0} (told : L → Option Talk) (path : List ℕ) (link : Option L) (offset : ℕ) (file : File) (looks : List Look) →
-    IsFileWhole told path link offset file looks → IsFileCovered told path link offset file looks
-whole_covered told path link offset file looks is = is.whole.covered
+whole_covered : {L : Type 0} (told : L → Option Talk) (path : List ℕ) (link : Option L) (shipment : Shipment) (file : File) (looks : List Look) →
+    IsFileWhole told path link shipment file looks → IsFileCovered told path link shipment.offset file looks
+whole_covered told path link shipment file looks is = is.whole.covered
 
 -- how a tail was looked at, by the answer of its reading
-abbrev pub IsSeenSo : {L : Type 0} → (L → Option Talk) → List ℕ → Option L → ℕ → TailHistory → Option TailHistory → Result (Unit {0}) Status → Type 0
-IsSeenSo told path link offset start after result =
-    MatchResult result (λ _. IsSeen start (IsFileWhole told path link offset) after) (λ _. IsSeen start (IsFileCovered told path link offset) after)
+abbrev pub IsSeenSo : {L : Type 0} → (L → Option Talk) → List ℕ → Option L → Shipment → TailHistory → Option TailHistory → Result (Unit {0}) Status → Type 0
+IsSeenSo told path link shipment start after result =
+    MatchResult result (λ _. IsSeen start (IsFileWhole told path link shipment) after) (λ _. IsSeen start (IsFileCovered told path link shipment.offset) after)
 
-seen_noted : {L T : Type 0} (told : L → Option Talk) (tail_told : T → Option TailHistory) (form : Form) (link : Option L) (offset : ℕ) (outcomes : Option (List Outcome)) (row : Option Row)
+seen_noted : {L T : Type 0} (told : L → Option Talk) (tail_told : T → Option TailHistory) (form : Form) (link : Option L) (shipment : Shipment) (outcomes : Option (List Outcome)) (ending : Ending)
     (history : FolderHistory) (tail : T) (between after : Option FolderHistory) (tail_after : Option TailHistory) (faults : ℕ) (result : Result (Unit {0}) Status)
     (finds : FindsIn tail_told form.path history (Tail tail) between) →
-    IsSeenSo told form.path link offset finds.cases.1.history tail_after result → TellsClosing between tail_after faults after →
-    EndsAcknowledged told link outcomes → row ≡ Some (path_row form offset) → IsNoted form history outcomes row after
-seen_noted told tail_told form link offset outcomes row history tail between after tail_after faults (Ok done) finds seen closes ends noted = record {
+    IsSeenSo told form.path link shipment finds.cases.1.history tail_after result → TellsClosing between tail_after faults after →
+    EndsAcknowledged told link outcomes → IsNotedSo form shipment ending → IsNoted form history outcomes ending.row after
+seen_noted told tail_told form link shipment outcomes ending history tail between after tail_after faults (Ok done) finds seen closes ends noted = record {
   root = finds.root;
   shown = finds.shown;
   cases = inr (closed_read form.path (with_event history (Listed finds.root 1 finds.shown)) finds.shown (tail_told tail) between after tail_after faults
-      (IsFileWhole told form.path link offset) (NotesCovered form outcomes row)
-      (λ file looks whole. notes_covered told form link offset outcomes row ends noted file looks (whole_covered told form.path link offset file looks whole))
+      (IsFileWhole told form.path link shipment) (NotesCovered form outcomes ending.row)
+      (λ file looks whole. notes_covered told form link shipment.offset outcomes ending.row ends noted.row file looks (whole_covered told form.path link shipment file looks whole))
       finds.cases.0 finds.cases.1 seen closes);
 }
-seen_noted told tail_told form link offset outcomes row history tail between after tail_after faults (Err status) finds seen closes ends noted = record {
+seen_noted told tail_told form link shipment outcomes ending history tail between after tail_after faults (Err status) finds seen closes ends noted = record {
   root = finds.root;
   shown = finds.shown;
   cases = inr (closed_read form.path (with_event history (Listed finds.root 1 finds.shown)) finds.shown (tail_told tail) between after tail_after faults
-      (IsFileCovered told form.path link offset) (NotesCovered form outcomes row)
-      (notes_covered told form link offset outcomes row ends noted)
+      (IsFileCovered told form.path link shipment.offset) (NotesCovered form outcomes ending.row)
+      (notes_covered told form link shipment.offset outcomes ending.row ends noted.row)
       finds.cases.0 finds.cases.1 seen closes);
 }
 
-seen_drained : {L T : Type 0} (told : L → Option Talk) (tail_told : T → Option TailHistory) (form : Form) (link : Option L) (offset : ℕ) (outcomes : Option (List Outcome)) (row : Option Row)
+seen_drained : {L T : Type 0} (told : L → Option Talk) (tail_told : T → Option TailHistory) (form : Form) (link : Option L) (shipment : Shipment) (outcomes : Option (List Outcome)) (ending : Ending)
     (history : FolderHistory) (tail : T) (between after : Option FolderHistory) (tail_after : Option TailHistory) (faults : ℕ) (result : Result (Unit {0}) Status)
     (finds : FindsIn tail_told form.path history (Tail tail) between) →
-    IsSeenSo told form.path link offset finds.cases.1.history tail_after result → TellsClosing between tail_after faults after →
-    EndsAcknowledged told link outcomes → row ≡ Some (path_row form offset) → OnOk result (IsDrained form history outcomes row after)
-seen_drained told tail_told form link offset outcomes row history tail between after tail_after faults (Ok done) finds seen closes ends noted = record {
+    IsSeenSo told form.path link shipment finds.cases.1.history tail_after result → TellsClosing between tail_after faults after →
+    EndsAcknowledged told link outcomes → IsNotedSo form shipment ending → OnOk result (IsDrained form history outcomes ending after)
+seen_drained told tail_told form link shipment outcomes ending history tail between after tail_after faults (Ok done) finds seen closes ends noted = record {
   root = finds.root;
   folder = finds.folder;
   shown = finds.shown;
   cases = inr (inr (closed_read form.path (with_event history (Listed finds.root 1 finds.shown)) finds.shown (tail_told tail) between after tail_after faults
-      (IsFileWhole told form.path link offset) (NotesWhole form outcomes row)
-      (notes_whole told form link offset outcomes row ends noted)
+      (IsFileWhole told form.path link shipment) (NotesWhole form outcomes ending)
+      (notes_whole told form link shipment outcomes ending ends noted)
       finds.cases.0 finds.cases.1 seen closes));
 }
-seen_drained told tail_told form link offset outcomes row history tail between after tail_after faults (Err status) finds seen closes ends noted = tt
+seen_drained told tail_told form link shipment outcomes ending history tail between after tail_after faults (Err status) finds seen closes ends noted = tt
 
 -- the tail that was found was read, and its row noted
-seen_here : {L T : Type 0} (told : L → Option Talk) (tail_told : T → Option TailHistory) (path : List ℕ) (link : Option L) (offset : ℕ) (history : FolderHistory)
+seen_here : {L T : Type 0} (told : L → Option Talk) (tail_told : T → Option TailHistory) (path : List ℕ) (link : Option L) (shipment : Shipment) (history : FolderHistory)
     (tail : T) (between : Option FolderHistory) (tail_after : Option TailHistory) (result : Result (Unit {0}) Status) (finds : FindsIn tail_told path history (Tail tail) between) →
-    IfSome (tail_told tail) (λ start. start.looks ≡ [] → IsSeenSo told path link offset start tail_after result) →
-    IsSeenSo told path link offset finds.cases.1.history tail_after result
-seen_here told tail_told path link offset history tail between tail_after result finds seen =
-    let P : Option TailHistory → Type 0 = λ o. IfSome o (λ start. start.looks ≡ [] → IsSeenSo told path link offset start tail_after result) in
+    IfSome (tail_told tail) (λ start. start.looks ≡ [] → IsSeenSo told path link shipment start tail_after result) →
+    IsSeenSo told path link shipment finds.cases.1.history tail_after result
+seen_here told tail_told path link shipment history tail between tail_after result finds seen =
+    let P : Option TailHistory → Type 0 = λ o. IfSome o (λ start. start.looks ≡ [] → IsSeenSo told path link shipment start tail_after result) in
     subst P finds.cases.1.tail_told seen finds.cases.1.unused
 
-pub tail_noted : {L T : Type 0} (told : L → Option Talk) (tail_told : T → Option TailHistory) (form : Form) (link : Option L) (offset : ℕ) (outcomes : Option (List Outcome)) (row : Option Row)
+pub tail_noted : {L T : Type 0} (told : L → Option Talk) (tail_told : T → Option TailHistory) (form : Form) (link : Option L) (shipment : Shipment) (outcomes : Option (List Outcome)) (ending : Ending)
     (start : Option FolderHistory) (tail : T) (between after : Option FolderHistory) (tail_after : Option TailHistory) (faults : ℕ) (result : Result (Unit {0}) Status) →
     IfSome start (λ history. FindsIn tail_told form.path history (Tail tail) between) →
-    IfSome (tail_told tail) (λ begun. begun.looks ≡ [] → IsSeenSo told form.path link offset begun tail_after result) → TellsClosing between tail_after faults after →
-    EndsAcknowledged told link outcomes → row ≡ Some (path_row form offset) → IfSome start (λ history. IsNoted form history outcomes row after)
-tail_noted told tail_told form link offset outcomes row None tail between after tail_after faults result finds seen closes ends noted = tt
-tail_noted told tail_told form link offset outcomes row (Some history) tail between after tail_after faults result finds seen closes ends noted =
-    seen_noted told tail_told form link offset outcomes row history tail between after tail_after faults result finds
-    (seen_here told tail_told form.path link offset history tail between tail_after result finds seen) closes ends noted
+    IfSome (tail_told tail) (λ begun. begun.looks ≡ [] → IsSeenSo told form.path link shipment begun tail_after result) → TellsClosing between tail_after faults after →
+    EndsAcknowledged told link outcomes → IsNotedSo form shipment ending → IfSome start (λ history. IsNoted form history outcomes ending.row after)
+tail_noted told tail_told form link shipment outcomes ending None tail between after tail_after faults result finds seen closes ends noted = tt
+tail_noted told tail_told form link shipment outcomes ending (Some history) tail between after tail_after faults result finds seen closes ends noted =
+    seen_noted told tail_told form link shipment outcomes ending history tail between after tail_after faults result finds
+    (seen_here told tail_told form.path link shipment history tail between tail_after result finds seen) closes ends noted
 
-pub tail_drained : {L T : Type 0} (told : L → Option Talk) (tail_told : T → Option TailHistory) (form : Form) (link : Option L) (offset : ℕ) (outcomes : Option (List Outcome)) (row : Option Row)
+pub tail_drained : {L T : Type 0} (told : L → Option Talk) (tail_told : T → Option TailHistory) (form : Form) (link : Option L) (shipment : Shipment) (outcomes : Option (List Outcome)) (ending : Ending)
     (start : Option FolderHistory) (tail : T) (between after : Option FolderHistory) (tail_after : Option TailHistory) (faults : ℕ) (result : Result (Unit {0}) Status) →
     IfSome start (λ history. FindsIn tail_told form.path history (Tail tail) between) →
-    IfSome (tail_told tail) (λ begun. begun.looks ≡ [] → IsSeenSo told form.path link offset begun tail_after result) → TellsClosing between tail_after faults after →
-    EndsAcknowledged told link outcomes → row ≡ Some (path_row form offset) → OnOk result (IfSome start (λ history. IsDrained form history outcomes row after))
-tail_drained told tail_told form link offset outcomes row None tail between after tail_after faults (Ok done) finds seen closes ends noted = tt
-tail_drained told tail_told form link offset outcomes row None tail between after tail_after faults (Err status) finds seen closes ends noted = tt
-tail_drained told tail_told form link offset outcomes row (Some history) tail between after tail_after faults result finds seen closes ends noted =
-    seen_drained told tail_told form link offset outcomes row history tail between after tail_after faults result finds
-    (seen_here told tail_told form.path link offset history tail between tail_after result finds seen) closes ends noted
+    IfSome (tail_told tail) (λ begun. begun.looks ≡ [] → IsSeenSo told form.path link shipment begun tail_after result) → TellsClosing between tail_after faults after →
+    EndsAcknowledged told link outcomes → IsNotedSo form shipment ending → OnOk result (IfSome start (λ history. IsDrained form history outcomes ending after))
+tail_drained told tail_told form link shipment outcomes ending None tail between after tail_after faults (Ok done) finds seen closes ends noted = tt
+tail_drained told tail_told form link shipment outcomes ending None tail between after tail_after faults (Err status) finds seen closes ends noted = tt
+tail_drained told tail_told form link shipment outcomes ending (Some history) tail between after tail_after faults result finds seen closes ends noted =
+    seen_drained told tail_told form link shipment outcomes ending history tail between after tail_after faults result finds
+    (seen_here told tail_told form.path link shipment history tail between tail_after result finds seen) closes ends noted
 
 -- a worker that has not connected has settled nothing
-pub first_seen : {L : Type 0} (told : L → Option Talk) (path : List ℕ) (first link : Option L) (offset : ℕ) (tail tail_after : Option TailHistory) (result : Result (Unit {0}) Status) →
-    IfSome tail (λ begun. begun.looks ≡ [] → HasSettled told first [] → IsSeenSo told path link offset begun tail_after result) → HasSettled told first [] →
-    IfSome tail (λ begun. begun.looks ≡ [] → IsSeenSo told path link offset begun tail_after result)
-first_seen told path first link offset None tail_after result seen settled = tt
-first_seen told path first link offset (Some begun) tail_after result seen settled = λ unused. seen unused settled
+pub first_seen : {L : Type 0} (told : L → Option Talk) (path : List ℕ) (first link : Option L) (shipment : Shipment) (tail tail_after : Option TailHistory) (result : Result (Unit {0}) Status) →
+    IfSome tail (λ begun. begun.looks ≡ [] → HasSettled told first [] → IsSeenSo told path link shipment begun tail_after result) → HasSettled told first [] →
+    IfSome tail (λ begun. begun.looks ≡ [] → IsSeenSo told path link shipment begun tail_after result)
+first_seen told path first link shipment None tail_after result seen settled = tt
+first_seen told path first link shipment (Some begun) tail_after result seen settled = λ unused. seen unused settled
+
+-- without a file the run ends so
+pub not_listed_drained : {T : Type 0} (tail_told : T → Option TailHistory) (form : Form) (told : Option FolderHistory) (outcomes : Option (List Outcome)) (ending : Ending) (after : Option FolderHistory) →
+    IsEmptyEnding ending → IfSome told (λ history. FindsIn tail_told form.path history NotListed after) → IfSome told (λ history. IsDrained form history outcomes ending after)
+not_listed_drained tail_told form None outcomes ending after empty finds = tt
+not_listed_drained tail_told form (Some told) outcomes ending after empty finds =
+    record { root = finds.root; folder = finds.folder; shown = finds.shown; cases = inl (finds.cases, empty) }
+
+pub gone_drained : {T : Type 0} (tail_told : T → Option TailHistory) (form : Form) (told : Option FolderHistory) (outcomes : Option (List Outcome)) (ending : Ending) (after : Option FolderHistory) →
+    IsGoneEnding form.path ending → IfSome told (λ history. FindsIn tail_told form.path history Gone after) → IfSome told (λ history. IsDrained form history outcomes ending after)
+gone_drained tail_told form None outcomes ending after gone finds = tt
+gone_drained tail_told form (Some told) outcomes ending after gone finds =
+    record { root = finds.root; folder = finds.folder; shown = finds.shown; cases = inr (inl (finds.cases, gone)) }

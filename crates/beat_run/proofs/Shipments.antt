@@ -55,14 +55,15 @@ none_wait path start = record { contents = []; plain = All-nil (λ (c : List ℕ
 -- what waited is settled
 pub flushed : {L : Type 0} (told : L → Option Talk) (path : List ℕ) (link after : Option L) (old new : Shipment) (bytes : List ℕ) (is : IsShipped told path link old bytes) →
     HasSettled told after (is.payloads ++ is.holds.payloads) →
-    new.offset ≡ old.offset + old.batch.size → new.batch.frames.items ≡ [] → new.batch.count ≡ 0 → new.batch.size ≡ 0 → new.rest ≡ old.rest →
+    new.offset ≡ old.offset + old.batch.size → new.shipped ≡ old.shipped + old.batch.count → new.batch.frames.items ≡ [] → new.batch.count ≡ 0 → new.batch.size ≡ 0 → new.rest ≡ old.rest →
     IsShipped told path after new bytes
-flushed told path link after old new bytes is settled offset frames count size rest = record {
+flushed told path link after old new bytes is settled offset shipped frames count size rest = record {
   settled = is.settled ++ is.waiting;
   payloads = is.payloads ++ is.holds.payloads;
   lines = lines-append path 0 old.offset is.settled is.waiting is.payloads is.holds.payloads is.lines is.holds.lines (omega (arith, is.offset));
   acknowledged = settled;
   offset = omega (arith, offset, is.offset, is.holds.size, length-append is.settled is.waiting);
+  shipped = omega (arith, shipped, is.shipped, is.holds.holds.counted, length-append is.payloads is.holds.payloads);
   waiting = [];
   holds = record {
     payloads = [];
@@ -77,9 +78,9 @@ flushed told path link after old new bytes is settled offset frames count size r
 
 -- the line of the rest waits
 pub line_waits : {L : Type 0} (told : L → Option Talk) (path : List ℕ) (link : Option L) (old new : Shipment) (bytes content whole : List ℕ) (is : IsShipped told path link old bytes) →
-    whole ≡ old.rest.items ++ content → HoldsLines path old.offset new.batch (is.waiting ++ (whole ++ 10 ∷ [])) → new.offset ≡ old.offset → new.rest.items ≡ [] →
+    whole ≡ old.rest.items ++ content → HoldsLines path old.offset new.batch (is.waiting ++ (whole ++ 10 ∷ [])) → new.offset ≡ old.offset → new.shipped ≡ old.shipped → new.rest.items ≡ [] →
     IsShipped told path link new (bytes ++ (content ++ 10 ∷ []))
-line_waits told path link old new bytes content whole is whole_is held offset rest =
+line_waits told path link old new bytes content whole is whole_is held offset shipped rest =
     let W : List ℕ → Type 0 = λ l. HoldsLines path old.offset new.batch (is.waiting ++ (l ++ 10 ∷ [])) in
     let holds : HoldsLines path old.offset new.batch (is.waiting ++ ((old.rest.items ++ content) ++ 10 ∷ [])) = subst W whole_is held in
     let H : ℕ → Type 0 = λ n. HoldsLines path n new.batch (is.waiting ++ ((old.rest.items ++ content) ++ 10 ∷ [])) in
@@ -89,6 +90,7 @@ line_waits told path link old new bytes content whole is whole_is held offset re
       lines = is.lines;
       acknowledged = is.acknowledged;
       offset = offset ∙ is.offset;
+      shipped = shipped ∙ is.shipped;
       waiting = is.waiting ++ ((old.rest.items ++ content) ++ 10 ∷ []);
       holds = subst H (sym offset) holds;
       plain = let P : List ℕ → Type 0 = λ l. All (λ byte. byte ≢ 10) l in subst P (sym rest) (All-nil (λ (byte : ℕ). byte ≢ 10));
@@ -104,9 +106,9 @@ line_waits told path link old new bytes content whole is whole_is held offset re
 
 -- the rest grows
 pub rest_grows : {L : Type 0} (told : L → Option Talk) (path : List ℕ) (link : Option L) (old new : Shipment) (bytes more : List ℕ) →
-    IsShipped told path link old bytes → new.offset ≡ old.offset → new.batch ≡ old.batch → new.rest.items ≡ old.rest.items ++ more → All (λ byte. byte ≢ 10) more →
+    IsShipped told path link old bytes → new.offset ≡ old.offset → new.shipped ≡ old.shipped → new.batch ≡ old.batch → new.rest.items ≡ old.rest.items ++ more → All (λ byte. byte ≢ 10) more →
     IsShipped told path link new (bytes ++ more)
-rest_grows told path link old new bytes more is offset batch rest plain =
+rest_grows told path link old new bytes more is offset shipped batch rest plain =
     let H : ℕ → Type 0 = λ n. HoldsLines path n old.batch is.waiting in
     let B : _ → Type 0 = λ b. HoldsLines path new.offset b is.waiting in
     let P : List ℕ → Type 0 = λ l. All (λ byte. byte ≢ 10) l in
@@ -116,6 +118,7 @@ rest_grows told path link old new bytes more is offset batch rest plain =
       lines = is.lines;
       acknowledged = is.acknowledged;
       offset = offset ∙ is.offset;
+      shipped = shipped ∙ is.shipped;
       waiting = is.waiting;
       holds = subst B (sym batch) (subst H (sym offset) is.holds);
       plain = subst P (sym rest) (All-append (λ (byte : ℕ). byte ≢ 10) old.rest.items more is.plain plain);
@@ -174,12 +177,12 @@ taking_goes_on told path link after old new bytes piece left used most is some w
 
 -- what is left is no whole line
 pub taking_ends : {L : Type 0} (told : L → Option Talk) (path : List ℕ) (link : Option L) (old new : Shipment) (bytes piece left : List ℕ) →
-    IsTaken told path link old bytes piece left → new.offset ≡ old.offset → new.batch ≡ old.batch → new.rest.items ≡ old.rest.items ++ left → All IsPlainByte left →
+    IsTaken told path link old bytes piece left → new.offset ≡ old.offset → new.shipped ≡ old.shipped → new.batch ≡ old.batch → new.rest.items ≡ old.rest.items ++ left → All IsPlainByte left →
     IsShipped told path link new (bytes ++ piece)
-taking_ends told path link old new bytes piece left is offset batch rest plain =
+taking_ends told path link old new bytes piece left is offset shipped batch rest plain =
     let P : List ℕ → Type 0 = λ l. IsShipped told path link new l in
     subst P (append_assoc bytes is.taken left ∙ ap (λ (l : List ℕ). bytes ++ l) (sym is.parts))
-    (rest_grows told path link old new (bytes ++ is.taken) left is.shipped offset batch rest (λ k d within feed. plain_feed (get_or left k d) (plain k d within) feed))
+    (rest_grows told path link old new (bytes ++ is.taken) left is.shipped offset shipped batch rest (λ k d within feed. plain_feed (get_or left k d) (plain k d within) feed))
 
 -- what was settled stays covered, whatever becomes of the piece
 pub taking_covers : {L : Type 0} (told : L → Option Talk) (path : List ℕ) (link after : Option L) (offset : ℕ) (shipment : Shipment) (bytes piece left : List ℕ) →

@@ -88,3 +88,14 @@ IsPrintingEnd before now Done = Unit {0}
 IsPrintingEnd before now OutFault = Rose before now
 IsPrintingEnd before now NoMemory = Unit {0}
 IsPrintingEnd before now _ = ⊥
+
+-- an area with more than one byte ends the run so, where nothing else went wrong before
+abbrev pub RefusesArea : Status → Type 0
+RefusesArea Usage = Unit {0}
+RefusesArea SourceFault = Unit {0}
+RefusesArea NoMemory = Unit {0}
+RefusesArea OutFault = Unit {0}
+RefusesArea DiskFault = Unit {0}
+RefusesArea (Unbuilt Settings) = Unit {0}
+RefusesArea (RegistryBad A at) = Unit {0}
+RefusesArea _ = ⊥

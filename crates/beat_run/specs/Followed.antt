@@ -51,16 +51,6 @@ pub record IsRead (path : List ℕ) (listed : FolderHistory) (shown : List Shown
   pub looked : Looked file looks
   pub kept : after ≡ Some (with_event (with_event listed (Opened path number begun)) (Closed (length listed.events) looks faults))
 
--- the folder of the path was listed, and the path was passed by, was gone, or was opened and looked at so
-pub record IsFollowed (path : List ℕ) (told : FolderHistory) (Looked : File → List Look → Type 0) (after : Option FolderHistory) : Type 0 where
-  pub root : List ℕ
-  pub folder : IsFolderOf path root
-  pub shown : List Shown
-  pub cases :
-      IsPassedBy path (with_event told (Listed root 1 shown)) shown after
-      ⊎ (IsGone path (with_event told (Listed root 1 shown)) shown after
-      ⊎ IsRead path (with_event told (Listed root 1 shown)) shown Looked after)
-
 abbrev pub IsNoOpening : Event → Type 0
 IsNoOpening (Listed root depth shown) = Unit {0}
 IsNoOpening ListingFailed = Unit {0}

@@ -12,6 +12,7 @@ pub mod Lines
 pub mod Noted
 pub mod Payloads
 pub mod Reading
+pub mod Report
 pub mod Serving
 pub mod Shipping
 pub mod Standing

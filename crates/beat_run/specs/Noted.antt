@@ -8,7 +8,8 @@ use Rattle.outside.specs.Files.{File}
 use Rattle.outside.specs.Folders.{FolderHistory, with_event, Listed}
 use Rattle.outside.specs.Wires.{Outcome}
 use Rattle.beat_run.specs.declared.form.Form.{Form}
-use Rattle.beat_run.specs.Followed.{HasEndLook, IsFollowed, IsRead, IsUnopened}
+use Rattle.beat_run.specs.declared.report.Ending.{Ending}
+use Rattle.beat_run.specs.Followed.{HasEndLook, IsFolderOf, IsGone, IsPassedBy, IsRead, IsUnopened}
 use Rattle.beat_run.specs.Keys.{path_row}
 use Rattle.beat_run.specs.Payloads.{AreLines}
 use Rattle.beat_run.specs.Reading.{bytes_read}
@@ -35,12 +36,27 @@ pub record NotesCovered (form : Form) (outcomes : Option (List Outcome)) (row : 
   pub noted : row ≡ Some (path_row form offset)
   pub covered : IsCoveredUpTo form.path outcomes offset (bytes_read file looks)
 
--- the looks end at the file's end, and the row's offset is the end of the last line before it
-pub record NotesWhole (form : Form) (outcomes : Option (List Outcome)) (row : Option Row) (file : File) (looks : List Look) : Type 0 where
+-- the looks end at the file's end, the row's offset is the end of the last line before it, and so many lines were shipped
+pub record NotesWhole (form : Form) (outcomes : Option (List Outcome)) (ending : Ending) (file : File) (looks : List Look) : Type 0 where
   pub offset : ℕ
-  pub noted : row ≡ Some (path_row form offset)
+  pub noted : ending.row ≡ Some (path_row form offset)
+  pub none_gone : ending.gone ≡ None
   pub whole : IsWholeUpTo form.path outcomes offset (bytes_read file looks)
+  pub shipped : ending.shipped ≡ length whole.covered.payloads
   pub ended : HasEndLook (length (bytes_read file looks)) looks
+
+-- a run that shipped nothing, and passed over the path where it was gone
+pub record IsEmptyEnding (ending : Ending) : Type 0 where
+  pub row : ending.row ≡ None
+  pub gone : ending.gone ≡ None
+  pub shipped : ending.shipped ≡ 0
+  pub dropped : ending.dropped ≡ 0
+
+pub record IsGoneEnding (path : List ℕ) (ending : Ending) : Type 0 where
+  pub row : ending.row ≡ None
+  pub gone : ending.gone ≡ Some path
+  pub shipped : ending.shipped ≡ 0
+  pub dropped : ending.dropped ≡ 0
 
 -- no file was opened, and there is no row; or one was opened and closed, and its row covers what was read
 pub record IsNoted (form : Form) (told : FolderHistory) (outcomes : Option (List Outcome)) (row : Option Row) (after : Option FolderHistory) : Type 0 where
@@ -50,6 +66,12 @@ pub record IsNoted (form : Form) (told : FolderHistory) (outcomes : Option (List
       (IsUnopened told after × (row ≡ None))
       ⊎ IsRead form.path (with_event told (Listed root 1 shown)) shown (NotesCovered form outcomes row) after
 
--- the path was followed to its end
-abbrev pub IsDrained : Form → FolderHistory → Option (List Outcome) → Option Row → Option FolderHistory → Type 0
-IsDrained form told outcomes row after = IsFollowed form.path told (NotesWhole form outcomes row) after
+-- the folder of the path was listed, and the path was passed by, was gone, or was opened and read to its end
+pub record IsDrained (form : Form) (told : FolderHistory) (outcomes : Option (List Outcome)) (ending : Ending) (after : Option FolderHistory) : Type 0 where
+  pub root : List ℕ
+  pub folder : IsFolderOf form.path root
+  pub shown : List Shown
+  pub cases :
+      (IsPassedBy form.path (with_event told (Listed root 1 shown)) shown after × IsEmptyEnding ending)
+      ⊎ ((IsGone form.path (with_event told (Listed root 1 shown)) shown after × IsGoneEnding form.path ending)
+      ⊎ IsRead form.path (with_event told (Listed root 1 shown)) shown (NotesWhole form outcomes ending) after)

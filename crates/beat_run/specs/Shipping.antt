@@ -28,6 +28,7 @@ pub record IsSound (shipment : Shipment) : Type 0 where
 pub record IsUnused (shipment : Shipment) : Type 0 where
   pub sound : IsSound shipment
   pub offset : shipment.offset ≡ 0
+  pub shipped : shipment.shipped ≡ 0
   pub batch : (path : List ℕ) (start : ℕ) → HoldsLines path start shipment.batch []
   pub rest : shipment.rest.items ≡ []
 
@@ -38,6 +39,7 @@ pub record IsShipped {L : Type 0} (told : L → Option Talk) (path : List ℕ) (
   pub lines : AreLines path 0 settled payloads
   pub acknowledged : HasSettled told link payloads
   pub offset : shipment.offset ≡ length settled
+  pub shipped : shipment.shipped ≡ length payloads
   pub waiting : List ℕ
   pub holds : HoldsLines path shipment.offset shipment.batch waiting
   pub plain : All (λ byte. byte ≢ 10) shipment.rest.items
@@ -70,7 +72,8 @@ pub record IsSeen (start : TailHistory) (Seen : File → List Look → Type 0) (
 abbrev pub IsFileCovered : {L : Type 0} → (L → Option Talk) → List ℕ → Option L → ℕ → File → List Look → Type 0
 IsFileCovered told path link offset file looks = IsCovered told path link offset (bytes_read file looks)
 
--- it was read to its end, and all its lines are covered
-pub record IsFileWhole {L : Type 0} (told : L → Option Talk) (path : List ℕ) (link : Option L) (offset : ℕ) (file : File) (looks : List Look) : Type 0 where
-  pub whole : IsWhole told path link offset (bytes_read file looks)
+-- it was read to its end, all its lines are covered, and so many of them were shipped
+pub record IsFileWhole {L : Type 0} (told : L → Option Talk) (path : List ℕ) (link : Option L) (shipment : Shipment) (file : File) (looks : List Look) : Type 0 where
+  pub whole : IsWhole told path link shipment.offset (bytes_read file looks)
+  pub shipped : shipment.shipped ≡ length whole.covered.payloads
   pub ended : HasEndLook (length (bytes_read file looks)) looks

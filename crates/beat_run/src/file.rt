@@ -53,7 +53,7 @@ pub fn ship_file<X: Wait, T: Tail, W: Wire, K: Clock>(
 ) -> Result<(), Status>
     requires { IsUnused shipment.old }
     ensures seen { IfSome (T.told tail.old) (λ start. start.looks ≡ [] → HasSettled W.Link.told worker.old.link [] →
-        MatchResult result (λ _. IsSeen start (IsFileWhole W.Link.told form.now.path worker.new.link shipment.new.offset) (T.told tail.new))
+        MatchResult result (λ _. IsSeen start (IsFileWhole W.Link.told form.now.path worker.new.link shipment.new) (T.told tail.new))
         (λ _. IsSeen start (IsFileCovered W.Link.told form.now.path worker.new.link shipment.new.offset) (T.told tail.new))) }
     ensures joined { (start : Option (List Outcome)) (links : ℕ) → IsJoined W.Link.told start links (W.outcomes wire.old) (W.open_links wire.old) worker.old.link → IsJoined W.Link.told start links (W.outcomes wire.new) (W.open_links wire.new) worker.new.link }
     ensures ends { IfErr result (IsShippingEnd (T.faults tail.old) (T.faults tail.new)) }

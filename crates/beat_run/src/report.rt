@@ -1,5 +1,6 @@
-ghost use Rattle.std.specs.Prelude.{◌≤◌, OnErr};
+ghost use Rattle.std.specs.Prelude.{◌≡◌, ◌≤◌, option_map, string_bytes, Some, IfOk, OnErr};
 ghost use Rattle.outside.specs.Counts.{Rose};
+ghost use Rattle.beat_run.specs.Report.{file_line, passed_line, report_bytes};
 
 use crate::status::{Lack, Status};
 use crate::write::write_all;
@@ -18,23 +19,43 @@ pub struct Ending {
 }
 
 /// The whole report of a run that is done.
-pub fn report_text(alloc: Global, ending: &Ending) -> Result<String, NoMemory> {
-    let mut text = String::new(alloc);
-    if let Some(row) = &ending.row {
-        let key = row.key.as_str();
-        let path = row.path.as_str();
-        let epoch = row.epoch.0;
-        let offset = row.offset;
-        write!(text, "file \"{key}\" {epoch} {offset} \"{path}\"\n")?;
-    }
-    if let Some(path) = &ending.gone {
-        let path = path.as_str();
-        write!(text, "passed \"{path}\" gone\n")?;
-    }
+pub fn report_text(alloc: Global, ending: &Ending) -> Result<String, NoMemory>
+    ensures { IfOk result (λ text. string_bytes text ≡ report_bytes ending.now) }
+{
+    let file = file_text(alloc, ending.row.as_ref())?;
+    let passed = passed_text(alloc, ending.gone.as_ref())?;
     let shipped = ending.shipped;
     let dropped = ending.dropped;
-    write!(text, "shipped {shipped} dropped {dropped}\nstatus 0 done\n")?;
-    Ok(text)
+    Ok(format!(in alloc; "{file}{passed}shipped {shipped} dropped {dropped}\nstatus 0 done\n")?)
+}
+
+fn file_text(alloc: Global, row: Option<&Row>) -> Result<String, NoMemory>
+    ensures { IfOk result (λ text. string_bytes text ≡ file_line (option_map (λ row. row.now) row.entry)) }
+{
+    match row {
+        Some(row) => row_text(alloc, row),
+        None => Ok(String::new(alloc)),
+    }
+}
+
+fn row_text(alloc: Global, row: &Row) -> Result<String, NoMemory>
+    ensures { IfOk result (λ text. string_bytes text ≡ file_line (Some row.now)) }
+{
+    let key = row.key.as_str();
+    let path = row.path.as_str();
+    let epoch = row.epoch.0;
+    let offset = row.offset;
+    Ok(format!(in alloc; "file \"{key}\" {epoch} {offset} \"{path}\"\n")?)
+}
+
+fn passed_text(alloc: Global, path: Option<&Text>) -> Result<String, NoMemory>
+    ensures { IfOk result (λ text. string_bytes text ≡ passed_line (option_map (λ path. path.now) path.entry)) }
+{
+    let Some(path) = path else {
+        return Ok(String::new(alloc));
+    };
+    let path = path.as_str();
+    Ok(format!(in alloc; "passed \"{path}\" gone\n")?)
 }
 
 /// Writes the last line. Takes no memory.

@@ -1,11 +1,11 @@
-ghost use Rattle.std.specs.Prelude.{Some, None, ◌≡◌, ◌↔◌, ◌≤◌, take, IfErr, IfOk, IfSome, IsErrOf, MatchResult, OnOk};
+ghost use Rattle.std.specs.Prelude.{Some, ℕ, ◌<◌, length, ◌≡◌, ◌↔◌, ◌≤◌, take, IfErr, IfOk, IfSome, IsErrOf, MatchResult, OnOk};
 ghost use Rattle.outside.specs.Counts.{IsAtEnd, Rose};
 ghost use Rattle.beat_run.specs.Area.{area_bytes};
 ghost use Rattle.beat_run.specs.Command.{IsNoCommand};
-ghost use Rattle.beat_run.specs.Ends.{IsRunEnd, IsShippingEnd, RefusesForm};
-ghost use Rattle.beat_run.specs.Noted.{IsDrained, IsNoted};
+ghost use Rattle.beat_run.specs.Ends.{RefusesArea, IsRunEnd, IsShippingEnd, RefusesForm};
+ghost use Rattle.beat_run.specs.Noted.{IsDrained, IsEmptyEnding, IsNoted};
 ghost use Rattle.beat_run.specs.Standing.{GoesOn};
-ghost use Rattle.beat_run.specs.Stored.{IsDone, IsStored, MissesRow};
+ghost use Rattle.beat_run.specs.Stored.{IsEnded, IsStored, MissesRow};
 ghost use Rattle.beat_run.specs.Form.{IsNoForm, IsPlainPath};
 ghost use Rattle.beat_run.specs.Keys.{path_key, path_row};
 ghost use Rattle.beat_run.specs.declared.settings.TheConstants.{LIMIT};
@@ -23,7 +23,7 @@ use crate::status::{Lack, Status};
 use outside::{Clock, Disk, Folder, Source, Wire};
 use std::alloc::Global;
 use std::sync::Wait;
-use wire_base::{Epoch, NoMemory, Row, Text};
+use wire_base::{Epoch, NoMemory, Row, Text, Which};
 
 /// Everything but the printing.
 pub fn run<X: Wait, F: Folder, W: Wire, D: Disk, K: Clock, R: Source>(
@@ -39,7 +39,9 @@ pub fn run<X: Wait, F: Folder, W: Wire, D: Disk, K: Clock, R: Source>(
     ensures usage { IsErrOf result Status.Usage ↔ IsNoCommand words.now }
     ensures other_form_only { IsErrOf result (Status.Unbuilt Lack.Settings) → IfSome (R.left settings.old) (λ bytes. IsNoForm (take LIMIT bytes)) }
     ensures other_form_refused { IfSome (R.left settings.old) (λ bytes. IsNoForm (take LIMIT bytes) → MatchResult result (λ _. ⊥) RefusesForm) }
-    ensures done { IfOk result (λ ending. IfSome (F.told folder.old) (λ told. IsDone (R.left settings.old) told (W.outcomes wire.new) (F.told folder.new) (D.contents area.old) (D.contents area.new))) }
+    ensures done { IfOk result (λ ending. IfSome (F.told folder.old) (λ told. IsEnded (R.left settings.old) told (W.outcomes wire.new) (F.told folder.new) (D.contents area.old) (D.contents area.new) ending)) }
+    ensures registry_bad { (area' : Which) (at : ℕ) → IsErrOf result (Status.RegistryBad area' at) → (area' ≡ Which.A) × (at ≡ 0) × IfSome (D.contents area.old) (λ bytes. 1 < length bytes) }
+    ensures area_refused { IfSome (D.contents area.old) (λ bytes. 1 < length bytes → MatchResult result (λ _. ⊥) RefusesArea) }
     ensures row { IfSome (F.told folder.old) (λ told. IsStored (R.left settings.old) told (W.outcomes wire.new) (F.told folder.new) (D.contents area.old) (D.contents area.new)
         (MatchResult result (λ _. ⊥) (MissesRow (D.faults area.old) (D.faults area.new) (D.contents area.old) (D.contents area.new)))) }
     ensures stored { IfOk result (λ ending. IfSome (D.contents area.old) (λ _. D.contents area.new ≡ Some (area_bytes ending.row))) }
@@ -84,8 +86,8 @@ fn follow<X: Wait, F: Folder, W: Wire, K: Clock>(
     ending: &mut Ending,
 ) -> Result<(), Status>
     requires path { IsPlainPath form.now.path }
-    requires unnoted { ending.old.row ≡ None }
-    ensures drained { OnOk result (IfSome (F.told folder.old) (λ told. IsDrained form.now told (W.outcomes wire.new) ending.new.row (F.told folder.new))) }
+    requires unnoted { IsEmptyEnding ending.old }
+    ensures drained { OnOk result (IfSome (F.told folder.old) (λ told. IsDrained form.now told (W.outcomes wire.new) ending.new (F.told folder.new))) }
     ensures noted { IfSome (F.told folder.old) (λ told. IsNoted form.now told (W.outcomes wire.new) ending.new.row (F.told folder.new)) }
     ensures wire_goes_on { GoesOn (W.outcomes wire.old) (W.outcomes wire.new) }
     ensures links_finished { ¬ (IsAtEnd (W.open_links wire.old)) → W.open_links wire.new ≡ W.open_links wire.old }
@@ -125,6 +127,7 @@ fn follow<X: Wait, F: Folder, W: Wire, K: Clock>(
 // The row and the counts of what was shipped.
 fn note(row: Row, shipment: &Shipment, ending: &mut Ending)
     ensures row { ending.new.row ≡ Some (record row { offset = shipment.now.offset }) }
+    ensures gone { ending.new.gone ≡ ending.old.gone }
     ensures shipped { ending.new.shipped ≡ shipment.now.shipped }
     ensures dropped { ending.new.dropped ≡ shipment.now.dropped }
 {

@@ -102,6 +102,7 @@ impl Shipment {
         requires { IsSound self.old }
         ensures sound { IsSound self.new }
         ensures offset { self.new.offset ≡ self.old.offset + self.old.batch.size }
+        ensures shipped { self.new.shipped ≡ self.old.shipped + self.old.batch.count }
         ensures empty { self.new.batch.size ≡ 0 }
         ensures frames { self.new.batch.frames.items ≡ [] }
         ensures count { self.new.batch.count ≡ 0 }

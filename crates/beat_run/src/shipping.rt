@@ -1,9 +1,10 @@
-ghost use Rattle.std.specs.Prelude.{◌≡◌, ◌⊎◌, ◌≤◌, drop, take, vec_len, Option, Some, IfSome};
+ghost use Rattle.std.specs.Prelude.{◌≡◌, ◌⊎◌, ℕ, ◌<◌, ◌≤◌, ◌++◌, drop, length, take, vec_len, Option, Some, IfSome};
 ghost use Rattle.outside.specs.Counts.{IsAtEnd, Rose};
 ghost use Rattle.beat_run.specs.Area.{area_bytes};
 ghost use Rattle.wire_base.specs.declared.row.Row.{Row};
 ghost use Rattle.beat_run.specs.Command.{IsNoCommand};
-ghost use Rattle.beat_run.specs.Ends.{IsPrintingEnd, RefusesForm};
+ghost use Rattle.beat_run.specs.Ends.{IsPrintingEnd, RefusesArea, RefusesForm};
+ghost use Rattle.beat_run.specs.Report.{report_bytes};
 ghost use Rattle.beat_run.specs.Standing.{GoesOn, OnFirst};
 ghost use Rattle.beat_run.specs.Stored.{IsDone, IsStored, MissesRow};
 ghost use Rattle.beat_run.specs.Form.{IsNoForm};
@@ -17,7 +18,7 @@ use outside::{Bell, Clock, Disk, Folder, Sink, Source, Wire};
 use std::alloc::Global;
 use std::sync::Wait;
 use std::thread::Threads;
-use wire_base::Text;
+use wire_base::{Text, Which};
 
 /// The whole run.
 pub fn ship<
@@ -51,7 +52,9 @@ where
     ensures unbuilt_settings_only_of_another_form { result ≡ Status.Unbuilt Lack.Settings → IfSome (R.left settings.old) (λ bytes. IsNoForm (take LIMIT bytes)) }
     ensures another_form_is_unbuilt { IfSome (R.left settings.old) (λ bytes. IsNoForm (take LIMIT bytes) → RefusesForm result) }
     ensures done_only_where_the_file_was_drained { result ≡ Status.Done → IfSome (F.told folder.old) (λ told. OnFirst W.outcomes wires.old wires.new (λ _ outcomes.
-        IsDone (R.left settings.old) told outcomes (F.told folder.new) (D.contents area_a.old) (D.contents area_a.new))) }
+        IsDone (R.left settings.old) told outcomes (F.told folder.new) (D.contents area_a.old) (D.contents area_a.new) (S.written out.old) (S.written out.new))) }
+    ensures registry_bad_only_where_the_area_has_bytes { (area : Which) (at : ℕ) → result ≡ Status.RegistryBad area at → (area ≡ Which.A) × (at ≡ 0) × IfSome (D.contents area_a.old) (λ bytes. 1 < length bytes) }
+    ensures area_with_bytes_is_refused { IfSome (D.contents area_a.old) (λ bytes. 1 < length bytes → RefusesArea result) }
     ensures stored_row_is_covered { IfSome (F.told folder.old) (λ told. OnFirst W.outcomes wires.old wires.new (λ _ outcomes.
         IsStored (R.left settings.old) told outcomes (F.told folder.new) (D.contents area_a.old) (D.contents area_a.new)
         (MissesRow (D.faults area_a.old) (D.faults area_a.new) (D.contents area_a.old) (D.contents area_a.new) result))) }
@@ -83,7 +86,8 @@ where
 }
 
 fn print_report<S: Sink>(alloc: Global, ending: &Ending, out: &mut S) -> Status
-    ensures { IsPrintingEnd (S.faults out.old) (S.faults out.new) result }
+    ensures ends { IsPrintingEnd (S.faults out.old) (S.faults out.new) result }
+    ensures printed { result ≡ Status.Done → IfSome (S.written out.old) (λ written. S.written out.new ≡ Some (written ++ report_bytes ending.now)) }
 {
     match report_text(alloc, ending) {
         Ok(text) => match write_all(out, text.as_bytes()) {

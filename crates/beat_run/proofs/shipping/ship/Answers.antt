@@ -1,11 +1,13 @@
-use Rattle.std.proofs.Common.{arith, ◌≡◌, ℕ, List, take, slice_get, Option, Some, None, IfSome, Vec}
+use Rattle.std.proofs.Common.{arith, ◌≡◌, ℕ, List, take, ◌++◌, slice_get, Option, Some, None, IfSome, Vec}
 use Rattle.std.specs.Vec.{with_item}
 use Rattle.std.specs.declared.alloc.Global.{Global}
 use Rattle.outside.specs.Counts.{IsAtEnd}
 use Rattle.outside.specs.Folders.{FolderHistory}
 use Rattle.outside.specs.Wires.{Outcome}
+use Rattle.beat_run.specs.declared.report.Ending.{Ending}
+use Rattle.beat_run.specs.Report.{report_bytes}
 use Rattle.beat_run.specs.Standing.{OnFirst}
-use Rattle.beat_run.specs.Stored.{IsStored, MissesRow}
+use Rattle.beat_run.specs.Stored.{IsDone, IsEnded, IsStored, MissesRow}
 use Rattle.beat_run.proofs.Standings.{first_is, first_set, on_first}
 use Rattle.beat_run.proofs.Storings.{done_stored, printed_stored}
 use Rattle.beat_run.specs.declared.settings.TheConstants.{LIMIT}
@@ -47,3 +49,18 @@ returns-in-Ok-clause-links_finished g c =
 pub returns-in-Err-clause-links_finished : goal.returns-in-Err-clause-links_finished
 returns-in-Err-clause-links_finished g c =
     on_first g.W.Wire.open_links c.args.wires.now (with_item c.args.wires.now 0 c.run.new.wire) c.index_mut.result.now c.run.new.wire (λ old new. ¬ (IsAtEnd old) → new ≡ old) (first_is c.args.wires.now.items _ (omega (arith, c.requires)) c.index_mut.ensures.value) (first_set c.args.wires.now c.run.new.wire (omega (arith, c.requires))) c.run.ensures.links_finished
+
+-- the report of a run that is done
+done_so : (settings : Option (List ℕ)) (told : Option FolderHistory) (outcomes : Option (List Outcome)) (after : Option FolderHistory) (old new : Option (List ℕ)) (ending : Ending) (written printed : Option (List ℕ)) →
+    IfSome told (λ history. IsEnded settings history outcomes after old new ending) → IfSome written (λ bytes. printed ≡ Some (bytes ++ report_bytes ending)) →
+    IfSome told (λ history. IsDone settings history outcomes after old new written printed)
+done_so settings None outcomes after old new ending written printed ended reported = tt
+done_so settings (Some told) outcomes after old new ending written printed ended reported = record { ending = ending; ended = ended; reported = reported }
+
+pub returns-in-Ok-clause-done_only_where_the_file_was_drained : goal.returns-in-Ok-clause-done_only_where_the_file_was_drained
+returns-in-Ok-clause-done_only_where_the_file_was_drained g c = λ done.
+    first_covered g.W.Wire.outcomes c.args.wires.now (with_item c.args.wires.now 0 c.run.new.wire) c.index_mut.result.now c.run.new.wire _
+    (λ history outcomes. IsDone (g.R.Source.left c.args.settings.now) history outcomes (g.F.Folder.told c.run.new.folder) (g.D.Disk.contents c.args.area_a.now) (g.D.Disk.contents c.run.new.area)
+    (g.S.Sink.written c.args.out.now) (g.S.Sink.written c.print_report.new.out))
+    (first_is c.args.wires.now.items _ (omega (arith, c.requires)) c.index_mut.ensures.value) (first_set c.args.wires.now c.run.new.wire (omega (arith, c.requires)))
+    (done_so _ _ _ _ _ _ c.in-Ok.ending _ _ (rw c.in-Ok.is at c.run.ensures.done) (c.print_report.ensures.printed done))

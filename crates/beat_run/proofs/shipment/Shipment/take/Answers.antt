@@ -21,7 +21,7 @@ returns-in-Err-clause-told g c = λ bytes is.
 
 pub returns-in-Ok-extend_from_slice-clause-told : goal.returns-in-Ok-extend_from_slice-clause-told
 returns-in-Ok-extend_from_slice-clause-told g c = λ bytes is.
-    taking_ends _ _ _ c.loop-used.self _ bytes c.args.piece.now c.loop-used.left.now (c.loop-used.invariant.told bytes is) (search rules) (search rules) (search rules) (search rules)
+    taking_ends _ _ _ c.loop-used.self _ bytes c.args.piece.now c.loop-used.left.now (c.loop-used.invariant.told bytes is) (search rules) (search rules) (search rules) (search rules) (search rules)
 
 pub returns-in-Err-extend_from_slice-clause-told : goal.returns-in-Err-extend_from_slice-clause-told
 returns-in-Err-extend_from_slice-clause-told g c = λ bytes is.
