@@ -24,9 +24,24 @@ file_identity = "path"
 hosts = ["h:5044"]
 "#;
 
-/// What a run begins with. The file `/w/a.log` is there where its bytes are.
+/// An object whose call fails.
+#[derive(Clone, Copy, Debug)]
+enum Object {
+    Source,
+    Area,
+    Folder,
+    Tail,
+    Wire,
+    LinkSend,
+    LinkReceive,
+    Sink,
+}
+
+/// What a run begins with. The file `/w/a.log` is there where its bytes are. A failing call is counted
+/// from 0 over the object's calls.
 #[derive(Clone, Copy)]
 struct Start {
+    failing: Option<(Object, u64)>,
     words: &'static [&'static str],
     settings: &'static [u8],
     file: Option<&'static [u8]>,
@@ -82,6 +97,19 @@ fn run<X: Threads + Wait + Sync + AllocGlobal>(rt: &X, start: Start) -> Result<R
     let mut clock = MemClock::new(alloc, Moment(0))?;
     let mut bell = MemBell::new(alloc, 0)?;
     let mut printed = MemSink::new(alloc)?;
+    if let Some((object, call)) = start.failing {
+        let calls = [call];
+        match object {
+            Object::Source => settings.fail_at(&calls)?,
+            Object::Area => area.fail_at(&calls)?,
+            Object::Folder => folder.fail_at(&calls)?,
+            Object::Tail => folder.fail_tail_at(&Text::from_bytes(alloc, b"/w/a.log")?, &calls)?,
+            Object::Wire => wires[0].fail_at(&calls)?,
+            Object::LinkSend => wires[0].fail_link_at(0, &calls, &[])?,
+            Object::LinkReceive => wires[0].fail_link_at(0, &[], &calls)?,
+            Object::Sink => printed.fail_at(&calls)?,
+        }
+    }
     let status = ship(
         rt,
         alloc,
@@ -139,6 +167,7 @@ fn wires_of(alloc: Global) -> Result<Vec<MemWire>, NoMemory>
 }
 
 const PLAIN: Start = Start {
+    failing: None,
     words: &["-c", "f", "--once"],
     settings: SETTINGS,
     file: Some(b"a\nb\n"),
@@ -309,5 +338,113 @@ fn excluded_byte_is_refused_at_its_place(rt: HostRuntime) -> Result<(), Fail> {
     );
     assert_eq!(rt; ran.area.bytes(), ROW_AT_2);
     assert_eq!(rt; ran.sent(rt.alloc())?.as_slice(), WINDOW_OF_FIRST);
+    Ok(())
+}
+
+const UNREACHABLE: Status = Status::Unreachable {
+    worker: 0,
+    failures: 1,
+};
+
+const UNREACHABLE_LINE: &[u8] = b"status 7 unreachable worker 0 failures 1\n";
+
+#[test]
+fn failing_call_ends_the_run_by_its_object(rt: HostRuntime) -> Result<(), Fail> {
+    let cases: [(Object, u64, Status, &[u8], &[u8]); 15] = [
+        (
+            Object::Source,
+            0,
+            Status::SourceFault,
+            b"status 9 source fault\n",
+            b"",
+        ),
+        (
+            Object::Source,
+            1,
+            Status::SourceFault,
+            b"status 9 source fault\n",
+            b"",
+        ),
+        (
+            Object::Area,
+            0,
+            Status::DiskFault,
+            b"status 5 disk fault\n",
+            b"",
+        ),
+        (
+            Object::Area,
+            2,
+            Status::DiskFault,
+            b"status 5 disk fault\n",
+            b"",
+        ),
+        (
+            Object::Area,
+            3,
+            Status::DiskFault,
+            b"status 5 disk fault\n",
+            b".",
+        ),
+        (
+            Object::Folder,
+            0,
+            Status::FolderFault,
+            b"status 6 folder fault\n",
+            NO_ROW,
+        ),
+        (
+            Object::Folder,
+            1,
+            Status::FolderFault,
+            b"status 6 folder fault\n",
+            NO_ROW,
+        ),
+        (
+            Object::Tail,
+            0,
+            Status::FolderFault,
+            b"status 6 folder fault\n",
+            ROW_AT_0,
+        ),
+        (
+            Object::Tail,
+            1,
+            Status::FolderFault,
+            b"status 6 folder fault\n",
+            ROW_AT_0,
+        ),
+        (
+            Object::Tail,
+            2,
+            Status::FolderFault,
+            b"status 6 folder fault\n",
+            ROW_AT_4,
+        ),
+        (Object::Wire, 0, UNREACHABLE, UNREACHABLE_LINE, ROW_AT_0),
+        (Object::LinkSend, 1, UNREACHABLE, UNREACHABLE_LINE, ROW_AT_0),
+        (
+            Object::LinkReceive,
+            0,
+            UNREACHABLE,
+            UNREACHABLE_LINE,
+            ROW_AT_0,
+        ),
+        (Object::Sink, 0, Status::OutFault, b"", ROW_AT_4),
+        (
+            Object::Sink,
+            1,
+            Status::Done,
+            b"file \"filestream::w::path::/w/a.log\" 0 4 \"/w/a.log\"\nshipped 2 dropped 0\nstatus 0 done\n",
+            ROW_AT_4,
+        ),
+    ];
+    for (object, call, status, printed, area) in cases {
+        let failing = Some((object, call));
+        let ran = run(&rt, Start { failing, ..PLAIN })?;
+        assert_eq!(rt; ran.status, status, "call {call} of {object:?}");
+        assert_eq!(rt; ran.printed.bytes(), printed, "call {call} of {object:?}");
+        assert_eq!(rt; ran.area.bytes(), area, "call {call} of {object:?}");
+    }
     Ok(())
 }
