@@ -9,9 +9,10 @@ use Rattle.outside.specs.Tails.{TailHistory}
 use Rattle.beat_run.specs.declared.status.Status.{Status}
 use Rattle.beat_run.specs.declared.shipment.Shipment.{Shipment}
 use Rattle.beat_run.specs.Followed.{HasEndLook}
-use Rattle.beat_run.specs.Reading.{AddsBytes, ReadsPiece, bytes_read}
+use Rattle.beat_run.specs.Reading.{AddsBytes, AreInOrder, ReadsPiece, bytes_read}
 use Rattle.beat_run.specs.Serving.{HasSettled}
 use Rattle.beat_run.specs.Shipping.{IsShipped, IsCovered, IsFileCovered, IsFileWhole, IsSeen, IsUnused}
+use Rattle.beat_run.proofs.Living.{front_of_life, in_order-append, read_many, total}
 use Rattle.beat_run.proofs.PieceReads.{EndsAt, reads_end}
 use Rattle.beat_run.proofs.Services.{settled_serves}
 use Rattle.beat_run.proofs.Shipments.{none_wait}
@@ -22,6 +23,7 @@ pub record IsReadSo {L : Type 0} (told : L → Option Talk) (path : List ℕ) (l
   pub tail_told : now ≡ Some history
   pub same_opening : history.opening ≡ start.opening
   pub same_file : history.file ≡ start.file
+  pub in_order : AreInOrder history.file 0 history.looks
   pub shipped : IsShipped told path link shipment (bytes_read history.file history.looks)
 
 abbrev pub IsReadWhereTold : {L : Type 0} → (L → Option Talk) → List ℕ → Option L → Option L → Shipment → Option TailHistory → Option TailHistory → Type 0
@@ -34,11 +36,13 @@ reading_starts told path link shipment None unused = tt
 reading_starts told path link shipment (Some begun) unused = λ none settled.
     let P : List ℕ → Type 0 = λ l. IsShipped told path link shipment l in
     let A : List ℕ → Type 0 = λ l. All (λ byte. byte ≢ 10) l in
+    let O : List Look → Type 0 = λ l. AreInOrder begun.file 0 l in
     record {
       history = begun;
       tail_told = refl;
       same_opening = refl;
       same_file = refl;
+      in_order = subst O (sym none) tt;
       shipped = subst P (sym (ap (λ looks. bytes_read begun.file looks) none)) (record {
         settled = [];
         payloads = [];
@@ -53,41 +57,61 @@ reading_starts told path link shipment (Some begun) unused = λ none settled.
       });
     }
 
+-- so many bytes were read
+position_is : {L : Type 0} (told : L → Option Talk) (path : List ℕ) (link : Option L) (shipment : Shipment) (bytes : List ℕ) →
+    IsShipped told path link shipment bytes → length bytes ≡ shipment.offset + shipment.batch.size + vec_len shipment.rest
+position_is told path link shipment bytes is =
+    omega (arith, ap length is.spelled, length-append is.settled (is.waiting ++ shipment.rest.items), length-append is.waiting shipment.rest.items, is.offset, is.holds.size)
+
+-- the reads stay in order with further looks from the place that was read up to
+in_order_still : (file later : File) (looks more all : List Look) (place : ℕ) → AreInOrder file 0 looks → AreInOrder file place more →
+    later ≡ file → all ≡ looks ++ more → place ≡ length (bytes_read file looks) → AreInOrder later 0 all
+in_order_still file later looks more all place first second same are position =
+    let F : File → Type 0 = λ f. AreInOrder f 0 all in
+    let L : List Look → Type 0 = λ l. AreInOrder file 0 l in
+    let P : ℕ → Type 0 = λ n. AreInOrder file n more in
+    let here : place ≡ 0 + total looks = omega (arith, position, read_many file 0 looks first) in
+    subst F (sym same) (subst L (sym are) (in_order-append file 0 looks more first (subst P here second)))
+
 -- a piece more
-pub reading_goes_on : {L : Type 0} (told : L → Option Talk) (path : List ℕ) (first link after : Option L) (old new : Shipment) (start between now : Option TailHistory) (piece : List ℕ) →
-    IsReadWhereTold told path first link old start between → IfSome between (λ history. AddsBytes history piece now) →
+pub reading_goes_on : {L : Type 0} (told : L → Option Talk) (path : List ℕ) (first link after : Option L) (old new : Shipment) (start between now : Option TailHistory) (place : ℕ) (piece : List ℕ) →
+    place ≡ old.offset + old.batch.size + vec_len old.rest → IsReadWhereTold told path first link old start between → IfSome between (λ history. AddsBytes history place piece now) →
     ((bytes : List ℕ) → IsShipped told path link old bytes → IsShipped told path after new (bytes ++ piece)) →
     IsReadWhereTold told path first after new start now
-reading_goes_on told path first link after old new None between now piece was adds takes = tt
-reading_goes_on told path first link after old new (Some begun) between now piece was adds takes = λ none settled.
+reading_goes_on told path first link after old new None between now place piece position was adds takes = tt
+reading_goes_on told path first link after old new (Some begun) between now place piece position was adds takes = λ none settled.
     let so = was none settled in
-    let A : Option TailHistory → Type 0 = λ o. IfSome o (λ history. AddsBytes history piece now) in
-    let more : AddsBytes so.history piece now = subst A so.tail_told adds in
+    let A : Option TailHistory → Type 0 = λ o. IfSome o (λ history. AddsBytes history place piece now) in
+    let more : AddsBytes so.history place piece now = subst A so.tail_told adds in
     let P : List ℕ → Type 0 = λ l. IsShipped told path after new l in
     record {
       history = more.history;
       tail_told = more.tail_told;
       same_opening = more.same_opening ∙ so.same_opening;
       same_file = more.same_file ∙ so.same_file;
+      in_order = in_order_still so.history.file more.history.file so.history.looks more.more more.history.looks place so.in_order more.in_order more.same_file more.looks_on
+          (position ∙ sym (position_is told path link old (bytes_read so.history.file so.history.looks) so.shipped));
       shipped = subst P (sym more.added) (takes (bytes_read so.history.file so.history.looks) so.shipped);
     }
 
 -- the last piece, after which what was settled stays covered
-pub reading_stops : {L : Type 0} (told : L → Option Talk) (path : List ℕ) (first link after : Option L) (old : Shipment) (offset : ℕ) (start between now : Option TailHistory) (piece : List ℕ) →
-    IsReadWhereTold told path first link old start between → IfSome between (λ history. AddsBytes history piece now) →
+pub reading_stops : {L : Type 0} (told : L → Option Talk) (path : List ℕ) (first link after : Option L) (old : Shipment) (offset : ℕ) (start between now : Option TailHistory) (place : ℕ) (piece : List ℕ) →
+    place ≡ old.offset + old.batch.size + vec_len old.rest → IsReadWhereTold told path first link old start between → IfSome between (λ history. AddsBytes history place piece now) →
     ((bytes : List ℕ) → IsShipped told path link old bytes → IsCovered told path after offset (bytes ++ piece)) →
     IfSome start (λ begun. begun.looks ≡ [] → HasSettled told first [] → IsSeen begun (IsFileCovered told path after offset) now)
-reading_stops told path first link after old offset None between now piece was adds takes = tt
-reading_stops told path first link after old offset (Some begun) between now piece was adds takes = λ none settled.
+reading_stops told path first link after old offset None between now place piece position was adds takes = tt
+reading_stops told path first link after old offset (Some begun) between now place piece position was adds takes = λ none settled.
     let so = was none settled in
-    let A : Option TailHistory → Type 0 = λ o. IfSome o (λ history. AddsBytes history piece now) in
-    let more : AddsBytes so.history piece now = subst A so.tail_told adds in
+    let A : Option TailHistory → Type 0 = λ o. IfSome o (λ history. AddsBytes history place piece now) in
+    let more : AddsBytes so.history place piece now = subst A so.tail_told adds in
     let P : List ℕ → Type 0 = λ l. IsCovered told path after offset l in
     record {
       history = more.history;
       tail_told = more.tail_told;
       same_opening = more.same_opening ∙ so.same_opening;
       same_file = more.same_file ∙ so.same_file;
+      front = front_of_life more.history.file more.history.looks (in_order_still so.history.file more.history.file so.history.looks more.more more.history.looks place so.in_order more.in_order more.same_file more.looks_on
+          (position ∙ sym (position_is told path link old (bytes_read so.history.file so.history.looks) so.shipped)));
       seen = subst P (sym more.added) (takes (bytes_read so.history.file so.history.looks) so.shipped);
     }
 
@@ -114,12 +138,6 @@ whole told path link shipment file looks bytes read empty is ended =
       ended = ended;
     }
 
--- so many bytes were read
-position_is : {L : Type 0} (told : L → Option Talk) (path : List ℕ) (link : Option L) (shipment : Shipment) (bytes : List ℕ) →
-    IsShipped told path link shipment bytes → length bytes ≡ shipment.offset + shipment.batch.size + vec_len shipment.rest
-position_is told path link shipment bytes is =
-    omega (arith, ap length is.spelled, length-append is.settled (is.waiting ++ shipment.rest.items), length-append is.waiting shipment.rest.items, is.offset, is.holds.size)
-
 ended : {L : Type 0} (told : L → Option Talk) (path : List ℕ) (link after : Option L) (old new : Shipment) (begun : TailHistory) (between now : Option TailHistory)
     (place : ℕ) (result : Result (Unit {0}) Status) (so : IsReadSo told path link old begun between) → EndsAt so.history place now →
     place ≡ old.offset + old.batch.size + vec_len old.rest → OnOk result (new.batch.size ≡ 0) →
@@ -132,6 +150,8 @@ ended told path link after old new begun between now place (Ok done) so end posi
       tail_told = end.tail_told;
       same_opening = end.same_opening ∙ so.same_opening;
       same_file = end.same_file ∙ so.same_file;
+      front = front_of_life end.history.file end.history.looks (in_order_still so.history.file end.history.file so.history.looks end.more end.history.looks place so.in_order end.in_order end.same_file end.looks_on
+          (position ∙ sym (position_is told path link old (bytes_read so.history.file so.history.looks) so.shipped)));
       seen = whole told path after new end.history.file end.history.looks (bytes_read so.history.file so.history.looks) end.none_more empty sent
           (subst E (position ∙ sym (position_is told path link old (bytes_read so.history.file so.history.looks) so.shipped) ∙ sym (ap length end.none_more)) end.ended);
     }
@@ -142,6 +162,8 @@ ended told path link after old new begun between now place (Err status) so end p
       tail_told = end.tail_told;
       same_opening = end.same_opening ∙ so.same_opening;
       same_file = end.same_file ∙ so.same_file;
+      front = front_of_life end.history.file end.history.looks (in_order_still so.history.file end.history.file so.history.looks end.more end.history.looks place so.in_order end.in_order end.same_file end.looks_on
+          (position ∙ sym (position_is told path link old (bytes_read so.history.file so.history.looks) so.shipped)));
       seen = subst C (sym end.none_more) sent;
     }
 

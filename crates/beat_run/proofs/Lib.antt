@@ -4,6 +4,7 @@ mod Filling
 mod Finds
 mod Folders
 mod LinePayloads
+mod Living
 mod Marks
 mod Notings
 mod Parts

@@ -20,6 +20,7 @@ use Rattle.beat_run.specs.declared.shipment.Shipment.{Shipment}
 use Rattle.beat_run.specs.declared.status.Status.{Status}
 use Rattle.beat_run.specs.Finding.{FindsIn, IsOpened}
 use Rattle.beat_run.specs.Followed.{IsNoOpening, IsNotListed, IsRead, IsUnopened}
+use Rattle.beat_run.specs.Lives.{IsFrontOfLife}
 use Rattle.beat_run.specs.Keys.{path_row}
 use Rattle.beat_run.specs.Noted.{IsCoveredUpTo, IsDrained, IsEmptyEnding, IsGoneEnding, IsNoted, NotesCovered, NotesWhole}
 use Rattle.beat_run.specs.Reading.{bytes_read}
@@ -102,6 +103,7 @@ closed_read path listed shown tail between after tail_after faults Q R maps ther
     let closed : TellsClosing (Some (with_event listed (Opened path opened.number opened.begun))) (Some seen.history) faults after =
     subst T seen.tail_told (subst B opened.kept closes) in
     let F : File → Type 0 = λ file. R file seen.history.looks in
+    let L : File → Type 0 = λ file. IsFrontOfLife file seen.history.looks in
     record {
       listed_then = there;
       number = opened.number;
@@ -110,6 +112,7 @@ closed_read path listed shown tail between after tail_after faults Q R maps ther
       file_is = opened.file_is;
       looks = seen.history.looks;
       faults = faults;
+      front = subst L seen.same_file seen.front;
       looked = subst F seen.same_file (maps seen.history.file seen.history.looks seen.seen);
       kept = closed ∙ ap (λ (n : ℕ). Some (with_event (with_event listed (Opened path opened.number opened.begun)) (Rattle.outside.specs.Folders.Closed n seen.history.looks faults))) (seen.same_opening ∙ opened.opening);
     }

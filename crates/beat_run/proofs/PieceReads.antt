@@ -1,5 +1,5 @@
 -- A file that is read piece by piece.
-use Rattle.std.proofs.Common.{◌≡◌, ℕ, ◌<◌, ◌≤◌, List, [], ◌∷◌, ◌++◌, length, take, drop, Option, Some, None, Ok, Err, IfSome, append-nil, refl, sym, ◌∙◌, ap, subst, append_assoc, arith}
+use Rattle.std.proofs.Common.{◌≡◌, ℕ, ◌+◌, ◌<◌, ◌≤◌, List, [], ◌∷◌, ◌++◌, length, take, drop, Option, Some, None, Ok, Err, IfSome, append-nil, refl, sym, ◌∙◌, ap, subst, append_assoc, arith}
 use Rattle.outside.specs.declared.history.Look.{Look}
 use Rattle.outside.specs.declared.history.Question.{Question}
 use Rattle.outside.specs.declared.history.Question.TheVariants.{Length, ReadAt}
@@ -7,7 +7,7 @@ use Rattle.outside.specs.declared.failed.Failed.{Failed}
 use Rattle.outside.specs.Files.{File, life_of}
 use Rattle.outside.specs.Tails.{TailHistory, with_look, TellsLength, TellsRead, LooksAtLength, LooksAtBytes}
 use Rattle.beat_run.specs.Followed.{HasEndLook}
-use Rattle.beat_run.specs.Reading.{ReadsPiece, AddsBytes, bytes_read, bytes_of_look}
+use Rattle.beat_run.specs.Reading.{ReadsPiece, AddsBytes, AreInOrder, IsReadAt, bytes_read, bytes_of_look, count_of}
 
 -- the two looks of a read into a buffer of some bytes
 record TwoLooks (told : TailHistory) (place count : ℕ) (after : Option TailHistory) : Type 0 where
@@ -16,6 +16,7 @@ record TwoLooks (told : TailHistory) (place count : ℕ) (after : Option TailHis
   reaches : place ≤ asked.sight.length
   read : Look
   reads : read.question ≡ ReadAt place count
+  of_file : read.sight.length ≤ length (life_of told.file read.sight.life)
   kept : after ≡ Some (with_look (with_look told asked) read)
 
 two_looks : (told : TailHistory) (place count : ℕ) (byte : ℕ) (bytes : List ℕ) (after : Option TailHistory) →
@@ -30,8 +31,25 @@ two_looks told place count byte bytes after reads =
       reaches = omega (arith, reads.reaches, first.answered);
       read = second.look;
       reads = second.asked;
+      of_file = second.next.of_file.within;
       kept = second.kept;
     }
+
+-- one look at a length
+one_in_order : (file : File) (place : ℕ) (asked : Look) → asked.question ≡ Length → AreInOrder file place (asked ∷ [])
+one_in_order file place asked asks =
+    let P : Question → Type 0 = λ q. IsReadAt file place q asked.sight in
+    (subst P (sym asks) tt, tt)
+
+-- and then a read
+two_in_order : (file : File) (place count : ℕ) (asked read : Look) → asked.question ≡ Length → read.question ≡ ReadAt place count →
+    (0 < count → place + count ≤ read.sight.length) → read.sight.length ≤ length (life_of file read.sight.life) →
+    AreInOrder file place (asked ∷ read ∷ [])
+two_in_order file place count asked read asks reads within of_file =
+    let here : place ≡ place + 0 = omega arith in
+    let R : Question → Type 0 = λ q. IsReadAt file (place + 0) q read.sight in
+    let P : Question → Type 0 = λ q. IsReadAt file place q asked.sight × (IsReadAt file (place + count_of q) read.question read.sight × Unit {0}) in
+    subst P (sym asks) (tt, (subst R (sym reads) (here, within, of_file), tt))
 
 -- the bytes of further looks
 bytes_read-append : (file : File) (looks more : List Look) → bytes_read file (looks ++ more) ≡ bytes_read file looks ++ bytes_read file more
@@ -47,37 +65,43 @@ one_look told look question is =
     ∙ ap (λ (l : List ℕ). bytes_read told.file told.looks ++ l) (append-nil (bytes_of_look told.file look.question look.sight))
     ∙ ap (λ (q : Question). bytes_read told.file told.looks ++ bytes_of_look told.file q look.sight) is
 
-adds_none : (told : TailHistory) (after : Option TailHistory) → after ≡ Some told → AddsBytes told [] after
-adds_none told after is = record {
+adds_none : (told : TailHistory) (place : ℕ) (after : Option TailHistory) → after ≡ Some told → AddsBytes told place [] after
+adds_none told place after is = record {
   history = told;
   tail_told = is;
   same_opening = refl;
   same_file = refl;
+  more = [];
+  looks_on = sym (append-nil told.looks);
+  in_order = tt;
   added = sym (append-nil (bytes_read told.file told.looks));
 }
 
-adds_asked : (told : TailHistory) (length : ℕ) (after : Option TailHistory) → LooksAtLength told length after → AddsBytes told [] after
-adds_asked told length after looks = record {
+adds_asked : (told : TailHistory) (place length : ℕ) (after : Option TailHistory) → LooksAtLength told length after → AddsBytes told place [] after
+adds_asked told place length after looks = record {
   history = with_look told looks.look;
   tail_told = looks.kept;
   same_opening = refl;
   same_file = refl;
+  more = looks.look ∷ [];
+  looks_on = refl;
+  in_order = one_in_order told.file place looks.look looks.asked;
   added = one_look told looks.look Length looks.asked;
 }
 
 -- a length that could not be asked
-pub asking_fails : (told after : Option TailHistory) (failed : Failed) → TellsLength told (Err failed) after → IfSome told (λ history. AddsBytes history [] after)
-asking_fails None after failed tells = tt
-asking_fails (Some told) after failed tells = adds_none told after tells
+pub asking_fails : (told after : Option TailHistory) (place : ℕ) (failed : Failed) → TellsLength told (Err failed) after → IfSome told (λ history. AddsBytes history place [] after)
+asking_fails None after place failed tells = tt
+asking_fails (Some told) after place failed tells = adds_none told place after tells
 
 -- a length that was asked alone
-pub asking_adds : (told after : Option TailHistory) (length : ℕ) → TellsLength told (Ok length) after → IfSome told (λ history. AddsBytes history [] after)
-asking_adds None after length tells = tt
-asking_adds (Some told) after length tells = adds_asked told length after tells
+pub asking_adds : (told after : Option TailHistory) (place length : ℕ) → TellsLength told (Ok length) after → IfSome told (λ history. AddsBytes history place [] after)
+asking_adds None after place length tells = tt
+asking_adds (Some told) after place length tells = adds_asked told place length after tells
 
 -- a read that failed behind it
 pub reading_fails : (told between after : Option TailHistory) (length place : ℕ) (into : List ℕ) (failed : Failed) →
-    TellsLength told (Ok length) between → TellsRead between place into (Err failed) after → IfSome told (λ history. AddsBytes history [] after)
+    TellsLength told (Ok length) between → TellsRead between place into (Err failed) after → IfSome told (λ history. AddsBytes history place [] after)
 reading_fails None between after length place into failed asks reads = tt
 reading_fails (Some told) between after length place into failed asks reads =
     let R : Option TailHistory → Type 0 = λ b. TellsRead b place into (Err failed) after in
@@ -87,12 +111,15 @@ reading_fails (Some told) between after length place into failed asks reads =
       tail_told = kept;
       same_opening = refl;
       same_file = refl;
+      more = asks.look ∷ [];
+      looks_on = refl;
+      in_order = one_in_order told.file place asks.look asks.asked;
       added = one_look told asks.look Length asks.asked;
     }
 
 -- a read that gave bytes behind it
 pub reading_adds : (told between after : Option TailHistory) (size place count : ℕ) (into : List ℕ) → 0 < length into →
-    TellsLength told (Ok size) between → TellsRead between place into (Ok count) after → IfSome told (λ history. AddsBytes history (take count into) after)
+    TellsLength told (Ok size) between → TellsRead between place into (Ok count) after → IfSome told (λ history. AddsBytes history place (take count into) after)
 reading_adds None between after size place count into some asks reads = tt
 reading_adds (Some told) between after size place count [] some asks reads = absurd (omega arith)
 reading_adds (Some told) between after size place count (byte ∷ bytes) some asks reads =
@@ -103,6 +130,9 @@ reading_adds (Some told) between after size place count (byte ∷ bytes) some as
       tail_told = second.kept;
       same_opening = refl;
       same_file = refl;
+      more = asks.look ∷ second.look ∷ [];
+      looks_on = append_assoc told.looks (asks.look ∷ []) (second.look ∷ []);
+      in_order = two_in_order told.file place count asks.look second.look asks.asked second.asked second.within second.next.of_file.within;
       added =
           one_look (with_look told asks.look) second.look (ReadAt place count) second.asked
           ∙ ap (λ (l : List ℕ). l ++ take count (drop place (life_of told.file second.look.sight.life)))
@@ -116,6 +146,9 @@ pub record EndsAt (told : TailHistory) (place : ℕ) (after : Option TailHistory
   pub tail_told : after ≡ Some history
   pub same_opening : history.opening ≡ told.opening
   pub same_file : history.file ≡ told.file
+  pub more : List Look
+  pub looks_on : history.looks ≡ told.looks ++ more
+  pub in_order : AreInOrder told.file place more
   pub none_more : bytes_read history.file history.looks ≡ bytes_read told.file told.looks
   pub ended : HasEndLook place history.looks
 
@@ -129,6 +162,9 @@ reads_end told place count (byte ∷ bytes) after some none reads =
       tail_told = looks.kept;
       same_opening = refl;
       same_file = refl;
+      more = looks.asked ∷ looks.read ∷ [];
+      looks_on = append_assoc told.looks (looks.asked ∷ []) (looks.read ∷ []);
+      in_order = two_in_order told.file place count looks.asked looks.read looks.asks looks.reads (λ some_read. absurd (omega (arith, none, some_read))) looks.of_file;
       none_more =
           one_look (with_look told looks.asked) looks.read (ReadAt place 0) (looks.reads ∙ ap (λ (n : ℕ). ReadAt place n) none)
           ∙ append-nil (bytes_read told.file (told.looks ++ looks.asked ∷ []))

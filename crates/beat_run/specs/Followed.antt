@@ -7,6 +7,7 @@ use Rattle.outside.specs.declared.history.Look.{Look}
 use Rattle.outside.specs.declared.history.Shown.{Shown}
 use Rattle.outside.specs.declared.history.Question.TheVariants.{Length, ReadAt}
 use Rattle.outside.specs.Files.{File}
+use Rattle.beat_run.specs.Lives.{IsFrontOfLife}
 use Rattle.outside.specs.Folders.{FolderHistory, Event, with_event, Listed, ListingFailed, Opened, NotThere, OpeningFailed, Closed}
 
 -- the folder in which the path is: what stands before its last slash, or `/`
@@ -48,6 +49,7 @@ pub record IsRead (path : List ℕ) (listed : FolderHistory) (shown : List Shown
   pub file_is : slice_get listed.files number ≡ Some file
   pub looks : List Look
   pub faults : ℕ
+  pub front : IsFrontOfLife file looks
   pub looked : Looked file looks
   pub kept : after ≡ Some (with_event (with_event listed (Opened path number begun)) (Closed (length listed.events) looks faults))
 

@@ -9,6 +9,7 @@ pub mod Form
 pub mod Hearing
 pub mod Keys
 pub mod Lines
+pub mod Lives
 pub mod Noted
 pub mod Payloads
 pub mod Reading

@@ -1,6 +1,6 @@
 -- Reading a file: each read follows a look at the length, which is not below the place (Filebeat reference, filestream
 -- input; this project's profile).
-use Rattle.std.specs.Prelude.{◌≡◌, ℕ, ◌≤◌, List, [], ◌∷◌, ◌++◌, take, drop, Option, Some, Ok}
+use Rattle.std.specs.Prelude.{◌≡◌, ℕ, ◌+◌, ◌<◌, ◌≤◌, List, [], ◌∷◌, ◌++◌, length, take, drop, Option, Some, Ok}
 use Rattle.outside.specs.declared.history.Look.{Look}
 use Rattle.outside.specs.declared.history.Question.{Question}
 use Rattle.outside.specs.declared.history.Question.TheVariants.{Length, ReadAt}
@@ -25,10 +25,30 @@ abbrev pub bytes_read : File → List Look → List ℕ
 bytes_read file [] = []
 bytes_read file (look ∷ looks) = bytes_of_look file look.question look.sight ++ bytes_read file looks
 
--- the tail looked on, and its reads gave these bytes
-pub record AddsBytes (told : TailHistory) (bytes : List ℕ) (after : Option TailHistory) : Type 0 where
+-- a read stands at this place, and what it gave was there
+abbrev pub IsReadAt : File → ℕ → Question → Sight → Type 0
+IsReadAt file place Length sight = Unit {0}
+IsReadAt file place (ReadAt at count) sight =
+    (at ≡ place) × (0 < count → at + count ≤ sight.length) × (sight.length ≤ length (life_of file sight.life))
+
+-- how many bytes a look read
+abbrev pub count_of : Question → ℕ
+count_of Length = 0
+count_of (ReadAt place count) = count
+
+-- the reads stand one behind the other from this place on
+abbrev pub AreInOrder : File → ℕ → List Look → Type 0
+AreInOrder file place [] = Unit {0}
+AreInOrder file place (look ∷ looks) =
+    IsReadAt file place look.question look.sight × AreInOrder file (place + count_of look.question) looks
+
+-- the tail looked on from this place, and its reads gave these bytes
+pub record AddsBytes (told : TailHistory) (place : ℕ) (bytes : List ℕ) (after : Option TailHistory) : Type 0 where
   pub history : TailHistory
   pub tail_told : after ≡ Some history
   pub same_opening : history.opening ≡ told.opening
   pub same_file : history.file ≡ told.file
+  pub more : List Look
+  pub looks_on : history.looks ≡ told.looks ++ more
+  pub in_order : AreInOrder told.file place more
   pub added : bytes_read history.file history.looks ≡ bytes_read told.file told.looks ++ bytes

@@ -11,6 +11,7 @@ use Rattle.beat_run.specs.declared.lines.TheConstants.{LINE}
 use Rattle.beat_run.specs.declared.shipment.Shipment.{Shipment}
 use Rattle.beat_run.specs.Batches.{HoldsLines}
 use Rattle.beat_run.specs.Followed.{HasEndLook}
+use Rattle.beat_run.specs.Lives.{IsFrontOfLife}
 use Rattle.beat_run.specs.Payloads.{AreLines}
 use Rattle.beat_run.specs.Reading.{bytes_read}
 use Rattle.beat_run.specs.Serving.{HasSettled, HasServed}
@@ -66,6 +67,7 @@ pub record IsSeen (start : TailHistory) (Seen : File → List Look → Type 0) (
   pub tail_told : after ≡ Some history
   pub same_opening : history.opening ≡ start.opening
   pub same_file : history.file ≡ start.file
+  pub front : IsFrontOfLife history.file history.looks
   pub seen : Seen history.file history.looks
 
 -- what was read of the file is covered up to the offset

@@ -24,7 +24,7 @@ pub fn read_piece<T: Tail>(tail: &mut T, position: u64, piece: &mut [u8]) -> Res
     ensures within { IfOk result (λ count. count ≤ length piece.old) }
     ensures in_range { IfOk result (λ count. 0 < count → IsPlace (position + count)) }
     ensures read { IfOk result (λ count. ReadsPiece (T.told tail.old) position piece.new count (T.told tail.new)) }
-    ensures bytes { IfSome (T.told tail.old) (λ told. MatchResult result (λ count. AddsBytes told (take count piece.new) (T.told tail.new)) (λ _. AddsBytes told [] (T.told tail.new))) }
+    ensures bytes { IfSome (T.told tail.old) (λ told. MatchResult result (λ count. AddsBytes told position (take count piece.new) (T.told tail.new)) (λ _. AddsBytes told position [] (T.told tail.new))) }
     ensures ends { IfErr result (IsReadingEnd (T.faults tail.old) (T.faults tail.new)) }
     ensures faults_never_fall { T.faults tail.old ≤ T.faults tail.new }
 {

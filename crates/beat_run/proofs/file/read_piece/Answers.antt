@@ -3,7 +3,7 @@ use Rattle.beat_run.proofs.PieceReads.{asking_adds, reading_adds, reading_fails}
 use Rattle.beat_run.proofs.file.read_piece.Goals as goal
 
 pub returns-then-length-position-clause-bytes : goal.returns-then-length-position-clause-bytes
-returns-then-length-position-clause-bytes g c = asking_adds _ _ _ (rw c.in-Ok.is at c.length.ensures.told)
+returns-then-length-position-clause-bytes g c = asking_adds _ _ _ _ (rw c.in-Ok.is at c.length.ensures.told)
 
 pub returns-in-Ok-read_at-clause-bytes : goal.returns-in-Ok-read_at-clause-bytes
 returns-in-Ok-read_at-clause-bytes g c =

@@ -32,12 +32,12 @@ returns-in-Err-flush-clause-joined g c = λ start links is. c.flush-in-Err.ensur
 
 pub returns-in-Ok-flush-clause-seen : goal.returns-in-Ok-flush-clause-seen
 returns-in-Ok-flush-clause-seen g c =
-    reading_stops _ _ _ _ _ c.loop.shipment c.flush-in-Err.new.self.offset _ _ _ _ c.loop.invariant.told (rw c.in-Err.is at c.read_piece.ensures.bytes)
+    reading_stops _ _ _ _ _ c.loop.shipment c.flush-in-Err.new.self.offset _ _ _ _ _ c.position.ensures c.loop.invariant.told (rw c.in-Err.is at c.read_piece.ensures.bytes)
     (λ bytes is. nothing_more _ _ _ _ bytes _ refl (covers_now _ _ _ c.flush-in-Err.new.self bytes (rw c.in-Ok-flush.is at (c.flush-in-Err.ensures.told c.args.form.now.path bytes is))))
 
 pub returns-in-Err-flush-clause-seen : goal.returns-in-Err-flush-clause-seen
 returns-in-Err-flush-clause-seen g c =
-    reading_stops _ _ _ _ _ c.loop.shipment c.flush-in-Err.new.self.offset _ _ _ _ c.loop.invariant.told (rw c.in-Err.is at c.read_piece.ensures.bytes)
+    reading_stops _ _ _ _ _ c.loop.shipment c.flush-in-Err.new.self.offset _ _ _ _ _ c.position.ensures c.loop.invariant.told (rw c.in-Err.is at c.read_piece.ensures.bytes)
     (λ bytes is. nothing_more _ _ _ _ bytes _ refl (rw c.in-Err-flush.is at (c.flush-in-Err.ensures.told c.args.form.now.path bytes is)))
 
 pub loop-preserved : goal.loop-preserved
@@ -46,7 +46,12 @@ loop-preserved g c = record {
   ends = tt;
   sound = search rules;
   faults = omega (arith, c.loop.invariant.faults, c.read_piece.ensures.faults_never_fall);
-  told = reading_goes_on _ _ _ _ _ c.loop.shipment _ _ _ _ _ c.loop.invariant.told (rw c.in-Ok.is at c.read_piece.ensures.bytes)
+  told = reading_goes_on _ _ _ _ _ c.loop.shipment _ _ _ _ _ _ c.position.ensures c.loop.invariant.told (rw c.in-Ok.is at c.read_piece.ensures.bytes)
       (λ bytes is. rw c.in-Ok-take.is at (c.take.ensures.told bytes is));
   joined = λ start links is. c.take.ensures.joined start links (c.loop.invariant.joined start links is);
 }
+
+pub returns-in-Err-take-clause-seen : goal.returns-in-Err-take-clause-seen
+returns-in-Err-take-clause-seen g c =
+    reading_stops _ _ _ _ _ c.loop.shipment c.take.new.self.offset _ _ _ _ _ c.position.ensures c.loop.invariant.told (rw c.in-Ok.is at c.read_piece.ensures.bytes)
+    (λ bytes is. rw c.in-Err-take.is at (c.take.ensures.told bytes is))
