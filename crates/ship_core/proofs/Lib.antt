@@ -1,0 +1,9 @@
+mod Edits
+mod Entries
+mod Order
+mod Places
+mod Covering
+mod Prefixes
+mod MoreNotes
+mod InOrder
+mod Worked

@@ -1,0 +1,55 @@
+ghost use Rattle.std.specs.Prelude.{◌≡◌, ◌≤◌, ◌<◌, ℕ, All, Contains, List, [], ◌∷◌, ◌++◌};
+ghost use Rattle.wire_base.specs.Extent.{Extent};
+ghost use Rattle.wire_base.specs.declared.numbers.Slot.{Slot};
+ghost use Rattle.wire_base.specs.declared.numbers.Epoch.{Epoch};
+ghost use Rattle.wire_base.specs.declared.note.Cause.{Cause};
+ghost use Rattle.wire_base.specs.declared.note.Note.{Note};
+ghost use Rattle.wire_base.specs.declared.note.Note.TheVariants.{Settle};
+ghost use Rattle.ship_core.specs.CoveredEnd.{AreApart, Adjoin, ClosesPrefix, covered_end, last_end};
+ghost use Rattle.ship_core.specs.RowOver.{notes_of, greatest_epoch, row_over};
+ghost use Rattle.ship_core.specs.Forward.{RowGoesOn};
+ghost use Rattle.ship_core.specs.Orderly.{AreOrderly, IsBegun, MayFollow};
+
+/// The covered end of a place is the place itself where no span begins at it, else the covered end of that span's end.
+/// A law; it computes nothing.
+pub fn covered_end_by_spans()
+    ensures stays { (spans : List Extent) (place : ℕ) →
+        ((span : Extent) → Contains spans span → span.start ≡ place → span.end ≤ place) →
+        covered_end spans place ≡ place }
+    ensures goes_on { (spans : List Extent) (span : Extent) → AreApart spans → Contains spans span →
+        span.start < span.end → covered_end spans span.start ≡ covered_end spans span.end }
+{}
+
+/// By spans that were told the covered end closes a prefix of what was told, each span of it settled; and where all that
+/// was told is settled, it is the end of all. A law; it computes nothing.
+pub fn covered_end_closes_a_prefix()
+    ensures prefix { (told spans : List Extent) (base : ℕ) → Adjoin base told → All (Contains told) spans →
+        ClosesPrefix told spans base }
+    ensures all { (told spans : List Extent) (base : ℕ) → Adjoin base told → All (Contains told) spans →
+        All (Contains spans) told → covered_end spans base ≡ last_end base told }
+{}
+
+/// With more notes of any kind the row of a slot that was begun goes back in neither epoch nor offset, and one that went
+/// stays gone. A law; it computes nothing.
+pub fn no_row_goes_back()
+    ensures { (slot : ℕ) (notes more : List Note) → IsBegun slot notes →
+        RowGoesOn (row_over slot notes) (row_over slot (notes ++ more)) }
+{}
+
+/// A settlement of an older epoch changes no slot's row. A law; it computes nothing.
+pub fn older_epochs_change_nothing()
+    ensures { (slot : Slot) (epoch : Epoch) (span : Extent) (cause : Cause) (notes : List Note) →
+        epoch.0 < greatest_epoch (notes_of slot.0 notes) → (any : ℕ) →
+        row_over any (notes ++ Settle slot epoch span cause ∷ []) ≡ row_over any notes }
+{}
+
+/// No notes are orderly, and orderly notes stay so with one more that may follow them; a front of orderly notes is
+/// orderly. A law; it computes nothing.
+pub fn orderly_by_one_more()
+    ensures none { AreOrderly [] }
+    ensures one_more { (notes : List Note) (note : Note) → AreOrderly notes → MayFollow notes note →
+        AreOrderly (notes ++ note ∷ []) }
+    ensures front { (front rest : List Note) → AreOrderly (front ++ rest) → AreOrderly front }
+    ensures follows { (front rest : List Note) (note : Note) → AreOrderly (front ++ note ∷ rest) →
+        MayFollow front note }
+{}

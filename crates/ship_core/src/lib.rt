@@ -1,0 +1,24 @@
+//! How far each file is done: the rows of the registry, and what notes make of them.
+//!
+//! A row says of one file, by its key, up to which place all is settled. `Rows` is a list of rows in byte order of
+//! their keys, and `apply` makes one change of it. What notes make of a row is a definition of `specs/`: the greatest
+//! epoch that a note of the slot names, the place from which that epoch began, and from there on the spans that adjoin
+//! each other and were settled for that epoch. That is the *covered end*: it closes a prefix, and is never just some
+//! end that was settled.
+//!
+//! The laws say what follows for any notes or for orderly ones: what a covered end is, that it closes a prefix of the
+//! events that were told, that no row goes back, that a row which went stays gone, and that the order in which notes
+//! come does not matter. Nothing here collects notes or writes a disk.
+#![tactic(auto)]
+
+mod laws;
+mod rows;
+
+pub use laws::{
+    covered_end_by_spans, covered_end_closes_a_prefix, no_row_goes_back,
+    older_epochs_change_nothing, orderly_by_one_more,
+};
+pub use rows::Rows;
+
+#[cfg(test)]
+mod tests;

@@ -1,0 +1,137 @@
+ghost use Rattle.std.specs.Prelude.{◌≡◌, ◌≢◌, ◌<◌, ℕ, All, Contains, List, [], length, IfOk, IfErr, OnOk, OnErr, IfSome, IfNone, slice_get, Some};
+ghost use Rattle.std.specs.Option.{option_copied};
+ghost use Rattle.wire_base.specs.Ranges.{IsOp, IsRow};
+ghost use Rattle.ship_core.specs.Rows.{AreRows, IsInOrder, find};
+ghost use Rattle.ship_core.specs.Replay.{after_op, with_row, without_key};
+ghost use Rattle.ship_core.specs.Place.{IsAt, IsGap};
+
+use std::alloc::Global;
+use std::marker::Model;
+use wire_base::{NoMemory, Op, Row};
+
+/// The rows of the registry, seen as their list: in byte order of the keys, one for each key.
+#[derive(Debug, Drop)]
+pub struct Rows {
+    rows: Vec<Row>,
+}
+
+impl Model for Rows {
+    ghost use Rattle.std.specs.Prelude.{List};
+    ghost use Rattle.wire_base.specs.declared.row.Row.{Row};
+    ghost use Rattle.ship_core.specs.Rows.{AreRows};
+
+    ghost Value = { List Row };
+
+    ghost view = { λ r. r.rows.items };
+
+    ghost invariant = { λ r. AreRows r.rows.items };
+}
+
+impl Rows {
+    /// Takes no memory yet, and keeps the allocator.
+    pub fn new(alloc: Global) -> Rows
+        ensures { result ≡ [] }
+    {
+        Rows {
+            rows: Vec::new(alloc),
+        }
+    }
+
+    pub fn len(&self) -> usize
+        ensures { result ≡ length self.now }
+    {
+        self.rows.len()
+    }
+
+    /// The row at place `i`, counted from 0 in the order of the keys.
+    pub fn at(&self, i: usize) -> &Row
+        requires { i < length self.now }
+        ensures at { slice_get self.now i ≡ Some result.now }
+        ensures rows { AreRows self.now }
+        ensures in_range { IsRow result.now }
+    {
+        &self.rows[i]
+    }
+
+    /// `None` exactly where no row has the key.
+    pub fn get(&self, key: &[u8]) -> Option<&Row>
+        ensures found { option_copied result ≡ find key.now self.now }
+        ensures has_the_key { IfSome result (λ row. (row.now.key ≡ key.now) × Contains self.now row.now) }
+        ensures none_has_it { IfNone result (All (λ row. row.key ≢ key.now) self.now) }
+        ensures rows { AreRows self.now }
+    {
+        match place(&self.rows, key) {
+            Ok(i) => Some(&self.rows[i]),
+            Err(_) => None,
+        }
+    }
+
+    /// Sets the row of a key in place of an earlier one, or takes it away where there is one.
+    pub fn apply(&mut self, _alloc: Global, op: Op) -> Result<(), NoMemory>
+        requires { IsOp op }
+        ensures applied { OnOk result (self.new ≡ after_op self.old op) }
+        ensures kept { OnErr result (self.new ≡ self.old) }
+        ensures rows { AreRows self.new }
+    {
+        match op {
+            Op::Set(row) => self.set(row),
+            Op::Remove(key) => {
+                self.remove(key.bytes());
+                Ok(())
+            }
+        }
+    }
+
+    fn set(&mut self, row: Row) -> Result<(), NoMemory>
+        requires { IsRow row }
+        ensures set { OnOk result (self.new ≡ with_row row self.old) }
+        ensures kept { OnErr result (self.new ≡ self.old) }
+        ensures rows { AreRows self.new }
+    {
+        match place(&self.rows, row.key.bytes()) {
+            Ok(i) => self.rows[i] = row,
+            Err(i) => self.rows.insert(i, row)?,
+        }
+        Ok(())
+    }
+
+    fn remove(&mut self, key: &[u8])
+        ensures removed { self.new ≡ without_key key.now self.old }
+        ensures rows { AreRows self.new }
+    {
+        if let Ok(i) = place(&self.rows, key) {
+            self.rows.remove(i);
+        }
+    }
+
+    pub fn copy(&self, alloc: Global) -> Result<Rows, NoMemory>
+        ensures same { IfOk result (λ copy. copy ≡ self.now) }
+        ensures rows { AreRows self.now }
+    {
+        let mut rows = Vec::new(alloc);
+        for row in &self.rows {
+            rows.push(copy_row(alloc, row)?)?;
+        }
+        Ok(Rows { rows })
+    }
+}
+
+// Where the key's row stands, or where it belongs.
+fn place(rows: &[Row], key: &[u8]) -> Result<usize, usize>
+    requires { IsInOrder rows.now }
+    ensures found { IfOk result (IsAt rows.now key.now) }
+    ensures absent { IfErr result (IsGap rows.now key.now) }
+{
+    rows.binary_search_by(|row| row.key.bytes().cmp(key))
+}
+
+fn copy_row(alloc: Global, row: &Row) -> Result<Row, NoMemory>
+    ensures { IfOk result (λ copy. copy ≡ row.now) }
+{
+    Ok(Row {
+        key: row.key.copy(alloc)?,
+        path: row.path.copy(alloc)?,
+        epoch: row.epoch,
+        offset: row.offset,
+    })
+}
