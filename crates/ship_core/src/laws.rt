@@ -5,7 +5,7 @@ ghost use Rattle.wire_base.specs.declared.numbers.Epoch.{Epoch};
 ghost use Rattle.wire_base.specs.declared.note.Cause.{Cause};
 ghost use Rattle.wire_base.specs.declared.note.Note.{Note};
 ghost use Rattle.wire_base.specs.declared.note.Note.TheVariants.{Settle};
-ghost use Rattle.ship_core.specs.CoveredEnd.{AreApart, Adjoin, ClosesPrefix, covered_end, last_end};
+ghost use Rattle.ship_core.specs.CoveredEnd.{AreApart, Adjoin, ClosesPrefix, covered_end, last_end, next_end};
 ghost use Rattle.ship_core.specs.RowOver.{notes_of, greatest_epoch, row_over};
 ghost use Rattle.ship_core.specs.Forward.{RowGoesOn};
 ghost use Rattle.ship_core.specs.Orderly.{AreOrderly, IsBegun, MayFollow};
@@ -18,6 +18,17 @@ pub fn covered_end_by_spans()
         covered_end spans place ≡ place }
     ensures goes_on { (spans : List Extent) (span : Extent) → AreApart spans → Contains spans span →
         span.start < span.end → covered_end spans span.start ≡ covered_end spans span.end }
+{}
+
+/// The same by what is found at a place; and no covered end lies behind its place and the ends of all spans. A law; it
+/// computes nothing.
+pub fn covered_end_by_steps()
+    ensures none { (spans : List Extent) (place : ℕ) → next_end spans place ≡ None →
+        covered_end spans place ≡ place }
+    ensures some { (spans : List Extent) (place end : ℕ) → next_end spans place ≡ Some end →
+        covered_end spans place ≡ covered_end spans end }
+    ensures bounded { (spans : List Extent) (most place : ℕ) → All (λ span. span.end ≤ most) spans →
+        place ≤ most → covered_end spans place ≤ most }
 {}
 
 /// By spans that were told the covered end closes a prefix of what was told, each span of it settled; and where all that

@@ -15,7 +15,7 @@ mod laws;
 mod rows;
 
 pub use laws::{
-    covered_end_by_spans, covered_end_closes_a_prefix, no_row_goes_back,
+    covered_end_by_spans, covered_end_by_steps, covered_end_closes_a_prefix, no_row_goes_back,
     older_epochs_change_nothing, orderly_by_one_more,
 };
 pub use rows::Rows;
