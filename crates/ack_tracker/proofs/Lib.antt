@@ -1,0 +1,3 @@
+mod InRange
+mod Places
+mod Slots
