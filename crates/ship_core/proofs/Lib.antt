@@ -7,3 +7,6 @@ mod Prefixes
 mod MoreNotes
 mod InOrder
 mod Worked
+mod Living
+mod Members
+mod Reordered

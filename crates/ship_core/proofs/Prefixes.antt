@@ -93,7 +93,7 @@ same_spans first second apart there back =
 
 -- ---- the prefix of told spans
 
-adjoining_behind : (place : ℕ) (told : List Extent) (span : Extent) → Adjoin place told → Contains told span → place ≤ span.start
+pub adjoining_behind : (place : ℕ) (told : List Extent) (span : Extent) → Adjoin place told → Contains told span → place ≤ span.start
 adjoining_behind place [] span adjoin there = absurd (omega (arith, there.1))
 adjoining_behind place (first ∷ told) span adjoin there = by_case (contains_cases first span told there) (adjoining_behind first.end told span adjoin.2)
   where

@@ -1,5 +1,6 @@
 pub mod CoveredEnd
 pub mod Forward
+pub mod OneLife
 pub mod Orderly
 pub mod Place
 pub mod Replay

@@ -6,7 +6,8 @@ ghost use Rattle.wire_base.specs.declared.note.Cause.{Cause};
 ghost use Rattle.wire_base.specs.declared.note.Note.{Note};
 ghost use Rattle.wire_base.specs.declared.note.Note.TheVariants.{Settle};
 ghost use Rattle.ship_core.specs.CoveredEnd.{AreApart, Adjoin, ClosesPrefix, covered_end, last_end, next_end};
-ghost use Rattle.ship_core.specs.RowOver.{notes_of, greatest_epoch, row_over};
+ghost use Rattle.ship_core.specs.OneLife.{Settlement, spans_of, life_notes};
+ghost use Rattle.ship_core.specs.RowOver.{notes_of, greatest_epoch, place_over, row_over};
 ghost use Rattle.ship_core.specs.Forward.{RowGoesOn};
 ghost use Rattle.ship_core.specs.Orderly.{AreOrderly, IsBegun, MayFollow};
 
@@ -54,6 +55,14 @@ pub fn older_epochs_change_nothing()
         row_over any (notes ++ Settle slot epoch span cause ∷ []) ≡ row_over any notes }
 {}
 
+/// The order in which notes come does not matter: two lists that contain the same notes, one of them orderly, give each
+/// slot the same row. A law; it computes nothing.
+pub fn order_does_not_matter()
+    ensures { (first second : List Note) → AreOrderly second →
+        All (Contains second) first → All (Contains first) second → (slot : ℕ) →
+        row_over slot first ≡ row_over slot second }
+{}
+
 /// No notes are orderly, and orderly notes stay so with one more that may follow them; a front of orderly notes is
 /// orderly. A law; it computes nothing.
 pub fn orderly_by_one_more()
@@ -63,4 +72,15 @@ pub fn orderly_by_one_more()
     ensures front { (front rest : List Note) → AreOrderly (front ++ rest) → AreOrderly front }
     ensures follows { (front rest : List Note) (note : Note) → AreOrderly (front ++ note ∷ rest) →
         MayFollow front note }
+{}
+
+/// A file that begins once and keeps its life is done up to the covered end of its base, and its notes are orderly where
+/// its settled spans are apart, as spans are that adjoin each other. A law; it computes nothing.
+pub fn one_life()
+    ensures place { (slot : Slot) (key path : List ℕ) (epoch : Epoch) (base : ℕ) (settled : List Settlement) →
+        place_over slot.0 (life_notes slot key path epoch base settled) ≡
+        Some (epoch, covered_end (spans_of settled) base) }
+    ensures orderly { (slot : Slot) (key path : List ℕ) (epoch : Epoch) (base : ℕ) (settled : List Settlement) →
+        AreApart (spans_of settled) → AreOrderly (life_notes slot key path epoch base settled) }
+    ensures apart { (place : ℕ) (spans : List Extent) → Adjoin place spans → AreApart spans }
 {}
