@@ -6,9 +6,11 @@ use Rattle.std.specs.declared.cmp.Ordering.{Ordering}
 use Rattle.std.specs.declared.cmp.Ordering.TheVariants.{Less, Equal, Greater}
 use Rattle.std.proofs.lemmas.List.Elements.{All-from_recursion, recursion_from_All}
 use Rattle.wire_base.specs.declared.row.Row.{Row}
+use Rattle.wire_base.specs.declared.row.Op.{Op}
+use Rattle.wire_base.specs.declared.row.Op.TheVariants.{Set, Remove}
 use Rattle.wire_base.specs.Ranges.{IsRow}
 use Rattle.ship_core.specs.Rows.{compare, IsBefore, IsInOrder, AreRows, find}
-use Rattle.ship_core.specs.Replay.{with_row, without_key}
+use Rattle.ship_core.specs.Replay.{with_row, without_key, after_op}
 use Rattle.ship_core.proofs.Order.{same_key, compare_same, compare_less, compare_trans}
 
 -- where the key is not, nothing goes
@@ -106,3 +108,7 @@ rows-without key rows are = record {
   in_order = in_order-without key rows are.in_order;
   in_range = All-from_recursion IsRow (without_key key rows) (ranges-without key rows (recursion_from_All IsRow rows are.in_range));
 }
+
+pub in_order-op : (rows : List Row) (op : Op) → IsInOrder rows → IsInOrder (after_op rows op)
+in_order-op rows (Set row) ordered = in_order-with row rows ordered
+in_order-op rows (Remove key) ordered = in_order-without key rows ordered

@@ -10,3 +10,4 @@ mod Worked
 mod Living
 mod Members
 mod Reordered
+mod Found

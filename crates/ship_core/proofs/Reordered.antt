@@ -1,16 +1,18 @@
 -- Orderly notes in another order give the same rows.
-use Rattle.std.proofs.Common.{◌≡◌, ◌⊎◌, inl, inr, ℕ, ◌≤◌, Bool, true, false, List, [], ◌∷◌, ◌++◌, All, Contains, Option, Some, None, unwrap_or, if◌then◌else◌, ◌==◌, nat_lt, refl, sym, ap, ◌∙◌, subst, arith, append_assoc}
-use Rattle.std.specs.List.{filter_map, fold, list_any}
-use Rattle.std.specs.Option.{option_map, option_and_then, option_to_list}
+use Rattle.std.proofs.Common.{◌≡◌, ◌⊎◌, inl, inr, ℕ, ◌≤◌, Bool, true, false, List, [], ◌∷◌, ◌++◌, All, Contains, max, Option, Some, None, unwrap_or, if◌then◌else◌, ◌==◌, nat_lt, refl, sym, ap, ◌∙◌, subst, arith, append_assoc}
+use Rattle.std.specs.List.{filter, filter_map, fold, list_any}
+use Rattle.std.specs.Option.{option_map, option_and_then, option_to_list, is_some}
 use Rattle.std.proofs.lemmas.Bool.{eqb-true, ltb-true, ltb-false}
 use Rattle.std.proofs.lemmas.List.{append-nil}
 use Rattle.std.proofs.lemmas.List.Elements.{filter_map-append, All-contains, Contains-append_cases}
 use Rattle.wire_base.specs.Extent.{Extent}
+use Rattle.wire_base.specs.declared.row.Row.{Row}
 use Rattle.wire_base.specs.declared.note.Note.{Note}
 use Rattle.wire_base.specs.declared.note.Note.TheVariants.{Begin, Announce, Settle, Rename, Forget}
 use Rattle.ship_core.specs.CoveredEnd.{AreEqualOrApart, AreApart, covered_end}
 use Rattle.ship_core.specs.Orderly.{AreOrderly, MayFollow}
 use Rattle.ship_core.specs.RowOver.{Start, Naming, slot_of, epoch_of, start_of, span_in, naming_of, forgets, notes_of, first_start, start_over, greatest_epoch, base_in, spans_in, offset_over, newer, path_over, is_gone, row_over}
+use Rattle.ship_core.specs.RowsOver.{slot_for, slots_for, row_of_greatest, row_among, row_for}
 use Rattle.ship_core.proofs.InOrder.{follows}
 use Rattle.ship_core.proofs.Members.{Within, first_there, later_there, there_cases, none_there, filter_within, given_within, same_any, same_greatest}
 use Rattle.ship_core.proofs.MoreNotes.{notes_of-append, row_same}
@@ -253,3 +255,35 @@ module _ (first second : List Note) (orderly : AreOrderly second) (there : Withi
 
   pub same_row : row_over slot first ≡ row_over slot second
   same_row = λ k. option_and_then (λ (start : Start). row_same start (notes_of slot first) (notes_of slot second) epoch_same (offset_same start) (path_same start) (gone_same start) k) (start_same k)
+
+-- ---- the row of a key
+
+same_greatest_row : (notes : List Note) (xs ys : List ℕ) → Within xs ys → Within ys xs → row_of_greatest notes xs ≡ row_of_greatest notes ys
+same_greatest_row notes [] [] there back = refl
+same_greatest_row notes [] (y ∷ ys) there back = absurd (none_there y (back y (first_there y ys)))
+same_greatest_row notes (x ∷ xs) [] there back = absurd (none_there x (there x (first_there x xs)))
+same_greatest_row notes (x ∷ xs) (y ∷ ys) there back = ap (λ (slot : ℕ). row_over slot notes) (from_zero x xs ∙ same_greatest (x ∷ xs) (y ∷ ys) there back ∙ sym (from_zero y ys))
+  where
+    from_zero : (z : ℕ) (zs : List ℕ) → fold max z zs ≡ fold max 0 (z ∷ zs)
+    from_zero z zs = let least : z ≡ max 0 z = omega arith in ap (λ (least : ℕ). fold max least zs) least
+
+module _ (first second : List Note) (orderly : AreOrderly second) (there : Within first second) (back : Within second first) (opening : List Row) where
+  same_standing : (slots : List ℕ) → filter (λ (given : ℕ). is_some (row_over given first)) slots ≡ filter (λ (given : ℕ). is_some (row_over given second)) slots
+  same_standing slots = λ k. filter (λ (given : ℕ). is_some (same_row first second orderly there back given k)) slots
+
+  same_greatest_over : (slots : List ℕ) → row_of_greatest first slots ≡ row_of_greatest second slots
+  same_greatest_over [] = refl
+  same_greatest_over (slot ∷ slots) = same_row first second orderly there back (fold max slot slots)
+
+  of_slots : (key : List ℕ) (xs ys : List ℕ) → Within xs ys → Within ys xs → row_among opening first key xs ≡ row_among opening second key ys
+  of_slots key [] [] a b = refl
+  of_slots key [] (y ∷ ys) a b = absurd (none_there y (b y (first_there y ys)))
+  of_slots key (x ∷ xs) [] a b = absurd (none_there x (a x (first_there x xs)))
+  of_slots key (x ∷ xs) (y ∷ ys) a b =
+      same_greatest_over (filter (λ (given : ℕ). is_some (row_over given first)) (x ∷ xs))
+      ∙ ap (row_of_greatest second) (same_standing (x ∷ xs))
+      ∙ same_greatest_row second (filter (λ (given : ℕ). is_some (row_over given second)) (x ∷ xs)) (filter (λ (given : ℕ). is_some (row_over given second)) (y ∷ ys))
+      (filter_within (λ (given : ℕ). is_some (row_over given second)) (x ∷ xs) (y ∷ ys) a) (filter_within (λ (given : ℕ). is_some (row_over given second)) (y ∷ ys) (x ∷ xs) b)
+
+  pub same_row_for : (key : List ℕ) → row_for opening first key ≡ row_for opening second key
+  same_row_for key = of_slots key (slots_for key first) (slots_for key second) (given_within (slot_for key) first second there) (given_within (slot_for key) second first back)

@@ -1,10 +1,16 @@
-ghost use Rattle.std.specs.Prelude.{◌≡◌, ◌≤◌, ◌<◌, ℕ, All, Contains, List, [], ◌∷◌, ◌++◌};
+ghost use Rattle.std.specs.Prelude.{◌≡◌, ◌≢◌, ◌≤◌, ◌<◌, ℕ, All, Contains, List, [], ◌∷◌, ◌++◌};
 ghost use Rattle.wire_base.specs.Extent.{Extent};
 ghost use Rattle.wire_base.specs.declared.numbers.Slot.{Slot};
 ghost use Rattle.wire_base.specs.declared.numbers.Epoch.{Epoch};
 ghost use Rattle.wire_base.specs.declared.note.Cause.{Cause};
 ghost use Rattle.wire_base.specs.declared.note.Note.{Note};
 ghost use Rattle.wire_base.specs.declared.note.Note.TheVariants.{Settle};
+ghost use Rattle.wire_base.specs.declared.row.Row.{Row};
+ghost use Rattle.wire_base.specs.declared.row.Op.{Op};
+ghost use Rattle.wire_base.specs.declared.row.Op.TheVariants.{Set, Remove};
+ghost use Rattle.ship_core.specs.Rows.{IsInOrder, find};
+ghost use Rattle.ship_core.specs.Replay.{after_op};
+ghost use Rattle.ship_core.specs.RowsOver.{AreRowsOver, row_for};
 ghost use Rattle.ship_core.specs.CoveredEnd.{AreApart, Adjoin, ClosesPrefix, covered_end, last_end, next_end};
 ghost use Rattle.ship_core.specs.OneLife.{Settlement, spans_of, life_notes};
 ghost use Rattle.ship_core.specs.RowOver.{notes_of, greatest_epoch, place_over, row_over};
@@ -56,11 +62,35 @@ pub fn older_epochs_change_nothing()
 {}
 
 /// The order in which notes come does not matter: two lists that contain the same notes, one of them orderly, give each
-/// slot the same row. A law; it computes nothing.
+/// slot and each key the same row. A law; it computes nothing.
 pub fn order_does_not_matter()
-    ensures { (first second : List Note) → AreOrderly second →
+    ensures slot { (first second : List Note) → AreOrderly second →
         All (Contains second) first → All (Contains first) second → (slot : ℕ) →
         row_over slot first ≡ row_over slot second }
+    ensures key { (opening : List Row) (first second : List Note) → AreOrderly second →
+        All (Contains second) first → All (Contains first) second → (key : List ℕ) →
+        row_for opening first key ≡ row_for opening second key }
+{}
+
+/// An update sets the row of its key, or takes it away, and changes no other key's; rows in order stay in order. A law; it
+/// computes nothing.
+pub fn update_by_key()
+    ensures set { (row : Row) (rows : List Row) → find row.key (after_op rows (Set row)) ≡ Some row }
+    ensures others_after_set { (row : Row) (rows : List Row) (key : List ℕ) → key ≢ row.key →
+        find key (after_op rows (Set row)) ≡ find key rows }
+    ensures removed { (key : List ℕ) (rows : List Row) → find key (after_op rows (Remove key)) ≡ None }
+    ensures others_after_remove { (key other : List ℕ) (rows : List Row) → other ≢ key →
+        find other (after_op rows (Remove key)) ≡ find other rows }
+    ensures in_order { (rows : List Row) (op : Op) → IsInOrder rows → IsInOrder (after_op rows op) }
+{}
+
+/// Rows in order are told by what each key has, so there is one list of rows over opening rows and notes. A law; it
+/// computes nothing.
+pub fn rows_by_key()
+    ensures by_key { (first second : List Row) → IsInOrder first → IsInOrder second →
+        ((key : List ℕ) → find key first ≡ find key second) → first ≡ second }
+    ensures over_notes { (opening : List Row) (notes : List Note) (first second : List Row) →
+        AreRowsOver opening notes first → AreRowsOver opening notes second → first ≡ second }
 {}
 
 /// No notes are orderly, and orderly notes stay so with one more that may follow them; a front of orderly notes is

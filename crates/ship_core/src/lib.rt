@@ -16,7 +16,8 @@ mod rows;
 
 pub use laws::{
     covered_end_by_spans, covered_end_by_steps, covered_end_closes_a_prefix, no_row_goes_back,
-    older_epochs_change_nothing, one_life, order_does_not_matter, orderly_by_one_more,
+    older_epochs_change_nothing, one_life, order_does_not_matter, orderly_by_one_more, rows_by_key,
+    update_by_key,
 };
 pub use rows::Rows;
 

@@ -1,8 +1,12 @@
 use Rattle.std.proofs.Common.{Contains}
 use Rattle.std.proofs.lemmas.List.Elements.{All-contains}
-use Rattle.ship_core.proofs.Reordered.{same_row}
+use Rattle.ship_core.proofs.Reordered.{same_row, same_row_for}
 use Rattle.ship_core.proofs.laws.order_does_not_matter.Goals as goal
 
-pub returns : goal.returns
-returns c = λ first second orderly there back.
+pub returns-clause-slot : goal.returns-clause-slot
+returns-clause-slot c = λ first second orderly there back.
     same_row first second orderly (λ note at. All-contains (Contains second) first note there at) (λ note at. All-contains (Contains first) second note back at)
+
+pub returns-clause-key : goal.returns-clause-key
+returns-clause-key c = λ opening first second orderly there back.
+    same_row_for first second orderly (λ note at. All-contains (Contains second) first note there at) (λ note at. All-contains (Contains first) second note back at) opening
