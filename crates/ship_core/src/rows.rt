@@ -58,6 +58,7 @@ impl Rows {
         ensures found { option_copied result ≡ find key.now self.now }
         ensures has_the_key { IfSome result (λ row. (row.now.key ≡ key.now) × Contains self.now row.now) }
         ensures none_has_it { IfNone result (All (λ row. row.key ≢ key.now) self.now) }
+        ensures in_range { IfSome result (λ row. IsRow row.now) }
         ensures rows { AreRows self.now }
     {
         match place(&self.rows, key) {
