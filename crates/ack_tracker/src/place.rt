@@ -8,7 +8,7 @@ use crate::note;
 use ship_core::covered_end_by_steps;
 use wire_base::{Epoch, Note, Slot, Span};
 
-/// How far the slot's file is done; `None` where it has no Begin or its row is gone.
+// How far the slot's file is done; `None` where it has no Begin or its row is gone.
 pub(crate) fn place_over(notes: &[Note], slot: Slot) -> Option<(Epoch, u64)>
     ensures { result ≡ place_over slot.0 notes.now }
 {

@@ -49,11 +49,11 @@ before-with first row (other ∷ rows) less before = by_case (compare row.key ot
     by_case Equal h = (less, before.1)
     by_case Greater h = (before.0, h)
 
-before_lesser : (first key : List ℕ) (rows : List Row) → compare first key ≡ Less → IsBefore key rows → IsBefore first rows
+pub before_lesser : (first key : List ℕ) (rows : List Row) → compare first key ≡ Less → IsBefore key rows → IsBefore first rows
 before_lesser first key [] less before = tt
 before_lesser first key (row ∷ rows) less before = (compare_trans first key row.key less before.0, before_lesser first key rows less before.1)
 
-in_order-with : (row : Row) (rows : List Row) → IsInOrder rows → IsInOrder (with_row row rows)
+pub in_order-with : (row : Row) (rows : List Row) → IsInOrder rows → IsInOrder (with_row row rows)
 in_order-with row [] ordered = (tt, tt)
 in_order-with row (other ∷ rows) ordered = by_case (compare row.key other.key) refl (in_order-with row rows ordered.1)
   where
@@ -70,7 +70,7 @@ before-without first key (row ∷ rows) before = by_case (is_eq (compare key row
     by_case true h = h
     by_case false h = (before.0, h)
 
-in_order-without : (key : List ℕ) (rows : List Row) → IsInOrder rows → IsInOrder (without_key key rows)
+pub in_order-without : (key : List ℕ) (rows : List Row) → IsInOrder rows → IsInOrder (without_key key rows)
 in_order-without key [] ordered = tt
 in_order-without key (row ∷ rows) ordered = by_case (is_eq (compare key row.key)) (in_order-without key rows ordered.1)
   where

@@ -6,7 +6,9 @@ use Rattle.std.specs.declared.cmp.Ordering.TheVariants.{Less, Equal, Greater}
 use Rattle.wire_base.specs.declared.row.Row.{Row}
 use Rattle.ship_core.specs.Rows.{compare, IsBefore, IsInOrder, find}
 use Rattle.ship_core.specs.Replay.{with_row, without_key}
-use Rattle.ship_core.proofs.Order.{same_key, compare_same, compare_less, compare_trans}
+use Rattle.ship_core.proofs.Order.{same_key, compare_same, compare_less}
+use Rattle.ship_core.proofs.Edits.{before_lesser}
+use Rattle.ship_core.proofs.Places.{find_before}
 
 -- ---- after an edit
 
@@ -57,14 +59,6 @@ find-without_not key other (row ∷ rows) differs = by_case (compare key row.key
     by_case Greater e h = rw h refl
 
 -- ---- by what each key has
-
-find_before : (key : List ℕ) (rows : List Row) → IsBefore key rows → find key rows ≡ None
-find_before key [] before = refl
-find_before key (row ∷ rows) before = rw before.0 (find_before key rows before.1)
-
-before_lesser : (first key : List ℕ) (rows : List Row) → compare first key ≡ Less → IsBefore key rows → IsBefore first rows
-before_lesser first key [] less before = tt
-before_lesser first key (row ∷ rows) less before = (compare_trans first key row.key less before.0, before_lesser first key rows less before.1)
 
 find_first : (row : Row) (rows : List Row) → find row.key (row ∷ rows) ≡ Some row
 find_first row rows = rw (compare_same row.key row.key refl) refl

@@ -11,3 +11,4 @@ mod Living
 mod Members
 mod Reordered
 mod Found
+mod Built

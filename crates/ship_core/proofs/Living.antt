@@ -16,7 +16,8 @@ use Rattle.ship_core.specs.OneLife.{Settlement, settles, spans_of, life_notes}
 use Rattle.ship_core.specs.Orderly.{AreOrderly, IsBegun, MayFollow}
 use Rattle.ship_core.specs.RowOver.{Start, epoch_of, start_of, forgets, notes_of, start_over, greatest_epoch, base_in, spans_in, offset_over, path_over, is_gone, row_of, place_over}
 use Rattle.ship_core.proofs.InOrder.{none_orderly, one_more_orderly}
-use Rattle.ship_core.proofs.Prefixes.{contains_first, contains_cases, adjoining_behind}
+use Rattle.ship_core.proofs.Members.{first_there, there_cases}
+use Rattle.ship_core.proofs.Prefixes.{adjoining_behind}
 
 module _ (slot : Slot) (epoch : Epoch) where
   same_slot : (slot.0 == slot.0) ≡ true
@@ -89,7 +90,7 @@ life_place slot key path epoch base settled =
 -- spans that adjoin each other are apart
 pub adjoin_apart : (place : ℕ) (spans : List Extent) → Adjoin place spans → AreApart spans
 adjoin_apart place [] adjoin a b there other = absurd (omega (arith, there.1))
-adjoin_apart place (first ∷ spans) adjoin a b there other = by_case (contains_cases first a spans there) (contains_cases first b spans other) (adjoin_apart first.end spans adjoin.2 a b)
+adjoin_apart place (first ∷ spans) adjoin a b there other = by_case (there_cases first a spans there) (there_cases first b spans other) (adjoin_apart first.end spans adjoin.2 a b)
   where
     by_case : (first ≡ a) ⊎ Contains spans a → (first ≡ b) ⊎ Contains spans b → (Contains spans a → Contains spans b → AreEqualOrApart a b) → AreEqualOrApart a b
     by_case (inl is) (inl same) h = inl (sym is ∙ same)
@@ -113,7 +114,7 @@ module _ (slot : Slot) (key path : List ℕ) (epoch : Epoch) (base : ℕ) where
       each : All (AreEqualOrApart s.span) (spans_of done)
       each k d inside =
           apart s.span (get_or (spans_of done) k d)
-          (subst (λ (l : List Extent). Contains l s.span) (sym all_spans) (Contains-append_right (spans_of done) (s.span ∷ spans_of left) s.span (contains_first s.span (spans_of left))))
+          (subst (λ (l : List Extent). Contains l s.span) (sym all_spans) (Contains-append_right (spans_of done) (s.span ∷ spans_of left) s.span (first_there s.span (spans_of left))))
           (subst (λ (l : List Extent). Contains l (get_or (spans_of done) k d)) (sym all_spans) (Contains-append_left (spans_of done) (s.span ∷ spans_of left) (get_or (spans_of done) k d) (Contains-get_or (spans_of done) k d inside)))
 
   live : (done left : List Settlement) → AreApart (spans_of (done ++ left)) → AreOrderly (life_notes slot key path epoch base done) → AreOrderly (life_notes slot key path epoch base (done ++ left))

@@ -47,7 +47,7 @@ set_at_place (row ∷ rows) new (suc i) ordered at =
     let tail = at_tail rows new.key i at in
     rw (behind_first row rows new.key i ordered tail) (ap (λ t. row ∷ t) (set_at_place rows new i ordered.1 tail))
 
-find_before : (key : List ℕ) (rows : List Row) → IsBefore key rows → find key rows ≡ None
+pub find_before : (key : List ℕ) (rows : List Row) → IsBefore key rows → find key rows ≡ None
 find_before key [] before = refl
 find_before key (row ∷ rows) before = rw before.0 (find_before key rows before.1)
 

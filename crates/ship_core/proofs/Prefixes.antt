@@ -1,24 +1,10 @@
 -- Covered ends by the spans that a list contains, whatever their order, and the prefix that a covered end closes.
-use Rattle.std.proofs.Common.{◌≡◌, ◌≢◌, ◌⊎◌, inl, inr, ℕ, zero, suc, ◌≤◌, ◌<◌, Bool, true, false, List, [], ◌∷◌, ◌++◌, length, get_or, All, Contains, Some, None, if◌then◌else◌, refl, sym, ap, ◌∙◌, subst, arith}
+use Rattle.std.proofs.Common.{◌≡◌, ◌≢◌, ◌⊎◌, inl, inr, ℕ, ◌≤◌, ◌<◌, Bool, true, false, List, [], ◌∷◌, ◌++◌, All, Contains, Some, None, if◌then◌else◌, refl, sym, ap, ◌∙◌, subst, arith}
 use Rattle.std.proofs.lemmas.List.Elements.{All-nil, All-cons, All-head, All-tail, All-contains}
 use Rattle.wire_base.specs.Extent.{Extent}
 use Rattle.ship_core.specs.CoveredEnd.{next_end, covered_end, AreEqualOrApart, AreApart, Adjoin, last_end, ClosesPrefix}
+use Rattle.ship_core.proofs.Members.{first_there, later_there, there_cases}
 use Rattle.ship_core.proofs.Covering.{goes_on, begins_there, passes, by_next, stays, goes, along, covers}
-
--- ---- members of a list of one more
-
-pub contains_first : (span : Extent) (spans : List Extent) → Contains (span ∷ spans) span
-contains_first span spans = (0, omega arith, refl)
-
-pub contains_later : (first span : Extent) (spans : List Extent) → Contains spans span → Contains (first ∷ spans) span
-contains_later first span spans there = (suc there.0, omega (arith, there.1), there.2)
-
-pub contains_cases : (first span : Extent) (spans : List Extent) → Contains (first ∷ spans) span → (first ≡ span) ⊎ Contains spans span
-contains_cases first span spans there = by_place there.0 there.1 there.2
-  where
-    by_place : (k : ℕ) → k < length (first ∷ spans) → get_or (first ∷ spans) k span ≡ span → (first ≡ span) ⊎ Contains spans span
-    by_place zero inside is = inl is
-    by_place (suc k) inside is = inr (k, omega arith, is)
 
 -- ---- what is found is a member, and a member is found
 
@@ -38,15 +24,15 @@ found_span (span ∷ spans) place end e = by_case (goes_on span place) refl (fou
     by_case true e h is =
         let there = begins_there span place e in
         let same : span.end ≡ end = cc in
-        record { span = span; there = contains_first span spans; start = there.0; end_is = same; behind = subst (λ z. place < z) same there.1 }
+        record { span = span; there = first_there span spans; start = there.0; end_is = same; behind = subst (λ z. place < z) same there.1 }
     by_case false e h is =
         let found = h is in
-        record { span = found.span; there = contains_later span found.span spans found.there; start = found.start; end_is = found.end_is; behind = found.behind }
+        record { span = found.span; there = later_there span found.span spans found.there; start = found.start; end_is = found.end_is; behind = found.behind }
 
 -- a member that begins at a place is found there, or another that does
 pub member_found : (spans : List Extent) (span : Extent) → Contains spans span → span.start < span.end → next_end spans span.start ≢ None
 member_found [] span there lt none = absurd (omega (arith, there.1))
-member_found (first ∷ spans) span there lt none = by_case (goes_on first span.start) refl (member_found spans span) none (contains_cases first span spans there)
+member_found (first ∷ spans) span there lt none = by_case (goes_on first span.start) refl (member_found spans span) none (there_cases first span spans there)
   where
     by_case : (b : Bool) → goes_on first span.start ≡ b → (Contains spans span → span.start < span.end → next_end spans span.start ≢ None) → (if b then Some first.end else next_end spans span.start) ≡ None → (first ≡ span) ⊎ Contains spans span → ⊥
     by_case true e h none which = let q : Some first.end ≡ None = none in cc
@@ -95,15 +81,15 @@ same_spans first second apart there back =
 
 pub adjoining_behind : (place : ℕ) (told : List Extent) (span : Extent) → Adjoin place told → Contains told span → place ≤ span.start
 adjoining_behind place [] span adjoin there = absurd (omega (arith, there.1))
-adjoining_behind place (first ∷ told) span adjoin there = by_case (contains_cases first span told there) (adjoining_behind first.end told span adjoin.2)
+adjoining_behind place (first ∷ told) span adjoin there = by_case (there_cases first span told there) (adjoining_behind first.end told span adjoin.2)
   where
     by_case : (first ≡ span) ⊎ Contains told span → (Contains told span → first.end ≤ span.start) → place ≤ span.start
     by_case (inl same) h = let start : first.start ≡ span.start = ap (λ (s : Extent). s.start) same in omega (arith, start, adjoin.0)
     by_case (inr later) h = omega (arith, h later, adjoin.1)
 
 -- the told span that begins at the place is the first
-first_there : (place : ℕ) (first : Extent) (told : List Extent) (span : Extent) → Adjoin place (first ∷ told) → Contains (first ∷ told) span → span.start ≡ place → first ≡ span
-first_there place first told span adjoin there at = by_case (contains_cases first span told there)
+told_first : (place : ℕ) (first : Extent) (told : List Extent) (span : Extent) → Adjoin place (first ∷ told) → Contains (first ∷ told) span → span.start ≡ place → first ≡ span
+told_first place first told span adjoin there at = by_case (there_cases first span told there)
   where
     by_case : (first ≡ span) ⊎ Contains told span → first ≡ span
     by_case (inl same) = same
@@ -111,7 +97,7 @@ first_there place first told span adjoin there at = by_case (contains_cases firs
 
 -- what is settled behind the first told span is told behind it
 later_told : (place : ℕ) (first : Extent) (told spans : List Extent) → Adjoin place (first ∷ told) → ((span : Extent) → Contains spans span → place ≤ span.start → span.start < span.end → Contains (first ∷ told) span) → (span : Extent) → Contains spans span → first.end ≤ span.start → span.start < span.end → Contains told span
-later_told place first told spans adjoin known span there le lt = by_case (contains_cases first span told (known span there (omega (arith, adjoin.1)) lt))
+later_told place first told spans adjoin known span there le lt = by_case (there_cases first span told (known span there (omega (arith, adjoin.1)) lt))
   where
     by_case : (first ≡ span) ⊎ Contains told span → Contains told span
     by_case (inl same) = absurd (let start : first.start ≡ span.start = ap (λ (s : Extent). s.start) same in omega (arith, start, adjoin.0, adjoin.1))
@@ -121,7 +107,7 @@ later_told place first told spans adjoin known span there le lt = by_case (conta
 first_end : (place : ℕ) (first : Extent) (told spans : List Extent) → Adjoin place (first ∷ told) → ((span : Extent) → Contains spans span → place ≤ span.start → span.start < span.end → Contains (first ∷ told) span) → (end : ℕ) → next_end spans place ≡ Some end → (end ≡ first.end) × Contains spans first
 first_end place first told spans adjoin known end some =
     let found = found_span spans place end some in
-    let same = first_there place first told found.span adjoin (known found.span found.there (omega (arith, found.start)) (omega (arith, found.start, found.end_is, found.behind))) found.start in
+    let same = told_first place first told found.span adjoin (known found.span found.there (omega (arith, found.start)) (omega (arith, found.start, found.end_is, found.behind))) found.start in
     (sym found.end_is ∙ sym (ap (λ (s : Extent). s.end) same), subst (Contains spans) (sym same) found.there)
 
 -- a covered end by spans that were told closes a prefix of what was told

@@ -76,7 +76,7 @@ module _ {Y : Type 0} (h : Note → Option Y) (slot : ℕ) where
 -- ---- what orderly notes tell
 
 -- a slot has one start
-one_start : (slot : ℕ) (notes : List Note) → AreOrderly notes → (a b : Start) → Contains (filter_map start_of (notes_of slot notes)) a → Contains (filter_map start_of (notes_of slot notes)) b → a ≡ b
+pub one_start : (slot : ℕ) (notes : List Note) → AreOrderly notes → (a b : Start) → Contains (filter_map start_of (notes_of slot notes)) a → Contains (filter_map start_of (notes_of slot notes)) b → a ≡ b
 one_start slot = pairwise start_of slot (λ (a b : Start). a ≡ b) (λ a. refl) (λ a b e. sym e) new
   where
     none_else : (b : Bool) (y : Start) → (if b then None else None) ≡ Some y → ⊥
@@ -149,7 +149,7 @@ one_path slot = pairwise naming_of slot (λ (a b : Naming). a.scan ≡ b.scan �
 
 -- ---- the first start, and the newest naming
 
-first_member : (starts : List Start) (start : Start) → first_start starts ≡ Some start → Contains starts start
+pub first_member : (starts : List Start) (start : Start) → first_start starts ≡ Some start → Contains starts start
 first_member [] start e = absurd (let q : None ≡ Some start = e in cc)
 first_member (first ∷ starts) start e = let q : Some first ≡ Some start = e in let same : first ≡ start = cc in subst (Contains (first ∷ starts)) same (first_there first starts)
 

@@ -27,8 +27,8 @@ pub fn covered_end_by_spans()
         span.start < span.end → covered_end spans span.start ≡ covered_end spans span.end }
 {}
 
-/// The same by what is found at a place; and no covered end lies behind its place and the ends of all spans. A law; it
-/// computes nothing.
+/// The same by what is found at a place; and a covered end is at most the greatest of its place and the spans' ends. A
+/// law; it computes nothing.
 pub fn covered_end_by_steps()
     ensures none { (spans : List Extent) (place : ℕ) → next_end spans place ≡ None →
         covered_end spans place ≡ place }
@@ -84,12 +84,14 @@ pub fn update_by_key()
     ensures in_order { (rows : List Row) (op : Op) → IsInOrder rows → IsInOrder (after_op rows op) }
 {}
 
-/// Rows in order are told by what each key has, so there is one list of rows over opening rows and notes. A law; it
-/// computes nothing.
+/// Rows in order are told by what each key has, so there is at most one list of rows over opening rows and notes; where
+/// the opening rows are in order and the notes orderly, there is one. A law; it computes nothing.
 pub fn rows_by_key()
     ensures by_key { (first second : List Row) → IsInOrder first → IsInOrder second →
         ((key : List ℕ) → find key first ≡ find key second) → first ≡ second }
-    ensures over_notes { (opening : List Row) (notes : List Note) (first second : List Row) →
+    ensures there_is_one { (opening : List Row) (notes : List Note) → IsInOrder opening → AreOrderly notes →
+        (rows : List Row) × AreRowsOver opening notes rows }
+    ensures no_other { (opening : List Row) (notes : List Note) (first second : List Row) →
         AreRowsOver opening notes first → AreRowsOver opening notes second → first ≡ second }
 {}
 
