@@ -1,0 +1,9 @@
+mod Cuts
+mod Handed
+mod Handing
+mod Later
+mod Lining
+mod Pairs
+mod Passing
+mod Standing
+mod Worked
