@@ -1,0 +1,37 @@
+-- A compiled pattern finds what its text means.
+use Rattle.std.proofs.Common.{◌≡◌, ℕ, ◌<◌, ◌≤◌, Bool, List, length, get_or, All, Option, None, Some, IsSomeAnd, is_some, option_map, refl, sym, ap, subst, ◌∙◌}
+use Rattle.std.proofs.lemmas.List.{get_or_default}
+use Rattle.std.specs.Str.{chars}
+use Rattle.regex_hir.specs.Find.{find}
+use Rattle.regex_hir.specs.Meaning.{meaning}
+use Rattle.regex_hir.specs.Re.{Re}
+use Rattle.regex_hir.specs.declared.hir.Hir.{Hir}
+use Rattle.regex_syntax.proofs.CapturesLemmas.{spans, find_alike}
+use Rattle.regex_syntax.proofs.Written.{is_some-option_map}
+use Rattle.regex_syntax.specs.Brackets.{Nested}
+use Rattle.regex_syntax.specs.Captures.{SameCaptures}
+use Rattle.regex_syntax.specs.Grammar.{Names, read, group_count}
+use Rattle.regex_syntax.specs.Verdict.{Reads}
+use Rattle.regex_syntax.specs.declared.Config.{Config}
+use Rattle.regex.specs.Bytes.{regex_pattern, regex_source, regex_config, IsReadFromSource}
+use Rattle.regex.specs.declared.bytes.regex.Regex.{Regex}
+use Rattle.multiline_core.specs.Pattern.{byte_options, is_found, matches}
+
+-- a tree that matches as what was read finds a match where that does
+found_alike : (read_as : Option (Nested Re × Names)) (most : ℕ) (tree : Re) (names : Names) →
+    IsSomeAnd read_as (λ (re, found). (re.depth ≤ most) × SameCaptures tree re.value × (names ≡ found) × (group_count tree ≤ length names)) →
+    (bytes : List ℕ) → All (λ x. x < 256) bytes → is_some (find tree bytes 0) ≡ is_found read_as bytes
+found_alike None most tree names p bytes small = absurd p
+found_alike (Some (re, found)) most tree names p bytes small =
+    sym (is_some-option_map spans _) ∙ ap is_some (find_alike tree re.value p.1 bytes small 0) ∙ is_some-option_map spans _
+
+read_finds : (config : Config) (source : List ℕ) (hir : Hir) (names : Names) → Reads config source hir names → config ≡ byte_options →
+    (bytes : List ℕ) → ((k : ℕ) → get_or bytes k 0 < 256) → is_some (find (meaning hir) bytes 0) ≡ matches source bytes
+unfolding Reads
+read_finds config source hir names reads same bytes small =
+    found_alike (read config (chars source)) config.nest_limit (meaning hir) names reads bytes (λ k d h. rw (get_or_default bytes k d 0 h) (small k))
+    ∙ ap (λ options. is_found (read options (chars source)) bytes) same
+
+pub regex_finds : (r : Regex) → IsReadFromSource r → regex_config r ≡ byte_options → (bytes : List ℕ) → ((k : ℕ) → get_or bytes k 0 < 256) →
+    is_some (find (regex_pattern r) bytes 0) ≡ matches (regex_source r) bytes
+regex_finds r reads same bytes small = read_finds _ _ _ _ reads same bytes small

@@ -1,0 +1,9 @@
+pub mod Continuing
+pub mod Event
+pub mod Gathering
+pub mod Kind
+pub mod Message
+pub mod Partition
+pub mod Pattern
+pub mod Rule
+pub mod Step
