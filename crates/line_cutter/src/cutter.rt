@@ -95,6 +95,9 @@ impl Cutter {
         ensures none_where_all_were_handed_out { IfOk result (λ found.
             (rule : LineRule) (start : ℕ) (fed : List ℕ) (given : List Line) →
             HasCut rule start fed given self.old → IfNone found (complete_lines rule start fed ≡ given)) }
+        ensures goes_to_its_end { IfOk result (λ found. IfSome found (λ line.
+            (line.span.start ≡ self.old.start) × (line.span.end ≡ self.new.start))) }
+        ensures stays_where_none { IfOk result (λ found. IfNone found (self.new.start ≡ self.old.start)) }
         ensures none_holds_a_head_alone { IfOk result (λ found. IfNone found (self.new.unread ≡ [])) }
         ensures place { fed_to self.new ≡ fed_to self.old }
         ensures unchanged_on_refusal { OnErr result (self.new ≡ self.old) }

@@ -29,8 +29,8 @@ module _ (rule : GroupRule) (row : List Line) (at : Moment) (old : Grouping) (h 
   does : (step : Step) → step ≡ step_of old.rule (waiting_of old.gathered) line → Does rule row line step
   does step e =
       let same : step_of old.rule (waiting_of old.gathered) line ≡ step_of rule (length row) line =
-          ap (λ r. step_of r (waiting_of old.gathered) line) h.same_rule
-          ∙ ap (λ n. step_of rule n line) (ap waiting_of h.kept ∙ waiting_is_length rule row at) in
+      ap (λ r. step_of r (waiting_of old.gathered) line) h.same_rule
+      ∙ ap (λ n. step_of rule n line) (ap waiting_of h.kept ∙ waiting_is_length rule row at) in
       subst (Does rule row line) (sym (e ∙ same)) (step_does rule row line h.in_range h.goes_on)
 
   kept : Some (gathered_by old.rule old.gathered line now) ≡ gathered_of rule (row ++ line ∷ []) now

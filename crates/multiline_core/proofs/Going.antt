@@ -83,7 +83,7 @@ no_event (Pattern pattern negate After flush max_lines timeout skip_newline mess
     event.starts_anew event.is_no_flush
 no_event (Pattern pattern negate Before flush max_lines timeout skip_newline message_max_bytes) front left more goes stays (inl event) =
     let row : BeginEvent pattern negate Before flush (event.others ++ event.last ∷ left) =
-        rw append_assoc at (subst (λ xs. BeginEvent pattern negate Before flush (xs ++ left)) event.row_is goes) in
+    rw append_assoc at (subst (λ xs. BeginEvent pattern negate Before flush (xs ++ left)) event.row_is goes) in
     true≢false (sym (continues_at pattern negate flush event.others left event.last row) ∙ event.stops)
 
 nothing_stays : (rule : GroupRule) → Stays rule []
@@ -106,8 +106,8 @@ is_flushable rule row goes some later = record {
   some = some;
   none_earlier = λ front left e more natural.
       let behind : left ++ later ≡ natural.behind =
-          append_cancel_left front (left ++ later) natural.behind
-          (sym (append_assoc front left later) ∙ ap (λ xs. xs ++ later) (sym e) ∙ natural.lines_are) in
+      append_cancel_left front (left ++ later) natural.behind
+      (sym (append_assoc front left later) ∙ ap (λ xs. xs ++ later) (sym e) ∙ natural.lines_are) in
       no_event rule front left later (subst (MayGoOn rule) e goes) (λ none. absurd (more none))
       (subst (IsEvent rule front) (sym behind) natural.event);
 }
@@ -122,9 +122,9 @@ natural_with rule row line goes stays event = record {
   shortest = λ front left e more shorter.
       let end = last_of left more in
       let parts = same_from_push row (front ++ end.0) line end.1
-          (e ∙ ap (λ xs. front ++ xs) end.2 ∙ sym (append_assoc front end.0 (end.1 ∷ []))) in
+      (e ∙ ap (λ xs. front ++ xs) end.2 ∙ sym (append_assoc front end.0 (end.1 ∷ []))) in
       let behind : left ++ [] ≡ end.0 ++ line ∷ [] =
-          append-nil left ∙ end.2 ∙ ap (λ x. end.0 ++ x ∷ []) (sym parts.1) in
+      append-nil left ∙ end.2 ∙ ap (λ x. end.0 ++ x ∷ []) (sym parts.1) in
       no_event rule front end.0 (line ∷ []) (subst (MayGoOn rule) parts.0 goes) (λ none. stays)
       (subst (IsEvent rule front) behind shorter);
 }

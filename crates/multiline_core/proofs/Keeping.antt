@@ -57,11 +57,11 @@ module _ (rule : GroupRule) (in_range : IsGroupRule rule) where
       let most = limit_of rule in
       let skip = skips_newline rule in
       elim (cases_lt (length (first ∷ others)) (max_lines_of rule)) [
-        inl room ↦
+        | inl room ↦
             let all : take (max_lines_of rule) ((first ∷ others) ++ line ∷ []) ≡ (first ∷ others) ++ line ∷ [] =
-                take_all (max_lines_of rule) ((first ∷ others) ++ line ∷ []) (omega (arith, room, length_push (first ∷ others) line)) in
+            take_all (max_lines_of rule) ((first ∷ others) ++ line ∷ []) (omega (arith, room, length_push (first ∷ others) line)) in
             let before : take (max_lines_of rule) (first ∷ others) ≡ first ∷ others =
-                take_all (max_lines_of rule) (first ∷ others) (omega (arith, room)) in
+            take_all (max_lines_of rule) (first ∷ others) (omega (arith, room)) in
             ap (λ lines. take most (joined skip (heads lines))) all
             ∙ ap (λ hs. take most (joined skip (first.head ∷ hs))) (map-append (λ (l : Line). l.head) others (line ∷ []))
             ∙ ap (take most) (joined-push skip first.head (heads others) line.head)

@@ -42,9 +42,9 @@ pub one_row : (rule : GroupRule) (lines row other : List Line) → IsNatural rul
 one_row rule lines row other n m =
     ⊎_elim
     (λ (l : (left : List Line) × (other ≡ row ++ left) × (n.behind ≡ left ++ m.behind)).
-        sym (l.1 ∙ ap (λ xs. row ++ xs) (no_shorter rule lines other row l.0 m n l.1 l.2) ∙ append-nil row))
+    sym (l.1 ∙ ap (λ xs. row ++ xs) (no_shorter rule lines other row l.0 m n l.1 l.2) ∙ append-nil row))
     (λ (r : (left : List Line) × (row ≡ other ++ left) × (m.behind ≡ left ++ n.behind)).
-        r.1 ∙ ap (λ xs. other ++ xs) (no_shorter rule lines row other r.0 n m r.1 r.2) ∙ append-nil other)
+    r.1 ∙ ap (λ xs. other ++ xs) (no_shorter rule lines row other r.0 n m r.1 r.2) ∙ append-nil other)
     (fronts row n.behind other m.behind (sym n.lines_are ∙ m.lines_are))
 
 -- more lines behind
@@ -125,7 +125,7 @@ LinesAdjoin = (rule : LineRule) (start : ℕ) (bytes : List ℕ) → AreAdjoinin
 lines_grow : LinesStay → (lines : LineRule) (bytes more : List ℕ) (start : ℕ) →
     (later : List Line) × (lines_from lines (bytes ++ more) start ≡ lines_from lines bytes start ++ later)
 lines_grow stays lines bytes more start = elim (cases_lt (length bytes) start) [
-  inl past ↦ (
+  | inl past ↦ (
     lines_from lines (bytes ++ more) start,
     ap (λ xs. complete_lines lines start xs ++ lines_from lines (bytes ++ more) start) (sym (drop_all start bytes (omega arith))),
   )
@@ -175,6 +175,6 @@ module _ (adjoin : LinesAdjoin) (lines : LineRule) (rule : GroupRule) (in_range 
   partition_adjoins licensed start (span ∷ spans) p = (
     p.0,
     ⊎_elim (natural_has_bytes start span.end)
-    (λ (f : IsFlushedEvent lines rule bytes start span.end × licensed span.end). flushed_has_bytes start span.end f.0) p.1,
+        (λ (f : IsFlushedEvent lines rule bytes start span.end × licensed span.end). flushed_has_bytes start span.end f.0) p.1,
     partition_adjoins licensed span.end spans p.2,
   )

@@ -23,7 +23,6 @@ Does rule row line Last = Stays rule (line ∷ []) × IsEvent rule (row ++ line 
 Does rule row line Next = IsEvent rule row (line ∷ []) × MayGoOn rule (line ∷ []) × (row ≢ [])
 
 module _ (pattern : List ℕ) (negate : Bool) (flush : Option (List ℕ)) (max_lines timeout : ℕ) (skip_newline : Bool) (most : ℕ) where
-
   first_does : (side : Side) (line : Line) → Does (Pattern pattern negate side flush max_lines timeout skip_newline most) [] line
       (pattern_step pattern negate side flush 0 line)
   first_does After line = tt

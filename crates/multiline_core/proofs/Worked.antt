@@ -35,7 +35,6 @@ trace_lines : lines_from by_default traces 0
     ≡ from_to 0 3 (codes "[1") ∷ from_to 3 6 (codes " x") ∷ from_to 6 9 (codes " y") ∷ from_to 9 12 (codes "[2") ∷ []
 trace_lines = refl
 
-
 first_continues : continues (codes "^\\[") true (from_to 0 3 (codes "[1")) ≡ false
 unfolding grammar find first_from attempt holds holds_between byte_before has_bytes_at in_range in_ranges
 first_continues = refl

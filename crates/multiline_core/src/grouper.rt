@@ -49,7 +49,8 @@ impl Grouper {
     /// want of memory.
     pub fn new(alloc: Global, rule: &GroupRule) -> Result<Grouper, NoMemory>
         requires { IsGroupRule rule.now }
-        ensures { IfOk result (λ grouper. (at : Moment) → Gathers rule.now [] at grouper) }
+        ensures gathers { IfOk result (λ grouper. (at : Moment) → Gathers rule.now [] at grouper) }
+        ensures none_waits { IfOk result (λ grouper. grouper.gathered ≡ None) }
     {
         Ok(Grouper {
             kind: Kind::of(alloc, rule)?,
@@ -69,6 +70,7 @@ impl Grouper {
             Gathers rule row at self.old → IfNone found (Gathers rule (row ++ line ∷ []) now self.new)) }
         ensures none_where_no_event_has_ended { IfOk result (λ found. (rule : GroupRule) (row : List Line) (at : Moment) →
             Gathers rule row at self.old → IfNone found (IsOpen rule (row ++ line ∷ []))) }
+        ensures waits_to_its_end { OnOk result (ForSome self.new.gathered (λ gathered. gathered.end ≡ line.span.end)) }
         ensures given_back_on_refusal { IfErr result (λ back. back ≡ line) }
         ensures unchanged_on_refusal { OnErr result (self.new ≡ self.old) }
     {
@@ -99,6 +101,7 @@ impl Grouper {
         ensures begins_anew { (rule : GroupRule) (row : List Line) (at : Moment) → Gathers rule row at self.old →
             Gathers rule [] at self.new }
         ensures none_where_none_waits { IsSome result ↔ IsSome self.old.gathered }
+        ensures none_waits_then { self.new.gathered ≡ None }
     {
         self.take()
     }
@@ -135,7 +138,8 @@ impl Grouper {
     fn join(&mut self, line: Line, now: Moment) -> Result<(), Line>
         requires { ForSome self.old.gathered (λ gathered. gathered.end ≡ line.span.start) }
         ensures joined { OnOk result (self.new ≡ (record self.old {
-            gathered = Some (gathered_by self.old.rule self.old.gathered line now) })) }
+          gathered = Some (gathered_by self.old.rule self.old.gathered line now);
+        })) }
         ensures given_back_on_refusal { IfErr result (λ back. back ≡ line) }
         ensures unchanged_on_refusal { OnErr result (self.new ≡ self.old) }
     {

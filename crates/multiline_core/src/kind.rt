@@ -147,7 +147,12 @@ fn pattern_step(waiting: u64, goes_on: bool, side: Side) -> Step
     }
 }
 
-fn continues(alloc: Global, pattern: &LinePattern, negate: bool, line: &Line) -> Result<bool, NoMemory>
+fn continues(
+    alloc: Global,
+    pattern: &LinePattern,
+    negate: bool,
+    line: &Line,
+) -> Result<bool, NoMemory>
     ensures { IfOk result (λ goes_on. goes_on ≡ continues pattern.now negate line.now) }
 {
     let found = pattern.matches(alloc, line.head.bytes())?;

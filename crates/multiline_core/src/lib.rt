@@ -28,3 +28,6 @@ pub use grouper::Grouper;
 pub use laws::{
     events_stay, natural_events_stay, no_event_is_empty, one_event, one_natural_event, spans_adjoin,
 };
+
+#[cfg(test)]
+mod tests;

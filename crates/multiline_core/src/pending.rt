@@ -25,11 +25,11 @@ impl Model for Pending {
     ghost Value = { Gathered };
 
     ghost view = { λ p. record {
-        start = p.start;
-        end = p.end;
-        lines = p.lines;
-        message = p.message.items;
-        read_at = p.read_at;
+      start = p.start;
+      end = p.end;
+      lines = p.lines;
+      message = p.message.items;
+      read_at = p.read_at;
     } };
 
     ghost invariant = { λ p. (p.start < p.end) × (0 < p.lines) × (p.lines + p.start ≤ p.end) };
@@ -61,7 +61,12 @@ impl Pending {
     {
         if self.lines < limits.max_lines {
             let most = limits.message_max_bytes as usize;
-            extend_message(&mut self.message, most, limits.skip_newline, line.head.bytes())?;
+            extend_message(
+                &mut self.message,
+                most,
+                limits.skip_newline,
+                line.head.bytes(),
+            )?;
         }
         self.end += line.span.end() - line.span.start();
         self.lines += 1;
@@ -99,7 +104,12 @@ impl Pending {
 }
 
 // Joins one more head to the message, and cuts it to so many bytes.
-fn extend_message(message: &mut Vec<u8>, most: usize, skip_newline: bool, head: &[u8]) -> Result<(), NoMemory>
+fn extend_message(
+    message: &mut Vec<u8>,
+    most: usize,
+    skip_newline: bool,
+    head: &[u8],
+) -> Result<(), NoMemory>
     requires { length message.old.items ≤ most }
     ensures longer { OnOk result (message.new.items ≡ take most (message.old.items ++ (separator skip_newline ++ head.now))) }
     ensures unchanged_on_refusal { OnErr result (message.new.items ≡ message.old.items) }
