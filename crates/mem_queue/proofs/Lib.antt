@@ -1,0 +1,4 @@
+pub mod Moves
+pub mod Numbering
+pub mod Passing
+pub mod Told

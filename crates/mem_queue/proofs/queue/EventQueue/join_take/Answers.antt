@@ -1,0 +1,18 @@
+use Rattle.std.proofs.Common.{ap, sym, ◌∙◌}
+use Rattle.mem_queue.specs.declared.rule.Hand.{Hand}
+use Rattle.mem_queue.proofs.Passing.{joins, both_empty}
+use Rattle.mem_queue.proofs.Told.{none_together}
+use Rattle.mem_queue.proofs.queue.EventQueue.join_take.Goals as goal
+
+pub absorb-requires-clause-rule : goal.absorb-requires-clause-rule
+absorb-requires-clause-rule c = joins _ _ _ _
+
+pub invariant_of-into : goal.invariant_of-into
+invariant_of-into c =
+    let is = c.absorb.ensures.rule in record {
+      no_slot_out = c.absorb.ensures.queue.2 ∙ c.into.invariant.no_slot_out;
+      may = λ none. c.into.invariant.may (both_empty _ _ (sym (ap (λ (y : Hand). y.takes) is) ∙ none)).0;
+      puts = ap (λ (y : Hand). y.puts) is ∙ none_together _ _ c.into.invariant.puts c.from.invariant.puts;
+      put = ap (λ (y : Hand). y.put) is ∙ none_together _ _ c.into.invariant.put c.from.invariant.put;
+      not_closed = ap (λ (y : Hand). y.rest) is;
+    }

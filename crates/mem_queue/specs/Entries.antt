@@ -1,0 +1,16 @@
+-- Parcels with the numbers of their entry (this project's profile).
+use Rattle.std.specs.Prelude.{ℕ, suc, ◌<◌, List, [], ◌∷◌, All}
+use Rattle.wire_base.specs.declared.parcel.Parcel.{Parcel}
+use Rattle.mem_queue.specs.declared.entry.Entry.{Entry}
+
+abbrev pub entry : ℕ → Parcel → Entry
+entry number parcel = record { number = number; parcel = parcel }
+
+-- the parcels in their order, with the numbers from `first` on
+abbrev pub numbered : ℕ → List Parcel → List Entry
+numbered first [] = []
+numbered first (parcel ∷ parcels) = entry first parcel ∷ numbered (suc first) parcels
+
+-- all of these entered before the entry of this number
+abbrev pub AllBefore : ℕ → List Entry → Type 0
+AllBefore number entries = All (λ e. e.number < number) entries
