@@ -1,6 +1,5 @@
 -- Each step of the queue keeps the rule: entries and exits.
-use Rattle.std.proofs.Common.{◌≡◌, ◌≢◌, ℕ, zero, suc, List, [], ◌∷◌, ◌++◌, length, set, All, Option, Some, None, refl, sym, ap, ◌∙◌, arith, append_assoc}
-use Rattle.std.proofs.lemmas.List.Elements.{All-append}
+use Rattle.std.proofs.Common.{◌≡◌, ◌≢◌, ℕ, List, [], ◌∷◌, ◌++◌, length, set, Option, Some, None, refl, sym, ap, ◌∙◌, arith, append_assoc}
 use mathlib.Core.Option.{some}
 use lib.ListN.{get_elem?}
 use Rattle.crossbeam_queue.specs.Fifo.{Pushes, Pops, Learns}
@@ -8,6 +7,7 @@ use Rattle.wire_base.specs.declared.parcel.Parcel.{Parcel}
 use Rattle.wire_base.specs.Ranges.{IsParcel}
 use Rattle.pass_sums.specs.Share.{IsWhole}
 use Rattle.pass_sums.specs.Weight.{weigh}
+use Rattle.pass_sums.proofs.Each.{all_both, all_cons, all_head, all_none, all_tail}
 use Rattle.pass_sums.proofs.Shares.{others_have_none, whole_is_some, whole_set}
 use Rattle.pass_sums.proofs.Views.{each_set, weigh-one, weigh-only, weigh-set}
 use Rattle.pass_sums.proofs.Weights.{weigh-append}
@@ -18,13 +18,6 @@ use Rattle.mem_queue.specs.Hand.{hand}
 use Rattle.mem_queue.specs.Rule.{IsConserving, IsWithinRights, IsAllowed, KnowsRest}
 use Rattle.mem_queue.specs.Steps.{PutsBehind, TakesFirst, EndsAt, DrainsNext}
 use Rattle.mem_queue.proofs.Numbering.{weigh-one-more, before-end, reach}
-
-only : (x : Parcel) → IsParcel x → All IsParcel (x ∷ [])
-only x range zero d inside = range
-only x range (suc k) d inside = absurd (omega arith)
-
-others : (x : Parcel) (items : List Parcel) → All IsParcel (x ∷ items) → All IsParcel items
-others x items ranges k d inside = ranges (suc k) d (omega arith)
 
 module _ (items : List Parcel) (views : List Hand) (rule : IsConserving items views) (pass : ℕ) (v : Hand) (at : get_elem? views pass ≡ some v) where
   -- while another pass has a part of a right, nobody knows a closed queue's rest
@@ -67,7 +60,7 @@ puts n pass v x may range items views room rule at =
           );
           all_taken = λ h. omega (arith, weigh-set (λ (y : Hand). y.taken) h views pass v w at, rule.conserved.all_taken h);
         };
-        ranges = All-append IsParcel items (x ∷ []) rule.ranges (only x range);
+        ranges = all_both IsParcel items (x ∷ []) rule.ranges (all_cons IsParcel x [] range (all_none IsParcel));
         rights = each_set (λ _ u. IsWithinRights u) views pass w
             (record { put = λ none. absurd (may none); taken = (rule.rights pass v at).taken }) (λ other u _ there. rule.rights other u there);
         rests = each_set (λ _ u. (rest : List Parcel) → u.rest ≡ Some rest → KnowsRest u (items ++ x ∷ []) rest) views pass w
@@ -106,7 +99,7 @@ leaves x items views pass v rest rule at may knows =
           weigh-one-more h gone x,
         );
       };
-      ranges = others x items rule.ranges;
+      ranges = all_tail IsParcel x items rule.ranges;
       rights = each_set (λ _ u. IsWithinRights u) views pass w
           (record { put = (rule.rights pass v at).put; taken = λ none. absurd (may none) }) (λ other u _ there. rule.rights other u there);
       rests = each_set (λ _ u. (last : List Parcel) → u.rest ≡ Some last → KnowsRest u items last) views pass w knows
@@ -122,7 +115,7 @@ takes pass v may x items views rule at =
       record {
         number = length gone;
         before = before-end gone v.taken (omega (arith, weigh-one (λ (y : Hand). y.taken) (reach (length gone)) views pass v at, rule.conserved.all_taken (reach (length gone))));
-        range = rule.ranges 0 x (omega arith);
+        range = all_head IsParcel x items rule.ranges;
         is = refl;
       },
     )

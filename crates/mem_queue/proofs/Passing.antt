@@ -1,5 +1,5 @@
 -- Each step of the queue keeps the rule: splits and joins of passes.
-use Rattle.std.proofs.Common.{◌≡◌, ℕ, ◌+◌, ◌≤◌, max, List, [], ◌∷◌, ◌++◌, set, Some, None, refl, sym, ap, ◌∙◌, arith}
+use Rattle.std.proofs.Common.{◌≡◌, ℕ, ◌+◌, ◌≤◌, max, List, [], ◌++◌, set, Some, None, refl, sym, ap, ◌∙◌, arith}
 use mathlib.Core.Option.{some}
 use lib.ListN.{get_elem?}
 use Rattle.crossbeam_queue.specs.Fifo.{Forks, Merges}
@@ -7,6 +7,7 @@ use Rattle.crossbeam_queue.proofs.Lists.{set_else}
 use Rattle.wire_base.specs.declared.parcel.Parcel.{Parcel}
 use Rattle.pass_sums.specs.Share.{share_at, kept_half, cut_half}
 use Rattle.pass_sums.specs.Weight.{weigh}
+use Rattle.pass_sums.proofs.Each.{both_empty}
 use Rattle.pass_sums.proofs.Shares.{halving_scale, halved-weighs, kept_half_none, whole_split, whole_join}
 use Rattle.pass_sums.proofs.Views.{each_set, each_snoc, weigh-set, weigh-snoc}
 use Rattle.pass_sums.proofs.Weights.{weigh-append}
@@ -101,10 +102,6 @@ moves_out pass v = splits pass v _ _ (λ rights. record {
   left_open = refl;
   right_open = refl;
 })
-
-pub both_empty : {A : Type 0} (xs ys : List A) → xs ++ ys ≡ [] → (xs ≡ []) × (ys ≡ [])
-both_empty [] ys none = (refl, none)
-both_empty (x ∷ xs) ys none = absurd cc
 
 abbrev pub together : Hand → Hand → Hand
 together v u = hand (v.puts ++ u.puts) (v.takes ++ u.takes) (v.put ++ u.put) (v.taken ++ u.taken) None

@@ -1,3 +1,4 @@
+pub mod Each
 pub mod Shares
 pub mod Views
 pub mod Weights

@@ -1,10 +1,11 @@
 -- A share that is split is worth what its two parts are worth, and a share that is worth nothing is none.
-use Rattle.std.proofs.Common.{◌≡◌, ℕ, zero, suc, ◌+◌, ◌-◌, ◌<◌, ◌≤◌, ◌≢◌, max, List, [], ◌∷◌, ◌++◌, set, refl, ap, ◌∙◌, arith}
+use Rattle.std.proofs.Common.{◌≡◌, ℕ, zero, suc, ◌+◌, ◌-◌, ◌<◌, ◌≤◌, ◌≢◌, max, List, [], ◌∷◌, ◌++◌, set, refl, sym, ap, ◌∙◌, subst, arith}
 use Rattle.std.specs.List.{flat_map}
+use Rattle.std.proofs.lemmas.List.{append-nil}
 use mathlib.Core.Option.{some}
 use lib.ListN.{get_elem?}
 use Rattle.pass_sums.specs.Weight.{weigh}
-use Rattle.pass_sums.specs.Share.{doubled, share_at, IsWhole, kept_half, cut_half}
+use Rattle.pass_sums.specs.Share.{doubled, share_at, IsWhole, IsWorth, kept_half, cut_half}
 use Rattle.pass_sums.proofs.Weights.{weigh-append}
 use Rattle.pass_sums.proofs.Views.{weigh-two, weigh-set, weigh-snoc}
 
@@ -90,3 +91,36 @@ pub halves_whole : (pieces : List ℕ) → IsWhole pieces → IsWhole (kept_half
 halves_whole pieces whole = same_whole _ _ whole (halving_scale pieces) (λ scale fine.
     let h = λ (halvings : ℕ). doubled (scale - halvings) in
     omega (arith, weigh-append h (kept_half pieces) (cut_half pieces), halved-weighs scale pieces fine))
+
+pub cut_half_none : (pieces : List ℕ) → cut_half pieces ≡ [] → pieces ≡ []
+cut_half_none [] none = refl
+cut_half_none (piece ∷ pieces) none = absurd cc
+
+-- a whole with no share beside it is a whole
+pub whole_before : (xs ys : List ℕ) → IsWhole xs → ys ≡ [] → IsWhole (xs ++ ys)
+whole_before xs ys whole none = subst IsWhole (sym (ap (λ (zs : List ℕ). xs ++ zs) none ∙ append-nil xs)) whole
+
+pub whole_behind : (xs ys : List ℕ) → xs ≡ [] → IsWhole ys → IsWhole (xs ++ ys)
+whole_behind xs ys none whole = subst IsWhole (sym (ap (λ (zs : List ℕ). zs ++ ys) none)) whole
+
+pub worth_itself : (share other : List ℕ) → share ≡ other → IsWorth share other
+worth_itself share other is = record { least = 0; same = λ scale _. ap (share_at scale) is }
+
+-- what became of two halves is worth what was split
+pub worth_rejoined : (share one two joined : List ℕ) → IsWorth one (kept_half share) → IsWorth two (cut_half share) → joined ≡ one ++ two → IsWorth joined share
+worth_rejoined share one two joined kept cut is = record {
+  least = max (halving_scale share) (max kept.least cut.least);
+  same = λ scale fine.
+      let h = λ (halvings : ℕ). doubled (scale - halvings) in
+      omega (
+        arith,
+        ap (weigh h) is,
+        weigh-append h one two,
+        kept.same scale (omega arith),
+        cut.same scale (omega arith),
+        halved-weighs scale share (omega arith),
+      );
+}
+
+pub whole_worth : (share other : List ℕ) → IsWorth share other → IsWhole other → IsWhole share
+whole_worth share other worth whole = same_whole other share whole worth.least worth.same

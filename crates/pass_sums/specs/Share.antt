@@ -25,3 +25,8 @@ kept_half (piece ∷ pieces) = suc piece ∷ pieces
 abbrev pub cut_half : List ℕ → List ℕ
 cut_half [] = []
 cut_half (piece ∷ pieces) = suc piece ∷ []
+
+-- the two shares are worth the same, at each scale that is fine enough
+pub record IsWorth (share other : List ℕ) : Type 0 where
+  pub least : ℕ
+  pub same : (scale : ℕ) → least ≤ scale → share_at scale share ≡ share_at scale other

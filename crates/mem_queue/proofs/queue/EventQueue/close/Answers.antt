@@ -1,10 +1,10 @@
 use Rattle.std.proofs.Common.{sym, subst}
 use Rattle.pass_sums.specs.Share.{IsWhole}
+use Rattle.pass_sums.proofs.Shares.{whole_before, whole_behind}
 use Rattle.mem_queue.specs.declared.rule.Hand.{Hand}
 use Rattle.mem_queue.specs.Known.{Known}
 use Rattle.mem_queue.proofs.Moves.{ends, totals}
 use Rattle.mem_queue.proofs.Passing.{joins}
-use Rattle.mem_queue.proofs.Told.{whole_before, whole_behind}
 use Rattle.mem_queue.proofs.queue.EventQueue.close.Goals as goal
 
 pub absorb-requires-clause-rule : goal.absorb-requires-clause-rule

@@ -1,7 +1,7 @@
 use Rattle.std.proofs.Common.{ap, sym, ◌∙◌}
+use Rattle.pass_sums.proofs.Each.{both_empty, none_together}
 use Rattle.mem_queue.specs.declared.rule.Hand.{Hand}
-use Rattle.mem_queue.proofs.Passing.{joins, both_empty}
-use Rattle.mem_queue.proofs.Told.{none_together}
+use Rattle.mem_queue.proofs.Passing.{joins}
 use Rattle.mem_queue.proofs.queue.EventQueue.join_take.Goals as goal
 
 pub absorb-requires-clause-rule : goal.absorb-requires-clause-rule

@@ -1,10 +1,10 @@
 use Rattle.std.proofs.Common.{ap, sym, ◌∙◌, subst}
 use Rattle.pass_sums.specs.Share.{IsWhole}
+use Rattle.pass_sums.proofs.Shares.{whole_before, whole_behind}
 use Rattle.mem_queue.specs.declared.rule.Hand.{Hand}
 use Rattle.mem_queue.specs.Known.{Known}
 use Rattle.mem_queue.proofs.Moves.{totals}
 use Rattle.mem_queue.proofs.Passing.{joins, moves_out, sides}
-use Rattle.mem_queue.proofs.Told.{whole_before, whole_behind}
 use Rattle.mem_queue.proofs.queue.EventQueue.meet.Goals as goal
 
 pub another-all_taken-requires-clause-rule : goal.another-all_taken-requires-clause-rule

@@ -1,0 +1,10 @@
+pub mod BoundedBox
+pub mod Collector
+pub mod Hand
+pub mod InOrder
+pub mod Left
+pub mod Notes
+pub mod Poster
+pub mod Rule
+pub mod Senders
+pub mod Steps

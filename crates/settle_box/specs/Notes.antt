@@ -1,0 +1,11 @@
+-- Which notes are posted (this project's profile): announcements, settlements and forgettings. How a file begins and what it is
+-- renamed to is told to the keeper itself.
+use Rattle.wire_base.specs.declared.note.Note.{Note}
+use Rattle.wire_base.specs.declared.note.Note.TheVariants.{Begin, Announce, Settle, Rename, Forget}
+
+abbrev pub IsPostable : Note → Type 0
+IsPostable (Begin slot key path epoch base) = ⊥
+IsPostable (Announce slot epoch) = Unit {0}
+IsPostable (Settle slot epoch span cause) = Unit {0}
+IsPostable (Rename slot scan path) = ⊥
+IsPostable (Forget slot epoch end) = Unit {0}
