@@ -99,8 +99,9 @@ impl SettleBox {
         requires of_this_box { (into.old.desk ≡ self.now.id) × (from.desk ≡ self.now.id) }
         ensures { into.new ≡ poster into.old.desk (into.old.share ++ from.share) into.old.mine (into.old.joined ++ senders_of from) }
     {
+        let count = from.count;
         self.ring.absorb::<Everything>(&mut into.pass, from.pass);
-        into.count = into.count.saturating_add(from.count);
+        into.count = into.count.saturating_add(count);
     }
 
     /// Compares what the only two passes know with what the box holds at a step of this call: of each
