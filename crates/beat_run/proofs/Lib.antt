@@ -20,3 +20,4 @@ mod Standings
 mod StartedArea
 mod Storings
 mod Words
+mod Writings

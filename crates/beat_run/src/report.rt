@@ -1,6 +1,7 @@
-ghost use Rattle.std.specs.Prelude.{◌≡◌, ◌≤◌, option_map, string_bytes, Some, IfOk, OnErr};
+ghost use Rattle.std.specs.Prelude.{◌≡◌, ◌≤◌, ◌++◌, decimal, option_map, string_bytes, Some, IfOk, OnErr};
 ghost use Rattle.outside.specs.Counts.{Rose};
-ghost use Rattle.beat_run.specs.Report.{file_line, passed_line, report_bytes};
+ghost use Rattle.beat_run.specs.Report.{area_letter, file_line, lack_bytes, passed_line, report_bytes, status_bytes};
+ghost use Rattle.beat_run.specs.Writing.{WritesAll};
 
 use crate::status::{Lack, Status};
 use crate::write::write_all;
@@ -60,6 +61,7 @@ fn passed_text(alloc: Global, path: Option<&Text>) -> Result<String, NoMemory>
 
 /// Writes the last line. Takes no memory.
 pub fn status_line<S: Sink>(status: &Status, out: &mut S) -> Result<(), Failed>
+    ensures told { WritesAll (S.written out.old) (status_bytes status.now) result (S.written out.new) }
     ensures faults_never_fall { S.faults out.old ≤ S.faults out.new }
     ensures failed_only_where_faults_rose { OnErr result (Rose (S.faults out.old) (S.faults out.new)) }
 {
@@ -94,6 +96,7 @@ pub fn status_line<S: Sink>(status: &Status, out: &mut S) -> Result<(), Failed>
 }
 
 fn write_lack<S: Sink>(lack: Lack, out: &mut S) -> Result<(), Failed>
+    ensures told { WritesAll (S.written out.old) (lack_bytes lack) result (S.written out.new) }
     ensures faults_never_fall { S.faults out.old ≤ S.faults out.new }
     ensures failed_only_where_faults_rose { OnErr result (Rose (S.faults out.old) (S.faults out.new)) }
 {
@@ -104,7 +107,9 @@ fn write_lack<S: Sink>(lack: Lack, out: &mut S) -> Result<(), Failed>
     }
 }
 
-fn area_name(area: Which) -> &'static [u8] {
+fn area_name(area: Which) -> &'static [u8]
+    ensures { result.now ≡ area_letter area }
+{
     match area {
         Which::A => b"A",
         Which::B => b"B",
@@ -112,6 +117,7 @@ fn area_name(area: Which) -> &'static [u8] {
 }
 
 fn write_numbered<S: Sink>(out: &mut S, name: &[u8], number: u64) -> Result<(), Failed>
+    ensures told { WritesAll (S.written out.old) (name.now ++ decimal number) result (S.written out.new) }
     ensures faults_never_fall { S.faults out.old ≤ S.faults out.new }
     ensures failed_only_where_faults_rose { OnErr result (Rose (S.faults out.old) (S.faults out.new)) }
 {

@@ -4,7 +4,7 @@ ghost use Rattle.beat_run.specs.Area.{area_bytes};
 ghost use Rattle.wire_base.specs.declared.row.Row.{Row};
 ghost use Rattle.beat_run.specs.Command.{IsNoCommand};
 ghost use Rattle.beat_run.specs.Ends.{IsPrintingEnd, RefusesArea, RefusesForm};
-ghost use Rattle.beat_run.specs.Report.{report_bytes};
+ghost use Rattle.beat_run.specs.Report.{IsPrinted, report_bytes};
 ghost use Rattle.beat_run.specs.Standing.{GoesOn, OnFirst};
 ghost use Rattle.beat_run.specs.Stored.{IsDone, IsStored, MissesRow};
 ghost use Rattle.beat_run.specs.Form.{IsNoForm};
@@ -65,6 +65,7 @@ where
     ensures tails_closed { ¬ (IsAtEnd (F.open_tails folder.old)) → F.open_tails folder.new ≡ F.open_tails folder.old }
     ensures other_area_kept { _area_b.new ≡ _area_b.old }
     ensures bell_kept { _bell.new ≡ _bell.old }
+    ensures last_line_is_printed { IfSome (S.written out.old) (λ written. IsPrinted written (S.written out.new) result) }
     ensures disk_fault_only_where_the_area_failed { result ≡ Status.DiskFault → Rose (D.faults area_a.old) (D.faults area_a.new) }
     ensures folder_fault_only_where_the_folder_failed { result ≡ Status.FolderFault → Rose (F.faults folder.old) (F.faults folder.new) }
     ensures out_fault_only_where_the_sink_failed { result ≡ Status.OutFault → Rose (S.faults out.old) (S.faults out.new) }
@@ -88,6 +89,7 @@ where
 fn print_report<S: Sink>(alloc: Global, ending: &Ending, out: &mut S) -> Status
     ensures ends { IsPrintingEnd (S.faults out.old) (S.faults out.new) result }
     ensures printed { result ≡ Status.Done → IfSome (S.written out.old) (λ written. S.written out.new ≡ Some (written ++ report_bytes ending.now)) }
+    ensures told { IfSome (S.written out.old) (λ written. IsPrinted written (S.written out.new) result) }
 {
     match report_text(alloc, ending) {
         Ok(text) => match write_all(out, text.as_bytes()) {
@@ -100,6 +102,7 @@ fn print_report<S: Sink>(alloc: Global, ending: &Ending, out: &mut S) -> Status
 
 fn print_status<S: Sink>(status: Status, out: &mut S) -> Status
     ensures printed { (result ≡ status) ⊎ ((result ≡ Status.OutFault) × Rose (S.faults out.old) (S.faults out.new)) }
+    ensures told { IfSome (S.written out.old) (λ written. IsPrinted written (S.written out.new) result) }
     ensures faults_never_fall { S.faults out.old ≤ S.faults out.new }
 {
     match status_line(&status, out) {
