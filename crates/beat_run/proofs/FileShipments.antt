@@ -1,5 +1,5 @@
 -- A file that is read piece by piece and shipped.
-use Rattle.std.proofs.Common.{◌≡◌, ◌≢◌, ℕ, List, [], ◌++◌, All, Option, Some, None, Result, Ok, Err, IfSome, MatchResult, OnOk, length, vec_len, ◌+◌, ◌<◌, arith, length-append, refl, sym, ◌∙◌, ap, subst, append-nil}
+use Rattle.std.proofs.Common.{◌≡◌, ◌≢◌, ℕ, List, [], ◌++◌, All, Option, Some, None, Result, Ok, Err, IfSome, IfErr, MatchResult, OnOk, length, vec_len, ◌+◌, ◌<◌, arith, length-append, refl, sym, ◌∙◌, ap, subst, append-nil}
 use Rattle.std.proofs.lemmas.List.{nil_from_length}
 use Rattle.std.proofs.lemmas.List.Elements.{All-nil}
 use Rattle.outside.specs.declared.history.Look.{Look}
@@ -8,14 +8,16 @@ use Rattle.outside.specs.Talks.{Talk}
 use Rattle.outside.specs.Tails.{TailHistory}
 use Rattle.beat_run.specs.declared.status.Status.{Status}
 use Rattle.beat_run.specs.declared.shipment.Shipment.{Shipment}
+use Rattle.beat_run.specs.Ends.{IsSendingEnd}
 use Rattle.beat_run.specs.Followed.{HasEndLook}
 use Rattle.beat_run.specs.Reading.{AddsBytes, AreInOrder, ReadsPiece, bytes_read}
 use Rattle.beat_run.specs.Serving.{HasSettled}
-use Rattle.beat_run.specs.Shipping.{IsShipped, IsCovered, IsFileCovered, IsFileWhole, IsSeen, IsUnused}
+use Rattle.beat_run.specs.Shipping.{IsShipped, IsCovered, IsFileStopped, IsFileWhole, IsSeen, IsUnused}
 use Rattle.beat_run.proofs.Living.{front_of_life, in_order-append, read_many, total}
 use Rattle.beat_run.proofs.PieceReads.{EndsAt, reads_end}
 use Rattle.beat_run.proofs.Services.{settled_serves}
 use Rattle.beat_run.proofs.Shipments.{none_wait}
+use Rattle.beat_run.proofs.Stoppings.{sending_ends}
 
 -- what was read of the file is shipped so far
 pub record IsReadSo {L : Type 0} (told : L → Option Talk) (path : List ℕ) (link : Option L) (shipment : Shipment) (start : TailHistory) (now : Option TailHistory) : Type 0 where
@@ -94,25 +96,27 @@ reading_goes_on told path first link after old new (Some begun) between now plac
       shipped = subst P (sym more.added) (takes (bytes_read so.history.file so.history.looks) so.shipped);
     }
 
--- the last piece, after which what was settled stays covered
-pub reading_stops : {L : Type 0} (told : L → Option Talk) (path : List ℕ) (first link after : Option L) (old : Shipment) (offset : ℕ) (start between now : Option TailHistory) (place : ℕ) (piece : List ℕ) →
+-- the last piece: what is so of the bytes that were read then
+pub reading_stops : {L : Type 0} (told : L → Option Talk) (path : List ℕ) (first link : Option L) (old : Shipment) (start between now : Option TailHistory) (place : ℕ) (piece : List ℕ)
+    (Q : List ℕ → Type 0) (P : File → List Look → Type 0) →
     place ≡ old.offset + old.batch.size + vec_len old.rest → IsReadWhereTold told path first link old start between → IfSome between (λ history. AddsBytes history place piece now) →
-    ((bytes : List ℕ) → IsShipped told path link old bytes → IsCovered told path after offset (bytes ++ piece)) →
-    IfSome start (λ begun. begun.looks ≡ [] → HasSettled told first [] → IsSeen begun (IsFileCovered told path after offset) now)
-reading_stops told path first link after old offset None between now place piece position was adds takes = tt
-reading_stops told path first link after old offset (Some begun) between now place piece position was adds takes = λ none settled.
-    let so = was none settled in
+    ((bytes : List ℕ) → IsShipped told path link old bytes → Q (bytes ++ piece)) →
+    ((history : TailHistory) → now ≡ Some history → (bytes : List ℕ) → length bytes ≡ place → bytes_read history.file history.looks ≡ bytes ++ piece → Q (bytes_read history.file history.looks) → P history.file history.looks) →
+    IfSome start (λ begun. begun.looks ≡ [] → HasSettled told first [] → IsSeen begun P now)
+reading_stops told path first link old None between now place piece Q P position was adds takes so = tt
+reading_stops told path first link old (Some begun) between now place piece Q P position was adds takes so = λ none settled.
+    let was_so = was none settled in
     let A : Option TailHistory → Type 0 = λ o. IfSome o (λ history. AddsBytes history place piece now) in
-    let more : AddsBytes so.history place piece now = subst A so.tail_told adds in
-    let P : List ℕ → Type 0 = λ l. IsCovered told path after offset l in
+    let more : AddsBytes was_so.history place piece now = subst A was_so.tail_told adds in
+    let bytes : List ℕ = bytes_read was_so.history.file was_so.history.looks in
+    let here : length bytes ≡ place = position_is told path link old bytes was_so.shipped ∙ sym position in
     record {
       history = more.history;
       tail_told = more.tail_told;
-      same_opening = more.same_opening ∙ so.same_opening;
-      same_file = more.same_file ∙ so.same_file;
-      front = front_of_life more.history.file more.history.looks (in_order_still so.history.file more.history.file so.history.looks more.more more.history.looks place so.in_order more.in_order more.same_file more.looks_on
-          (position ∙ sym (position_is told path link old (bytes_read so.history.file so.history.looks) so.shipped)));
-      seen = subst P (sym more.added) (takes (bytes_read so.history.file so.history.looks) so.shipped);
+      same_opening = more.same_opening ∙ was_so.same_opening;
+      same_file = more.same_file ∙ was_so.same_file;
+      front = front_of_life more.history.file more.history.looks (in_order_still was_so.history.file more.history.file was_so.history.looks more.more more.history.looks place was_so.in_order more.in_order more.same_file more.looks_on (sym here));
+      seen = so more.history more.tail_told bytes here more.added (subst Q (sym more.added) (takes bytes was_so.shipped));
     }
 
 -- nothing waits: the lines that are settled are all
@@ -141,9 +145,9 @@ whole told path link shipment file looks bytes read empty is ended =
 ended : {L : Type 0} (told : L → Option Talk) (path : List ℕ) (link after : Option L) (old new : Shipment) (begun : TailHistory) (between now : Option TailHistory)
     (place : ℕ) (result : Result (Unit {0}) Status) (so : IsReadSo told path link old begun between) → EndsAt so.history place now →
     place ≡ old.offset + old.batch.size + vec_len old.rest → OnOk result (new.batch.size ≡ 0) →
-    MatchResult result (λ _. IsShipped told path after new (bytes_read so.history.file so.history.looks)) (λ _. IsCovered told path after new.offset (bytes_read so.history.file so.history.looks)) →
-    MatchResult result (λ _. IsSeen begun (IsFileWhole told path after new) now) (λ _. IsSeen begun (IsFileCovered told path after new.offset) now)
-ended told path link after old new begun between now place (Ok done) so end position empty sent =
+    MatchResult result (λ _. IsShipped told path after new (bytes_read so.history.file so.history.looks)) (λ _. IsCovered told path after new.offset (bytes_read so.history.file so.history.looks)) → IfErr result IsSendingEnd →
+    MatchResult result (λ _. IsSeen begun (IsFileWhole told path after new) now) (λ status. IsSeen begun (IsFileStopped told path after new.offset status) now)
+ended told path link after old new begun between now place (Ok done) so end position empty sent ends =
     let E : ℕ → Type 0 = λ n. HasEndLook n end.history.looks in
     record {
       history = end.history;
@@ -155,7 +159,7 @@ ended told path link after old new begun between now place (Ok done) so end posi
       seen = whole told path after new end.history.file end.history.looks (bytes_read so.history.file so.history.looks) end.none_more empty sent
           (subst E (position ∙ sym (position_is told path link old (bytes_read so.history.file so.history.looks) so.shipped) ∙ sym (ap length end.none_more)) end.ended);
     }
-ended told path link after old new begun between now place (Err status) so end position empty sent =
+ended told path link after old new begun between now place (Err status) so end position empty sent ends =
     let C : List ℕ → Type 0 = λ l. IsCovered told path after new.offset l in
     record {
       history = end.history;
@@ -164,7 +168,7 @@ ended told path link after old new begun between now place (Err status) so end p
       same_file = end.same_file ∙ so.same_file;
       front = front_of_life end.history.file end.history.looks (in_order_still so.history.file end.history.file so.history.looks end.more end.history.looks place so.in_order end.in_order end.same_file end.looks_on
           (position ∙ sym (position_is told path link old (bytes_read so.history.file so.history.looks) so.shipped)));
-      seen = subst C (sym end.none_more) sent;
+      seen = record { covered = subst C (sym end.none_more) sent; stops = sending_ends end.history.file end.history.looks status ends };
     }
 
 -- the end of the file, behind which what waited is sent
@@ -173,15 +177,15 @@ pub reading_ends : {L : Type 0} (told : L → Option Talk) (path : List ℕ) (fi
     IsReadWhereTold told path first link old start between → ReadsPiece between place into count now → 0 < length into → count ≡ 0 →
     place ≡ old.offset + old.batch.size + vec_len old.rest → OnOk result (new.batch.size ≡ 0) →
     ((bytes : List ℕ) → IsShipped told path link old bytes →
-    MatchResult result (λ _. IsShipped told path after new bytes) (λ _. IsCovered told path after new.offset bytes)) →
+    MatchResult result (λ _. IsShipped told path after new bytes) (λ _. IsCovered told path after new.offset bytes)) → IfErr result IsSendingEnd →
     IfSome start (λ begun. begun.looks ≡ [] → HasSettled told first [] →
-    MatchResult result (λ _. IsSeen begun (IsFileWhole told path after new) now) (λ _. IsSeen begun (IsFileCovered told path after new.offset) now))
-reading_ends told path first link after old new None between now place count into result was reads some none position empty sent = tt
-reading_ends told path first link after old new (Some begun) between now place count into result was reads some none position empty sent = λ unused settled.
+    MatchResult result (λ _. IsSeen begun (IsFileWhole told path after new) now) (λ status. IsSeen begun (IsFileStopped told path after new.offset status) now))
+reading_ends told path first link after old new None between now place count into result was reads some none position empty sent ends = tt
+reading_ends told path first link after old new (Some begun) between now place count into result was reads some none position empty sent ends = λ unused settled.
     let so = was unused settled in
     let R : Option TailHistory → Type 0 = λ o. ReadsPiece o place into count now in
     let end : EndsAt so.history place now = reads_end so.history place count into now some none (subst R so.tail_told reads) in
-    ended told path link after old new begun between now place result so end position empty (sent (bytes_read so.history.file so.history.looks) so.shipped)
+    ended told path link after old new begun between now place result so end position empty (sent (bytes_read so.history.file so.history.looks) so.shipped) ends
 
 -- no byte more
 pub nothing_more : {L : Type 0} (told : L → Option Talk) (path : List ℕ) (after : Option L) (offset : ℕ) (bytes none : List ℕ) → none ≡ [] →

@@ -18,6 +18,7 @@ mod SettingsRead
 mod Shipments
 mod Standings
 mod StartedArea
+mod Stoppings
 mod Storings
 mod Words
 mod Writings

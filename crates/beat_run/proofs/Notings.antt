@@ -22,10 +22,11 @@ use Rattle.beat_run.specs.Finding.{FindsIn, IsOpened}
 use Rattle.beat_run.specs.Followed.{IsNoOpening, IsNotListed, IsRead, IsUnopened}
 use Rattle.beat_run.specs.Lives.{IsFrontOfLife}
 use Rattle.beat_run.specs.Keys.{path_row}
-use Rattle.beat_run.specs.Noted.{IsCoveredUpTo, IsDrained, IsEmptyEnding, IsGoneEnding, IsNoted, NotesCovered, NotesWhole}
+use Rattle.beat_run.specs.Noted.{IsCoveredUpTo, IsDrained, IsEmptyEnding, IsGoneEnding, IsNoted, IsNotedBy, NotesCovered, NotesWhole}
 use Rattle.beat_run.specs.Reading.{bytes_read}
 use Rattle.beat_run.specs.Serving.{HasServed, HasSettled}
-use Rattle.beat_run.specs.Shipping.{IsCovered, IsFileCovered, IsFileWhole, IsSeen}
+use Rattle.beat_run.specs.Shipping.{IsCovered, IsFileCovered, IsFileStopped, IsFileWhole, IsSeen}
+use Rattle.beat_run.specs.Unbuilt.{StopsFor}
 use Rattle.beat_run.specs.Standing.{AreAcknowledged}
 
 -- nothing was done
@@ -74,22 +75,22 @@ listed_unopened (Some told) states present root depth entries between faults aft
     unopened_behind told (Listed root depth tells.shown) after tt (subst P tells.kept unopened)
 
 -- without a file there is no row
-pub none_noted : (form : Form) (told : Option FolderHistory) (outcomes : Option (List Outcome)) (row : Option Row) (after : Option FolderHistory) →
-    row ≡ None → IfSome told (λ history. IsUnopened history after) → IfSome told (λ history. IsNoted form history outcomes row after)
-none_noted form None outcomes row after none unopened = tt
-none_noted form (Some told) outcomes row after none unopened = record { root = []; shown = []; cases = inl (unopened, none) }
+pub none_noted : (form : Form) (told : Option FolderHistory) (outcomes : Option (List Outcome)) (row : Option Row) (Unopened : Type 0) (Stops : File → List Look → Type 0) (after : Option FolderHistory) →
+    row ≡ None → Unopened → IfSome told (λ history. IsUnopened history after) → IfSome told (λ history. IsNoted form history outcomes row Unopened Stops after)
+none_noted form None outcomes row Unopened Stops after none so unopened = tt
+none_noted form (Some told) outcomes row Unopened Stops after none so unopened = record { root = []; shown = []; cases = inl (unopened, none, so) }
 
-pub not_listed_noted : {T : Type 0} (tail_told : T → Option TailHistory) (form : Form) (told : Option FolderHistory) (outcomes : Option (List Outcome)) (row : Option Row) (after : Option FolderHistory) →
-    row ≡ None → IfSome told (λ history. FindsIn tail_told form.path history NotListed after) → IfSome told (λ history. IsNoted form history outcomes row after)
-not_listed_noted tail_told form None outcomes row after none finds = tt
-not_listed_noted tail_told form (Some told) outcomes row after none finds =
-    none_noted form (Some told) outcomes row after none (unopened_event told (Listed finds.root 1 finds.shown) after tt finds.cases.kept)
+pub not_listed_noted : {T : Type 0} (tail_told : T → Option TailHistory) (form : Form) (told : Option FolderHistory) (outcomes : Option (List Outcome)) (row : Option Row) (Unopened : Type 0) (Stops : File → List Look → Type 0) (after : Option FolderHistory) →
+    row ≡ None → Unopened → IfSome told (λ history. FindsIn tail_told form.path history NotListed after) → IfSome told (λ history. IsNoted form history outcomes row Unopened Stops after)
+not_listed_noted tail_told form None outcomes row Unopened Stops after none so finds = tt
+not_listed_noted tail_told form (Some told) outcomes row Unopened Stops after none so finds =
+    none_noted form (Some told) outcomes row Unopened Stops after none so (unopened_event told (Listed finds.root 1 finds.shown) after tt finds.cases.kept)
 
-pub gone_noted : {T : Type 0} (tail_told : T → Option TailHistory) (form : Form) (told : Option FolderHistory) (outcomes : Option (List Outcome)) (row : Option Row) (after : Option FolderHistory) →
-    row ≡ None → IfSome told (λ history. FindsIn tail_told form.path history Gone after) → IfSome told (λ history. IsNoted form history outcomes row after)
-gone_noted tail_told form None outcomes row after none finds = tt
-gone_noted tail_told form (Some told) outcomes row after none finds =
-    none_noted form (Some told) outcomes row after none
+pub gone_noted : {T : Type 0} (tail_told : T → Option TailHistory) (form : Form) (told : Option FolderHistory) (outcomes : Option (List Outcome)) (row : Option Row) (Unopened : Type 0) (Stops : File → List Look → Type 0) (after : Option FolderHistory) →
+    row ≡ None → Unopened → IfSome told (λ history. FindsIn tail_told form.path history Gone after) → IfSome told (λ history. IsNoted form history outcomes row Unopened Stops after)
+gone_noted tail_told form None outcomes row Unopened Stops after none so finds = tt
+gone_noted tail_told form (Some told) outcomes row Unopened Stops after none so finds =
+    none_noted form (Some told) outcomes row Unopened Stops after none so
     (unopened_behind told (Listed finds.root 1 finds.shown) after tt (unopened_event (with_event told (Listed finds.root 1 finds.shown)) (NotThere form.path) after tt finds.cases.kept))
 
 -- the tail was closed
@@ -168,27 +169,27 @@ whole_covered told path link shipment file looks is = is.whole.covered
 -- how a tail was looked at, by the answer of its reading
 abbrev pub IsSeenSo : {L : Type 0} → (L → Option Talk) → List ℕ → Option L → Shipment → TailHistory → Option TailHistory → Result (Unit {0}) Status → Type 0
 IsSeenSo told path link shipment start after result =
-    MatchResult result (λ _. IsSeen start (IsFileWhole told path link shipment) after) (λ _. IsSeen start (IsFileCovered told path link shipment.offset) after)
+    MatchResult result (λ _. IsSeen start (IsFileWhole told path link shipment) after) (λ status. IsSeen start (IsFileStopped told path link shipment.offset status) after)
 
 seen_noted : {L T : Type 0} (told : L → Option Talk) (tail_told : T → Option TailHistory) (form : Form) (link : Option L) (shipment : Shipment) (outcomes : Option (List Outcome)) (ending : Ending)
     (history : FolderHistory) (tail : T) (between after : Option FolderHistory) (tail_after : Option TailHistory) (faults : ℕ) (result : Result (Unit {0}) Status)
     (finds : FindsIn tail_told form.path history (Tail tail) between) →
     IsSeenSo told form.path link shipment finds.cases.1.history tail_after result → TellsClosing between tail_after faults after →
-    EndsAcknowledged told link outcomes → IsNotedSo form shipment ending → IsNoted form history outcomes ending.row after
+    EndsAcknowledged told link outcomes → IsNotedSo form shipment ending → IsNotedBy form history outcomes ending.row after result
 seen_noted told tail_told form link shipment outcomes ending history tail between after tail_after faults (Ok done) finds seen closes ends noted = record {
   root = finds.root;
   shown = finds.shown;
   cases = inr (closed_read form.path (with_event history (Listed finds.root 1 finds.shown)) finds.shown (tail_told tail) between after tail_after faults
-      (IsFileWhole told form.path link shipment) (NotesCovered form outcomes ending.row)
-      (λ file looks whole. notes_covered told form link shipment.offset outcomes ending.row ends noted.row file looks (whole_covered told form.path link shipment file looks whole))
+      (IsFileWhole told form.path link shipment) (λ file looks. NotesCovered form outcomes ending.row file looks × Unit {0})
+      (λ file looks whole. (notes_covered told form link shipment.offset outcomes ending.row ends noted.row file looks (whole_covered told form.path link shipment file looks whole), tt))
       finds.cases.0 finds.cases.1 seen closes);
 }
 seen_noted told tail_told form link shipment outcomes ending history tail between after tail_after faults (Err status) finds seen closes ends noted = record {
   root = finds.root;
   shown = finds.shown;
   cases = inr (closed_read form.path (with_event history (Listed finds.root 1 finds.shown)) finds.shown (tail_told tail) between after tail_after faults
-      (IsFileCovered told form.path link shipment.offset) (NotesCovered form outcomes ending.row)
-      (notes_covered told form link shipment.offset outcomes ending.row ends noted.row)
+      (IsFileStopped told form.path link shipment.offset status) (λ file looks. NotesCovered form outcomes ending.row file looks × StopsFor status file looks)
+      (λ file looks stopped. (notes_covered told form link shipment.offset outcomes ending.row ends noted.row file looks stopped.covered, stopped.stops))
       finds.cases.0 finds.cases.1 seen closes);
 }
 
@@ -221,7 +222,7 @@ pub tail_noted : {L T : Type 0} (told : L → Option Talk) (tail_told : T → Op
     (start : Option FolderHistory) (tail : T) (between after : Option FolderHistory) (tail_after : Option TailHistory) (faults : ℕ) (result : Result (Unit {0}) Status) →
     IfSome start (λ history. FindsIn tail_told form.path history (Tail tail) between) →
     IfSome (tail_told tail) (λ begun. begun.looks ≡ [] → IsSeenSo told form.path link shipment begun tail_after result) → TellsClosing between tail_after faults after →
-    EndsAcknowledged told link outcomes → IsNotedSo form shipment ending → IfSome start (λ history. IsNoted form history outcomes ending.row after)
+    EndsAcknowledged told link outcomes → IsNotedSo form shipment ending → IfSome start (λ history. IsNotedBy form history outcomes ending.row after result)
 tail_noted told tail_told form link shipment outcomes ending None tail between after tail_after faults result finds seen closes ends noted = tt
 tail_noted told tail_told form link shipment outcomes ending (Some history) tail between after tail_after faults result finds seen closes ends noted =
     seen_noted told tail_told form link shipment outcomes ending history tail between after tail_after faults result finds

@@ -7,6 +7,7 @@ use Rattle.outside.specs.declared.failed.Failed.{Failed}
 use Rattle.outside.specs.Files.{File, life_of}
 use Rattle.outside.specs.Tails.{TailHistory, with_look, TellsLength, TellsRead, LooksAtLength, LooksAtBytes}
 use Rattle.beat_run.specs.Followed.{HasEndLook}
+use Rattle.beat_run.specs.Unbuilt.{IsShortened}
 use Rattle.beat_run.specs.Reading.{ReadsPiece, AddsBytes, AreInOrder, IsReadAt, bytes_read, bytes_of_look, count_of}
 
 -- the two looks of a read into a buffer of some bytes
@@ -182,3 +183,17 @@ reads_end told place count (byte ∷ bytes) after some none reads =
             (looks.reads ∙ ap (λ (n : ℕ). ReadAt place n) none);
       };
     }
+
+-- a length below the place
+pub shortened : (told after : Option TailHistory) (place length : ℕ) → length < place → TellsLength told (Ok length) after → IfSome after (λ history. IsShortened place history.looks)
+shortened None after place length below tells =
+    let P : Option TailHistory → Type 0 = λ o. IfSome o (λ history. IsShortened place history.looks) in
+    subst P (sym tells) tt
+shortened (Some told) after place length below tells =
+    let P : Option TailHistory → Type 0 = λ o. IfSome o (λ history. IsShortened place history.looks) in
+    subst P (sym tells.kept) (record {
+      before = told.looks;
+      sight = tells.look.sight;
+      shorter = omega (arith, below, tells.answered);
+      looks_are = ap (λ (q : Question). told.looks ++ record { question = q; sight = tells.look.sight } ∷ []) tells.asked;
+    })

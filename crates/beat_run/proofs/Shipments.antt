@@ -1,13 +1,15 @@
 -- How far a file is shipped, step by step.
-use Rattle.std.proofs.Common.{◌≡◌, ◌≢◌, ℕ, suc, ◌+◌, ◌-◌, take, drop, get_or, ◌≤◌, List, [], ◌∷◌, ◌++◌, length, All, Option, refl, sym, ◌∙◌, ap, subst, append_assoc, append-nil, arith, length-append}
+use Rattle.std.proofs.Common.{◌≡◌, ◌≢◌, inl, inr, ℕ, zero, suc, ◌+◌, ◌-◌, take, drop, get_or, vec_len, ◌≤◌, ◌<◌, List, [], ◌∷◌, ◌++◌, length, All, Option, refl, sym, ◌∙◌, ap, subst, append_assoc, append-nil, arith, length-append}
 use Rattle.std.proofs.lemmas.List.{take-append-drop, take_all, length-drop, length-take-le}
 use Rattle.std.proofs.Math.Seq.{take-suc}
+use Rattle.std.proofs.lemmas.Grind.{flat_map-append}
 use Rattle.std.proofs.lemmas.List.Elements.{All-append, All-nil}
 use Rattle.outside.specs.Talks.{Talk}
 use Rattle.beat_run.specs.declared.shipment.Shipment.{Shipment}
 use Rattle.beat_run.specs.Batches.{HoldsLines}
-use Rattle.beat_run.specs.Lines.{IsPlainByte}
-use Rattle.beat_run.specs.Payloads.{AreLines}
+use Rattle.beat_run.specs.Lines.{IsExcluded, IsPlainByte}
+use Rattle.beat_run.specs.Payloads.{AreLines, lines_bytes}
+use Rattle.beat_run.specs.Unbuilt.{CannotBeSent, IsUnsendableAt}
 use Rattle.beat_run.specs.Serving.{HasSettled, HasServed}
 use Rattle.beat_run.specs.Shipping.{IsShipped, IsCovered}
 use Rattle.beat_run.proofs.LinePayloads.{lines-append}
@@ -200,3 +202,47 @@ placed_still old new total used most left some within all moved was =
     let rest : length (take most (drop used left)) ≡ length left - used =
     ap (λ (l : List ℕ). length l) (take_all most (drop used left) (omega (arith, length-drop used left))) ∙ length-drop used left in
     omega (arith, length-take-le (used - 1) left (omega arith), rest, moved, was)
+
+-- the byte behind the rest and what of the piece can be sent
+pub unsendable : {L : Type 0} (told : L → Option Talk) (path : List ℕ) (link : Option L) (shipment : Shipment) (bytes piece left : List ℕ) (place at : ℕ) →
+    (is : IsTaken told path link shipment bytes piece left) → place < length left → All IsPlainByte (take place left) →
+    IsExcluded (vec_len shipment.rest) left place → at ≡ shipment.offset + shipment.batch.size + vec_len shipment.rest + place →
+    IsUnsendableAt (bytes ++ piece) at
+unsendable told path link shipment bytes piece left place at is within plain excluded at_is =
+    let now = is.shipped in
+    let whole : List ℕ = now.settled ++ now.waiting in
+    let all : List (List ℕ) = now.lines.contents ++ now.holds.lines.contents in
+    let lines : lines_bytes all ≡ whole =
+    flat_map-append (λ (c : List ℕ). c ++ 10 ∷ []) now.lines.contents now.holds.lines.contents
+    ∙ ap (λ (l : List ℕ). l ++ lines_bytes now.holds.lines.contents) (sym now.lines.spelled)
+    ∙ ap (λ (l : List ℕ). now.settled ++ l) (sym now.holds.lines.spelled) in
+    let rest : List ℕ = shipment.rest.items in
+    let line : List ℕ = rest ++ take place left in
+    let cut : left ≡ take place left ++ get_or left place 0 ∷ drop (suc place) left = cut_at left place within in
+    let size : length line ≡ vec_len shipment.rest + place = omega (arith, length-append rest (take place left), length-take-le place left (omega (arith, within))) in
+    record {
+      contents = all;
+      line = line;
+      byte = get_or left place 0;
+      behind = drop (suc place) left;
+      spelled =
+          ap (λ (l : List ℕ). bytes ++ l) is.parts
+          ∙ sym (append_assoc bytes is.taken left)
+          ∙ ap (λ (l : List ℕ). l ++ left) (now.spelled ∙ sym (append_assoc now.settled now.waiting rest))
+          ∙ append_assoc whole rest left
+          ∙ ap (λ (l : List ℕ). whole ++ (rest ++ l)) cut
+          ∙ ap (λ (l : List ℕ). whole ++ l) (sym (append_assoc rest (take place left) (get_or left place 0 ∷ drop (suc place) left)))
+          ∙ ap (λ (l : List ℕ). l ++ (line ++ get_or left place 0 ∷ drop (suc place) left)) (sym lines);
+      plain = All-append (λ (byte : ℕ). byte ≢ 10) rest (take place left) now.plain (λ k d inside feed. plain_feed (get_or (take place left) k d) (plain k d inside) feed);
+      at_is = omega (arith, at_is, size, ap length lines, length-append now.settled now.waiting, now.offset, now.holds.size);
+      cannot = cannot_be_sent (vec_len shipment.rest) left place line size excluded;
+    }
+  where
+    cut_at : (list : List ℕ) (i : ℕ) → i < length list → list ≡ take i list ++ get_or list i 0 ∷ drop (suc i) list
+    cut_at [] i inside = absurd (omega (arith, inside))
+    cut_at (x ∷ list) zero inside = refl
+    cut_at (x ∷ list) (suc i) inside = ap (λ (l : List ℕ). x ∷ l) (cut_at list i (omega (arith, inside)))
+    cannot_be_sent : (before : ℕ) (list : List ℕ) (i : ℕ) (line : List ℕ) → length line ≡ before + i → IsExcluded before list i → CannotBeSent line (get_or list i 0)
+    cannot_be_sent before list i line many (inl long) = inl (many ∙ long.0, long.1)
+    cannot_be_sent before list i line many (inr (inl empty)) = inr (inl (many ∙ empty.0, empty.1))
+    cannot_be_sent before list i line many (inr (inr escaped)) = inr (inr escaped)

@@ -46,14 +46,24 @@ abbrev pub StandsFor : FolderError → Status → Type 0
 StandsFor Failed status = status ≡ FolderFault
 StandsFor FolderNoMemory status = status ≡ NoMemory
 
+-- the first failure of the only worker ends a run
+abbrev pub IsFirstFailure : ℕ → ℕ → Type 0
+IsFirstFailure worker failures = (worker ≡ 0) × (failures ≡ 1)
+
 -- sending a window
 abbrev pub IsSendingEnd : Status → Type 0
-IsSendingEnd (Unreachable worker failures) = Unit {0}
+IsSendingEnd (Unreachable worker failures) = IsFirstFailure worker failures
 IsSendingEnd _ = ⊥
+
+-- putting a line to those that wait
+abbrev pub IsLineEnd : Status → Type 0
+IsLineEnd (Unreachable worker failures) = IsFirstFailure worker failures
+IsLineEnd NoMemory = Unit {0}
+IsLineEnd _ = ⊥
 
 -- sending the lines of a piece
 abbrev pub IsPieceEnd : Status → Type 0
-IsPieceEnd (Unreachable worker failures) = Unit {0}
+IsPieceEnd (Unreachable worker failures) = IsFirstFailure worker failures
 IsPieceEnd NoMemory = Unit {0}
 IsPieceEnd (Unbuilt (Byte at)) = Unit {0}
 IsPieceEnd _ = ⊥
@@ -61,7 +71,7 @@ IsPieceEnd _ = ⊥
 -- reading a file and sending its lines
 abbrev pub IsShippingEnd : ℕ → ℕ → Status → Type 0
 IsShippingEnd before now FolderFault = Rose before now
-IsShippingEnd before now (Unreachable worker failures) = Unit {0}
+IsShippingEnd before now (Unreachable worker failures) = IsFirstFailure worker failures
 IsShippingEnd before now NoMemory = Unit {0}
 IsShippingEnd before now (Unbuilt (Byte at)) = Unit {0}
 IsShippingEnd before now (Unbuilt Life) = Unit {0}
@@ -71,6 +81,7 @@ IsShippingEnd before now _ = ⊥
 abbrev pub IsRunEnd : Status → Type 0
 IsRunEnd Done = ⊥
 IsRunEnd OutFault = ⊥
+IsRunEnd (Unreachable worker failures) = IsFirstFailure worker failures
 IsRunEnd _ = Unit {0}
 
 -- settings of another form end the run so, where nothing else went wrong before
@@ -99,3 +110,11 @@ RefusesArea DiskFault = Unit {0}
 RefusesArea (Unbuilt Settings) = Unit {0}
 RefusesArea (RegistryBad A at) = Unit {0}
 RefusesArea _ = ⊥
+
+-- a refusal before the run has begun
+abbrev pub IsRefusal : Status → Type 0
+IsRefusal Usage = Unit {0}
+IsRefusal SourceFault = Unit {0}
+IsRefusal (RegistryBad area at) = Unit {0}
+IsRefusal (Unbuilt Settings) = Unit {0}
+IsRefusal _ = ⊥

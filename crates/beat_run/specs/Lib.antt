@@ -19,4 +19,5 @@ pub mod Shipping
 pub mod Standing
 pub mod Stored
 pub mod Talking
+pub mod Unbuilt
 pub mod Writing

@@ -1,6 +1,6 @@
 -- The row that a run notes for the file of one path: up to its offset, what was read of the file are lines whose
 -- payloads are acknowledged, or that have none (Filebeat reference, filestream input; this project's profile).
-use Rattle.std.specs.Prelude.{◌≡◌, ◌≢◌, ◌⊎◌, ℕ, List, ◌++◌, length, All, Option, Some, None, IfSome}
+use Rattle.std.specs.Prelude.{◌≡◌, ◌≢◌, ◌⊎◌, ℕ, List, ◌++◌, length, All, Option, Some, None, IfSome, Result, Ok, Err}
 use Rattle.wire_base.specs.declared.row.Row.{Row}
 use Rattle.outside.specs.declared.history.Look.{Look}
 use Rattle.outside.specs.declared.history.Shown.{Shown}
@@ -13,6 +13,8 @@ use Rattle.beat_run.specs.Followed.{HasEndLook, IsFolderOf, IsGone, IsPassedBy, 
 use Rattle.beat_run.specs.Keys.{path_row}
 use Rattle.beat_run.specs.Payloads.{AreLines}
 use Rattle.beat_run.specs.Reading.{bytes_read}
+use Rattle.beat_run.specs.declared.status.Status.{Status}
+use Rattle.beat_run.specs.Unbuilt.{StopsFor, StopsUnopened}
 use Rattle.beat_run.specs.Standing.{AreAcknowledged}
 
 -- the bytes up to the offset are lines whose payloads are acknowledged, or that have none
@@ -58,13 +60,19 @@ pub record IsGoneEnding (path : List ℕ) (ending : Ending) : Type 0 where
   pub shipped : ending.shipped ≡ 0
   pub dropped : ending.dropped ≡ 0
 
--- no file was opened, and there is no row; or one was opened and closed, and its row covers what was read
-pub record IsNoted (form : Form) (told : FolderHistory) (outcomes : Option (List Outcome)) (row : Option Row) (after : Option FolderHistory) : Type 0 where
+-- no file was opened, there is no row, and that is so; or one was opened and closed, its row covers what was read, and the
+-- looks at it are so
+pub record IsNoted (form : Form) (told : FolderHistory) (outcomes : Option (List Outcome)) (row : Option Row) (Unopened : Type 0) (Stops : File → List Look → Type 0) (after : Option FolderHistory) : Type 0 where
   pub root : List ℕ
   pub shown : List Shown
   pub cases :
-      (IsUnopened told after × (row ≡ None))
-      ⊎ IsRead form.path (with_event told (Listed root 1 shown)) shown (NotesCovered form outcomes row) after
+      (IsUnopened told after × (row ≡ None) × Unopened)
+      ⊎ IsRead form.path (with_event told (Listed root 1 shown)) shown (λ file looks. NotesCovered form outcomes row file looks × Stops file looks) after
+
+-- by the answer of following the path
+abbrev pub IsNotedBy : Form → FolderHistory → Option (List Outcome) → Option Row → Option FolderHistory → Result (Unit {0}) Status → Type 0
+IsNotedBy form told outcomes row after (Ok done) = IsNoted form told outcomes row (Unit {0}) (λ file looks. Unit {0}) after
+IsNotedBy form told outcomes row after (Err status) = IsNoted form told outcomes row (StopsUnopened status) (StopsFor status) after
 
 -- the folder of the path was listed, and the path was passed by, was gone, or was opened and read to its end
 pub record IsDrained (form : Form) (told : FolderHistory) (outcomes : Option (List Outcome)) (ending : Ending) (after : Option FolderHistory) : Type 0 where

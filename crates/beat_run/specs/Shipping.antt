@@ -9,11 +9,13 @@ use Rattle.outside.specs.Talks.{Talk}
 use Rattle.beat_run.specs.declared.batch.TheConstants.{EVENTS}
 use Rattle.beat_run.specs.declared.lines.TheConstants.{LINE}
 use Rattle.beat_run.specs.declared.shipment.Shipment.{Shipment}
+use Rattle.beat_run.specs.declared.status.Status.{Status}
 use Rattle.beat_run.specs.Batches.{HoldsLines}
 use Rattle.beat_run.specs.Followed.{HasEndLook}
 use Rattle.beat_run.specs.Lives.{IsFrontOfLife}
 use Rattle.beat_run.specs.Payloads.{AreLines}
 use Rattle.beat_run.specs.Reading.{bytes_read}
+use Rattle.beat_run.specs.Unbuilt.{StopsFor}
 use Rattle.beat_run.specs.Serving.{HasSettled, HasServed}
 
 -- within the ranges: the places, the longest line, and the counts of lines, each of which has at least one byte
@@ -73,6 +75,11 @@ pub record IsSeen (start : TailHistory) (Seen : File → List Look → Type 0) (
 -- what was read of the file is covered up to the offset
 abbrev pub IsFileCovered : {L : Type 0} → (L → Option Talk) → List ℕ → Option L → ℕ → File → List Look → Type 0
 IsFileCovered told path link offset file looks = IsCovered told path link offset (bytes_read file looks)
+
+-- and the reading stopped for the cause of its status
+pub record IsFileStopped {L : Type 0} (told : L → Option Talk) (path : List ℕ) (link : Option L) (offset : ℕ) (status : Status) (file : File) (looks : List Look) : Type 0 where
+  pub covered : IsFileCovered told path link offset file looks
+  pub stops : StopsFor status file looks
 
 -- it was read to its end, all its lines are covered, and so many of them were shipped
 pub record IsFileWhole {L : Type 0} (told : L → Option Talk) (path : List ℕ) (link : Option L) (shipment : Shipment) (file : File) (looks : List Look) : Type 0 where

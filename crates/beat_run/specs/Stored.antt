@@ -1,8 +1,10 @@
 -- The row that area A holds once the file was opened (Filebeat reference, filestream input, registry; this project's
 -- profile).
-use Rattle.std.specs.Prelude.{◌≡◌, ◌⊎◌, List, ◌++◌, ℕ, take, Option, Some, IfSome}
+use Rattle.std.specs.Prelude.{◌≡◌, ◌⊎◌, List, ◌++◌, ℕ, take, Option, Some, None, IfSome}
 use Rattle.outside.specs.Counts.{Rose}
 use Rattle.outside.specs.declared.history.Shown.{Shown}
+use Rattle.outside.specs.declared.history.Look.{Look}
+use Rattle.outside.specs.Files.{File}
 use Rattle.outside.specs.Folders.{FolderHistory, with_event, Listed}
 use Rattle.outside.specs.Wires.{Outcome}
 use Rattle.wire_base.specs.declared.row.Row.{Row}
@@ -15,6 +17,7 @@ use Rattle.beat_run.specs.Area.{area_bytes}
 use Rattle.beat_run.specs.Form.{IsForm}
 use Rattle.beat_run.specs.Followed.{IsRead, IsUnopened}
 use Rattle.beat_run.specs.Report.{report_bytes}
+use Rattle.beat_run.specs.Unbuilt.{StopsFor, StopsUnopened}
 use Rattle.beat_run.specs.Noted.{NotesCovered, IsDrained}
 
 -- the form that the settings have, as far as the source tells
@@ -22,13 +25,13 @@ abbrev pub IsNamed : Option (List ℕ) → Form → Type 0
 IsNamed settings form = IfSome settings (λ bytes. IsForm (take LIMIT bytes) form)
 
 -- the area holds the row of the file that was opened, and its offset covers what was read
-pub record StoresCovered (settings : Option (List ℕ)) (told : FolderHistory) (outcomes : Option (List Outcome)) (after : Option FolderHistory) (old new : Option (List ℕ)) : Type 0 where
+pub record StoresCovered (settings : Option (List ℕ)) (told : FolderHistory) (outcomes : Option (List Outcome)) (Stops : File → List Look → Type 0) (after : Option FolderHistory) (old new : Option (List ℕ)) : Type 0 where
   pub form : Form
   pub named : IsNamed settings form
   pub root : List ℕ
   pub shown : List Shown
   pub row : Option Row
-  pub read : IsRead form.path (with_event told (Listed root 1 shown)) shown (NotesCovered form outcomes row) after
+  pub read : IsRead form.path (with_event told (Listed root 1 shown)) shown (λ file looks. NotesCovered form outcomes row file looks × Stops file looks) after
   pub stored : IfSome old (λ _. new ≡ Some (area_bytes row))
 
 -- the ends at which the area holds no row of it: the area failed, or memory was wanting and the area is as it was; a fault
@@ -39,10 +42,19 @@ MissesRow before now old new NoMemory = new ≡ old
 MissesRow before now old new OutFault = Rose before now ⊎ (new ≡ old)
 MissesRow before now old new _ = ⊥
 
--- no file was opened; or the area holds its row; or the row is missing
-abbrev pub IsStored : Option (List ℕ) → FolderHistory → Option (List Outcome) → Option FolderHistory → Option (List ℕ) → Option (List ℕ) → Type 0 → Type 0
-IsStored settings told outcomes after old new Missing =
-    IsUnopened told after ⊎ (StoresCovered settings told outcomes after old new ⊎ Missing)
+-- the area is as it was, or was started without a row, or has counted a fault
+abbrev pub HoldsNoRow : ℕ → ℕ → Option (List ℕ) → Option (List ℕ) → Type 0
+HoldsNoRow before now old new = (new ≡ old) ⊎ (IfSome old (λ _. new ≡ Some (area_bytes None)) ⊎ Rose before now)
+
+-- no file was opened, and that is so; or the area holds its row, and the looks at the file are so; or the row is missing
+abbrev pub IsStored : Option (List ℕ) → FolderHistory → Option (List Outcome) → Option FolderHistory → Option (List ℕ) → Option (List ℕ) → Type 0 → Type 0 → (File → List Look → Type 0) → Type 0
+IsStored settings told outcomes after old new Missing Unopened Stops =
+    (IsUnopened told after × Unopened) ⊎ (StoresCovered settings told outcomes Stops after old new ⊎ Missing)
+
+-- by the status, and by the area's count of faults before and now
+abbrev pub IsStoredBy : Option (List ℕ) → FolderHistory → Option (List Outcome) → Option FolderHistory → ℕ → ℕ → Option (List ℕ) → Option (List ℕ) → Status → Type 0
+IsStoredBy settings told outcomes after before now old new status =
+    IsStored settings told outcomes after old new (MissesRow before now old new status) (StopsUnopened status × HoldsNoRow before now old new) (StopsFor status)
 
 -- the path that the settings name was followed to its end, and the area holds the row of what was found
 pub record IsEnded (settings : Option (List ℕ)) (told : FolderHistory) (outcomes : Option (List Outcome)) (after : Option FolderHistory) (old new : Option (List ℕ)) (ending : Ending) : Type 0 where

@@ -4,7 +4,8 @@ ghost use Rattle.beat_run.specs.Ends.{IsReadingEnd, IsShippingEnd};
 ghost use Rattle.beat_run.specs.Serving.{HasSettled};
 ghost use Rattle.outside.specs.Wires.{Outcome};
 ghost use Rattle.beat_run.specs.Standing.{IsJoined};
-ghost use Rattle.beat_run.specs.Shipping.{IsFileCovered, IsFileWhole, IsSeen, IsUnused};
+ghost use Rattle.beat_run.specs.Shipping.{IsFileStopped, IsFileWhole, IsSeen, IsUnused};
+ghost use Rattle.beat_run.specs.Unbuilt.{StopsBy};
 ghost use Rattle.beat_run.specs.Reading.{AddsBytes, ReadsPiece};
 
 use crate::form::Form;
@@ -25,6 +26,7 @@ pub fn read_piece<T: Tail>(tail: &mut T, position: u64, piece: &mut [u8]) -> Res
     ensures in_range { IfOk result (λ count. 0 < count → IsPlace (position + count)) }
     ensures read { IfOk result (λ count. ReadsPiece (T.told tail.old) position piece.new count (T.told tail.new)) }
     ensures bytes { IfSome (T.told tail.old) (λ told. MatchResult result (λ count. AddsBytes told position (take count piece.new) (T.told tail.new)) (λ _. AddsBytes told position [] (T.told tail.new))) }
+    ensures stops { IfErr result (StopsBy position (T.told tail.new)) }
     ensures ends { IfErr result (IsReadingEnd (T.faults tail.old) (T.faults tail.new)) }
     ensures faults_never_fall { T.faults tail.old ≤ T.faults tail.new }
 {
@@ -54,7 +56,7 @@ pub fn ship_file<X: Wait, T: Tail, W: Wire, K: Clock>(
     requires { IsUnused shipment.old }
     ensures seen { IfSome (T.told tail.old) (λ start. start.looks ≡ [] → HasSettled W.Link.told worker.old.link [] →
         MatchResult result (λ _. IsSeen start (IsFileWhole W.Link.told form.now.path worker.new.link shipment.new) (T.told tail.new))
-        (λ _. IsSeen start (IsFileCovered W.Link.told form.now.path worker.new.link shipment.new.offset) (T.told tail.new))) }
+        (λ status. IsSeen start (IsFileStopped W.Link.told form.now.path worker.new.link shipment.new.offset status) (T.told tail.new))) }
     ensures joined { (start : Option (List Outcome)) (links : ℕ) → IsJoined W.Link.told start links (W.outcomes wire.old) (W.open_links wire.old) worker.old.link → IsJoined W.Link.told start links (W.outcomes wire.new) (W.open_links wire.new) worker.new.link }
     ensures ends { IfErr result (IsShippingEnd (T.faults tail.old) (T.faults tail.new)) }
     ensures faults_never_fall { T.faults tail.old ≤ T.faults tail.new }

@@ -1,11 +1,12 @@
 ghost use Rattle.std.specs.Prelude.{Some, ℕ, ◌<◌, length, ◌≡◌, ◌↔◌, ◌≤◌, take, IfErr, IfOk, IfSome, IsErrOf, MatchResult, OnOk};
 ghost use Rattle.outside.specs.Counts.{IsAtEnd, Rose};
+ghost use Rattle.outside.specs.DiskImages.{Only};
 ghost use Rattle.beat_run.specs.Area.{area_bytes};
 ghost use Rattle.beat_run.specs.Command.{IsNoCommand};
-ghost use Rattle.beat_run.specs.Ends.{RefusesArea, IsRunEnd, IsShippingEnd, RefusesForm};
-ghost use Rattle.beat_run.specs.Noted.{IsDrained, IsEmptyEnding, IsNoted};
+ghost use Rattle.beat_run.specs.Ends.{IsRefusal, RefusesArea, IsRunEnd, IsShippingEnd, RefusesForm};
+ghost use Rattle.beat_run.specs.Noted.{IsDrained, IsEmptyEnding, IsNotedBy};
 ghost use Rattle.beat_run.specs.Standing.{GoesOn};
-ghost use Rattle.beat_run.specs.Stored.{IsEnded, IsStored, MissesRow};
+ghost use Rattle.beat_run.specs.Stored.{HoldsNoRow, IsEnded, IsStored, IsStoredBy};
 ghost use Rattle.beat_run.specs.Form.{IsNoForm, IsPlainPath};
 ghost use Rattle.beat_run.specs.Keys.{path_key, path_row};
 ghost use Rattle.beat_run.specs.declared.settings.TheConstants.{LIMIT};
@@ -42,9 +43,14 @@ pub fn run<X: Wait, F: Folder, W: Wire, D: Disk, K: Clock, R: Source>(
     ensures done { IfOk result (λ ending. IfSome (F.told folder.old) (λ told. IsEnded (R.left settings.old) told (W.outcomes wire.new) (F.told folder.new) (D.contents area.old) (D.contents area.new) ending)) }
     ensures registry_bad { (area' : Which) (at : ℕ) → IsErrOf result (Status.RegistryBad area' at) → (area' ≡ Which.A) × (at ≡ 0) × IfSome (D.contents area.old) (λ bytes. 1 < length bytes) }
     ensures area_refused { IfSome (D.contents area.old) (λ bytes. 1 < length bytes → MatchResult result (λ _. ⊥) RefusesArea) }
-    ensures row { IfSome (F.told folder.old) (λ told. IsStored (R.left settings.old) told (W.outcomes wire.new) (F.told folder.new) (D.contents area.old) (D.contents area.new)
-        (MatchResult result (λ _. ⊥) (MissesRow (D.faults area.old) (D.faults area.new) (D.contents area.old) (D.contents area.new)))) }
+    ensures row { IfSome (F.told folder.old) (λ told. MatchResult result
+        (λ _. IsStored (R.left settings.old) told (W.outcomes wire.new) (F.told folder.new) (D.contents area.old) (D.contents area.new) ⊥ (HoldsNoRow (D.faults area.old) (D.faults area.new) (D.contents area.old) (D.contents area.new)) (λ file looks. Unit {0}))
+        (IsStoredBy (R.left settings.old) told (W.outcomes wire.new) (F.told folder.new) (D.faults area.old) (D.faults area.new) (D.contents area.old) (D.contents area.new))) }
     ensures stored { IfOk result (λ ending. IfSome (D.contents area.old) (λ _. D.contents area.new ≡ Some (area_bytes ending.row))) }
+    ensures durable { IfOk result (λ _. Only (D.contents area.new) (D.images area.new)) }
+    ensures area_kept { IfErr result (λ status. IsRefusal status → D.contents area.new ≡ D.contents area.old) }
+    ensures folder_kept { IfErr result (λ status. IsRefusal status → folder.new ≡ folder.old) }
+    ensures wire_kept { IfErr result (λ status. IsRefusal status → wire.new ≡ wire.old) }
     ensures wire_goes_on { GoesOn (W.outcomes wire.old) (W.outcomes wire.new) }
     ensures links_finished { ¬ (IsAtEnd (W.open_links wire.old)) → W.open_links wire.new ≡ W.open_links wire.old }
     ensures tails_closed { ¬ (IsAtEnd (F.open_tails folder.old)) → F.open_tails folder.new ≡ F.open_tails folder.old }
@@ -56,8 +62,14 @@ pub fn run<X: Wait, F: Folder, W: Wire, D: Disk, K: Clock, R: Source>(
     if settings_file(words).is_none() {
         return Err(Status::Usage);
     }
-    let form = read_settings(alloc, settings)?;
-    check_blank(area)?;
+    let form = match read_settings(alloc, settings) {
+        Ok(form) => form,
+        Err(status) => return Err(status),
+    };
+    match check_blank(area) {
+        Ok(()) => {}
+        Err(status) => return Err(status),
+    }
     let mut ending = Ending {
         row: None,
         gone: None,
@@ -88,7 +100,7 @@ fn follow<X: Wait, F: Folder, W: Wire, K: Clock>(
     requires path { IsPlainPath form.now.path }
     requires unnoted { IsEmptyEnding ending.old }
     ensures drained { OnOk result (IfSome (F.told folder.old) (λ told. IsDrained form.now told (W.outcomes wire.new) ending.new (F.told folder.new))) }
-    ensures noted { IfSome (F.told folder.old) (λ told. IsNoted form.now told (W.outcomes wire.new) ending.new.row (F.told folder.new)) }
+    ensures noted { IfSome (F.told folder.old) (λ told. IsNotedBy form.now told (W.outcomes wire.new) ending.new.row (F.told folder.new) result) }
     ensures wire_goes_on { GoesOn (W.outcomes wire.old) (W.outcomes wire.new) }
     ensures links_finished { ¬ (IsAtEnd (W.open_links wire.old)) → W.open_links wire.new ≡ W.open_links wire.old }
     ensures tails_closed { ¬ (IsAtEnd (F.open_tails folder.old)) → F.open_tails folder.new ≡ F.open_tails folder.old }
@@ -96,14 +108,20 @@ fn follow<X: Wait, F: Folder, W: Wire, K: Clock>(
     ensures faults_never_fall { F.faults folder.old ≤ F.faults folder.new }
 {
     // Made first, so that none of its memory is wanted once lines were acknowledged.
-    let row = row_of(alloc, form, 0)?;
-    match find(alloc, folder, &form.path)? {
-        Found::NotListed => Ok(()),
-        Found::Gone => {
-            ending.gone = Some(form.path.copy(alloc)?);
+    let Ok(row) = row_of(alloc, form, 0) else {
+        return Err(Status::NoMemory);
+    };
+    match find(alloc, folder, &form.path) {
+        Err(status) => Err(status),
+        Ok(Found::NotListed) => Ok(()),
+        Ok(Found::Gone) => {
+            let Ok(path) = form.path.copy(alloc) else {
+                return Err(Status::NoMemory);
+            };
+            ending.gone = Some(path);
             Ok(())
         }
-        Found::Tail(mut tail) => {
+        Ok(Found::Tail(mut tail)) => {
             let mut worker = Worker::new();
             let mut shipment = Shipment::new(alloc);
             let met = ship_file(

@@ -1,7 +1,8 @@
 ghost use Rattle.std.specs.Prelude.{◌≡◌, ◌≢◌, ℕ, ◌+◌, ◌++◌, ◌∷◌, [], ◌<◌, ◌≤◌, List, All, Option, length, vec_len, IfErr, OnOk, MatchResult};
 ghost use Rattle.wire_base.specs.Ranges.{IsMoment};
-ghost use Rattle.beat_run.specs.Ends.{IsPieceEnd, IsSendingEnd};
+ghost use Rattle.beat_run.specs.Ends.{IsLineEnd, IsPieceEnd, IsSendingEnd};
 ghost use Rattle.beat_run.specs.Batches.{HoldsPayloads};
+ghost use Rattle.beat_run.specs.Unbuilt.{StopsAt};
 ghost use Rattle.beat_run.specs.Lines.{IsPlainByte};
 ghost use Rattle.beat_run.specs.Serving.{HasServed, HasSettled};
 ghost use Rattle.outside.specs.Wires.{Outcome};
@@ -135,6 +136,7 @@ impl Shipment {
         ensures sound { OnOk result (IsSound self.new) }
         ensures placed { OnOk result (self.new.offset + self.new.batch.size + vec_len self.new.rest ≡ self.old.offset + self.old.batch.size + vec_len self.old.rest + length piece.now) }
         ensures joined { (start : Option (List Outcome)) (links : ℕ) → IsJoined W.Link.told start links (W.outcomes wire.old) (W.open_links wire.old) worker.old.link → IsJoined W.Link.told start links (W.outcomes wire.new) (W.open_links wire.new) worker.new.link }
+        ensures stops { (bytes : List ℕ) → IsShipped W.Link.told form.now.path worker.old.link self.old bytes → IfErr result (StopsAt (bytes ++ piece.now)) }
         ensures ends { IfErr result IsPieceEnd }
     {
         let now = clock.now();
@@ -191,7 +193,7 @@ impl Shipment {
         ensures placed { OnOk result (self.new.offset + self.new.batch.size + vec_len self.new.rest
             ≡ self.old.offset + self.old.batch.size + vec_len self.old.rest + length content.now + 1) }
         ensures joined { (start : Option (List Outcome)) (links : ℕ) → IsJoined W.Link.told start links (W.outcomes wire.old) (W.open_links wire.old) worker.old.link → IsJoined W.Link.told start links (W.outcomes wire.new) (W.open_links wire.new) worker.new.link }
-        ensures ends { IfErr result IsPieceEnd }
+        ensures ends { IfErr result IsLineEnd }
     {
         self.make_room(rt, worker, wire, &form.host, clock)?;
         if self.rest.extend_from_slice(content).is_err() {

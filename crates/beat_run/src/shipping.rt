@@ -2,11 +2,12 @@ ghost use Rattle.std.specs.Prelude.{◌≡◌, ◌⊎◌, ℕ, ◌<◌, ◌≤�
 ghost use Rattle.outside.specs.Counts.{IsAtEnd, Rose};
 ghost use Rattle.beat_run.specs.Area.{area_bytes};
 ghost use Rattle.wire_base.specs.declared.row.Row.{Row};
+ghost use Rattle.outside.specs.DiskImages.{Only};
 ghost use Rattle.beat_run.specs.Command.{IsNoCommand};
-ghost use Rattle.beat_run.specs.Ends.{IsPrintingEnd, RefusesArea, RefusesForm};
+ghost use Rattle.beat_run.specs.Ends.{IsPrintingEnd, IsRefusal, RefusesArea, RefusesForm};
 ghost use Rattle.beat_run.specs.Report.{IsPrinted, report_bytes};
 ghost use Rattle.beat_run.specs.Standing.{GoesOn, OnFirst};
-ghost use Rattle.beat_run.specs.Stored.{IsDone, IsStored, MissesRow};
+ghost use Rattle.beat_run.specs.Stored.{IsDone, IsStoredBy};
 ghost use Rattle.beat_run.specs.Form.{IsNoForm};
 ghost use Rattle.beat_run.specs.declared.settings.TheConstants.{LIMIT};
 
@@ -56,8 +57,12 @@ where
     ensures registry_bad_only_where_the_area_has_bytes { (area : Which) (at : ℕ) → result ≡ Status.RegistryBad area at → (area ≡ Which.A) × (at ≡ 0) × IfSome (D.contents area_a.old) (λ bytes. 1 < length bytes) }
     ensures area_with_bytes_is_refused { IfSome (D.contents area_a.old) (λ bytes. 1 < length bytes → RefusesArea result) }
     ensures stored_row_is_covered { IfSome (F.told folder.old) (λ told. OnFirst W.outcomes wires.old wires.new (λ _ outcomes.
-        IsStored (R.left settings.old) told outcomes (F.told folder.new) (D.contents area_a.old) (D.contents area_a.new)
-        (MissesRow (D.faults area_a.old) (D.faults area_a.new) (D.contents area_a.old) (D.contents area_a.new) result))) }
+        IsStoredBy (R.left settings.old) told outcomes (F.told folder.new) (D.faults area_a.old) (D.faults area_a.new) (D.contents area_a.old) (D.contents area_a.new) result)) }
+    ensures row_is_durable { result ≡ Status.Done → Only (D.contents area_a.new) (D.images area_a.new) }
+    ensures area_kept_on_refusal { IsRefusal result → D.contents area_a.new ≡ D.contents area_a.old }
+    ensures folder_kept_on_refusal { IsRefusal result → folder.new ≡ folder.old }
+    ensures wires_kept_on_refusal { IsRefusal result → wires.new.items ≡ wires.old.items }
+    ensures first_failure_of_the_only_worker { (worker failures : ℕ) → result ≡ Status.Unreachable worker failures → (worker ≡ 0) × (failures ≡ 1) }
     ensures wire_goes_on { OnFirst W.outcomes wires.old wires.new GoesOn }
     ensures links_finished { OnFirst W.open_links wires.old wires.new (λ old new. ¬ (IsAtEnd old) → new ≡ old) }
     ensures as_many_wires { vec_len wires.new ≡ vec_len wires.old }

@@ -1,5 +1,5 @@
-use Rattle.std.proofs.Common.{rules}
-use Rattle.beat_run.proofs.PieceReads.{asking_adds, reading_adds, reading_fails}
+use Rattle.std.proofs.Common.{arith, rules}
+use Rattle.beat_run.proofs.PieceReads.{asking_adds, reading_adds, reading_fails, shortened}
 use Rattle.beat_run.proofs.file.read_piece.Goals as goal
 
 pub returns-then-length-position-clause-bytes : goal.returns-then-length-position-clause-bytes
@@ -12,3 +12,6 @@ returns-in-Ok-read_at-clause-bytes g c =
 pub returns-in-Err-clause-bytes : goal.returns-in-Err-clause-bytes
 returns-in-Err-clause-bytes g c =
     reading_fails _ _ _ _ _ _ _ (rw c.in-Ok.is at c.length.ensures.told) (rw c.in-Err.is at c.read_at.ensures.told)
+
+pub returns-then-length-position-clause-stops : goal.returns-then-length-position-clause-stops
+returns-then-length-position-clause-stops g c = shortened _ _ _ _ (omega (arith, c.if-length-position.true)) (rw c.in-Ok.is at c.length.ensures.told)

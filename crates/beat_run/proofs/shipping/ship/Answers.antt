@@ -7,7 +7,7 @@ use Rattle.outside.specs.Wires.{Outcome}
 use Rattle.beat_run.specs.declared.report.Ending.{Ending}
 use Rattle.beat_run.specs.Report.{report_bytes}
 use Rattle.beat_run.specs.Standing.{OnFirst}
-use Rattle.beat_run.specs.Stored.{IsDone, IsEnded, IsStored, MissesRow}
+use Rattle.beat_run.specs.Stored.{IsDone, IsEnded, IsStoredBy}
 use Rattle.beat_run.proofs.Standings.{first_is, first_set, on_first}
 use Rattle.beat_run.proofs.Storings.{done_stored, printed_stored}
 use Rattle.beat_run.specs.declared.settings.TheConstants.{LIMIT}
@@ -32,14 +32,14 @@ first_covered member old new first last (Some told) P was is holds = on_first me
 
 pub returns-in-Ok-clause-stored_row_is_covered : goal.returns-in-Ok-clause-stored_row_is_covered
 returns-in-Ok-clause-stored_row_is_covered g c =
-    first_covered g.W.Wire.outcomes c.args.wires.now (with_item c.args.wires.now 0 c.run.new.wire) c.index_mut.result.now c.run.new.wire _ (λ history outcomes. IsStored (g.R.Source.left c.args.settings.now) history outcomes (g.F.Folder.told c.run.new.folder) (g.D.Disk.contents c.args.area_a.now) (g.D.Disk.contents c.run.new.area)
-    (MissesRow (g.D.Disk.faults c.args.area_a.now) (g.D.Disk.faults c.run.new.area) (g.D.Disk.contents c.args.area_a.now) (g.D.Disk.contents c.run.new.area) c.print_report.result)) (first_is c.args.wires.now.items _ (omega (arith, c.requires)) c.index_mut.ensures.value) (first_set c.args.wires.now c.run.new.wire (omega (arith, c.requires)))
-    (done_stored _ _ _ _ _ _ (MissesRow (g.D.Disk.faults c.args.area_a.now) (g.D.Disk.faults c.run.new.area) (g.D.Disk.contents c.args.area_a.now) (g.D.Disk.contents c.run.new.area) c.print_report.result) (rw c.in-Ok.is at c.run.ensures.row))
+    first_covered g.W.Wire.outcomes c.args.wires.now (with_item c.args.wires.now 0 c.run.new.wire) c.index_mut.result.now c.run.new.wire _ (λ history outcomes. IsStoredBy (g.R.Source.left c.args.settings.now) history outcomes (g.F.Folder.told c.run.new.folder) (g.D.Disk.faults c.args.area_a.now) (g.D.Disk.faults c.run.new.area)
+    (g.D.Disk.contents c.args.area_a.now) (g.D.Disk.contents c.run.new.area) c.print_report.result) (first_is c.args.wires.now.items _ (omega (arith, c.requires)) c.index_mut.ensures.value) (first_set c.args.wires.now c.run.new.wire (omega (arith, c.requires)))
+    (done_stored _ _ _ _ _ _ _ _ _ _ c.print_report.result c.print_report.ensures.ends (rw c.in-Ok.is at c.run.ensures.row))
 
 pub returns-in-Err-clause-stored_row_is_covered : goal.returns-in-Err-clause-stored_row_is_covered
 returns-in-Err-clause-stored_row_is_covered g c =
-    first_covered g.W.Wire.outcomes c.args.wires.now (with_item c.args.wires.now 0 c.run.new.wire) c.index_mut.result.now c.run.new.wire _ (λ history outcomes. IsStored (g.R.Source.left c.args.settings.now) history outcomes (g.F.Folder.told c.run.new.folder) (g.D.Disk.contents c.args.area_a.now) (g.D.Disk.contents c.run.new.area)
-    (MissesRow (g.D.Disk.faults c.args.area_a.now) (g.D.Disk.faults c.run.new.area) (g.D.Disk.contents c.args.area_a.now) (g.D.Disk.contents c.run.new.area) c.print_status.result)) (first_is c.args.wires.now.items _ (omega (arith, c.requires)) c.index_mut.ensures.value) (first_set c.args.wires.now c.run.new.wire (omega (arith, c.requires)))
+    first_covered g.W.Wire.outcomes c.args.wires.now (with_item c.args.wires.now 0 c.run.new.wire) c.index_mut.result.now c.run.new.wire _ (λ history outcomes. IsStoredBy (g.R.Source.left c.args.settings.now) history outcomes (g.F.Folder.told c.run.new.folder) (g.D.Disk.faults c.args.area_a.now) (g.D.Disk.faults c.run.new.area)
+    (g.D.Disk.contents c.args.area_a.now) (g.D.Disk.contents c.run.new.area) c.print_status.result) (first_is c.args.wires.now.items _ (omega (arith, c.requires)) c.index_mut.ensures.value) (first_set c.args.wires.now c.run.new.wire (omega (arith, c.requires)))
     (printed_stored _ _ _ _ _ _ _ _ _ c.in-Err.status c.print_status.result c.print_status.ensures.printed (rw c.in-Err.is at c.run.ensures.row))
 
 pub returns-in-Ok-clause-links_finished : goal.returns-in-Ok-clause-links_finished

@@ -1,5 +1,6 @@
 use Rattle.std.proofs.Common.{rules, arith}
-use Rattle.beat_run.proofs.Shipments.{covers_now, placed_still, taking_goes_on, taking_ends, taking_covers}
+use Rattle.beat_run.proofs.Shipments.{covers_now, placed_still, taking_goes_on, taking_ends, taking_covers, unsendable}
+use Rattle.beat_run.proofs.Stoppings.{line_stops, sending_stops}
 use Rattle.beat_run.proofs.shipment.Shipment.take.Goals as goal
 
 pub loop-used-preserved : goal.loop-used-preserved
@@ -48,3 +49,14 @@ returns-in-Ok-flush-clause-joined g c = λ start links is. c.flush.ensures.joine
 
 pub returns-in-Err-flush-clause-joined : goal.returns-in-Err-flush-clause-joined
 returns-in-Err-flush-clause-joined g c = λ start links is. c.flush.ensures.joined start links (c.loop-used.invariant.joined start links is)
+
+pub returns-in-Err-clause-stops : goal.returns-in-Err-clause-stops
+returns-in-Err-clause-stops g c = λ bytes is. line_stops _ c.in-Err.status (rw c.in-Err.is at c.complete.ensures.ends)
+
+pub returns-in-Ok-flush-clause-stops : goal.returns-in-Ok-flush-clause-stops
+returns-in-Ok-flush-clause-stops g c = λ bytes is.
+    unsendable _ _ _ c.loop-used.self bytes c.args.piece.now c.loop-used.left.now c.in-Excluded.place _ (c.loop-used.invariant.told bytes is)
+    c.in-Excluded.ensures.0 c.in-Excluded.ensures.2 (rw c.len.ensures at c.in-Excluded.ensures.3) (search rules)
+
+pub returns-in-Err-flush-clause-stops : goal.returns-in-Err-flush-clause-stops
+returns-in-Err-flush-clause-stops g c = λ bytes is. sending_stops _ c.in-Err-flush.status (rw c.in-Err-flush.is at c.flush.ensures.ends)

@@ -1,0 +1,60 @@
+-- Where a run meets what is not built yet: a byte of the file that cannot be sent, or a file that became shorter than what
+-- was read of it (this project's profile).
+use Rattle.std.specs.Prelude.{◌≡◌, ◌≢◌, ◌⊎◌, ℕ, ◌+◌, ◌<◌, List, [], ◌∷◌, ◌++◌, length, All, Option, IfSome}
+use Rattle.outside.specs.declared.history.Look.{Look}
+use Rattle.outside.specs.declared.history.Question.TheVariants.{Length}
+use Rattle.outside.specs.declared.history.Sight.{Sight}
+use Rattle.outside.specs.Files.{File}
+use Rattle.outside.specs.Tails.{TailHistory}
+use Rattle.beat_run.specs.declared.lines.TheConstants.{LINE}
+use Rattle.beat_run.specs.declared.status.Lack.TheVariants.{Settings, Byte, Life}
+use Rattle.beat_run.specs.declared.status.Status.{Status}
+use Rattle.beat_run.specs.declared.status.Status.TheVariants.{Unbuilt}
+use Rattle.beat_run.specs.Lines.{IsPlainByte}
+use Rattle.beat_run.specs.Payloads.{lines_bytes}
+use Rattle.beat_run.specs.Reading.{bytes_read}
+
+-- behind these bytes of its line: one byte too many, the line feed of an empty line, or a byte that needs an escape
+abbrev pub CannotBeSent : List ℕ → ℕ → Type 0
+CannotBeSent line byte =
+    ((length line ≡ LINE) × (byte ≢ 10)) ⊎ (((length line ≡ 0) × (byte ≡ 10)) ⊎ ((¬ (IsPlainByte byte)) × (byte ≢ 10)))
+
+-- the byte at this place cannot be sent; whole lines and a part of its line stand before it
+pub record IsUnsendableAt (bytes : List ℕ) (at : ℕ) : Type 0 where
+  pub contents : List (List ℕ)
+  pub line : List ℕ
+  pub byte : ℕ
+  pub behind : List ℕ
+  pub spelled : bytes ≡ lines_bytes contents ++ (line ++ byte ∷ behind)
+  pub plain : All (λ b. b ≢ 10) line
+  pub at_is : at ≡ length (lines_bytes contents) + length line
+  pub cannot : CannotBeSent line byte
+
+-- the last look asked the length, which was below the place
+pub record IsShortened (place : ℕ) (looks : List Look) : Type 0 where
+  pub before : List Look
+  pub sight : Sight
+  pub shorter : sight.length < place
+  pub looks_are : looks ≡ before ++ record { question = Length; sight = sight } ∷ []
+
+-- by these bytes, which were read
+abbrev pub StopsAt : List ℕ → Status → Type 0
+StopsAt bytes (Unbuilt (Byte at)) = IsUnsendableAt bytes at
+StopsAt bytes _ = Unit {0}
+
+-- by the looks at the file, where so much of it was read
+abbrev pub StopsBy : ℕ → Option TailHistory → Status → Type 0
+StopsBy place after (Unbuilt Life) = IfSome after (λ history. IsShortened place history.looks)
+StopsBy place after _ = Unit {0}
+
+-- the cause of each of the two
+abbrev pub StopsFor : Status → File → List Look → Type 0
+StopsFor (Unbuilt (Byte at)) file looks = IsUnsendableAt (bytes_read file looks) at
+StopsFor (Unbuilt Life) file looks = IsShortened (length (bytes_read file looks)) looks
+StopsFor _ file looks = Unit {0}
+
+-- neither comes where no file was opened
+abbrev pub StopsUnopened : Status → Type 0
+StopsUnopened (Unbuilt (Byte at)) = ⊥
+StopsUnopened (Unbuilt Life) = ⊥
+StopsUnopened _ = Unit {0}
