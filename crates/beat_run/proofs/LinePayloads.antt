@@ -7,6 +7,7 @@ use Rattle.wire_base.specs.declared.parcel.TheConstants.{MAX_PAYLOAD}
 use Rattle.lumber_frame.specs.declared.frame.Frame.TheVariants.{Json}
 use Rattle.lumber_frame.specs.Frame.{frame_bytes, json_head_bytes}
 use Rattle.lumber_frame.specs.Window.{numbered}
+use Rattle.wire_base.specs.Ranges.{IsMoment}
 use Rattle.event_json.specs.Payload.{payload_of_event}
 use Rattle.beat_run.specs.declared.batch.Batch.{Batch}
 use Rattle.beat_run.specs.Batches.{HoldsPayloads, HoldsLines, behind_payload}
@@ -69,55 +70,57 @@ with_payload-append : (first : Option (List ℕ)) (later others : List (List ℕ
 with_payload-append None later others = refl
 with_payload-append (Some first) later others = refl
 
-pub payloads-snoc : (path : List ℕ) (start : ℕ) (contents payloads : List (List ℕ)) (content : List ℕ) (now : ℕ) →
+pub payloads-snoc : (path : List ℕ) (start : ℕ) (contents payloads : List (List ℕ)) (content : List ℕ) (now : ℕ) → IsMoment (record { 0 = now }) →
     ArePayloads path start contents payloads →
     ArePayloads path start (contents ++ content ∷ []) (behind_payload payloads (payload_of_event path (start + length (lines_bytes contents)) content now))
-payloads-snoc path start [] payloads content now are = record {
+payloads-snoc path start [] payloads content now range are = record {
   now = now;
+  in_range = range;
   later = [];
   are =
       ap (λ (n : ℕ). behind_payload payloads (payload_of_event path n content now)) (omega arith)
       ∙ last_payload payloads (payload_of_event path start content now) are;
   behind = refl;
 }
-payloads-snoc path start (first ∷ contents) payloads content now are =
+payloads-snoc path start (first ∷ contents) payloads content now range are =
     let place : (start + length first + 1) + length (lines_bytes contents) ≡ start + length (lines_bytes (first ∷ contents)) =
     omega (arith, length-append (first ++ 10 ∷ []) (lines_bytes contents), length-append first (10 ∷ [])) in
     let P : ℕ → Type 0 = λ n. ArePayloads path (start + length first + 1) (contents ++ content ∷ []) (behind_payload are.later (payload_of_event path n content now)) in
     record {
       now = are.now;
+      in_range = are.in_range;
       later = behind_payload are.later (payload_of_event path (start + length (lines_bytes (first ∷ contents))) content now);
       are = payload_behind payloads are.later (payload_of_event path start first are.now)
           (payload_of_event path (start + length (lines_bytes (first ∷ contents))) content now) are.are;
-      behind = subst P place (payloads-snoc path (start + length first + 1) contents are.later content now are.behind);
+      behind = subst P place (payloads-snoc path (start + length first + 1) contents are.later content now range are.behind);
     }
 
-pub lines-snoc : (path : List ℕ) (start : ℕ) (bytes : List ℕ) (payloads : List (List ℕ)) (content : List ℕ) (now : ℕ) →
+pub lines-snoc : (path : List ℕ) (start : ℕ) (bytes : List ℕ) (payloads : List (List ℕ)) (content : List ℕ) (now : ℕ) → IsMoment (record { 0 = now }) →
     AreLines path start bytes payloads → All (λ byte. byte ≢ 10) content →
     AreLines path start (bytes ++ (content ++ 10 ∷ [])) (behind_payload payloads (payload_of_event path (start + length bytes) content now))
-lines-snoc path start bytes payloads content now lines plain =
+lines-snoc path start bytes payloads content now range lines plain =
     let P : ℕ → Type 0 = λ n. ArePayloads path start (lines.contents ++ content ∷ []) (behind_payload payloads (payload_of_event path (start + n) content now)) in
     record {
       contents = lines.contents ++ content ∷ [];
       plain = All-append (λ (c : List ℕ). All (λ byte. byte ≢ 10) c) lines.contents (content ∷ []) lines.plain
           (All-cons (λ (c : List ℕ). All (λ byte. byte ≢ 10) c) content [] plain (All-nil (λ (c : List ℕ). All (λ byte. byte ≢ 10) c)));
       spelled = ap (λ (l : List ℕ). l ++ (content ++ 10 ∷ [])) lines.spelled ∙ sym (lines_bytes-snoc lines.contents content);
-      are = subst P (ap (λ (l : List ℕ). length l) (sym lines.spelled)) (payloads-snoc path start lines.contents payloads content now lines.are);
+      are = subst P (ap (λ (l : List ℕ). length l) (sym lines.spelled)) (payloads-snoc path start lines.contents payloads content now range lines.are);
     }
 
-pub add-line : (path : List ℕ) (start : ℕ) (old between new : Batch) (bytes content : List ℕ) (now : ℕ) (payload : Option (List ℕ)) →
+pub add-line : (path : List ℕ) (start : ℕ) (old between new : Batch) (bytes content : List ℕ) (now : ℕ) (payload : Option (List ℕ)) → IsMoment (record { 0 = now }) →
     payload ≡ payload_of_event path (start + old.size) content now →
     ((payloads : List (List ℕ)) → HoldsPayloads old payloads → HoldsPayloads between (behind_payload payloads payload)) →
     new.frames.items ≡ between.frames.items → new.count ≡ between.count → new.size ≡ old.size + length content + 1 →
     All (λ byte. byte ≢ 10) content → HoldsLines path start old bytes → HoldsLines path start new (bytes ++ (content ++ 10 ∷ []))
-add-line path start old between new bytes content now payload is puts frames count size plain holds =
+add-line path start old between new bytes content now payload range is puts frames count size plain holds =
     let event : payload ≡ payload_of_event path (start + length bytes) content now =
     is ∙ ap (λ (n : ℕ). payload_of_event path (start + n) content now) holds.size in
     let put : HoldsPayloads between (behind_payload holds.payloads payload) = puts holds.payloads holds.holds in
     let P : Option (List ℕ) → Type 0 = λ p. AreLines path start (bytes ++ (content ++ 10 ∷ [])) (behind_payload holds.payloads p) in
     record {
       payloads = behind_payload holds.payloads payload;
-      lines = subst P (sym event) (lines-snoc path start bytes holds.payloads content now holds.lines plain);
+      lines = subst P (sym event) (lines-snoc path start bytes holds.payloads content now range holds.lines plain);
       holds = record {
         frames = frames ∙ put.frames;
         counted = count ∙ put.counted;
@@ -142,6 +145,7 @@ payloads-append path start (first ∷ contents) more payloads others are behind 
     omega (arith, length-append (first ++ 10 ∷ []) (lines_bytes contents), length-append first (10 ∷ [])) in
     record {
       now = are.now;
+      in_range = are.in_range;
       later = are.later ++ others;
       are = ap (λ (l : List (List ℕ)). l ++ others) are.are ∙ with_payload-append (payload_of_event path start first are.now) are.later others;
       behind = payloads-append path (start + length first + 1) contents more are.later others are.behind (subst P place behind);

@@ -242,6 +242,7 @@ unsendable told path link shipment bytes piece left place at is within plain exc
     cut_at [] i inside = absurd (omega (arith, inside))
     cut_at (x ∷ list) zero inside = refl
     cut_at (x ∷ list) (suc i) inside = ap (λ (l : List ℕ). x ∷ l) (cut_at list i (omega (arith, inside)))
+
     cannot_be_sent : (before : ℕ) (list : List ℕ) (i : ℕ) (line : List ℕ) → length line ≡ before + i → IsExcluded before list i → CannotBeSent line (get_or list i 0)
     cannot_be_sent before list i line many (inl long) = inl (many ∙ long.0, long.1)
     cannot_be_sent before list i line many (inr (inl empty)) = inr (inl (many ∙ empty.0, empty.1))

@@ -1,5 +1,5 @@
 -- Where a run stops for what is not built yet, by the status that it stops with.
-use Rattle.std.proofs.Common.{◌≡◌, ◌≢◌, ℕ, List, [], length, Option, Some, None, sym, subst, ◌∙◌, ap, arith}
+use Rattle.std.proofs.Common.{◌≡◌, ℕ, List, length, Option, Some, subst}
 use Rattle.outside.specs.declared.history.Look.{Look}
 use Rattle.outside.specs.Files.{File}
 use Rattle.outside.specs.Tails.{TailHistory}

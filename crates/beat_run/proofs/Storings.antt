@@ -32,7 +32,7 @@ noted_stored : (settings : Option (List ℕ)) (form : Form) (told : FolderHistor
 noted_stored settings form told outcomes row Unopened Stops after old new Missing So so named noted stored =
     let P : Option Row → Type 0 = λ r. IfSome old (λ _. new ≡ Some (area_bytes r)) in
     elim noted.cases [
-      inl unopened ↦ inl (unopened.0, so unopened.2 (subst P unopened.1 stored))
+      | inl unopened ↦ inl (unopened.0, so unopened.2 (subst P unopened.1 stored))
       | inr read ↦ inr (inl (record { form = form; named = named; root = noted.root; shown = noted.shown; row = row; read = read; stored = stored }))
     ]
 

@@ -2,6 +2,7 @@
 -- filestream input; this project's profile).
 use Rattle.std.specs.Prelude.{◌≡◌, ◌≢◌, ℕ, ◌+◌, List, [], ◌∷◌, ◌++◌, length, All, Option, Some, None}
 use Rattle.std.specs.List.{flat_map}
+use Rattle.wire_base.specs.Ranges.{IsMoment}
 use Rattle.event_json.specs.Payload.{payload_of_event}
 
 -- each content with the line feed behind it
@@ -16,6 +17,7 @@ with_payload (Some payload) payloads = payload ∷ payloads
 -- the first line's event was closed at some moment; it has a payload, or its payload is too long
 pub record FirstPayload (path : List ℕ) (start : ℕ) (content : List ℕ) (Behind : List (List ℕ) → Type 0) (payloads : List (List ℕ)) : Type 0 where
   pub now : ℕ
+  pub in_range : IsMoment (record { 0 = now })
   pub later : List (List ℕ)
   pub are : payloads ≡ with_payload (payload_of_event path start content now) later
   pub behind : Behind later

@@ -7,7 +7,7 @@ use Rattle.outside.specs.declared.history.Sight.{Sight}
 use Rattle.outside.specs.Files.{File}
 use Rattle.outside.specs.Tails.{TailHistory}
 use Rattle.beat_run.specs.declared.lines.TheConstants.{LINE}
-use Rattle.beat_run.specs.declared.status.Lack.TheVariants.{Settings, Byte, Life}
+use Rattle.beat_run.specs.declared.status.Lack.TheVariants.{Byte, Life}
 use Rattle.beat_run.specs.declared.status.Status.{Status}
 use Rattle.beat_run.specs.declared.status.Status.TheVariants.{Unbuilt}
 use Rattle.beat_run.specs.Lines.{IsPlainByte}
