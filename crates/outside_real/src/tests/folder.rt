@@ -75,3 +75,42 @@ fn tail_reads_at_places_and_sees_growth(rt: HostRuntime) -> Result<(), Fail> {
     assert_eq!(rt; into, *b"bcd\0");
     Ok(())
 }
+
+#[test]
+fn file_removed_behind_its_listing_is_not_found(rt: HostRuntime) -> Result<(), Fail> {
+    let alloc = rt.alloc();
+    let root = fresh_folder(&rt, "removed", process::id(rt.process()))?;
+    let path = Text::from_string(format!(in alloc; "{root}/a.log")?);
+    fs::write(&rt, path.as_str(), "ab")?;
+    let mut folder = DirFolder::new(&rt);
+    let listed = folder.list(alloc, &Text::from_string(root.clone()?), 1)?;
+    fs::remove_file(&rt, path.as_str())?;
+    let found = folder.open(alloc, &path)?;
+    fs::remove_dir_all(&rt, root.as_str())?;
+    assert_eq!(rt; listed.len(), 1);
+    assert!(rt; found.is_none());
+    Ok(())
+}
+
+#[test]
+fn tail_sees_that_its_file_was_cut(rt: HostRuntime) -> Result<(), Fail> {
+    let alloc = rt.alloc();
+    let root = fresh_folder(&rt, "cut", process::id(rt.process()))?;
+    let path = Text::from_string(format!(in alloc; "{root}/a.log")?);
+    fs::write(&rt, path.as_str(), "abc")?;
+    let mut folder = DirFolder::new(&rt);
+    let Some(mut tail) = folder.open(alloc, &path)? else {
+        return Err(Fail::new("nothing is opened"));
+    };
+    let mut into = [0; 4];
+    let before = (tail.length()?, tail.read_at(0, &mut into)?);
+    OpenOptions::new()
+        .write(true)
+        .open(&rt, path.as_str())?
+        .set_len(1)?;
+    let after = (tail.length()?, tail.read_at(3, &mut into)?);
+    folder.close(tail);
+    fs::remove_dir_all(&rt, root.as_str())?;
+    assert_eq!(rt; (before, after), ((3, 3), (1, 0)));
+    Ok(())
+}
