@@ -1,5 +1,5 @@
 -- What a grouper stands for once a line was given to it.
-use Rattle.std.proofs.Common.{◌≡◌, ◌≢◌, ℕ, Bool, List, [], ◌∷◌, ◌++◌, length, Option, Some, None, IfSome, refl, sym, ap, subst, ◌∙◌, option_map, append-nil}
+use Rattle.std.proofs.Common.{◌≡◌, ◌≢◌, List, [], ◌∷◌, ◌++◌, length, Option, Some, None, IfSome, refl, sym, ap, subst, ◌∙◌, option_map, append-nil}
 use Rattle.std.proofs.lemmas.Option.{same_Some}
 use Rattle.wire_base.specs.declared.numbers.Moment.{Moment}
 use Rattle.event_tree.specs.declared.group_rule.GroupRule.{GroupRule}
@@ -7,9 +7,8 @@ use Rattle.line_cutter.specs.declared.line.Line.{Line}
 use Rattle.multiline_core.specs.declared.group.Group.{Group}
 use Rattle.multiline_core.specs.declared.step.Step.{Step}
 use Rattle.multiline_core.specs.declared.step.Step.TheVariants.{Join, Last, Next}
-use Rattle.multiline_core.specs.Gathering.{Gathered, Grouping, Gathers, Closes, IsOpen, IsFlushable, MayGoOn, gathered_of}
+use Rattle.multiline_core.specs.Gathering.{Grouping, Gathers, Closes, IsOpen, IsFlushable, MayGoOn, gathered_of}
 use Rattle.multiline_core.specs.Message.{group_of}
-use Rattle.multiline_core.specs.Rule.{IsGroupRule}
 use Rattle.multiline_core.specs.Step.{step_of, gathered_by, waiting_of, group_from}
 use Rattle.multiline_core.proofs.Going.{natural_with, natural_before, is_open, is_flushable}
 use Rattle.multiline_core.proofs.Keeping.{gathered_of-push, waiting_is_length}

@@ -1,5 +1,5 @@
 -- Lines with which an event may go on have no event among them.
-use Rattle.std.proofs.Common.{◌≡◌, ◌≢◌, ◌⊎◌, ℕ, suc, ◌+◌, ◌<◌, ◌≤◌, Bool, true, false, List, [], ◌∷◌, ◌++◌, length, Option, refl, sym, ap, subst, ◌∙◌, inl, inr, ⊎_elim, arith, append_assoc, append-nil, length-append}
+use Rattle.std.proofs.Common.{◌≡◌, ◌≢◌, ◌⊎◌, ℕ, Bool, true, false, List, [], ◌∷◌, ◌++◌, length, Option, refl, sym, ap, subst, ◌∙◌, inl, inr, ⊎_elim, arith, append_assoc, append-nil, length-append}
 use Rattle.std.proofs.lemmas.Bool.{true≢false, false≢true}
 use Rattle.std.proofs.lemmas.List.{append_cancel_left, same_from_push}
 use Rattle.event_tree.specs.declared.group_rule.GroupRule.{GroupRule}
@@ -8,7 +8,7 @@ use Rattle.event_tree.specs.declared.group_rule.Side.{Side}
 use Rattle.event_tree.specs.declared.group_rule.Side.TheVariants.{After, Before}
 use Rattle.line_cutter.specs.declared.line.Line.{Line}
 use Rattle.multiline_core.specs.Continuing.{continues, flushes, AllContinue}
-use Rattle.multiline_core.specs.Event.{IsEvent, IsEndedByNext, IsEndedByLast, IsEndedByFlush, IsEndedByLine, IsNatural, IsUnended}
+use Rattle.multiline_core.specs.Event.{IsEvent, IsNatural}
 use Rattle.multiline_core.specs.Gathering.{AllGoOn, BeginEvent, MayGoOn, IsOpen, IsFlushable}
 
 -- a nonempty list has a last

@@ -1,5 +1,5 @@
 -- What is kept of lines, with one more line.
-use Rattle.std.proofs.Common.{◌≡◌, ◌≢◌, ℕ, zero, suc, ◌+◌, ◌<◌, ◌≤◌, Bool, true, false, cond, List, [], ◌∷◌, ◌++◌, length, take, map, Option, Some, None, refl, sym, ap, subst, ◌∙◌, inl, inr, arith, append_assoc, append-nil}
+use Rattle.std.proofs.Common.{◌≡◌, ℕ, ◌≤◌, Bool, cond, List, [], ◌∷◌, ◌++◌, length, take, map, Some, refl, sym, ap, ◌∙◌, inl, inr, arith, append_assoc, append-nil}
 use Rattle.std.proofs.lemmas.Bool.{cases_lt, lt-ltb, le-ltb, cond-true, cond-false}
 use Rattle.std.proofs.lemmas.List.{take_all, take-append-le, length_push, map-append}
 use Rattle.std.specs.List.{flat_map}
@@ -8,10 +8,10 @@ use Rattle.wire_base.specs.declared.numbers.Moment.{Moment}
 use Rattle.event_tree.specs.declared.group_rule.GroupRule.{GroupRule}
 use Rattle.event_tree.specs.declared.group_rule.GroupRule.TheVariants.{Single, Count, Pattern}
 use Rattle.line_cutter.specs.declared.line.Line.{Line}
-use Rattle.multiline_core.specs.Gathering.{Gathered, gathered_of}
-use Rattle.multiline_core.specs.Message.{message_of, limit_of, max_lines_of, skips_newline, separator, joined, row_start, row_end}
+use Rattle.multiline_core.specs.Gathering.{gathered_of}
+use Rattle.multiline_core.specs.Message.{message_of, limit_of, max_lines_of, skips_newline, separator, joined, row_end}
 use Rattle.multiline_core.specs.Rule.{IsGroupRule}
-use Rattle.multiline_core.specs.Step.{gathered_by, waiting_of, first_gathered, gathered_with, longer_message}
+use Rattle.multiline_core.specs.Step.{gathered_by, waiting_of}
 use Rattle.multiline_core.proofs.Joining.{cut_before}
 
 pub some_lines : (rule : GroupRule) → IsGroupRule rule → 1 ≤ max_lines_of rule

@@ -1,5 +1,5 @@
 -- A compiled pattern finds what its text means.
-use Rattle.std.proofs.Common.{◌≡◌, ℕ, ◌<◌, ◌≤◌, Bool, List, length, get_or, All, Option, None, Some, IsSomeAnd, is_some, option_map, refl, sym, ap, subst, ◌∙◌}
+use Rattle.std.proofs.Common.{◌≡◌, ℕ, ◌<◌, ◌≤◌, List, length, get_or, All, Option, None, Some, IsSomeAnd, is_some, sym, ap, ◌∙◌}
 use Rattle.std.proofs.lemmas.List.{get_or_default}
 use Rattle.std.specs.Str.{chars}
 use Rattle.regex_hir.specs.Find.{find}

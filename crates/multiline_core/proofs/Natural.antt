@@ -1,18 +1,16 @@
 -- Events by rule are unique and stay, and the spans of a partition adjoin.
-use Rattle.std.proofs.Common.{◌≡◌, ◌≢◌, ◌⊎◌, ℕ, zero, suc, ◌+◌, ◌-◌, ◌<◌, ◌≤◌, Bool, true, false, List, [], ◌∷◌, ◌++◌, length, take, drop, Option, refl, sym, ap, subst, ◌∙◌, inl, inr, ⊎_elim, arith, append_assoc, append-nil, length-append}
+use Rattle.std.proofs.Common.{◌≡◌, ◌≢◌, ◌⊎◌, ℕ, ◌<◌, List, [], ◌∷◌, ◌++◌, length, drop, refl, sym, ap, subst, ◌∙◌, inl, inr, ⊎_elim, arith, append_assoc, append-nil}
 use Rattle.std.proofs.lemmas.Bool.{cases_lt}
-use Rattle.std.proofs.lemmas.List.{append_cancel_left, drop-append-le, drop_all}
+use Rattle.std.proofs.lemmas.List.{drop-append-le, drop_all}
 use Rattle.wire_base.specs.Extent.{Extent}
 use Rattle.event_tree.specs.declared.group_rule.GroupRule.{GroupRule}
 use Rattle.event_tree.specs.declared.group_rule.GroupRule.TheVariants.{Single, Count, Pattern}
-use Rattle.event_tree.specs.declared.group_rule.Side.{Side}
 use Rattle.event_tree.specs.declared.group_rule.Side.TheVariants.{After, Before}
 use Rattle.event_tree.specs.declared.line_rule.LineRule.{LineRule}
 use Rattle.line_cutter.specs.declared.line.Line.{Line}
-use Rattle.line_cutter.specs.Cut.{rest, cut}
 use Rattle.line_cutter.specs.Lines.{complete_lines}
 use Rattle.line_cutter.specs.Row.{AreAdjoining}
-use Rattle.multiline_core.specs.Event.{IsEvent, IsEndedByNext, IsEndedByLast, IsEndedByFlush, IsEndedByLine, IsNatural, IsUnended}
+use Rattle.multiline_core.specs.Event.{IsEvent, IsNatural}
 use Rattle.multiline_core.specs.Message.{row_end}
 use Rattle.multiline_core.specs.Rule.{IsGroupRule}
 use Rattle.multiline_core.proofs.Closing.{push_is_some}

@@ -1,6 +1,6 @@
 -- What a line does to the lines that wait, against the definition of events.
-use Rattle.std.proofs.Common.{◌≡◌, ◌≢◌, ◌⊎◌, ℕ, zero, suc, ◌+◌, ◌<◌, ◌≤◌, Bool, true, false, cond, not, ◌&&◌, ◌==◌, List, [], ◌∷◌, ◌++◌, length, Option, Some, None, refl, sym, ap, subst, ◌∙◌, inl, inr, ⊎_elim, arith, append_assoc, append-nil, length-append}
-use Rattle.std.proofs.lemmas.Bool.{cases_Bool, true≢false, eqb-true, eqb-false, ne_eqb, cond-true, cond-false}
+use Rattle.std.proofs.Common.{◌≡◌, ◌≢◌, ℕ, ◌+◌, ◌<◌, ◌≤◌, Bool, true, false, cond, not, ◌&&◌, ◌==◌, List, [], ◌∷◌, ◌++◌, length, Option, refl, sym, ap, subst, ◌∙◌, inl, inr, arith}
+use Rattle.std.proofs.lemmas.Bool.{eqb-true, eqb-false, ne_eqb, cond-false}
 use Rattle.std.proofs.lemmas.List.{length_push}
 use Rattle.event_tree.specs.declared.group_rule.GroupRule.{GroupRule}
 use Rattle.event_tree.specs.declared.group_rule.GroupRule.TheVariants.{Single, Count, Pattern}
@@ -10,10 +10,10 @@ use Rattle.line_cutter.specs.declared.line.Line.{Line}
 use Rattle.multiline_core.specs.declared.step.Step.{Step}
 use Rattle.multiline_core.specs.declared.step.Step.TheVariants.{Join, Last, Next}
 use Rattle.multiline_core.specs.Continuing.{continues, flushes}
-use Rattle.multiline_core.specs.Event.{IsEvent, IsEndedByNext, IsEndedByLast, IsEndedByFlush}
-use Rattle.multiline_core.specs.Gathering.{AllGoOn, BeginEvent, MayGoOn}
+use Rattle.multiline_core.specs.Event.{IsEvent}
+use Rattle.multiline_core.specs.Gathering.{BeginEvent, MayGoOn}
 use Rattle.multiline_core.specs.Rule.{IsGroupRule}
-use Rattle.multiline_core.specs.Step.{step_of, pattern_step, unflushed_step, count_step}
+use Rattle.multiline_core.specs.Step.{step_of, pattern_step, unflushed_step}
 use Rattle.multiline_core.proofs.Going.{Stays, goes_on_push, goes_on_continue}
 
 -- what each step says of the lines and the line

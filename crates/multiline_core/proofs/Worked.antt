@@ -1,9 +1,8 @@
 -- The worked values of continuing lines, events and messages, computed by the definitions.
-use Rattle.std.proofs.Common.{◌≡◌, ◌≢◌, ℕ, zero, ◌+◌, Bool, true, false, List, [], ◌∷◌, ◌++◌, Option, None, Some, refl, codes, length}
-use Rattle.wire_base.specs.Extent.{Extent}
+use Rattle.std.proofs.Common.{◌≡◌, ℕ, true, false, List, [], ◌∷◌, None, refl, codes, length}
 use Rattle.event_tree.specs.declared.group_rule.GroupRule.{GroupRule}
-use Rattle.event_tree.specs.declared.group_rule.GroupRule.TheVariants.{Single, Count, Pattern}
-use Rattle.event_tree.specs.declared.group_rule.Side.TheVariants.{After, Before}
+use Rattle.event_tree.specs.declared.group_rule.GroupRule.TheVariants.{Count, Pattern}
+use Rattle.event_tree.specs.declared.group_rule.Side.TheVariants.{After}
 use Rattle.event_tree.specs.declared.line_rule.LineRule.{LineRule}
 use Rattle.event_tree.specs.declared.line_rule.Terminator.TheVariants.{Auto}
 use Rattle.line_cutter.specs.declared.line.Line.{Line}
@@ -13,10 +12,9 @@ use Rattle.regex_hir.specs.Re.{attempt}
 use Rattle.regex_hir.specs.Text.{byte_before, has_bytes_at}
 use Rattle.regex.specs.Patterns.{in_range, in_ranges}
 use Rattle.regex_syntax.proofs.Written.{grammar}
-use Rattle.multiline_core.specs.Continuing.{continues, flushes}
+use Rattle.multiline_core.specs.Continuing.{continues}
 use Rattle.multiline_core.specs.Message.{message_of, group_of}
 use Rattle.multiline_core.specs.Partition.{lines_from}
-use Rattle.multiline_core.specs.Pattern.{matches}
 
 abbrev by_default : LineRule
 by_default = record { terminator = Auto; message_max_bytes = 10485760 }

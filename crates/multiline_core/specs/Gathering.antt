@@ -1,6 +1,6 @@
 -- What a grouper stands for (this project's profile): the lines that it was given since the last event ended. It keeps
 -- their message, cut, their places and their number, not the lines.
-use Rattle.std.specs.Prelude.{◌≡◌, ◌≢◌, ℕ, ◌+◌, ◌-◌, ◌<◌, ◌≤◌, Bool, true, false, List, [], ◌∷◌, ◌++◌, length, take, Option, Some, None, IsSomeAnd, nat_lt, if◌then◌else◌}
+use Rattle.std.specs.Prelude.{◌≡◌, ℕ, ◌-◌, ◌<◌, ◌≤◌, Bool, true, false, List, [], ◌∷◌, ◌++◌, length, Option, Some, None, IsSomeAnd}
 use Rattle.std.specs.List.{AllByRecursion}
 use Rattle.wire_base.specs.declared.numbers.Moment.{Moment}
 use Rattle.event_tree.specs.declared.group_rule.GroupRule.{GroupRule}
@@ -11,7 +11,7 @@ use Rattle.line_cutter.specs.declared.line.Line.{Line}
 use Rattle.multiline_core.specs.declared.group.Group.{Group}
 use Rattle.multiline_core.specs.Continuing.{continues, flushes}
 use Rattle.multiline_core.specs.Event.{IsEvent, IsNatural, IsUnended}
-use Rattle.multiline_core.specs.Message.{message_of, limit_of, max_lines_of, skips_newline, separator, row_start, row_end, group_of}
+use Rattle.multiline_core.specs.Message.{message_of, row_start, row_end, group_of}
 use Rattle.multiline_core.specs.Rule.{IsGroupRule, timeout_of}
 
 -- what is kept of the lines of an event that has not ended

@@ -1,5 +1,5 @@
 -- What one more line does to the lines that wait (this project's profile, as the definition of events has it).
-use Rattle.std.specs.Prelude.{ℕ, ◌+◌, ◌==◌, ◌&&◌, not, Bool, List, ◌++◌, length, take, Option, Some, None, nat_lt, if◌then◌else◌}
+use Rattle.std.specs.Prelude.{ℕ, ◌+◌, ◌==◌, ◌&&◌, not, Bool, List, ◌++◌, take, Option, Some, None, nat_lt, if◌then◌else◌}
 use Rattle.wire_base.specs.declared.numbers.Moment.{Moment}
 use Rattle.event_tree.specs.declared.group_rule.GroupRule.{GroupRule}
 use Rattle.event_tree.specs.declared.group_rule.GroupRule.TheVariants.{Single, Count, Pattern}
