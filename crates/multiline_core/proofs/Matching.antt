@@ -1,11 +1,15 @@
 -- A compiled pattern finds what its text means.
-use Rattle.std.proofs.Common.{◌≡◌, ℕ, ◌<◌, ◌≤◌, List, length, get_or, All, Option, None, Some, IsSomeAnd, is_some, sym, ap, ◌∙◌}
+use Rattle.std.proofs.Common.{◌≡◌, ℕ, ◌<◌, ◌≤◌, List, length, get_or, All, Option, None, Some, IsSomeAnd, IsSome, true, false, is_some, refl, sym, ap, subst, ◌∙◌, arith}
 use Rattle.std.proofs.lemmas.List.{get_or_default}
 use Rattle.std.specs.Str.{chars}
+use Rattle.regex_dfa.specs.Search.{IsEnd, end_from, entry}
+use Rattle.regex_dfa.specs.declared.forward.End.{End}
 use Rattle.regex_hir.specs.Find.{find}
 use Rattle.regex_hir.specs.Meaning.{meaning}
 use Rattle.regex_hir.specs.Re.{Re}
 use Rattle.regex_hir.specs.declared.hir.Hir.{Hir}
+use Rattle.regex_meta.proofs.ProgramLemmas.{unanchored_end, leftmost_no_end}
+use Rattle.regex_meta.specs.declared.program.Program.{Program}
 use Rattle.regex_syntax.proofs.CapturesLemmas.{spans, find_alike}
 use Rattle.regex_syntax.proofs.Written.{is_some-option_map}
 use Rattle.regex_syntax.specs.Brackets.{Nested}
@@ -13,9 +17,7 @@ use Rattle.regex_syntax.specs.Captures.{SameCaptures}
 use Rattle.regex_syntax.specs.Grammar.{Names, read, group_count}
 use Rattle.regex_syntax.specs.Verdict.{Reads}
 use Rattle.regex_syntax.specs.declared.Config.{Config}
-use Rattle.regex.specs.Bytes.{regex_pattern, regex_source, regex_config, IsReadFromSource}
-use Rattle.regex.specs.declared.bytes.regex.Regex.{Regex}
-use Rattle.multiline_core.specs.Pattern.{byte_options, is_found, matches}
+use Rattle.multiline_core.specs.Pattern.{byte_options, is_found, matches, IsReadInText}
 
 -- a tree that matches as what was read finds a match where that does
 found_alike : (read_as : Option (Nested Re × Names)) (most : ℕ) (tree : Re) (names : Names) →
@@ -32,6 +34,21 @@ read_finds config source hir names reads same bytes small =
     found_alike (read config (chars source)) config.nest_limit (meaning hir) names reads bytes (λ k d h. rw (get_or_default bytes k d 0 h) (small k))
     ∙ ap (λ options. is_found (read options (chars source)) bytes) same
 
-pub regex_finds : (r : Regex) → IsReadFromSource r → regex_config r ≡ byte_options → (bytes : List ℕ) → ((k : ℕ) → get_or bytes k 0 < 256) →
-    is_some (find (regex_pattern r) bytes 0) ≡ matches (regex_source r) bytes
-regex_finds r reads same bytes small = read_finds _ _ _ _ reads same bytes small
+-- what a search by the tree's program finds is what the text means
+pub tree_finds : (text : List ℕ) (hir : Hir) → IsReadInText text hir → (bytes : List ℕ) → ((k : ℕ) → get_or bytes k 0 < 256) →
+    is_some (find (meaning hir) bytes 0) ≡ matches text bytes
+tree_finds text hir tree bytes small = read_finds byte_options text hir tree.0 tree.1 refl bytes small
+
+pub are_small : (bytes : List ℕ) → ((k : ℕ) → get_or bytes k 0 < 256) → All (λ x. x < 256) bytes
+are_small bytes small = λ k d h. rw (get_or_default bytes k d 0 h) (small k)
+
+-- what the states of its program answer
+module _ (p : Program) (bytes : List ℕ) (small : All (λ x. x < 256) bytes) where
+  pub dfa_finds : (end : ℕ) → IsEnd p.dfa.nfa bytes 0 (length bytes) false true
+      (end_from p.dfa.nfa bytes (length bytes) (entry p.dfa.nfa false) 0) (End.At end) → is_some (find (meaning p.hir) bytes 0) ≡ true
+  dfa_finds end h =
+      sym (is_some-option_map _ (find (meaning p.hir) bytes 0)) ∙ subst IsSome (unanchored_end p bytes small 0 (omega arith)) h.0
+
+  pub dfa_misses : IsEnd p.dfa.nfa bytes 0 (length bytes) false true
+      (end_from p.dfa.nfa bytes (length bytes) (entry p.dfa.nfa false) 0) End.NoMatch → is_some (find (meaning p.hir) bytes 0) ≡ false
+  dfa_misses h = ap is_some (leftmost_no_end p bytes small 0 (omega arith) h)

@@ -124,8 +124,9 @@ impl Grouper {
         }
     }
 
-    fn step(&self, alloc: Global, line: &Line) -> Result<Step, NoMemory>
-        ensures { IfOk result (λ step. step ≡ step_of self.now.rule (waiting_of self.now.gathered) line.now) }
+    fn step(&mut self, alloc: Global, line: &Line) -> Result<Step, NoMemory>
+        ensures step { IfOk result (λ step. step ≡ step_of self.old.rule (waiting_of self.old.gathered) line.now) }
+        ensures same { self.new ≡ self.old }
     {
         let waiting = match &self.pending {
             None => 0,

@@ -57,8 +57,9 @@ impl Kind {
     }
 
     /// What the line does to an event that waits with so many lines, 0 where none waits.
-    pub fn step(&self, alloc: Global, waiting: u64, line: &Line) -> Result<Step, NoMemory>
-        ensures { IfOk result (λ step. step ≡ kind_step self.now waiting line.now) }
+    pub fn step(&mut self, alloc: Global, waiting: u64, line: &Line) -> Result<Step, NoMemory>
+        ensures step { IfOk result (λ step. step ≡ kind_step self.old waiting line.now) }
+        ensures same { self.new ≡ self.old }
     {
         match self {
             Kind::Single => Ok(Step::Last),
@@ -149,18 +150,20 @@ fn pattern_step(waiting: u64, goes_on: bool, side: Side) -> Step
 
 fn continues(
     alloc: Global,
-    pattern: &LinePattern,
+    pattern: &mut LinePattern,
     negate: bool,
     line: &Line,
 ) -> Result<bool, NoMemory>
-    ensures { IfOk result (λ goes_on. goes_on ≡ continues pattern.now negate line.now) }
+    ensures goes_on { IfOk result (λ goes_on. goes_on ≡ continues pattern.old negate line.now) }
+    ensures same { pattern.new ≡ pattern.old }
 {
     let found = pattern.matches(alloc, line.head.bytes())?;
     Ok(found != negate)
 }
 
-fn flushes(alloc: Global, flush: &Option<LinePattern>, line: &Line) -> Result<bool, NoMemory>
-    ensures { IfOk result (λ last. last ≡ flushes flush.now line.now) }
+fn flushes(alloc: Global, flush: &mut Option<LinePattern>, line: &Line) -> Result<bool, NoMemory>
+    ensures last { IfOk result (λ last. last ≡ flushes flush.old line.now) }
+    ensures same { flush.new ≡ flush.old }
 {
     match flush {
         None => Ok(false),
