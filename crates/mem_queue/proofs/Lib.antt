@@ -1,3 +1,4 @@
+pub mod Conserving
 pub mod Moves
 pub mod Numbering
 pub mod Passing

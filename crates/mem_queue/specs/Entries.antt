@@ -1,5 +1,5 @@
 -- Parcels with the numbers of their entry (this project's profile).
-use Rattle.std.specs.Prelude.{ℕ, suc, ◌<◌, List, [], ◌∷◌, All}
+use Rattle.std.specs.Prelude.{ℕ, suc, ◌<◌, ◌==◌, if◌then◌else◌, List, [], ◌∷◌, map, All}
 use Rattle.wire_base.specs.declared.parcel.Parcel.{Parcel}
 use Rattle.mem_queue.specs.declared.entry.Entry.{Entry}
 
@@ -14,3 +14,11 @@ numbered first (parcel ∷ parcels) = entry first parcel ∷ numbered (suc first
 -- all of these entered before the entry of this number
 abbrev pub AllBefore : ℕ → List Entry → Type 0
 AllBefore number entries = All (λ e. e.number < number) entries
+
+-- the parcels of the entries
+abbrev pub parcels : List Entry → List Parcel
+parcels entries = map (λ e. e.parcel) entries
+
+-- 1 where the entry has this number
+abbrev pub has_number : ℕ → Entry → ℕ
+has_number number e = if number == e.number then 1 else 0

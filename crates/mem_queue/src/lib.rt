@@ -11,12 +11,14 @@
 #![tactic(auto)]
 
 mod entry;
+mod laws;
 mod left;
 mod pass;
 mod queue;
 mod rule;
 
 pub use entry::Entry;
+pub use laws::{nothing_comes_twice, nothing_is_lost, what_is_held_came_later};
 pub use left::Left;
 pub use pass::{PutPass, TakePass};
 pub use queue::EventQueue;
