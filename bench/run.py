@@ -10,6 +10,7 @@ import os
 import platform
 import resource
 import subprocess
+import time
 from pathlib import Path
 
 from transport import transport_table
@@ -21,6 +22,10 @@ RESULTS = ROOT / "bench" / "RESULTS.md"
 
 LENGTHS = [64, 128, 256, 512, 1024, 2048, 4096]
 MESSAGES = [120, 8192]
+THREADS = [1, 2, 4]
+
+# the parcels that each thread puts
+PARCELS = 1_000_000
 
 # the bytes of a payload that are not of its message
 ENVELOPE = len(
@@ -57,6 +62,17 @@ The payload of an event whose message is so many letters, beside a plain loop th
 escapes between quotation marks. Neither has anything to escape.
 
 | Bytes of the message | Payloads a second | Copies a second | Copies for a payload |
+|---:|---:|---:|---:|
+"""
+
+QUEUE = f"""
+## The event queue
+
+Parcels through the queue, with so many threads that put and as many that take, {PARCELS:,} each and at most 4,096 under
+way, beside a `VecDeque` of that capacity under a `Mutex`. The time is the clock's, the least of {RUNS} runs, taken in
+turn, less that of a run that moves one parcel.
+
+| Threads on each side | Parcels a second | Under the lock | Times those under the lock |
 |---:|---:|---:|---:|
 """
 
@@ -120,6 +136,28 @@ def payloads_table(fixed):
     return text
 
 
+def clock_time(part, threads, many):
+    """Seconds that one run takes by the clock."""
+    began = time.monotonic()
+    ran = subprocess.run([PROGRAM, part, str(threads), str(many)], stdout=subprocess.PIPE, check=True)
+    seconds = time.monotonic() - began
+    if ran.stdout != b"%d\n" % (threads * many):
+        raise SystemExit(f"{part} {threads} {many} answers {ran.stdout!r}")
+    return seconds
+
+
+def queue_table():
+    text = QUEUE
+    for threads in THREADS:
+        runs = [[clock_time(part, threads, many) for part in ("queue", "locked") for many in (PARCELS, 1)] for _ in range(RUNS)]
+        queue, queue_start, locked, locked_start = (min(times) for times in zip(*runs))
+        moved = threads * PARCELS
+        rate, beside = moved / (queue - queue_start), moved / (locked - locked_start)
+        print(f"{threads:>6} threads {rate:>12.0f} parcels a second, {rate / beside:.2f} times those under the lock", flush=True)
+        text += f"| {threads} | {rate:.0f} | {beside:.0f} | {rate / beside:.2f} |\n"
+    return text
+
+
 def main():
     make_program()
     load, fixed = os.getloadavg()[0], least_time("covers", 0, 0)
@@ -131,7 +169,7 @@ def main():
         runs=RUNS,
         fixed=fixed * 1e3,
     )
-    RESULTS.write_text(head + transport_table() + payloads_table(fixed) + covers_table(fixed))
+    RESULTS.write_text(head + transport_table() + payloads_table(fixed) + queue_table() + covers_table(fixed))
     print(f"written to {RESULTS.relative_to(ROOT)}")
 
 

@@ -4,14 +4,21 @@
 //! letters, and prints how often it does. `payloads LENGTH TURNS` writes TURNS times the payload of
 //! an event whose message has LENGTH bytes, and prints how many bytes the last one has. `escapes
 //! LENGTH TURNS` does no more than copy the same message, with its escapes, between quotation marks.
+//! `queue THREADS PARCELS` has 1, 2 or 4 threads put PARCELS parcels each into the event queue and as
+//! many threads take them, and prints how many came out; `locked THREADS PARCELS` does the same with
+//! a `VecDeque` under a lock.
 #![tactic(auto)]
 
 mod escapes;
+mod exchange;
+mod locked;
 
 ghost use Rattle.std.specs.Prelude.{◌≡◌};
 ghost use Rattle.glob_paths.specs.Cover.{Covers};
 
 use crate::escapes::escaped;
+use crate::exchange::through_queue;
+use crate::locked::through_lock;
 use event_json::event_payload;
 use glob_paths::Glob;
 use std::alloc::Global;
@@ -74,6 +81,8 @@ fn main(rt: HostRuntime) -> anyhow::Result<ExitCode> {
         "covers" => covered(rt.alloc(), length, turns)?,
         "payloads" => payload_size(rt.alloc(), length, turns)?,
         "escapes" => escaped_size(rt.alloc(), length, turns)?,
+        "queue" => through_queue(&rt, rt.alloc(), length, turns)?,
+        "locked" => through_lock(&rt, rt.alloc(), length, turns)?,
         _ => return usage(&rt),
     };
     println!(rt; "{figure}")?;
@@ -81,6 +90,6 @@ fn main(rt: HostRuntime) -> anyhow::Result<ExitCode> {
 }
 
 fn usage(rt: &HostRuntime) -> anyhow::Result<ExitCode> {
-    println!(rt; "usage: bench_parts covers|payloads|escapes LENGTH TURNS")?;
+    println!(rt; "usage: bench_parts covers|payloads|escapes|queue|locked LENGTH TURNS")?;
     Ok(ExitCode::from(2))
 }
