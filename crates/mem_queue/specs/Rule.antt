@@ -29,7 +29,8 @@ pub record IsConserving (items : List Parcel) (views : List Hand) : Type 0 where
   pub conserved : IsConserved (flat_map (λ v. v.put) views) (flat_map (λ v. v.taken) views) items
   pub ranges : All IsParcel items
   pub rights : (pass : ℕ) (v : Hand) → get_elem? views pass ≡ some v → IsWithinRights v
-  pub rests : (pass : ℕ) (v : Hand) → get_elem? views pass ≡ some v → (rest : List Parcel) → v.rest ≡ Some rest → KnowsRest v items rest
+  pub rests : (pass : ℕ) (v : Hand) → get_elem? views pass ≡ some v
+      → (rest : List Parcel) → v.rest ≡ Some rest → KnowsRest v items rest
 
 -- the rule allows that the queue holds these while a pass knows this
 pub record IsAllowed (v : Hand) (items : List Parcel) : Type 0 where
@@ -40,7 +41,8 @@ pub record IsAllowed (v : Hand) (items : List Parcel) : Type 0 where
 
 -- at a step of the call the queue was full, in a state that the rule allows while this pass knows what it knows
 abbrev pub WasFull : ℕ → Known → Type 0
-WasFull capacity pass = (items : List Parcel) × (length items ≡ capacity) × IsAllowed (hand pass.share [] pass.entries [] None) items
+WasFull capacity pass =
+    (items : List Parcel) × (length items ≡ capacity) × IsAllowed (hand pass.share [] pass.entries [] None) items
 
 -- at a step of the call the queue was empty, in a state that the rule allows while this pass knows what it knows
 abbrev pub WasEmpty : Known → Type 0

@@ -27,7 +27,8 @@ impl Model for Left {
 
     ghost view = { λ l. left_over l.next l.pass };
 
-    ghost invariant = { λ l. IsPassOf l.ring l.pass × All IsParcel (left_over l.next l.pass) × KnowsBehind l.next l.pass };
+    ghost invariant = { λ l. IsPassOf l.ring l.pass × All IsParcel (left_over l.next l.pass) ×
+        KnowsBehind l.next l.pass };
 }
 
 impl Left {

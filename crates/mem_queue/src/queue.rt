@@ -98,7 +98,8 @@ impl EventQueue {
     /// Joins two passes that may put, with what each of them put.
     pub fn join_put(&self, into: &mut PutPass, from: PutPass)
         requires of_this_queue { (into.old.queue ≡ self.now.id) × (from.queue ≡ self.now.id) }
-        ensures { into.new ≡ known into.old.queue (into.old.share ++ from.share) (into.old.entries ++ from.entries) }
+        ensures { into.new ≡
+            known into.old.queue (into.old.share ++ from.share) (into.old.entries ++ from.entries) }
     {
         self.ring.absorb::<Everything>(&mut into.pass, from.pass);
     }
@@ -106,7 +107,8 @@ impl EventQueue {
     /// Joins two passes that may take, with what each of them took.
     pub fn join_take(&self, into: &mut TakePass, from: TakePass)
         requires of_this_queue { (into.old.queue ≡ self.now.id) × (from.queue ≡ self.now.id) }
-        ensures { into.new ≡ known into.old.queue (into.old.share ++ from.share) (into.old.entries ++ from.entries) }
+        ensures { into.new ≡
+            known into.old.queue (into.old.share ++ from.share) (into.old.entries ++ from.entries) }
     {
         self.ring.absorb::<Everything>(&mut into.pass, from.pass);
     }

@@ -45,11 +45,13 @@ pub record IsOrderly (items : List Note) (views : List Hand) : Type 0 where
   pub in_order : IsInOrder (flat_map (λ v. v.senders) views) got held
   pub born : (number : ℕ) (name : List ℕ) → 0 < weigh (has_name (number ∷ name)) (flat_map (λ v. v.senders) views)
       → number < weigh (splits_of name) (flat_map (λ v. v.senders) views)
-  pub unknown : (name : List ℕ) → weigh (has_name name) (flat_map (λ v. v.senders) views) ≡ 0 → (notes_of name got ≡ []) × (notes_of name held ≡ [])
+  pub unknown : (name : List ℕ) → weigh (has_name name) (flat_map (λ v. v.senders) views) ≡ 0
+      → (notes_of name got ≡ []) × (notes_of name held ≡ [])
   pub kinds : All IsPostable items
   pub ranges : All IsNote items
   pub rights : (pass : ℕ) (v : Hand) → get_elem? views pass ≡ some v → IsWithinRights got v
-  pub rests : (pass : ℕ) (v : Hand) → get_elem? views pass ≡ some v → (rest : List Sent) → v.rest ≡ Some rest → KnowsRest held v rest
+  pub rests : (pass : ℕ) (v : Hand) → get_elem? views pass ≡ some v
+      → (rest : List Sent) → v.rest ≡ Some rest → KnowsRest held v rest
 
 -- what the only pass learns of the box: what it holds, in the order of each sender
 abbrev pub HoldsInOrder : Hand → List Note → Type 0
@@ -64,7 +66,8 @@ pub record IsAllowed (v : Hand) (items : List Note) : Type 0 where
 
 -- at a step of the call the box was full, in a state that the rule allows while this pass knows what it knows
 abbrev pub WasFull : ℕ → Poster → Type 0
-WasFull capacity pass = (items : List Note) × (length items ≡ capacity) × IsAllowed (hand pass.share [] (senders_of pass) [] None) items
+WasFull capacity pass =
+    (items : List Note) × (length items ≡ capacity) × IsAllowed (hand pass.share [] (senders_of pass) [] None) items
 
 -- at a step of the call the box was empty, in a state that the rule allows while this pass knows what it knows
 abbrev pub WasEmpty : Collector → Type 0

@@ -39,7 +39,8 @@ impl SettleBox {
         ensures capacity { IfOk result (λ made. made.0.capacity ≡ capacity) }
         ensures its_passes { IfOk result (λ made. (made.1.desk ≡ made.0.id) × (made.2.desk ≡ made.0.id)) }
         ensures the_only_one_that_posts { IfOk result (λ made. IsWhole made.1.share) }
-        ensures nothing_yet { IfOk result (λ made. (made.1.mine ≡ sender [] 0 []) × (made.1.joined ≡ []) × (made.2.got ≡ [])) }
+        ensures nothing_yet { IfOk result (λ made. (made.1.mine ≡ sender [] 0 []) × (made.1.joined ≡ []) ×
+            (made.2.got ≡ [])) }
     {
         let (ring, mut pass) = Ring::ruled(alloc, capacity as usize)?;
         let other = ring.another::<Sides>(&mut pass);
@@ -56,7 +57,8 @@ impl SettleBox {
         requires of_this_box { pass.old.desk ≡ self.now.id }
         requires kind { IsPostable note }
         requires range { IsNote note }
-        ensures posted_last { IfOk result (λ _. pass.new ≡ poster pass.old.desk pass.old.share (with_note pass.old.mine note) pass.old.joined) }
+        ensures posted_last { IfOk result (λ _. pass.new ≡
+            poster pass.old.desk pass.old.share (with_note pass.old.mine note) pass.old.joined) }
         ensures refused { IfErr result (λ back. (back ≡ note) × (pass.new ≡ pass.old)) }
         ensures refused_only_where_full { IfErr result (λ _. WasFull self.now.capacity pass.old) }
     {
@@ -72,7 +74,8 @@ impl SettleBox {
     /// Collects the first note. `None` only where the box was empty at a step of this call.
     pub fn collect<R: Wait>(&self, rt: &R, pass: &mut CollectPass) -> Option<Note>
         requires { pass.old.desk ≡ self.now.id }
-        ensures collected_first { IfSome result (λ note. (from : List ℕ) × (pass.new ≡ collector pass.old.desk (pass.old.got ++ sent from note ∷ []))) }
+        ensures collected_first { IfSome result (λ note. (from : List ℕ) ×
+            (pass.new ≡ collector pass.old.desk (pass.old.got ++ sent from note ∷ []))) }
         ensures kind { IfSome result (λ note. IsPostable note) }
         ensures range { IfSome result (λ note. IsNote note) }
         ensures nothing_collected { IfNone result (pass.new ≡ pass.old) }
@@ -85,7 +88,8 @@ impl SettleBox {
     /// posted nothing yet.
     pub fn split_post(&self, pass: &mut PostPass) -> PostPass
         requires { pass.old.desk ≡ self.now.id }
-        ensures kept { pass.new ≡ poster pass.old.desk (kept_half pass.old.share) (split_once pass.old.mine) pass.old.joined }
+        ensures kept { pass.new ≡
+            poster pass.old.desk (kept_half pass.old.share) (split_once pass.old.mine) pass.old.joined }
         ensures new { result ≡ poster pass.old.desk (cut_half pass.old.share) (child_of pass.old.mine) [] }
     {
         PostPass {
@@ -97,7 +101,8 @@ impl SettleBox {
     /// Joins two passes that may post. What was posted under either name is kept.
     pub fn join_post(&self, into: &mut PostPass, from: PostPass)
         requires of_this_box { (into.old.desk ≡ self.now.id) × (from.desk ≡ self.now.id) }
-        ensures { into.new ≡ poster into.old.desk (into.old.share ++ from.share) into.old.mine (into.old.joined ++ senders_of from) }
+        ensures { into.new ≡
+            poster into.old.desk (into.old.share ++ from.share) into.old.mine (into.old.joined ++ senders_of from) }
     {
         let count = from.count;
         self.ring.absorb::<Everything>(&mut into.pass, from.pass);

@@ -19,19 +19,17 @@ pub struct Left {
 }
 
 impl Model for Left {
-    ghost use Rattle.std.specs.Prelude.{List, All};
+    ghost use Rattle.std.specs.Prelude.{List};
     ghost use Rattle.crossbeam_queue.specs.Passes.{IsPassOf};
-    ghost use Rattle.wire_base.specs.Ranges.{IsNote};
     ghost use Rattle.settle_box.specs.declared.sender.Sent.{Sent};
-    ghost use Rattle.settle_box.specs.Left.{KnowsAhead, left_over};
-    ghost use Rattle.settle_box.specs.Notes.{IsPostable};
-    ghost use Rattle.settle_box.specs.Senders.{notes};
+    ghost use Rattle.settle_box.specs.Left.{ArePostable, KnowsAhead, left_over};
 
     ghost Value = { List Sent };
 
     ghost view = { λ l. left_over l.next l.pass };
 
-    ghost invariant = { λ l. IsPassOf l.ring l.pass × KnowsAhead l.next l.pass × All IsPostable (notes (left_over l.next l.pass)) × All IsNote (notes (left_over l.next l.pass)) };
+    ghost invariant = { λ l. IsPassOf l.ring l.pass × KnowsAhead l.next l.pass ×
+        ArePostable (left_over l.next l.pass) };
 }
 
 impl Left {

@@ -16,12 +16,11 @@ invariant_of-self-2 g c =
     let new = c.pop_as.new.pass in
     let next = c.pop_as.result in
     let told = c.pop_as.ensures.rule in
-    let kinds = all_ahead IsPostable c.self.inside.next c.in_ok-first.first old (cc c.in_ok-first.was) c.self.invariant.2 in
-    let ranges = all_ahead IsNote c.self.inside.next c.in_ok-first.first old (cc c.in_ok-first.was) c.self.invariant.3 in (
+    let kinds = all_ahead IsPostable c.self.inside.next c.in_ok-first.first old (cc c.in_ok-first.was) c.self.invariant.2.0 in
+    let ranges = all_ahead IsNote c.self.inside.next c.in_ok-first.first old (cc c.in_ok-first.was) c.self.invariant.2.1 in (
       (c.pop_as.ensures.queue.0 ∙ c.self.invariant.0.0, c.pop_as.ensures.queue.2 ∙ c.self.invariant.0.1),
       knows_ahead old new next told,
-      still_all old new IsPostable next told kinds,
-      still_all old new IsNote next told ranges,
+      (still_all old new IsPostable next told kinds, still_all old new IsNote next told ranges),
     )
 
 pub returns-clause-first : goal.returns-clause-first
