@@ -70,7 +70,7 @@ QUEUE = f"""
 
 Parcels through the queue, with so many threads that put and as many that take, {PARCELS:,} each and at most 4,096 under
 way, beside a `VecDeque` of that capacity under a `Mutex`. The time is the clock's, the least of {RUNS} runs, taken in
-turn, less that of a run that moves one parcel.
+turn, less that of a run that moves one parcel. It depends on what else runs: the load was {{load:.1f}}.
 
 | Threads on each side | Parcels a second | Under the lock | Times those under the lock |
 |---:|---:|---:|---:|
@@ -147,7 +147,7 @@ def clock_time(part, threads, many):
 
 
 def queue_table():
-    text = QUEUE
+    text = QUEUE.format(load=os.getloadavg()[0])
     for threads in THREADS:
         runs = [[clock_time(part, threads, many) for part in ("queue", "locked") for many in (PARCELS, 1)] for _ in range(RUNS)]
         queue, queue_start, locked, locked_start = (min(times) for times in zip(*runs))
