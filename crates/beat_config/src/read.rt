@@ -1,0 +1,31 @@
+ghost use Rattle.std.specs.Prelude.{◌≡◌, ◌⊎◌, IfOk, IfErr};
+ghost use Rattle.beat_config.specs.Document.{AreSettingsOf, IsFirstFault};
+
+use crate::SettingsError;
+use crate::document::settings_of;
+use event_tree::Settings;
+use std::alloc::Global;
+use std::str;
+
+/// The most bytes of settings.
+pub const MAX_SETTINGS: usize = 1_048_576;
+
+/// The settings that bytes spell as one TOML document, or the first fault: by the kinds in the order of
+/// `SettingsError`, and within one kind by the key path that is first in byte order. `NoMemory` may come
+/// in place of any answer; a pattern that is too large when it is compiled is told so, too.
+pub fn read_settings(alloc: Global, bytes: &[u8]) -> Result<Settings, SettingsError>
+    ensures settings_of_the_document { IfOk result (AreSettingsOf bytes.now) }
+    ensures first_fault { IfErr result (λ fault. (fault ≡ SettingsError.NoMemory) ⊎ IsFirstFault bytes.now fault) }
+{
+    if bytes.len() > MAX_SETTINGS {
+        return Err(SettingsError::TooLong);
+    }
+    let Ok(text) = str::from_utf8(bytes) else {
+        return Err(SettingsError::NotToml);
+    };
+    match toml::table_from_str(alloc, text) {
+        Ok(document) => settings_of(alloc, &document),
+        Err(fault) if fault.is_memory() => Err(SettingsError::NoMemory),
+        Err(_) => Err(SettingsError::NotToml),
+    }
+}
