@@ -31,6 +31,3 @@ mod tree;
 
 pub use read::{MAX_SETTINGS, read_settings};
 pub use settings_error::SettingsError;
-
-#[cfg(test)]
-mod tests;
