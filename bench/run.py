@@ -13,7 +13,7 @@ import subprocess
 import time
 from pathlib import Path
 
-from transport import transport_table
+from transport import peak_memory, transport_table
 
 ROOT = Path(__file__).resolve().parents[1]
 CRATE = ROOT / "crates" / "bench_parts"
@@ -26,6 +26,16 @@ THREADS = [1, 2, 4]
 
 # the parcels that each thread puts
 PARCELS = 1_000_000
+
+# what is cut and grouped: the part, its length, how often it is fed, the bytes of it in all and the events that end
+LINES = [
+    ("lines", "lines of 120 bytes", 120, 2000, 2000 * 135 * 121, 2000 * 135),
+    ("line", "one line of 64 MiB", 16_384, 4096, 4096 * 16_384, 1),
+    ("traces", "stack traces of 20 frames", 20, 2000, None, None),
+]
+
+# `memchr` alone looks so often, since one look takes too little time to be measured
+LOOKS = 50
 
 # the bytes of a payload that are not of its message
 ENVELOPE = len(
@@ -43,6 +53,16 @@ HEAD = """# Times
 
 Measured {date} on {cores} cores ({machine}) at a load of {load:.1f}. Of single calls the processor time of `bench_parts` is
 shown, the least of {runs} runs, less the {fixed:.2f} milliseconds or so of a run that makes no call.
+"""
+
+CUT = """
+## Lines and events
+
+Bytes through `Cutter` and `Grouper`, beside `memchr` alone that looks for the line feeds of the same bytes: lines and the
+long line without a rule, stack traces by the pattern of Java's. The peak of memory is that of one more run.
+
+| What | Megabytes a second | `memchr` alone | Times the time of `memchr` | Peak memory, MiB |
+|---|---:|---:|---:|---:|
 """
 
 COVERS = """
@@ -136,6 +156,24 @@ def payloads_table(fixed):
     return text
 
 
+def size_of_traces(frames):
+    """The bytes of the piece of stack traces that `bench_parts` feeds."""
+    one = len("ERROR no answer\njava.io.IOException: closed\n") + frames * len("    at org.example.Service.call(Service.java:112)\n")
+    return one * max(16_384 // one, 1)
+
+
+def cut_table(fixed):
+    text = CUT
+    for part, name, length, turns, size, events in LINES:
+        size = size or turns * size_of_traces(length)
+        cut = least_time(part, length, turns, events) - fixed
+        looked = (least_time(f"feeds-{part}", length, turns * LOOKS) - fixed) / LOOKS
+        peak = peak_memory([str(PROGRAM), part, str(length), str(turns)], ROOT) / 2**20
+        print(f"{name:>26} {size / cut / 1e6:>8.0f} megabytes a second, {cut / looked:.1f} times memchr", flush=True)
+        text += f"| {name} | {size / cut / 1e6:.0f} | {size / looked / 1e6:.0f} | {cut / looked:.1f} | {peak:.1f} |\n"
+    return text
+
+
 def clock_time(part, threads, many):
     """Seconds that one run takes by the clock."""
     began = time.monotonic()
@@ -169,7 +207,7 @@ def main():
         runs=RUNS,
         fixed=fixed * 1e3,
     )
-    RESULTS.write_text(head + transport_table() + payloads_table(fixed) + queue_table() + covers_table(fixed))
+    RESULTS.write_text(head + transport_table() + cut_table(fixed) + payloads_table(fixed) + queue_table() + covers_table(fixed))
     print(f"written to {RESULTS.relative_to(ROOT)}")
 
 

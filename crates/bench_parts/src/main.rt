@@ -6,11 +6,15 @@
 //! LENGTH TURNS` does no more than copy the same message, with its escapes, between quotation marks.
 //! `queue THREADS PARCELS` has 1, 2 or 4 threads put PARCELS parcels each into the event queue and as
 //! many threads take them, and prints how many came out; `locked THREADS PARCELS` does the same with
-//! a `VecDeque` under a lock.
+//! a `VecDeque` under a lock. `lines LENGTH TURNS` cuts and groups TURNS times a piece of lines of
+//! LENGTH letters, `line LENGTH TURNS` one long line in pieces of LENGTH letters, and `traces FRAMES
+//! TURNS` stack traces of FRAMES lines; each prints how many events have ended. `feeds-lines`,
+//! `feeds-line` and `feeds-traces` count the line feeds of the same bytes.
 #![tactic(auto)]
 
 mod escapes;
 mod exchange;
+mod lines;
 mod locked;
 
 ghost use Rattle.std.specs.Prelude.{◌≡◌};
@@ -18,6 +22,7 @@ ghost use Rattle.glob_paths.specs.Cover.{Covers};
 
 use crate::escapes::escaped;
 use crate::exchange::through_queue;
+use crate::lines::{events, line_feeds, long_line, single, traces};
 use crate::locked::through_lock;
 use event_json::event_payload;
 use glob_paths::Glob;
@@ -67,6 +72,36 @@ fn escaped_size(alloc: Global, length: usize, turns: u64) -> anyhow::Result<u64>
     Ok(size as u64)
 }
 
+// A piece of about 16 kilobytes of lines, or of stack traces, or of letters alone.
+fn piece(alloc: Global, kind: &str, length: usize) -> anyhow::Result<String> {
+    let letters = "a".repeat(alloc, length)?;
+    let text = match kind {
+        "line" => return Ok(letters),
+        "lines" => format!(in alloc; "{letters}\n")?,
+        _ => {
+            let frames = "    at org.example.Service.call(Service.java:112)\n".repeat(
+                alloc, length,
+            )?;
+            format!(in alloc; "ERROR no answer\njava.io.IOException: closed\n{frames}")?
+        }
+    };
+    Ok(text.repeat(alloc, (16_384 / text.len().max(1)).max(1))?)
+}
+
+fn ended_events(alloc: Global, kind: &str, length: usize, turns: u64) -> anyhow::Result<u64> {
+    let piece = piece(alloc, kind, length)?;
+    let ended = match kind {
+        "line" => long_line(alloc, piece.as_bytes(), turns)?,
+        "lines" => events(alloc, &single(), piece.as_bytes(), turns)?,
+        _ => events(alloc, &traces(alloc)?, piece.as_bytes(), turns)?,
+    };
+    Ok(ended)
+}
+
+fn found_feeds(alloc: Global, kind: &str, length: usize, turns: u64) -> anyhow::Result<u64> {
+    Ok(line_feeds(piece(alloc, kind, length)?.as_bytes(), turns))
+}
+
 fn main(rt: HostRuntime) -> anyhow::Result<ExitCode> {
     let words: Vec<String> = env::args(&rt)?.collect(rt.alloc())?;
     let [_, name, length, turns] = words.as_slice() else {
@@ -83,6 +118,12 @@ fn main(rt: HostRuntime) -> anyhow::Result<ExitCode> {
         "escapes" => escaped_size(rt.alloc(), length, turns)?,
         "queue" => through_queue(&rt, rt.alloc(), length, turns)?,
         "locked" => through_lock(&rt, rt.alloc(), length, turns)?,
+        "lines" => ended_events(rt.alloc(), "lines", length, turns)?,
+        "line" => ended_events(rt.alloc(), "line", length, turns)?,
+        "traces" => ended_events(rt.alloc(), "traces", length, turns)?,
+        "feeds-lines" => found_feeds(rt.alloc(), "lines", length, turns)?,
+        "feeds-line" => found_feeds(rt.alloc(), "line", length, turns)?,
+        "feeds-traces" => found_feeds(rt.alloc(), "traces", length, turns)?,
         _ => return usage(&rt),
     };
     println!(rt; "{figure}")?;
@@ -90,6 +131,6 @@ fn main(rt: HostRuntime) -> anyhow::Result<ExitCode> {
 }
 
 fn usage(rt: &HostRuntime) -> anyhow::Result<ExitCode> {
-    println!(rt; "usage: bench_parts covers|payloads|escapes|queue|locked LENGTH TURNS")?;
+    println!(rt; "usage: bench_parts PART LENGTH TURNS")?;
     Ok(ExitCode::from(2))
 }
