@@ -5,8 +5,8 @@ use Rattle.std.proofs.lemmas.List.{append-nil, take_all}
 use Rattle.wire_base.specs.declared.talk.Piece.{Piece}
 use Rattle.lumber_frame.specs.declared.frame.Frame.TheVariants.{Ack}
 use Rattle.lumber_frame.specs.Frame.{frame_bytes}
-use Rattle.lumber_frame.specs.Talk.{in_bytes}
-use Rattle.lumber_frame.specs.Window.{BeginsWithWindow, window_bytes}
+use Rattle.lumber_frame.specs.Talk.{in_bytes, out_bytes}
+use Rattle.lumber_frame.specs.Window.{AreWindows, BeginsWithWindow, window_bytes}
 use Rattle.lumber_frame.specs.Acknowledged.{Answer, Acknowledges, acknowledgements, answers, count_at, greatest, payloads_by}
 use Rattle.lumber_frame.specs.Settled.{IsSettled, ack_bytes}
 use Rattle.lumber_frame.proofs.Frames.{written}
@@ -35,18 +35,26 @@ all_given given number (window ∷ windows) each =
     ap (λ (k : ℕ). greatest k given) next ∙ each (suc i)) in
     ap (λ (front : List (List ℕ)). front ++ payloads_by given (suc number) windows) whole ∙ ap (λ (tail : List (List ℕ)). window ++ tail) others
 
+-- the windows that were sent are the windows of the talk
+pub windows_are : (talk : List Piece) (windows : List (List (List ℕ))) → IsSettled talk windows → AreWindows (out_bytes talk) windows
+windows_are talk windows settled =
+    record { each = settled.each; rest = []; whole = settled.sent ∙ sym (append-nil (flat_map window_bytes windows)); cut = none_in_nothing }
+
+-- the numbers that were received are the numbers of the talk
+pub numbers_are : (talk : List Piece) (windows : List (List (List ℕ))) (settled : IsSettled talk windows) → acknowledgements (in_bytes talk) ≡ settled.numbers
+numbers_are talk windows settled = ap acknowledgements settled.received ∙ numbers_back settled.numbers settled.small
+
 -- what is settled is acknowledged
 pub settled_is : (talk : List Piece) (windows : List (List (List ℕ))) → IsSettled talk windows → Acknowledges talk (flat_map (λ window. window) windows)
 settled_is talk windows settled =
-    let numbers : acknowledgements (in_bytes talk) ≡ settled.numbers = ap acknowledgements settled.received ∙ numbers_back settled.numbers settled.small in
     let given = answers windows talk 0 settled.numbers in
     let all = all_given given 1 windows (λ i.
     let next : 1 + i ≡ suc i = omega arith in
     ap (λ (k : ℕ). greatest k given) next ∙ settled.in_full (suc i)) in
     record {
       windows = windows;
-      sent = record { each = settled.each; rest = []; whole = settled.sent ∙ sym (append-nil (flat_map window_bytes windows)); cut = none_in_nothing };
-      are = sym all ∙ ap (λ (ns : List ℕ). payloads_by (answers windows talk 0 ns) 1 windows) (sym numbers);
+      sent = windows_are talk windows settled;
+      are = sym all ∙ ap (λ (ns : List ℕ). payloads_by (answers windows talk 0 ns) 1 windows) (sym (numbers_are talk windows settled));
     }
 
 -- nothing is settled in a talk of nothing

@@ -62,10 +62,9 @@ pub fn acknowledged_stays()
         (later : List (List ℕ)) × Acknowledges (talk ++ more) later × All (Contains later) payloads }
 {}
 
-/// The payloads of windows that were acknowledged in full stay acknowledged, whatever is sent and received afterwards.
-/// A law; it computes nothing.
+/// The payloads of windows that were acknowledged in full are the first of what the talk acknowledges, whatever is sent
+/// and received afterwards. A law; it computes nothing.
 pub fn settled_stays_acknowledged()
     ensures { (talk more : List Piece) (windows : List (List (List ℕ))) → IsSettled talk windows →
-        (later : List (List ℕ)) × Acknowledges (talk ++ more) later ×
-        All (Contains later) (flat_map (λ window. window) windows) }
+        (later : List (List ℕ)) × Acknowledges (talk ++ more) (flat_map (λ window. window) windows ++ later) }
 {}
