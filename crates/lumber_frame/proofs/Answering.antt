@@ -36,11 +36,11 @@ ack_step bytes n used begins = (omega (arith, within bytes (Ack n) used begins, 
         let number : from_be_bytes w32 (a ∷ b ∷ c ∷ d ∷ []) ≡ n = ap (from_be_bytes w32) cells ∙ from_be_bytes-to_be_bytes_4 n begins.fits in
         rw (version, kind) (ap (λ (m : ℕ). m ∷ acknowledgements bytes) number)
 
-unless : {A : Type 0} (b : Bool) (xs ys : A) → (b ≡ true → ⊥) → cond b xs ys ≡ ys
+pub unless : {A : Type 0} (b : Bool) (xs ys : A) → (b ≡ true → ⊥) → cond b xs ys ≡ ys
 unless true xs ys never = absurd (never refl)
 unless false xs ys never = refl
 
-both : (a b : Bool) → (a && b) ≡ true → (a ≡ true) × (b ≡ true)
+pub both : (a b : Bool) → (a && b) ≡ true → (a ≡ true) × (b ≡ true)
 both true true is = (refl, refl)
 both true false is = absurd cc
 both false b is = absurd cc

@@ -116,7 +116,7 @@ frame_stays bytes more frame used begins =
     record { fits = begins.fits; size = begins.size; front = take-append-le used bytes more (within bytes frame used begins) ∙ begins.front }
 
 -- a byte that is there stays, whatever follows
-byte_stays : (bytes more : List ℕ) (i : ℕ) → i < length bytes → slice_index (bytes ++ more) i ≡ slice_index bytes i
+pub byte_stays : (bytes more : List ℕ) (i : ℕ) → i < length bytes → slice_index (bytes ++ more) i ≡ slice_index bytes i
 byte_stays bytes more i there = get_or_append_left bytes more 0 i there
 
 -- bytes that are there stay, whatever follows

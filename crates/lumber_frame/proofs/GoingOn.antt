@@ -29,13 +29,14 @@ windows_more bytes more windows others first second =
     }
 
 -- the talk that goes on: more windows behind those that it has, and more answers behind those that were given
-record GoesOn (talk more : List Piece) (windows : List (List (List ℕ))) : Type 0 where
-  others : List (List (List ℕ))
-  later : List Answer
-  sent : AreWindows (out_bytes (talk ++ more)) (windows ++ others)
-  are : answers (windows ++ others) (talk ++ more) 0 (acknowledgements (in_bytes (talk ++ more))) ≡ answers windows talk 0 (acknowledgements (in_bytes talk)) ++ later
+pub record GoesOn (talk more : List Piece) (windows : List (List (List ℕ))) : Type 0 where
+  pub others : List (List (List ℕ))
+  pub later : List Answer
+  pub sent : AreWindows (out_bytes (talk ++ more)) (windows ++ others)
+  pub within : (out : ℕ) → out ≤ length (out_bytes talk) → whole_within (windows ++ others) out ≡ whole_within windows out
+  pub are : answers (windows ++ others) (talk ++ more) 0 (acknowledgements (in_bytes (talk ++ more))) ≡ answers windows talk 0 (acknowledgements (in_bytes talk)) ++ later
 
-goes_on : (talk more : List Piece) (windows : List (List (List ℕ))) → AreWindows (out_bytes talk) windows → GoesOn talk more windows
+pub goes_on : (talk more : List Piece) (windows : List (List (List ℕ))) → AreWindows (out_bytes talk) windows → GoesOn talk more windows
 goes_on talk more windows first =
     let others = windows_there (first.rest ++ out_bytes more) in
     let all = windows ++ others.0 in
@@ -51,6 +52,7 @@ goes_on talk more windows first =
       others = others.0;
       later = later.0;
       sent = subst (λ (bytes : List ℕ). AreWindows bytes all) (sym (out_append talk more)) (windows_more (out_bytes talk) (out_bytes more) windows others.0 first others.1);
+      within = within;
       are = ap (λ (bytes : List ℕ). answers all (talk ++ more) 0 (acknowledgements bytes)) (in_append talk more) ∙ ap (λ (ns : List ℕ). answers all (talk ++ more) 0 ns) behind.1 ∙ later.1 ∙ ap (λ (front : List Answer). front ++ later.0) old;
     }
 

@@ -7,3 +7,4 @@ pub mod Staying
 pub mod WindowsThere
 pub mod GoingOn
 pub mod OneMoreWindow
+pub mod Faults

@@ -22,7 +22,7 @@ use Rattle.wire_base.specs.declared.talk.Piece.TheVariants.{Out, In}
 -- ---- places
 
 -- an acknowledgement takes six bytes
-length-acks : (numbers : List ℕ) → length (ack_bytes numbers) ≡ 6 * length numbers
+pub length-acks : (numbers : List ℕ) → length (ack_bytes numbers) ≡ 6 * length numbers
 length-acks [] = refl
 length-acks (number ∷ numbers) = omega (arith, length-append (frame_bytes (Ack number)) (ack_bytes numbers), length-acks numbers)
 
@@ -62,7 +62,7 @@ count_past : (windows : List (List (List ℕ))) (number : ℕ) → length window
 count_past windows zero past = absurd (omega arith)
 count_past windows (suc before) past = ap length (get_or_past windows before [] (omega arith))
 
-count_last : (windows : List (List (List ℕ))) (payloads : List (List ℕ)) → count_at (windows ++ payloads ∷ []) (suc (length windows)) ≡ length payloads
+pub count_last : (windows : List (List (List ℕ))) (payloads : List (List ℕ)) → count_at (windows ++ payloads ∷ []) (suc (length windows)) ≡ length payloads
 count_last windows payloads = ap length (get_or-append_seam windows payloads [] [])
 
 -- ---- answers
@@ -140,39 +140,75 @@ greatest_many last (first ∷ numbers) (suc i) number there is =
 
 -- ---- the talk with one more window
 
--- what the pieces that follow are
+-- the pieces that follow are a window, and bytes that come when it is out
+pub record IsSent (more : List Piece) (payloads : List (List ℕ)) : Type 0 where
+  pub is : IsWindow payloads
+  pub sent : out_bytes more ≡ window_bytes payloads
+  pub first : (place : ℕ) → out_before more place ≡ length (window_bytes payloads)
+
+pub sent_first : (sent heard : List Piece) (payloads : List (List ℕ)) → IsWindow payloads → out_bytes sent ≡ window_bytes payloads → in_bytes sent ≡ [] → out_bytes heard ≡ [] → IsSent (sent ++ heard) payloads
+sent_first sent heard payloads is out silent quiet = record {
+  is = is;
+  sent = out_append sent heard ∙ ap (λ (tail : List ℕ). out_bytes sent ++ tail) quiet ∙ append-nil (out_bytes sent) ∙ out;
+  first = λ place.
+      let here : place ≡ length (in_bytes sent) + place = omega (arith, ap length silent) in
+      omega (arith, ap (out_before (sent ++ heard)) here, before_behind sent heard place, before_most heard place, ap length quiet, ap length out);
+}
+
+-- what is received is received behind the window
+pub received_first : (sent heard : List Piece) (bytes : List ℕ) → in_bytes sent ≡ [] → in_bytes heard ≡ bytes → in_bytes (sent ++ heard) ≡ bytes
+received_first sent heard bytes silent received = in_append sent heard ∙ ap (λ (front : List ℕ). front ++ in_bytes heard) silent ∙ received
+
+-- and these acknowledgements of it
 record IsAnswered (more : List Piece) (payloads : List (List ℕ)) (numbers : List ℕ) : Type 0 where
-  is : IsWindow payloads
-  sent : out_bytes more ≡ window_bytes payloads
+  window : IsSent more payloads
   received : in_bytes more ≡ ack_bytes numbers
-  first : (place : ℕ) → out_before more place ≡ length (window_bytes payloads)
   few : AllByRecursion (λ number. number ≤ length payloads) numbers
   full : Contains numbers (length payloads)
 
-small_too : (most : ℕ) (numbers : List ℕ) → most < 2 ^ 32 → AllByRecursion (λ number. number ≤ most) numbers → AllByRecursion (λ number. number < 2 ^ 32) numbers
+pub small_too : (most : ℕ) (numbers : List ℕ) → most < 2 ^ 32 → AllByRecursion (λ number. number ≤ most) numbers → AllByRecursion (λ number. number < 2 ^ 32) numbers
 small_too most [] small few = tt
 small_too most (number ∷ numbers) small few = (omega (arith, few.0), small_too most numbers small few.1)
 
+-- the window is the last that was sent
+pub sent_then : (talk more : List Piece) (windows : List (List (List ℕ))) (payloads : List (List ℕ)) → IsSettled talk windows → IsSent more payloads → out_bytes (talk ++ more) ≡ flat_map window_bytes (windows ++ payloads ∷ [])
+sent_then talk more windows payloads settled window =
+    out_append talk more ∙ ap (λ (front : List ℕ). front ++ out_bytes more) settled.sent ∙ ap (λ (tail : List ℕ). flat_map window_bytes windows ++ tail) (window.sent ∙ sym (append-nil (window_bytes payloads))) ∙ sym (flat_map-append window_bytes windows (payloads ∷ []))
+
+-- and all windows are out then
+pub whole_then : (talk more : List Piece) (windows : List (List (List ℕ))) (payloads : List (List ℕ)) (settled : IsSettled talk windows) → IsSent more payloads → (later : ℕ) → 6 * length settled.numbers ≤ later → whole_within (windows ++ payloads ∷ []) (out_before (talk ++ more) later) ≡ suc (length windows)
+whole_then talk more windows payloads settled window later behind =
+    let all = windows ++ payloads ∷ [] in
+    let received : length (in_bytes talk) ≡ 6 * length settled.numbers = ap length settled.received ∙ length-acks settled.numbers in
+    let size = ap length (flat_map-append window_bytes windows (payloads ∷ [])) in
+    let bytes_all : length (out_bytes talk) + length (window_bytes payloads) ≡ length (flat_map window_bytes all) = omega (arith, size, length-append (flat_map window_bytes windows) (window_bytes payloads ++ []), length-append (window_bytes payloads) [], ap length settled.sent) in
+    let place : later ≡ length (in_bytes talk) + (later - length (in_bytes talk)) = omega (arith, received, behind) in
+    let out = ap (out_before (talk ++ more)) place ∙ before_behind talk more (later - length (in_bytes talk)) in
+    let windows_out = whole_all all (out_before (talk ++ more) later) (omega (arith, out, window.first (later - length (in_bytes talk)), bytes_all)) in
+    omega (arith, windows_out, length-append windows (payloads ∷ []))
+
 -- the answers then are the old ones, and those for the new window
-answers_then : (talk more : List Piece) (windows : List (List (List ℕ))) (payloads : List (List ℕ)) (numbers : List ℕ) → (settled : IsSettled talk windows) → IsAnswered more payloads numbers → answers (windows ++ payloads ∷ []) (talk ++ more) 0 (settled.numbers ++ numbers) ≡ answers windows talk 0 settled.numbers ++ for_window (suc (length windows)) numbers
-answers_then talk more windows payloads numbers settled answered =
+answers_then : (talk more : List Piece) (windows : List (List (List ℕ))) (payloads : List (List ℕ)) (numbers : List ℕ) → (settled : IsSettled talk windows) → IsSent more payloads → AllByRecursion (λ number. number ≤ length payloads) numbers → answers (windows ++ payloads ∷ []) (talk ++ more) 0 (settled.numbers ++ numbers) ≡ answers windows talk 0 settled.numbers ++ for_window (suc (length windows)) numbers
+answers_then talk more windows payloads numbers settled window few =
     let all = windows ++ payloads ∷ [] in
     let old = settled.numbers in
     let last = suc (length windows) in
     let received : length (in_bytes talk) ≡ 6 * length old = ap length settled.received ∙ length-acks old in
-    let size = ap length (flat_map-append window_bytes windows (payloads ∷ [])) in
-    let bytes_all : length (out_bytes talk) + length (window_bytes payloads) ≡ length (flat_map window_bytes all) = omega (arith, size, length-append (flat_map window_bytes windows) (window_bytes payloads ++ []), length-append (window_bytes payloads) [], ap length settled.sent) in
-    let within : (out : ℕ) → out ≤ length (out_bytes talk) → whole_within all out ≡ whole_within windows out = λ out few.
-    whole_stays windows (payloads ∷ []) [] out (none_out payloads) (omega (arith, few, ap length settled.sent, length-append (flat_map window_bytes windows) [])) in
+    let within : (out : ℕ) → out ≤ length (out_bytes talk) → whole_within all out ≡ whole_within windows out = λ out most.
+    whole_stays windows (payloads ∷ []) [] out (none_out payloads) (omega (arith, most, ap length settled.sent, length-append (flat_map window_bytes windows) [])) in
     let before = answers_stay windows (payloads ∷ []) talk more 0 old within (omega (arith, received)) in
     let through = answers_through all (talk ++ more) 0 old numbers (ap length before ∙ settled.faultless) in
     let whole : (later : ℕ) → 0 + 6 * length old ≤ later → whole_within all (out_before (talk ++ more) later) ≡ last = λ later behind.
-    let place : later ≡ length (in_bytes talk) + (later - length (in_bytes talk)) = omega (arith, received, behind) in
-    let out = ap (out_before (talk ++ more)) place ∙ before_behind talk more (later - length (in_bytes talk)) in
-    let windows_out = whole_all all (out_before (talk ++ more) later) (omega (arith, out, answered.first (later - length (in_bytes talk)), bytes_all)) in
-    omega (arith, windows_out, length-append windows (payloads ∷ [])) in
-    let now = answers_last all (talk ++ more) (0 + 6 * length old) last (length payloads) numbers whole (count_last windows payloads) answered.few in
+    whole_then talk more windows payloads settled window later (omega (arith, behind)) in
+    let now = answers_last all (talk ++ more) (0 + 6 * length old) last (length payloads) numbers whole (count_last windows payloads) few in
     through ∙ ap (λ (front : List Answer). front ++ answers all (talk ++ more) (0 + 6 * length old) numbers) before ∙ ap (λ (tail : List Answer). answers windows talk 0 old ++ tail) now
+
+-- and each acknowledgement has one
+pub faultless_then : (talk more : List Piece) (windows : List (List (List ℕ))) (payloads : List (List ℕ)) (numbers : List ℕ) → (settled : IsSettled talk windows) → IsSent more payloads → AllByRecursion (λ number. number ≤ length payloads) numbers → length (answers (windows ++ payloads ∷ []) (talk ++ more) 0 (settled.numbers ++ numbers)) ≡ length (settled.numbers ++ numbers)
+faultless_then talk more windows payloads numbers settled window few =
+    let given = answers windows talk 0 settled.numbers in
+    let new = for_window (suc (length windows)) numbers in
+    omega (arith, ap length (answers_then talk more windows payloads numbers settled window few), length-append given new, length-for_window (suc (length windows)) numbers, settled.faultless, length-append settled.numbers numbers)
 
 -- each window then has its count
 full_then : (windows : List (List (List ℕ))) (payloads : List (List ℕ)) (given : List Answer) (numbers : List ℕ) → ((window : ℕ) → greatest window given ≡ count_at windows window) → AllByRecursion (λ number. number ≤ length payloads) numbers → Contains numbers (length payloads) → (window : ℕ) → greatest window (given ++ for_window (suc (length windows)) numbers) ≡ count_at (windows ++ payloads ∷ []) window
@@ -194,30 +230,24 @@ full_then windows payloads given numbers in_full few full window =
 one_more : (talk more : List Piece) (windows : List (List (List ℕ))) (payloads : List (List ℕ)) (numbers : List ℕ) → IsSettled talk windows → IsAnswered more payloads numbers → IsSettled (talk ++ more) (windows ++ payloads ∷ [])
 one_more talk more windows payloads numbers settled answered =
     let given = answers windows talk 0 settled.numbers in
-    let new = for_window (suc (length windows)) numbers in
-    let are = answers_then talk more windows payloads numbers settled answered in
+    let are = answers_then talk more windows payloads numbers settled answered.window answered.few in
     let full = full_then windows payloads given numbers settled.in_full answered.few answered.full in
     record {
-      each = all_both IsWindow windows (payloads ∷ []) settled.each (answered.is, tt);
-      sent = out_append talk more ∙ ap (λ (front : List ℕ). front ++ out_bytes more) settled.sent ∙ ap (λ (tail : List ℕ). flat_map window_bytes windows ++ tail) (answered.sent ∙ sym (append-nil (window_bytes payloads))) ∙ sym (flat_map-append window_bytes windows (payloads ∷ []));
+      each = all_both IsWindow windows (payloads ∷ []) settled.each (answered.window.is, tt);
+      sent = sent_then talk more windows payloads settled answered.window;
       numbers = settled.numbers ++ numbers;
-      small = all_both (λ number. number < 2 ^ 32) settled.numbers numbers settled.small (small_too (length payloads) numbers answered.is.few answered.few);
+      small = all_both (λ number. number < 2 ^ 32) settled.numbers numbers settled.small (small_too (length payloads) numbers answered.window.is.few answered.few);
       received = in_append talk more ∙ ap (λ (front : List ℕ). front ++ in_bytes more) settled.received ∙ ap (λ (tail : List ℕ). ack_bytes settled.numbers ++ tail) answered.received ∙ sym (flat_map-append (λ number. frame_bytes (Ack number)) settled.numbers numbers);
-      faultless = omega (arith, ap length are, length-append given new, length-for_window (suc (length windows)) numbers, settled.faultless, length-append settled.numbers numbers);
+      faultless = faultless_then talk more windows payloads numbers settled answered.window answered.few;
       in_full = λ window. ap (greatest window) are ∙ full window;
     }
 
 -- one more window is settled by acknowledgements behind it
 pub window_is : (talk sent heard : List Piece) (windows : List (List (List ℕ))) (payloads : List (List ℕ)) (numbers : List ℕ) → IsSettled talk windows → IsWindow payloads → out_bytes sent ≡ window_bytes payloads → in_bytes sent ≡ [] → out_bytes heard ≡ [] → in_bytes heard ≡ ack_bytes numbers → All (λ number. number ≤ length payloads) numbers → Contains numbers (length payloads) → IsSettled ((talk ++ sent) ++ heard) (windows ++ payloads ∷ [])
 window_is talk sent heard windows payloads numbers settled is out silent quiet received few full =
-    let first : (place : ℕ) → out_before (sent ++ heard) place ≡ length (window_bytes payloads) = λ place.
-    let here : place ≡ length (in_bytes sent) + place = omega (arith, ap length silent) in
-    omega (arith, ap (out_before (sent ++ heard)) here, before_behind sent heard place, before_most heard place, ap length quiet, ap length out) in
     let answered : IsAnswered (sent ++ heard) payloads numbers = record {
-      is = is;
-      sent = out_append sent heard ∙ ap (λ (tail : List ℕ). out_bytes sent ++ tail) quiet ∙ append-nil (out_bytes sent) ∙ out;
-      received = in_append sent heard ∙ ap (λ (front : List ℕ). front ++ in_bytes heard) silent ∙ received;
-      first = first;
+      window = sent_first sent heard payloads is out silent quiet;
+      received = received_first sent heard (ack_bytes numbers) silent received;
       few = recursion_from_All (λ number. number ≤ length payloads) numbers few;
       full = full;
     } in

@@ -16,12 +16,16 @@ use Rattle.lumber_frame.proofs.Answering.{ack_step}
 pub none_in_nothing : (payloads : List (List ℕ)) (more : List ℕ) → BeginsWithWindow [] payloads more → ⊥
 none_in_nothing payloads more begins = absurd cc
 
--- numbers that are written are read again
+-- numbers that are written are read again, and then those of what follows
+pub numbers_read : (numbers bytes : List ℕ) → AllByRecursion (λ number. number < 2 ^ 32) numbers → acknowledgements (ack_bytes numbers ++ bytes) ≡ numbers ++ acknowledgements bytes
+numbers_read [] bytes small = refl
+numbers_read (number ∷ numbers) bytes small =
+    let first = ack_step (frame_bytes (Ack number) ++ (ack_bytes numbers ++ bytes)) number 6 (written (Ack number) (ack_bytes numbers ++ bytes) small.0) in
+    first.1 ∙ ap (λ (others : List ℕ). number ∷ others) (numbers_read numbers bytes small.1)
+
+-- and no others where nothing follows
 pub numbers_back : (numbers : List ℕ) → AllByRecursion (λ number. number < 2 ^ 32) numbers → acknowledgements (ack_bytes numbers) ≡ numbers
-numbers_back [] small = refl
-numbers_back (number ∷ numbers) small =
-    let first = ack_step (frame_bytes (Ack number) ++ ack_bytes numbers) number 6 (written (Ack number) (ack_bytes numbers) small.0) in
-    first.1 ∙ ap (λ (others : List ℕ). number ∷ others) (numbers_back numbers small.1)
+numbers_back numbers small = ap acknowledgements (sym (append-nil (ack_bytes numbers))) ∙ numbers_read numbers [] small ∙ append-nil numbers
 
 -- windows that were acknowledged in full give all their payloads
 all_given : (given : List Answer) (number : ℕ) (windows : List (List (List ℕ))) → ((i : ℕ) → greatest (number + i) given ≡ length (get_or windows i [])) → payloads_by given number windows ≡ flat_map (λ window. window) windows

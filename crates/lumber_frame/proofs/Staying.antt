@@ -30,7 +30,7 @@ in_append (Out bytes ∷ talk) more = in_append talk more
 in_append (In bytes ∷ talk) more = ap (λ (tail : List ℕ). bytes ++ tail) (in_append talk more) ∙ sym (append_assoc bytes (in_bytes talk) (in_bytes more))
 
 -- what was out before a byte that came stays
-before_stays : (talk more : List Piece) (place : ℕ) → place < length (in_bytes talk) → out_before (talk ++ more) place ≡ out_before talk place
+pub before_stays : (talk more : List Piece) (place : ℕ) → place < length (in_bytes talk) → out_before (talk ++ more) place ≡ out_before talk place
 before_stays [] more place there = absurd (omega arith)
 before_stays (Out bytes ∷ talk) more place there = ap (λ (n : ℕ). length bytes + n) (before_stays talk more place there)
 before_stays (In bytes ∷ talk) more place there =

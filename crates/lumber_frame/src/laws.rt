@@ -1,5 +1,6 @@
-ghost use Rattle.std.specs.Prelude.{◌≡◌, ℕ, All, Contains, ◌≤◌, List, [], ◌∷◌, ◌++◌, flat_map, length};
+ghost use Rattle.std.specs.Prelude.{◌≡◌, ℕ, All, Contains, ◌≤◌, ◌<◌, ◌^◌, List, [], ◌∷◌, ◌++◌, flat_map, length};
 ghost use Rattle.lumber_frame.specs.declared.frame.Frame.{Frame};
+ghost use Rattle.lumber_frame.specs.declared.frame.Frame.TheVariants.{Ack};
 ghost use Rattle.lumber_frame.specs.declared.frame.FrameRead.{FrameRead};
 ghost use Rattle.lumber_frame.specs.Frame.{IsFrame, BeginsWithFrame, frame_bytes};
 ghost use Rattle.lumber_frame.specs.Fault.{IsBadAt};
@@ -9,6 +10,7 @@ ghost use Rattle.lumber_frame.specs.Window.{IsWindow, window_bytes};
 ghost use Rattle.lumber_frame.specs.Acknowledged.{Acknowledges};
 ghost use Rattle.lumber_frame.specs.Reading.{Reads, IsWholeOf};
 ghost use Rattle.lumber_frame.specs.Settled.{IsSettled, ack_bytes};
+ghost use Rattle.lumber_frame.specs.PeerFault.{BeginsNoAcknowledgement, HasPeerFault};
 
 /// A frame has one form, and no frame's bytes begin another's. A law; it computes nothing.
 pub fn one_form()
@@ -67,4 +69,46 @@ pub fn acknowledged_stays()
 pub fn settled_stays_acknowledged()
     ensures { (talk more : List Piece) (windows : List (List (List ℕ))) → IsSettled talk windows →
         (later : List (List ℕ)) × Acknowledges (talk ++ more) (flat_map (λ window. window) windows ++ later) }
+{}
+
+/// Bytes that begin no acknowledgement begin none however they go on. A law; it computes nothing.
+pub fn no_acknowledgement_begins()
+    ensures { (bytes more : List ℕ) (number used : ℕ) → BeginsNoAcknowledgement bytes →
+        ¬ (BeginsWithFrame (bytes ++ more) (Ack number) used) }
+{}
+
+/// A client that waits for the acknowledgement of one more window meets a peer's fault where, behind acknowledgements
+/// none above the window's count, there come bytes that begin no acknowledgement, or an acknowledgement of a number above
+/// the count, whatever follows it. A law; it computes nothing.
+pub fn a_fault_is_met()
+    ensures no_acknowledgement { (talk sent heard : List Piece) (windows : List (List (List ℕ)))
+        (payloads : List (List ℕ)) (numbers bytes : List ℕ) → IsSettled talk windows → IsWindow payloads →
+        out_bytes sent ≡ window_bytes payloads → in_bytes sent ≡ [] →
+        out_bytes heard ≡ [] → in_bytes heard ≡ ack_bytes numbers ++ bytes →
+        All (λ number. number ≤ length payloads) numbers → BeginsNoAcknowledgement bytes →
+        HasPeerFault ((talk ++ sent) ++ heard) }
+    ensures above_the_count { (talk sent heard : List Piece) (windows : List (List (List ℕ)))
+        (payloads : List (List ℕ)) (numbers bytes : List ℕ) (number : ℕ) → IsSettled talk windows → IsWindow payloads →
+        out_bytes sent ≡ window_bytes payloads → in_bytes sent ≡ [] →
+        out_bytes heard ≡ [] → in_bytes heard ≡ ack_bytes (numbers ++ number ∷ []) ++ bytes →
+        All (λ number. number ≤ length payloads) numbers → number < 2 ^ 32 → length payloads < number →
+        HasPeerFault ((talk ++ sent) ++ heard) }
+{}
+
+/// A settled talk has no peer's fault, and neither has one that goes on by one more window and by acknowledgements none
+/// above its count, behind which another may have begun. A law; it computes nothing.
+pub fn no_fault_is_met()
+    ensures settled { (talk : List Piece) (windows : List (List (List ℕ))) → IsSettled talk windows →
+        ¬ (HasPeerFault talk) }
+    ensures waiting { (talk sent heard : List Piece) (windows : List (List (List ℕ)))
+        (payloads : List (List ℕ)) (numbers bytes : List ℕ) → IsSettled talk windows → IsWindow payloads →
+        out_bytes sent ≡ window_bytes payloads → in_bytes sent ≡ [] →
+        out_bytes heard ≡ [] → in_bytes heard ≡ ack_bytes numbers ++ bytes →
+        All (λ number. number ≤ length payloads) numbers → length bytes < 6 → ¬ (BeginsNoAcknowledgement bytes) →
+        ¬ (HasPeerFault ((talk ++ sent) ++ heard)) }
+{}
+
+/// A peer's fault stays, whatever is sent and received afterwards. A law; it computes nothing.
+pub fn a_fault_stays()
+    ensures { (talk more : List Piece) → HasPeerFault talk → HasPeerFault (talk ++ more) }
 {}
