@@ -1,11 +1,11 @@
 -- Peers' faults of a talk: where they are met, where there is none, and that they stay.
-use Rattle.std.proofs.Common.{◌≡◌, ℕ, zero, suc, ◌+◌, ◌*◌, ◌^◌, ◌<◌, ◌≤◌, ◌&&◌, Bool, true, false, cond, eqb, List, [], ◌∷◌, ◌++◌, length, get_or, slice_index, drop, refl, sym, ap, subst, ◌∙◌, append_assoc, arith, inl, inr}
+use Rattle.std.proofs.Common.{◌≡◌, ℕ, zero, suc, ◌+◌, ◌*◌, ◌^◌, ◌<◌, ◌≤◌, ◌&&◌, Bool, true, false, cond, eqb, List, [], ◌∷◌, ◌++◌, length, get_or, slice_index, drop, take, lit<, refl, sym, ap, subst, ◌∙◌, append_assoc, arith, inl, inr}
 use Rattle.std.specs.Int.{w32, from_be_bytes}
 use Rattle.std.specs.List.{All, AllByRecursion, flat_map}
 use Rattle.std.proofs.Math.Seq.{get_or-append_seam}
 use Rattle.std.proofs.lemmas.Bool.{eqb-true}
-use Rattle.std.proofs.lemmas.Bool.Decides.{leb_tells}
-use Rattle.std.proofs.lemmas.List.{length-append, append-nil, drop_at, get_or_append_left}
+use Rattle.std.proofs.lemmas.Bool.Decides.{eqb_tells, leb_tells}
+use Rattle.std.proofs.lemmas.List.{length-append, append-nil, drop_at, get_or_append_left, get_or_past}
 use Rattle.std.proofs.lemmas.List.Concat.{flat_map-append}
 use Rattle.std.proofs.lemmas.List.Elements.{recursion_from_All}
 use Rattle.wire_base.specs.declared.talk.Piece.{Piece}
@@ -16,7 +16,8 @@ use Rattle.lumber_frame.specs.Window.{window_bytes, AreWindows, IsWindow}
 use Rattle.lumber_frame.specs.Acknowledged.{acknowledgements, answers, count_at, whole_within}
 use Rattle.lumber_frame.specs.Settled.{IsSettled, ack_bytes}
 use Rattle.lumber_frame.specs.PeerFault.{BeginsNoAcknowledgement, HasPeerFault, IsAboveCount}
-use Rattle.lumber_frame.proofs.Frames.{byte_stays, spelled}
+use Rattle.lumber_frame.proofs.Frames.{IsBytes, byte_stays, spelled}
+use Rattle.lumber_frame.proofs.Readings.{ack_front}
 use Rattle.lumber_frame.proofs.WindowBytes.{are_once}
 use Rattle.lumber_frame.proofs.Answering.{both, unless}
 use Rattle.lumber_frame.proofs.Settling.{none_in_nothing, numbers_read, windows_are}
@@ -41,6 +42,40 @@ not_in_front number rest (inr second) = second.1 refl
 pub no_frame : (bytes more : List ℕ) (number used : ℕ) → BeginsNoAcknowledgement bytes → BeginsWithFrame (bytes ++ more) (Ack number) used → ⊥
 no_frame bytes more number used none begins =
     not_in_front number (drop used (bytes ++ more)) (subst (λ (all : List ℕ). BeginsNoAcknowledgement all) (spelled (bytes ++ more) (Ack number) used begins) (begins_none bytes more none))
+
+each_small : (bytes : List ℕ) → AllByRecursion (λ byte. byte < 256) bytes → IsBytes bytes
+each_small [] small i = omega (arith, get_or_past {X = ℕ} [] i 0)
+each_small (byte ∷ bytes) small zero = small.0
+each_small (byte ∷ bytes) small (suc i) = each_small bytes small.1 i
+
+-- six bytes that are an acknowledgement, and the bytes behind them
+six_begin : (v k : ℕ) (rest : List ℕ) → v ≡ 0x32 → k ≡ 0x41 → AllByRecursion (λ byte. byte < 256) rest → 4 ≤ length rest → BeginsWithFrame (v ∷ k ∷ rest) (Ack (from_be_bytes w32 (take 4 rest))) 6
+six_begin v k rest version kind small long =
+    ack_front (v ∷ k ∷ rest) (from_be_bytes w32 (take 4 rest)) (each_small (v ∷ k ∷ rest) (omega (arith, version), (omega (arith, kind), small))) (omega arith) version kind refl
+
+-- bytes with which no acknowledgement begins
+pub no_more : (bytes : List ℕ) → All (λ byte. byte < 256) bytes → ((more : List ℕ) (number used : ℕ) → BeginsWithFrame (bytes ++ more) (Ack number) used → ⊥) → BeginsNoAcknowledgement bytes
+no_more bytes small none = by_cells bytes (recursion_from_All (λ byte. byte < 256) bytes small) none
+  where
+    zeros : AllByRecursion (λ byte. byte < 256) (0 ∷ 0 ∷ 0 ∷ 0 ∷ [])
+    zeros = (lit< tt, (lit< tt, (lit< tt, (lit< tt, tt))))
+
+    by_cells : (bytes : List ℕ) → AllByRecursion (λ byte. byte < 256) bytes → ((more : List ℕ) (number used : ℕ) → BeginsWithFrame (bytes ++ more) (Ack number) used → ⊥) → BeginsNoAcknowledgement bytes
+    by_cells [] small none = absurd (none (0x32 ∷ 0x41 ∷ 0 ∷ 0 ∷ 0 ∷ 0 ∷ []) _ 6 (six_begin 0x32 0x41 (0 ∷ 0 ∷ 0 ∷ 0 ∷ []) refl refl zeros (omega arith)))
+    by_cells (v ∷ []) small none =
+        elim (eqb_tells v 0x32) [
+          | inl is ↦ absurd (none (0x41 ∷ 0 ∷ 0 ∷ 0 ∷ 0 ∷ []) _ 6 (six_begin v 0x41 (0 ∷ 0 ∷ 0 ∷ 0 ∷ []) is.1 refl zeros (omega arith)))
+          | inr other ↦ inl (record { there = omega arith; version = other.1 })
+        ]
+    by_cells (v ∷ k ∷ bytes) small none =
+        elim (eqb_tells v 0x32) [
+          | inr other ↦ inl (record { there = omega arith; version = other.1 })
+          | inl version ↦ elim (eqb_tells k 0x41) [
+            | inr other ↦ inr (omega arith, other.1)
+            | inl kind ↦
+                absurd (none (0 ∷ 0 ∷ 0 ∷ 0 ∷ []) _ 6 (six_begin v k (bytes ++ 0 ∷ 0 ∷ 0 ∷ 0 ∷ []) version.1 kind.1 (all_both (λ byte. byte < 256) bytes (0 ∷ 0 ∷ 0 ∷ 0 ∷ []) small.1.1 zeros) (omega (arith, length-append bytes (0 ∷ 0 ∷ 0 ∷ 0 ∷ [])))))
+          ]
+        ]
 
 -- no number is read of them
 no_numbers : (bytes : List ℕ) → BeginsNoAcknowledgement bytes → acknowledgements bytes ≡ []

@@ -71,10 +71,14 @@ pub fn settled_stays_acknowledged()
         (later : List (List ℕ)) × Acknowledges (talk ++ more) (flat_map (λ window. window) windows ++ later) }
 {}
 
-/// Bytes that begin no acknowledgement begin none however they go on. A law; it computes nothing.
+/// Bytes begin no acknowledgement exactly where there is none that they begin, however they go on. A law; it computes
+/// nothing.
 pub fn no_acknowledgement_begins()
-    ensures { (bytes more : List ℕ) (number used : ℕ) → BeginsNoAcknowledgement bytes →
+    ensures none { (bytes more : List ℕ) (number used : ℕ) → BeginsNoAcknowledgement bytes →
         ¬ (BeginsWithFrame (bytes ++ more) (Ack number) used) }
+    ensures only { (bytes : List ℕ) → All (λ byte. byte < 256) bytes →
+        ((more : List ℕ) (number used : ℕ) → ¬ (BeginsWithFrame (bytes ++ more) (Ack number) used)) →
+        BeginsNoAcknowledgement bytes }
 {}
 
 /// A client that waits for the acknowledgement of one more window meets a peer's fault where, behind acknowledgements
