@@ -2,6 +2,7 @@ mod Closing
 mod Going
 mod Joining
 mod Keeping
+mod Lines
 mod Matching
 mod Natural
 mod Stepping

@@ -1,13 +1,15 @@
-ghost use Rattle.std.specs.Prelude.{◌≡◌, ℕ, ◌<◌, Bool, true, List, ◌++◌};
+ghost use Rattle.std.specs.Prelude.{◌≡◌, ℕ, ◌<◌, ◌≤◌, Bool, true, List, [], ◌∷◌, ◌++◌, length, map};
 ghost use Rattle.wire_base.specs.Extent.{Extent};
 ghost use Rattle.event_tree.specs.declared.group_rule.GroupRule.{GroupRule};
+ghost use Rattle.event_tree.specs.declared.group_rule.GroupRule.TheVariants.{Single};
 ghost use Rattle.event_tree.specs.declared.line_rule.LineRule.{LineRule};
 ghost use Rattle.line_cutter.specs.declared.line.Line.{Line};
 ghost use Rattle.multiline_core.specs.Event.{IsNatural};
-ghost use Rattle.multiline_core.specs.Partition.{IsNaturalEvent, IsFlushedEvent, IsPartition, AreAdjoiningSpans};
+ghost use Rattle.multiline_core.specs.Message.{message_of};
+ghost use Rattle.multiline_core.specs.Partition.{lines_from, IsNaturalEvent, IsFlushedEvent, IsPartition, AreAdjoiningSpans};
 ghost use Rattle.multiline_core.specs.Rule.{IsGroupRule};
 
-use line_cutter::{lines_adjoin, lines_stay};
+use line_cutter::{later_lines, lines_adjoin, lines_stay};
 
 /// Of lines at most one row of first lines is an event by rule. A law; it computes nothing.
 pub fn one_event()
@@ -52,5 +54,21 @@ pub fn spans_adjoin()
         IsGroupRule rule → IsPartition lines rule (λ place. licensed place ≡ true) bytes start spans →
         AreAdjoiningSpans start spans }
 {
+    lines_adjoin();
+}
+
+/// Without a rule for events each complete line is one: their spans are a partition of the bytes, and an event's message
+/// is its line's head. A law; it computes nothing.
+pub fn each_line_is_an_event()
+    ensures partition { (lines : LineRule) (message_max_bytes : ℕ) (licensed : ℕ → Bool) (bytes : List ℕ) (start : ℕ) →
+        IsPartition lines (Single message_max_bytes) (λ place. licensed place ≡ true) bytes start
+        (map (λ line. line.span) (lines_from lines bytes start)) }
+    ensures message { (message_max_bytes : ℕ) (line : Line) → length line.head ≤ message_max_bytes →
+        message_of (Single message_max_bytes) (line ∷ []) ≡ line.head }
+    ensures natural { (lines : LineRule) (message_max_bytes : ℕ) (bytes : List ℕ) (start : ℕ) (line : Line) (more : List Line) →
+        lines_from lines bytes start ≡ line ∷ more →
+        IsNatural (Single message_max_bytes) (lines_from lines bytes start) (line ∷ []) }
+{
+    later_lines();
     lines_adjoin();
 }

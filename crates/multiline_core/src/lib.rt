@@ -11,8 +11,8 @@
 //! `due` tells when its timeout has passed. Want of memory leaves it as before and gives the line back.
 //!
 //! The laws say what the definitions are good for: at each place begins at most one event by rule, the events of a
-//! file's bytes stay events however the file grows, and the spans of a partition adjoin. Patterns are those of `regex`,
-//! on bytes. Nothing here reads a file or a clock.
+//! file's bytes stay events however the file grows, the spans of a partition adjoin, and without a rule each complete
+//! line is an event. Patterns are those of `regex`, on bytes. Nothing here reads a file or a clock.
 #![tactic(auto)]
 
 mod group;
@@ -26,7 +26,8 @@ mod step;
 pub use group::Group;
 pub use grouper::Grouper;
 pub use laws::{
-    events_stay, natural_events_stay, no_event_is_empty, one_event, one_natural_event, spans_adjoin,
+    each_line_is_an_event, events_stay, natural_events_stay, no_event_is_empty, one_event,
+    one_natural_event, spans_adjoin,
 };
 
 #[cfg(test)]
