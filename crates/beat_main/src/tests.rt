@@ -4,8 +4,8 @@ ghost use Rattle.std.specs.Prelude.{◌≡◌, vec_len, IfOk};
 use beat_run::{Lack, Status, ship};
 use lumber_frame::acknowledged;
 use outside_mem::{
-    Due, MemBell, MemChange, MemClock, MemDisk, MemFile, MemFolder, MemSink, MemSource, MemStep,
-    MemWire,
+    Due, MemBell, MemChange, MemClock, MemDisk, MemFile, MemFolder, MemPiece, MemSink, MemSource,
+    MemStep, MemTalk, MemWire,
 };
 use std::alloc::Global;
 use std::sync::Wait;
@@ -38,10 +38,12 @@ enum Object {
 }
 
 /// What a run begins with. The file `/w/a.log` is there where its bytes are. A failing call is counted
-/// from 0 over the object's calls.
+/// from 0 over the object's calls. The first wire's peer acknowledges all, or gives these bytes once it
+/// has a window.
 #[derive(Clone, Copy)]
 struct Start {
     failing: Option<(Object, u64)>,
+    answer: Option<&'static [u8]>,
     words: &'static [&'static str],
     settings: &'static [u8],
     file: Option<&'static [u8]>,
@@ -85,13 +87,13 @@ fn append_sent(bytes: &mut Vec<u8>, talk: &[Piece]) -> Result<(), NoMemory> {
     Ok(())
 }
 
-/// Ships the lines of one file to peers that acknowledge all, at moment 0.
+/// Ships the lines of one file, at moment 0.
 fn run<X: Threads + Wait + Sync + AllocGlobal>(rt: &X, start: Start) -> Result<Ran, Fail> {
     let alloc = rt.alloc();
     let words = words_of(alloc, start.words)?;
     let mut settings = MemSource::new(alloc, start.settings)?;
     let mut folder = folder_of(alloc, start.file)?;
-    let mut wires = wires_of(alloc)?;
+    let mut wires = wires_of(alloc, start.answer)?;
     let mut area = MemDisk::new(alloc, start.area)?;
     let mut other_area = MemDisk::new(alloc, b"")?;
     let mut clock = MemClock::new(alloc, Moment(0))?;
@@ -156,18 +158,36 @@ fn folder_of(alloc: Global, file: Option<&[u8]>) -> Result<MemFolder, Fail> {
     Ok(MemFolder::new(alloc, files)?)
 }
 
-fn wires_of(alloc: Global) -> Result<Vec<MemWire>, NoMemory>
+fn wires_of(alloc: Global, answer: Option<&[u8]>) -> Result<Vec<MemWire>, NoMemory>
     ensures { IfOk result (λ wires. vec_len wires ≡ WIRES) }
 {
     let mut wires = Vec::new(alloc);
-    for _ in 0..WIRES {
+    wires.push(MemWire::new(alloc, talks_of(alloc, answer)?)?)?;
+    for _ in 1..WIRES {
         wires.push(MemWire::new(alloc, Vec::new(alloc))?)?;
     }
     Ok(wires)
 }
 
+fn talks_of(alloc: Global, answer: Option<&[u8]>) -> Result<Vec<MemTalk>, NoMemory> {
+    let mut talks = Vec::new(alloc);
+    if let Some(bytes) = answer {
+        let mut pieces = Vec::new(alloc);
+        pieces.push(MemPiece {
+            windows: 1,
+            bytes: Blob::from_bytes(alloc, bytes)?,
+        })?;
+        talks.push(MemTalk::Pieces {
+            pieces,
+            closes: true,
+        })?;
+    }
+    Ok(talks)
+}
+
 const PLAIN: Start = Start {
     failing: None,
+    answer: None,
     words: &["-c", "f", "--once"],
     settings: SETTINGS,
     file: Some(b"a\nb\n"),
@@ -249,6 +269,23 @@ fn complete_lines_alone_are_shipped(rt: HostRuntime) -> Result<(), Fail> {
         assert_eq!(rt; ran.area.bytes(), area);
         assert_eq!(rt; ran.sent(alloc)?.as_slice(), sent);
     }
+    Ok(())
+}
+
+const WINDOW_OF_THIRD_LINE: &[u8] =
+    b"2W\0\0\0\x012J\0\0\0\x01\0\0\0\x83{\"@timestamp\":\"1970-01-01T00:00:00.000Z\",\"input\":{\"type\":\"filestream\"},\"log\":{\"file\":{\"path\":\"/w/a.log\"},\"offset\":2},\"message\":\"x\"}";
+
+#[test]
+fn empty_lines_are_dropped(rt: HostRuntime) -> Result<(), Fail> {
+    let file = Some(b"\n\nx\n".as_slice());
+    let ran = run(&rt, Start { file, ..PLAIN })?;
+    assert_eq!(rt; ran.status, Status::Done);
+    assert_eq!(rt;
+        ran.printed.bytes(),
+        b"file \"filestream::w::path::/w/a.log\" 0 4 \"/w/a.log\"\nshipped 1 dropped 2\nstatus 0 done\n".as_slice()
+    );
+    assert_eq!(rt; ran.area.bytes(), ROW_AT_4);
+    assert_eq!(rt; ran.sent(rt.alloc())?.as_slice(), WINDOW_OF_THIRD_LINE);
     Ok(())
 }
 
@@ -347,6 +384,34 @@ const UNREACHABLE: Status = Status::Unreachable {
 };
 
 const UNREACHABLE_LINE: &[u8] = b"status 7 unreachable worker 0 failures 1\n";
+
+#[test]
+fn peer_fault_settles_nothing(rt: HostRuntime) -> Result<(), Fail> {
+    let cases: [(&[u8], Status, &[u8]); 5] = [
+        (b"3", UNREACHABLE, ROW_AT_0),
+        (b"2J", UNREACHABLE, ROW_AT_0),
+        (b"2A\0\0\0\x03", UNREACHABLE, ROW_AT_0),
+        (b"2A\0\0\0\x012A\0\0\0\x03", UNREACHABLE, ROW_AT_0),
+        (
+            b"2A\0\0\0\02A\0\0\0\x012A\0\0\0\x02",
+            Status::Done,
+            ROW_AT_4,
+        ),
+    ];
+    for (answer, status, area) in cases {
+        let ran = run(
+            &rt,
+            Start {
+                answer: Some(answer),
+                ..PLAIN
+            },
+        )?;
+        assert_eq!(rt; ran.status, status, "of {answer:?}");
+        assert_eq!(rt; ran.area.bytes(), area, "of {answer:?}");
+        assert_eq!(rt; ran.sent(rt.alloc())?.as_slice(), WINDOW_OF_BOTH);
+    }
+    Ok(())
+}
 
 #[test]
 fn failing_call_ends_the_run_by_its_object(rt: HostRuntime) -> Result<(), Fail> {

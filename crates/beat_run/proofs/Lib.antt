@@ -1,9 +1,11 @@
+mod EventLines
 mod Fields
 mod FileShipments
 mod Filling
 mod Finds
 mod Folders
-mod LinePayloads
+mod Hearings
+mod Keeping
 mod Living
 mod Marks
 mod Notings
@@ -11,6 +13,7 @@ mod Parts
 mod PathParts
 mod Payloads
 mod PieceReads
+mod Progresses
 mod Records
 mod SentPieces
 mod Services

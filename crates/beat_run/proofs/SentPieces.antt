@@ -1,5 +1,5 @@
 -- Bytes that are sent piece by piece, and acknowledgements that are heard so.
-use Rattle.std.proofs.Common.{◌≡◌, ℕ, ◌+◌, ◌≤◌, List, [], ◌∷◌, ◌++◌, length, take, drop, All, Bool, true, Option, Some, None, Ok, Err, refl, sym, ◌∙◌, ap, subst, append_assoc, append-nil, arith}
+use Rattle.std.proofs.Common.{◌≡◌, inl, inr, ℕ, ◌+◌, ◌≤◌, ◌<◌, ◌^◌, List, [], ◌∷◌, ◌++◌, length, take, drop, All, Bool, true, Option, Some, None, Ok, Err, refl, sym, ◌∙◌, ap, subst, append_assoc, append-nil, arith}
 use Rattle.std.proofs.lemmas.List.{length-drop, take_all, take-append-drop}
 use Rattle.wire_base.specs.declared.talk.Piece.{Piece}
 use Rattle.wire_base.specs.declared.talk.Piece.TheVariants.{Out, In}
@@ -12,7 +12,8 @@ use Rattle.lumber_frame.specs.declared.frame.Frame.TheVariants.{Ack}
 use Rattle.lumber_frame.specs.Frame.{frame_bytes}
 use Rattle.beat_run.specs.Talking.{SendsAll, HearsAll, HearsFront, IsFrontHeard}
 use Rattle.beat_run.proofs.Filling.{take-filled}
-use Rattle.std.specs.List.{flat_map}
+use Rattle.lumber_frame.specs.PeerFault.{BeginsNoAcknowledgement}
+use Rattle.lumber_frame.specs.Settled.{ack_bytes}
 use Rattle.std.proofs.lemmas.Grind.{flat_map-append}
 use Rattle.std.proofs.lemmas.List.Elements.{All-append, All-nil, All-cons}
 use Rattle.std.proofs.lemmas.Slice.{take-put_mid_below}
@@ -124,15 +125,15 @@ All-one P number holds = All-cons P number [] holds (All-nil P)
 
 -- one acknowledgement more
 acks-snoc : (numbers : List ℕ) (number : ℕ) →
-    flat_map (λ n. frame_bytes (Ack n)) (numbers ++ number ∷ []) ≡ flat_map (λ n. frame_bytes (Ack n)) numbers ++ frame_bytes (Ack number)
+    ack_bytes (numbers ++ number ∷ []) ≡ ack_bytes numbers ++ frame_bytes (Ack number)
 acks-snoc numbers number =
     flat_map-append (λ n. frame_bytes (Ack n)) numbers (number ∷ [])
-    ∙ ap (λ (l : List ℕ). flat_map (λ n. frame_bytes (Ack n)) numbers ++ l) (append-nil (frame_bytes (Ack number)))
+    ∙ ap (λ (l : List ℕ). ack_bytes numbers ++ l) (append-nil (frame_bytes (Ack number)))
 
 -- pieces that were heard behind the talk
 heard_on : (talk now : Talk) (count : ℕ) (pieces : List Piece) (earlier front bytes next : List ℕ) (idled : Bool) (after : Option Talk) →
     now.pieces ≡ talk.pieces ++ pieces → out_bytes pieces ≡ [] → All (λ number. number ≤ count) earlier →
-    in_bytes pieces ≡ flat_map (λ number. frame_bytes (Ack number)) earlier ++ front → next ≡ front ++ bytes →
+    in_bytes pieces ≡ ack_bytes earlier ++ front → next ≡ front ++ bytes →
     after ≡ Some (record { pieces = now.pieces ++ In bytes ∷ []; idled = idled }) → HearsFront talk count next after
 heard_on talk now count pieces earlier front bytes next idled after added none few heard is told = record {
   now = record { pieces = now.pieces ++ In bytes ∷ []; idled = idled };
@@ -145,8 +146,8 @@ heard_on talk now count pieces earlier front bytes next idled after added none f
   heard =
       in_bytes-append pieces (In bytes ∷ []) ∙ ap (λ (l : List ℕ). in_bytes pieces ++ l) (append-nil bytes)
       ∙ ap (λ (l : List ℕ). l ++ bytes) heard
-      ∙ append_assoc (flat_map (λ number. frame_bytes (Ack number)) earlier) front bytes
-      ∙ ap (λ (l : List ℕ). flat_map (λ number. frame_bytes (Ack number)) earlier ++ l) (sym is);
+      ∙ append_assoc (ack_bytes earlier) front bytes
+      ∙ ap (λ (l : List ℕ). ack_bytes earlier ++ l) (sym is);
 }
 
 pub hearing_step : (start : Option Talk) (count filled more k : ℕ) (frame into : List ℕ) (before after : Option Talk) →
@@ -178,21 +179,50 @@ hearing_waits (Some talk) count filled k frame into before after fits was tells 
       none_sent = was.none_sent;
       earlier = was.earlier;
       few = was.few;
-      heard = was.heard ∙ ap (λ (l : List ℕ). flat_map (λ number. frame_bytes (Ack number)) was.earlier ++ l)
+      heard = was.heard ∙ ap (λ (l : List ℕ). ack_bytes was.earlier ++ l)
           (sym (take-put_mid_below filled k frame into filled (omega arith) fits));
     }
 
 -- what is heard adds nothing where the connection ended
-pub hearing_fails : (start : Option Talk) (count : ℕ) (front : List ℕ) (status : Status) (before after : Option Talk) →
-    IsFrontHeard start count front before → after ≡ before → HearsAll start count (Err status) after
-hearing_fails None count front status before after was same = same ∙ was
-hearing_fails (Some talk) count front status before after was same = record {
+pub hearing_fails : (start : Option Talk) (count : ℕ) (Failed : Type 0) (front : List ℕ) (status : Status) (before after : Option Talk) →
+    Failed → IsFrontHeard start count front before → after ≡ before → HearsAll start count Failed (Err status) after
+hearing_fails None count Failed front status before after failed was same = same ∙ was
+hearing_fails (Some talk) count Failed front status before after failed was same = record {
   now = was.now;
   told = same ∙ was.told;
   pieces = was.pieces;
   added = was.added;
   none_sent = was.none_sent;
-  acknowledged = tt;
+  heard = inl failed;
+}
+
+-- the front is no acknowledgement's, or one's above the count
+pub hearing_meets : (start : Option Talk) (count : ℕ) (Failed : Type 0) (front : List ℕ) (status : Status) (now : Option Talk) →
+    BeginsNoAcknowledgement front → IsFrontHeard start count front now → HearsAll start count Failed (Err status) now
+hearing_meets None count Failed front status now begins was = was
+hearing_meets (Some talk) count Failed front status now begins was = record {
+  now = was.now;
+  told = was.told;
+  pieces = was.pieces;
+  added = was.added;
+  none_sent = was.none_sent;
+  heard = inr (record { earlier = was.earlier; few = was.few; fault = inl (front, (was.heard, begins)) });
+}
+
+pub hearing_exceeds : (start : Option Talk) (count number : ℕ) (Failed : Type 0) (front : List ℕ) (status : Status) (now : Option Talk) →
+    front ≡ frame_bytes (Ack number) → number < 2 ^ 32 → count < number → IsFrontHeard start count front now → HearsAll start count Failed (Err status) now
+hearing_exceeds None count number Failed front status now is small above was = was
+hearing_exceeds (Some talk) count number Failed front status now is small above was = record {
+  now = was.now;
+  told = was.told;
+  pieces = was.pieces;
+  added = was.added;
+  none_sent = was.none_sent;
+  heard = inr (record {
+    earlier = was.earlier;
+    few = was.few;
+    fault = inr (number, (was.heard ∙ ap (λ (l : List ℕ). ack_bytes was.earlier ++ l) is ∙ sym (acks-snoc was.earlier number), (small, above)));
+  });
 }
 
 pub closed_adds_nothing : (into : List ℕ) (before after : Option Talk) → TellsReceiving before into Closed after → after ≡ before
@@ -228,23 +258,23 @@ hearing_goes_on (Some talk) count number front now is fewer was = record {
   none_sent = was.none_sent;
   earlier = was.earlier ++ number ∷ [];
   few = All-append (λ (n : ℕ). n ≤ count) was.earlier (number ∷ []) was.few (All-one (λ (n : ℕ). n ≤ count) number fewer);
-  heard = was.heard ∙ ap (λ (l : List ℕ). flat_map (λ n. frame_bytes (Ack n)) was.earlier ++ l) is
-      ∙ sym (acks-snoc was.earlier number) ∙ sym (append-nil (flat_map (λ n. frame_bytes (Ack n)) (was.earlier ++ number ∷ [])));
+  heard = was.heard ∙ ap (λ (l : List ℕ). ack_bytes was.earlier ++ l) is
+      ∙ sym (acks-snoc was.earlier number) ∙ sym (append-nil (ack_bytes (was.earlier ++ number ∷ [])));
 }
 
-pub hearing_ends : (start : Option Talk) (count number : ℕ) (front : List ℕ) (now : Option Talk) →
-    front ≡ frame_bytes (Ack number) → number ≡ count → IsFrontHeard start count front now → HearsAll start count (Ok tt) now
-hearing_ends None count number front now is all was = was
-hearing_ends (Some talk) count number front now is all was = record {
+pub hearing_ends : (start : Option Talk) (count number : ℕ) (Failed : Type 0) (front : List ℕ) (now : Option Talk) →
+    front ≡ frame_bytes (Ack number) → number ≡ count → IsFrontHeard start count front now → HearsAll start count Failed (Ok tt) now
+hearing_ends None count number Failed front now is all was = was
+hearing_ends (Some talk) count number Failed front now is all was = record {
   now = was.now;
   told = was.told;
   pieces = was.pieces;
   added = was.added;
   none_sent = was.none_sent;
-  acknowledged = record {
+  heard = record {
     earlier = was.earlier;
     few = was.few;
-    are = was.heard ∙ ap (λ (l : List ℕ). flat_map (λ n. frame_bytes (Ack n)) was.earlier ++ l)
+    are = was.heard ∙ ap (λ (l : List ℕ). ack_bytes was.earlier ++ l)
         (is ∙ ap (λ (n : ℕ). frame_bytes (Ack n)) all)
         ∙ sym (acks-snoc was.earlier count);
   };

@@ -1,5 +1,5 @@
 -- What a worker's peer has acknowledged, as windows are sent.
-use Rattle.std.proofs.Common.{◌≡◌, ℕ, ◌≤◌, All, Contains, length, arith, List, [], ◌∷◌, ◌++◌, Option, Some, None, Result, Ok, IfSome, sym, ◌∙◌, ap, subst, append_assoc, append-nil}
+use Rattle.std.proofs.Common.{◌≡◌, ◌⊎◌, inl, inr, ℕ, ◌≤◌, ◌<◌, ◌^◌, All, Contains, length, arith, List, [], ◌∷◌, ◌++◌, Option, Some, None, Result, Ok, Err, IfSome, OnErr, refl, sym, ◌∙◌, ap, subst, append_assoc, append-nil}
 use Rattle.std.specs.List.{flat_map}
 use Rattle.wire_base.specs.declared.talk.Piece.{Piece}
 use Rattle.outside.specs.Talks.{Talk}
@@ -7,12 +7,13 @@ use Rattle.std.proofs.lemmas.Grind.{flat_map-append}
 use Rattle.std.proofs.lemmas.List.Elements.{All-append, All-cons, All-nil, Contains-push}
 use Rattle.lumber_frame.specs.declared.frame.Frame.TheVariants.{Window}
 use Rattle.lumber_frame.specs.Frame.{frame_bytes}
+use Rattle.lumber_frame.specs.PeerFault.{BeginsNoAcknowledgement, HasPeerFault}
 use Rattle.lumber_frame.specs.Settled.{IsSettled, ack_bytes}
 use Rattle.lumber_frame.specs.Talk.{out_bytes, in_bytes}
 use Rattle.lumber_frame.specs.Window.{IsWindow, window_bytes}
 use Rattle.beat_run.specs.declared.status.Status.{Status}
 use Rattle.beat_run.specs.Serving.{Settles, Serves, HasSettled, HasServed, IsWindowOf}
-use Rattle.beat_run.specs.Talking.{AcknowledgesAll, SendsAll, SendsPieces, HearsAll, HearsPieces}
+use Rattle.beat_run.specs.Talking.{AcknowledgesAll, MeetsFault, SendsAll, SendsPieces, HearsAll, HearsPieces}
 use Rattle.beat_run.proofs.SentPieces.{out_bytes-append, in_bytes-append}
 
 -- pieces were put behind the talk
@@ -31,10 +32,10 @@ pub sending_adds : (start : Option Talk) (bytes : List ℕ) (result : Result (Un
 sending_adds None bytes result after sends = sends
 sending_adds (Some talk) bytes result after sends = record { now = sends.now; told = sends.told; pieces = sends.pieces; added = sends.added }
 
-pub hearing_adds : (start : Option Talk) (count : ℕ) (result : Result (Unit {0}) Status) (after : Option Talk) →
-    HearsAll start count result after → IsLonger start after
-hearing_adds None count result after hears = hears
-hearing_adds (Some talk) count result after hears = record { now = hears.now; told = hears.told; pieces = hears.pieces; added = hears.added }
+pub hearing_adds : (start : Option Talk) (count : ℕ) (Failed : Type 0) (result : Result (Unit {0}) Status) (after : Option Talk) →
+    HearsAll start count Failed result after → IsLonger start after
+hearing_adds None count Failed result after hears = hears
+hearing_adds (Some talk) count Failed result after hears = record { now = hears.now; told = hears.told; pieces = hears.pieces; added = hears.added }
 
 pub longer_still : (start between after : Option Talk) → IsLonger start between → IsLonger between after → IsLonger start after
 longer_still None between after first second =
@@ -50,6 +51,14 @@ longer_still (Some talk) between after first second =
       added = next.added ∙ ap (λ (l : List Piece). l ++ next.pieces) first.added ∙ append_assoc talk.pieces first.pieces next.pieces;
     }
 
+settles_all : (talk : List Piece) (payloads : List (List ℕ)) → Settles talk payloads → Settles talk (payloads ++ [])
+settles_all talk payloads settles =
+    let P : List (List ℕ) → Type 0 = λ l. Settles talk l in
+    subst P (sym (append-nil payloads)) settles
+
+serves_first : (front more talk : List Piece) (payloads later : List (List ℕ)) → talk ≡ front ++ more → Settles front (payloads ++ later) → Serves talk payloads
+serves_first front more talk payloads later begins settles = record { front = front; more = more; begins = begins; later = later; settles = settles }
+
 -- what was acknowledged stays so in a longer talk
 pub served : (start after : Option Talk) (payloads : List (List ℕ)) →
     IfSome start (λ talk. Settles talk.pieces payloads) → IsLonger start after → IfSome after (λ talk. Serves talk.pieces payloads)
@@ -58,7 +67,7 @@ served None after payloads settles longer =
     subst P (sym longer) tt
 served (Some talk) after payloads settles longer =
     let P : Option Talk → Type 0 = λ o. IfSome o (λ t. Serves t.pieces payloads) in
-    subst P (sym longer.told) (record { front = talk.pieces; more = longer.pieces; begins = longer.added; settles = settles })
+    subst P (sym longer.told) (serves_first talk.pieces longer.pieces longer.now.pieces payloads [] longer.added (settles_all talk.pieces payloads settles))
 
 -- one more window of a settled talk is settled, by the law of frames
 abbrev pub SettlesOneMore : Type 0
@@ -97,34 +106,117 @@ settles_more law talk earlier payloads head frames count first second heard piec
           ∙ sym (flat_map-append (λ w. w) settles.windows (payloads ∷ []));
     }
 
-pub serves_window : SettlesOneMore → (start between third after : Option Talk) (earlier payloads : List (List ℕ)) (head frames : List ℕ) (count : ℕ) →
+pub serves_window : SettlesOneMore → (Failed : Type 0) (start between third after : Option Talk) (earlier payloads : List (List ℕ)) (head frames : List ℕ) (count : ℕ) →
     head ≡ frame_bytes (Window count) → IsWindowOf payloads frames count →
-    SendsAll start head (Ok tt) between → SendsAll between frames (Ok tt) third → HearsAll third count (Ok tt) after →
+    SendsAll start head (Ok tt) between → SendsAll between frames (Ok tt) third → HearsAll third count Failed (Ok tt) after →
     IfSome start (λ talk. Settles talk.pieces earlier) → IfSome after (λ talk. Settles talk.pieces (earlier ++ payloads))
-serves_window law None between third after earlier payloads head frames count head_is window first second hears settles =
+serves_window law Failed None between third after earlier payloads head frames count head_is window first second hears settles =
     let S : Option Talk → Type 0 = λ o. SendsAll o frames (Ok tt) third in
-    let H : Option Talk → Type 0 = λ o. HearsAll o count (Ok tt) after in
+    let H : Option Talk → Type 0 = λ o. HearsAll o count Failed (Ok tt) after in
     let R : Option Talk → Type 0 = λ o. IfSome o (λ talk. Settles talk.pieces (earlier ++ payloads)) in
     let two : third ≡ None = subst S first second in
     let three : after ≡ None = subst H two hears in
     subst R (sym three) tt
-serves_window law (Some talk) between third after earlier payloads head frames count head_is window first second hears settles =
+serves_window law Failed (Some talk) between third after earlier payloads head frames count head_is window first second hears settles =
     let S : Option Talk → Type 0 = λ o. SendsAll o frames (Ok tt) third in
-    let H : Option Talk → Type 0 = λ o. HearsAll o count (Ok tt) after in
+    let H : Option Talk → Type 0 = λ o. HearsAll o count Failed (Ok tt) after in
     let R : Option Talk → Type 0 = λ o. IfSome o (λ t. Settles t.pieces (earlier ++ payloads)) in
     let two : SendsPieces first.now frames (Ok tt) third = subst S first.told second in
-    let three : HearsPieces two.now count (Ok tt) after = subst H two.told hears in
+    let three : HearsPieces two.now count Failed (Ok tt) after = subst H two.told hears in
     subst R (sym three.told)
     (settles_more law talk earlier payloads head frames count first.pieces two.pieces three.pieces three.now.pieces head_is window
-    first.none_heard first.all_sent two.none_heard two.all_sent three.none_sent three.acknowledged
+    first.none_heard first.all_sent two.none_heard two.all_sent three.none_sent three.heard
     (three.added ∙ ap (λ (l : List Piece). l ++ three.pieces) (two.added ∙ ap (λ (l : List Piece). l ++ two.pieces) first.added))
     settles)
 
-serves_itself : (talk : Option Talk) (payloads : List (List ℕ)) → IfSome talk (λ t. Settles t.pieces payloads) → IfSome talk (λ t. Serves t.pieces payloads)
-serves_itself None payloads settles = tt
-serves_itself (Some talk) payloads settles = record { front = talk.pieces; more = []; begins = sym (append-nil talk.pieces); settles = settles }
+serves_itself : (talk : Option Talk) (payloads later : List (List ℕ)) → IfSome talk (λ t. Settles t.pieces (payloads ++ later)) → IfSome talk (λ t. Serves t.pieces payloads)
+serves_itself None payloads later settles = tt
+serves_itself (Some talk) payloads later settles = serves_first talk.pieces [] talk.pieces payloads later (sym (append-nil talk.pieces)) settles
 
--- a settled talk is one that begins so
+front_is_nothing : (payloads later : List (List ℕ)) → payloads ++ later ≡ [] → payloads ≡ []
+front_is_nothing [] later none = refl
+front_is_nothing (payload ∷ payloads) later none = absurd cc
+
+-- of what a settled talk acknowledges, the first payloads are acknowledged
+pub first_served : {L : Type 0} (told : L → Option Talk) (link : Option L) (payloads later : List (List ℕ)) → HasSettled told link (payloads ++ later) → HasServed told link payloads
+first_served told None payloads later settles = front_is_nothing payloads later settles
+first_served told (Some link) payloads later settles = serves_itself (told link) payloads later settles
+
 pub settled_serves : {L : Type 0} (told : L → Option Talk) (link : Option L) (payloads : List (List ℕ)) → HasSettled told link payloads → HasServed told link payloads
-settled_serves told None payloads settles = settles
-settled_serves told (Some link) payloads settles = serves_itself (told link) payloads settles
+settled_serves told link payloads settles =
+    let P : List (List ℕ) → Type 0 = λ l. HasSettled told link l in
+    first_served told link payloads [] (subst P (sym (append-nil payloads)) settles)
+
+-- ---- the link or the peer failed
+
+pub on_err : {T E P : Type 0} (result : Result T E) → P → OnErr result P
+on_err (Ok value) holds = tt
+on_err (Err error) holds = holds
+
+-- a peer's fault is met, by the laws of frames
+abbrev pub MeetsOther : Type 0
+MeetsOther = (talk sent heard : List Piece) (windows : List (List (List ℕ))) (payloads : List (List ℕ)) (numbers bytes : List ℕ) →
+    IsSettled talk windows → IsWindow payloads → out_bytes sent ≡ window_bytes payloads → in_bytes sent ≡ [] →
+    out_bytes heard ≡ [] → in_bytes heard ≡ ack_bytes numbers ++ bytes →
+    All (λ number. number ≤ length payloads) numbers → BeginsNoAcknowledgement bytes → HasPeerFault ((talk ++ sent) ++ heard)
+
+abbrev pub MeetsAbove : Type 0
+MeetsAbove = (talk sent heard : List Piece) (windows : List (List (List ℕ))) (payloads : List (List ℕ)) (numbers bytes : List ℕ) (number : ℕ) →
+    IsSettled talk windows → IsWindow payloads → out_bytes sent ≡ window_bytes payloads → in_bytes sent ≡ [] →
+    out_bytes heard ≡ [] → in_bytes heard ≡ ack_bytes (numbers ++ number ∷ []) ++ bytes →
+    All (λ number. number ≤ length payloads) numbers → number < 2 ^ 32 → length payloads < number → HasPeerFault ((talk ++ sent) ++ heard)
+
+meets_fault : MeetsOther → MeetsAbove → (talk sent heard : List Piece) (windows : List (List (List ℕ))) (payloads : List (List ℕ)) (count : ℕ) →
+    IsSettled talk windows → IsWindow payloads → count ≡ length payloads → out_bytes sent ≡ window_bytes payloads → in_bytes sent ≡ [] →
+    out_bytes heard ≡ [] → MeetsFault count (in_bytes heard) → HasPeerFault ((talk ++ sent) ++ heard)
+meets_fault other above talk sent heard windows payloads count settled window counted sends none none_sent meets =
+    let N : ℕ → Type 0 = λ n. All (λ number. number ≤ n) meets.earlier in
+    let few : All (λ number. number ≤ length payloads) meets.earlier = subst N counted meets.few in
+    elim meets.fault [
+      | inl begins ↦ other talk sent heard windows payloads meets.earlier begins.0 settled window sends none none_sent begins.1.0 few begins.1.1
+      | inr exceeds ↦ above talk sent heard windows payloads meets.earlier [] exceeds.0 settled window sends none none_sent
+          (exceeds.1.0 ∙ sym (append-nil (ack_bytes (meets.earlier ++ exceeds.0 ∷ [])))) few exceeds.1.1.0 (omega (arith, counted, exceeds.1.1.1))
+    ]
+
+fails_so : MeetsOther → MeetsAbove → (Failed : Type 0) (talk : Talk) (earlier payloads : List (List ℕ)) (head frames : List ℕ) (count : ℕ)
+    (first second heard pieces : List Piece) →
+    head ≡ frame_bytes (Window count) → IsWindowOf payloads frames count →
+    in_bytes first ≡ [] → out_bytes first ≡ head → in_bytes second ≡ [] → out_bytes second ≡ frames →
+    out_bytes heard ≡ [] → (Failed ⊎ MeetsFault count (in_bytes heard)) →
+    pieces ≡ ((talk.pieces ++ first) ++ second) ++ heard → Settles talk.pieces earlier → Failed ⊎ HasPeerFault pieces
+fails_so other above Failed talk earlier payloads head frames count first second heard pieces head_is window none_first first_is none_second second_is none_heard (inl failed) are settles = inl failed
+fails_so other above Failed talk earlier payloads head frames count first second heard pieces head_is window none_first first_is none_second second_is none_heard (inr meets) are settles =
+    let P : List Piece → Type 0 = λ l. HasPeerFault l in
+    let bytes : out_bytes (first ++ second) ≡ window_bytes payloads =
+    out_bytes-append first second ∙ ap (λ (l : List ℕ). l ++ out_bytes second) (first_is ∙ head_is ∙ ap (λ (n : ℕ). frame_bytes (Window n)) window.counted)
+    ∙ ap (λ (l : List ℕ). frame_bytes (Window (length payloads)) ++ l) (second_is ∙ window.frames_are) in
+    let none : in_bytes (first ++ second) ≡ [] = in_bytes-append first second ∙ ap (λ (l : List ℕ). l ++ in_bytes second) none_first ∙ none_second in
+    inr (subst P
+    (ap (λ (l : List Piece). l ++ heard) (sym (append_assoc talk.pieces first second)) ∙ sym are)
+    (meets_fault other above talk.pieces (first ++ second) heard settles.windows payloads count settles.settled window.window window.counted bytes none none_heard meets))
+
+-- where the acknowledgement does not come, the link has counted a fault, or the talk has one of the peer
+pub fails_window : MeetsOther → MeetsAbove → (Failed : Type 0) (status : Status) (start between third after : Option Talk) (earlier payloads : List (List ℕ)) (head frames : List ℕ) (count : ℕ) →
+    head ≡ frame_bytes (Window count) → IsWindowOf payloads frames count →
+    SendsAll start head (Ok tt) between → SendsAll between frames (Ok tt) third → HearsAll third count Failed (Err status) after →
+    IfSome start (λ talk. Settles talk.pieces earlier) → Failed ⊎ IfSome after (λ talk. HasPeerFault talk.pieces)
+fails_window other above Failed status None between third after earlier payloads head frames count head_is window first second hears settles =
+    let S : Option Talk → Type 0 = λ o. SendsAll o frames (Ok tt) third in
+    let H : Option Talk → Type 0 = λ o. HearsAll o count Failed (Err status) after in
+    let R : Option Talk → Type 0 = λ o. IfSome o (λ talk. HasPeerFault talk.pieces) in
+    let two : third ≡ None = subst S first second in
+    let three : after ≡ None = subst H two hears in
+    inr (subst R (sym three) tt)
+fails_window other above Failed status (Some talk) between third after earlier payloads head frames count head_is window first second hears settles =
+    let S : Option Talk → Type 0 = λ o. SendsAll o frames (Ok tt) third in
+    let H : Option Talk → Type 0 = λ o. HearsAll o count Failed (Err status) after in
+    let R : Option Talk → Type 0 = λ o. IfSome o (λ t. HasPeerFault t.pieces) in
+    let two : SendsPieces first.now frames (Ok tt) third = subst S first.told second in
+    let three : HearsPieces two.now count Failed (Err status) after = subst H two.told hears in
+    elim (fails_so other above Failed talk earlier payloads head frames count first.pieces two.pieces three.pieces three.now.pieces head_is window
+    first.none_heard first.all_sent two.none_heard two.all_sent three.none_sent three.heard
+    (three.added ∙ ap (λ (l : List Piece). l ++ three.pieces) (two.added ∙ ap (λ (l : List Piece). l ++ two.pieces) first.added))
+    settles) [
+      | inl failed ↦ inl failed
+      | inr fault ↦ inr (subst R (sym three.told) fault)
+    ]

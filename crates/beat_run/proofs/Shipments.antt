@@ -1,131 +1,262 @@
 -- How far a file is shipped, step by step.
-use Rattle.std.proofs.Common.{◌≡◌, ◌≢◌, inl, inr, ℕ, zero, suc, ◌+◌, ◌-◌, take, drop, get_or, vec_len, ◌≤◌, ◌<◌, List, [], ◌∷◌, ◌++◌, length, All, Option, refl, sym, ◌∙◌, ap, subst, append_assoc, append-nil, arith, length-append}
-use Rattle.std.proofs.lemmas.List.{take-append-drop, take_all, length-drop, length-take-le}
+use Rattle.std.proofs.Common.{◌≡◌, ◌≢◌, inl, inr, ℕ, zero, suc, ◌+◌, ◌-◌, take, drop, get_or, map, vec_len, ◌≤◌, ◌<◌, List, [], ◌∷◌, ◌++◌, length, All, Contains, Option, Some, None, IfSome, Result, Ok, Err, OnOk, MatchResult, slice_get, unwrap_or, refl, sym, ◌∙◌, ap, subst, append_assoc, append-nil, arith, length-append}
+use Rattle.std.specs.List.{AllByRecursion}
+use Rattle.std.proofs.lemmas.List.{take-append-drop, take_all, length-drop, length-take-le, map-append}
 use Rattle.std.proofs.Math.Seq.{take-suc}
-use Rattle.std.proofs.lemmas.Grind.{flat_map-append}
-use Rattle.std.proofs.lemmas.List.Elements.{All-append, All-nil}
+use Rattle.std.proofs.lemmas.List.Elements.{All-append, All-nil, Contains-push, Contains-append_left}
 use Rattle.outside.specs.Talks.{Talk}
+use Rattle.outside.specs.Times.{GivesMoment}
+use Rattle.wire_base.specs.Ranges.{IsMoment}
+use Rattle.beat_run.specs.declared.lines.TheConstants.{LINE}
+use Rattle.beat_run.specs.declared.progress.Progress.{Progress}
 use Rattle.beat_run.specs.declared.shipment.Shipment.{Shipment}
+use Rattle.beat_run.specs.declared.status.Status.{Status}
+use Rattle.beat_run.specs.declared.waiting.Waiting.{Waiting}
 use Rattle.beat_run.specs.Batches.{HoldsLines}
+use Rattle.beat_run.specs.Events.{Event, AreLineEvents, IsGiven, IsLineEvent, lines_bytes, payloads_of, waiting_of}
 use Rattle.beat_run.specs.Lines.{IsExcluded, IsPlainByte}
-use Rattle.beat_run.specs.Payloads.{AreLines, lines_bytes}
-use Rattle.beat_run.specs.Unbuilt.{CannotBeSent, IsUnsendableAt}
+use Rattle.beat_run.specs.Progress.{IsDoneBy, SettlesFirst}
+use Rattle.beat_run.specs.Unbuilt.{CannotBeSent, IsSendable, IsSendableLine, IsUnsendableAt, whole_lines}
 use Rattle.beat_run.specs.Serving.{HasSettled, HasServed}
 use Rattle.beat_run.specs.Shipping.{IsShipped, IsCovered}
-use Rattle.beat_run.proofs.LinePayloads.{lines-append}
-use Rattle.beat_run.proofs.Services.{settled_serves}
+use Rattle.beat_run.proofs.EventLines.{events-append, events_front, front_of_lines, lines_bytes-append, lines_bytes-snoc, payloads-append, waiting-append}
+use Rattle.beat_run.proofs.Services.{first_served, settled_serves}
+
+-- ---- moments
+
+contained : (list : List ℕ) (i x : ℕ) → slice_get list i ≡ Some x → Contains list x
+contained [] i x is = absurd cc
+contained (y ∷ list) zero x is = (0, omega arith, ap (λ (o : Option ℕ). unwrap_or o x) is)
+contained (y ∷ list) (suc i) x is =
+    let later = contained list i x is in
+    (suc later.0, omega (arith, later.1), later.2)
+
+-- the moment that was given is in the list, and those before it are there still
+pub given_now : (moments : Option (List ℕ)) (now : ℕ) (after : Option (List ℕ)) → GivesMoment moments now after → IsGiven after now
+given_now None now after gives =
+    let P : Option (List ℕ) → Type 0 = λ o. IsGiven o now in
+    subst P (sym gives) tt
+given_now (Some moments) now after (inl ends) =
+    let P : Option (List ℕ) → Type 0 = λ o. IsGiven o now in
+    subst P (sym ends.1) (contained moments (length moments - 1) now ends.0)
+given_now (Some moments) now after (inr grows) =
+    let P : Option (List ℕ) → Type 0 = λ o. IsGiven o now in
+    subst P (sym grows.1) (Contains-push moments now)
+
+given_still : (moments : Option (List ℕ)) (now : ℕ) (after : Option (List ℕ)) (earlier : ℕ) → GivesMoment moments now after → IsGiven moments earlier → IsGiven after earlier
+given_still None now after earlier gives is =
+    let P : Option (List ℕ) → Type 0 = λ o. IsGiven o earlier in
+    subst P (sym gives) tt
+given_still (Some moments) now after earlier (inl ends) is =
+    let P : Option (List ℕ) → Type 0 = λ o. IsGiven o earlier in
+    subst P (sym ends.1) is
+given_still (Some moments) now after earlier (inr grows) is =
+    let P : Option (List ℕ) → Type 0 = λ o. IsGiven o earlier in
+    subst P (sym grows.1) (Contains-append_left moments (now ∷ []) earlier is)
+
+events_still : (moments : Option (List ℕ)) (now : ℕ) (after : Option (List ℕ)) (events : List Event) → GivesMoment moments now after → AreLineEvents moments events → AreLineEvents after events
+events_still moments now after [] gives each = tt
+events_still moments now after (event ∷ events) gives each = (
+  record { plain = each.0.plain; short = each.0.short; in_range = each.0.in_range; given = given_still moments now after event.now gives each.0.given },
+  events_still moments now after events gives each.1,
+)
+
+-- what is shipped stays so when the clock is asked
+pub shipped_still : {L : Type 0} (told : L → Option Talk) (moments : Option (List ℕ)) (now : ℕ) (after : Option (List ℕ)) (key path : List ℕ) (link : Option L) (shipment : Shipment) (bytes : List ℕ) →
+    GivesMoment moments now after → IsShipped told moments key path link shipment bytes → IsShipped told after key path link shipment bytes
+shipped_still told moments now after key path link shipment bytes gives is = record {
+  settled = is.settled;
+  each = events_still moments now after is.settled gives is.each;
+  done = is.done;
+  acknowledged = is.acknowledged;
+  offset = is.offset;
+  waiting = is.waiting;
+  waiting_each = events_still moments now after is.waiting gives is.waiting_each;
+  holds = is.holds;
+  plain = is.plain;
+  spelled = is.spelled;
+}
+
+-- ---- what is covered
 
 -- the settled lines stay covered, whatever was read behind them and however the next window fares
-pub covers : {L : Type 0} (told : L → Option Talk) (path : List ℕ) (link after : Option L) (shipment : Shipment) (bytes more : List ℕ) (is : IsShipped told path link shipment bytes) →
-    HasServed told after is.payloads → IsCovered told path after shipment.offset (bytes ++ more)
-covers told path link after shipment bytes more is served = record {
+pub covers : {L : Type 0} (told : L → Option Talk) (moments : Option (List ℕ)) (key path : List ℕ) (link after : Option L) (shipment : Shipment) (bytes more : List ℕ) (is : IsShipped told moments key path link shipment bytes) →
+    HasServed told after (payloads_of path 0 is.settled) → IsCovered told moments key path after shipment.progress (bytes ++ more)
+covers told moments key path link after shipment bytes more is served = record {
   settled = is.settled;
-  rest = (is.waiting ++ shipment.rest.items) ++ more;
-  payloads = is.payloads;
-  lines = is.lines;
+  rest = (lines_bytes is.waiting ++ shipment.rest.items) ++ more;
+  each = is.each;
+  done = is.done;
   acknowledged = served;
-  offset_is = is.offset;
-  spelled = ap (λ (l : List ℕ). l ++ more) is.spelled ∙ append_assoc is.settled (is.waiting ++ shipment.rest.items) more;
+  spelled = ap (λ (l : List ℕ). l ++ more) is.spelled ∙ append_assoc (lines_bytes is.settled) (lines_bytes is.waiting ++ shipment.rest.items) more;
 }
 
-pub covers_as_it_is : {L : Type 0} (told : L → Option Talk) (path : List ℕ) (link : Option L) (shipment : Shipment) (bytes more : List ℕ) →
-    IsShipped told path link shipment bytes → IsCovered told path link shipment.offset (bytes ++ more)
-covers_as_it_is told path link shipment bytes more is = covers told path link link shipment bytes more is (settled_serves told link is.payloads is.acknowledged)
+pub covers_here : {L : Type 0} (told : L → Option Talk) (moments : Option (List ℕ)) (key path : List ℕ) (link after : Option L) (shipment : Shipment) (bytes : List ℕ) (is : IsShipped told moments key path link shipment bytes) →
+    HasServed told after (payloads_of path 0 is.settled) → IsCovered told moments key path after shipment.progress bytes
+covers_here told moments key path link after shipment bytes is served =
+    let P : List ℕ → Type 0 = λ l. IsCovered told moments key path after shipment.progress l in
+    subst P (append-nil bytes) (covers told moments key path link after shipment bytes [] is served)
 
-pub covers_now : {L : Type 0} (told : L → Option Talk) (path : List ℕ) (link : Option L) (shipment : Shipment) (bytes : List ℕ) →
-    IsShipped told path link shipment bytes → IsCovered told path link shipment.offset bytes
-covers_now told path link shipment bytes is =
-    let P : List ℕ → Type 0 = λ l. IsCovered told path link shipment.offset l in
-    subst P (append-nil bytes) (covers_as_it_is told path link shipment bytes [] is)
+pub covers_now : {L : Type 0} (told : L → Option Talk) (moments : Option (List ℕ)) (key path : List ℕ) (link : Option L) (shipment : Shipment) (bytes : List ℕ) →
+    IsShipped told moments key path link shipment bytes → IsCovered told moments key path link shipment.progress bytes
+covers_now told moments key path link shipment bytes is =
+    covers_here told moments key path link link shipment bytes is (settled_serves told link (payloads_of path 0 is.settled) is.acknowledged)
 
-pub covers_more : {L : Type 0} (told : L → Option Talk) (path : List ℕ) (link : Option L) (offset : ℕ) (bytes more : List ℕ) →
-    IsCovered told path link offset bytes → IsCovered told path link offset (bytes ++ more)
-covers_more told path link offset bytes more covered = record {
+pub covers_more : {L : Type 0} (told : L → Option Talk) (moments : Option (List ℕ)) (key path : List ℕ) (link : Option L) (progress : Progress) (bytes more : List ℕ) →
+    IsCovered told moments key path link progress bytes → IsCovered told moments key path link progress (bytes ++ more)
+covers_more told moments key path link progress bytes more covered = record {
   settled = covered.settled;
   rest = covered.rest ++ more;
-  payloads = covered.payloads;
-  lines = covered.lines;
+  each = covered.each;
+  done = covered.done;
   acknowledged = covered.acknowledged;
-  offset_is = covered.offset_is;
-  spelled = ap (λ (l : List ℕ). l ++ more) covered.spelled ∙ append_assoc covered.settled covered.rest more;
+  spelled = ap (λ (l : List ℕ). l ++ more) covered.spelled ∙ append_assoc (lines_bytes covered.settled) covered.rest more;
 }
 
--- nothing waits
-pub none_wait : (path : List ℕ) (start : ℕ) → AreLines path start [] []
-none_wait path start = record { contents = []; plain = All-nil (λ (c : List ℕ). All (λ byte. byte ≢ 10) c); spelled = refl; are = refl }
+-- ---- what waited is settled
 
--- what waited is settled
-pub flushed : {L : Type 0} (told : L → Option Talk) (path : List ℕ) (link after : Option L) (old new : Shipment) (bytes : List ℕ) (is : IsShipped told path link old bytes) →
-    HasSettled told after (is.payloads ++ is.holds.payloads) →
-    new.offset ≡ old.offset + old.batch.size → new.shipped ≡ old.shipped + old.batch.count → new.batch.frames.items ≡ [] → new.batch.count ≡ 0 → new.batch.size ≡ 0 → new.rest ≡ old.rest →
-    IsShipped told path after new bytes
-flushed told path link after old new bytes is settled offset shipped frames count size rest = record {
-  settled = is.settled ++ is.waiting;
-  payloads = is.payloads ++ is.holds.payloads;
-  lines = lines-append path 0 old.offset is.settled is.waiting is.payloads is.holds.payloads is.lines is.holds.lines (omega (arith, is.offset));
-  acknowledged = settled;
-  offset = omega (arith, offset, is.offset, is.holds.size, length-append is.settled is.waiting);
-  shipped = omega (arith, shipped, is.shipped, is.holds.holds.counted, length-append is.payloads is.holds.payloads);
-  waiting = [];
-  holds = record {
-    payloads = [];
-    lines = none_wait path new.offset;
-    holds = record { frames = frames; counted = count; few = omega arith; each = tt };
-    size = size;
-  };
-  plain = let P : _ → Type 0 = λ r. All (λ byte. byte ≢ 10) r.items in subst P (sym rest) is.plain;
-  spelled = is.spelled ∙ sym (append_assoc is.settled is.waiting old.rest.items)
-      ∙ ap (λ r. (is.settled ++ is.waiting) ++ r.items) (sym rest);
-}
+place_is : (offset : ℕ) (settled : List Event) → offset ≡ length (lines_bytes settled) → 0 + length (lines_bytes settled) ≡ offset
+place_is offset settled is = omega (arith, is)
+
+-- the first of the lines that waited are settled, and those behind them wait no more
+pub partly : {L : Type 0} (told : L → Option Talk) (moments : Option (List ℕ)) (key path : List ℕ) (link after : Option L) (old : Shipment) (progress : Progress) (bytes : List ℕ) (Left : List Waiting → Type 0)
+    (is : IsShipped told moments key path link old bytes) → HasSettled told after (payloads_of path 0 is.settled ++ payloads_of path old.offset is.waiting) →
+    SettlesFirst key path (waiting_of path 0 is.settled) old.batch.waiting.items Left progress → IsCovered told moments key path after progress bytes
+partly told moments key path link after old progress bytes Left is settled settles =
+    let front = front_of_lines path old.offset is.waiting settles.front settles.left (sym is.holds.waits ∙ settles.parts) in
+    let events : List Event = is.settled ++ front.first in
+    let here : 0 + length (lines_bytes is.settled) ≡ old.offset = place_is old.offset is.settled is.offset in
+    let D : List Waiting → Type 0 = λ l. IsDoneBy key path progress l in
+    let S : List (List ℕ) → Type 0 = λ l. HasSettled told after l in
+    let H : List (List ℕ) → Type 0 = λ l. HasServed told after l in
+    let E : List Event → Type 0 = λ l. AreLineEvents moments l in
+    let behind : List (List ℕ) = payloads_of path (old.offset + length (lines_bytes front.first)) front.later in
+    let payloads : payloads_of path 0 is.settled ++ payloads_of path old.offset is.waiting ≡ (payloads_of path 0 is.settled ++ payloads_of path old.offset front.first) ++ behind =
+    ap (λ (l : List Event). payloads_of path 0 is.settled ++ payloads_of path old.offset l) front.parts
+    ∙ ap (λ (l : List (List ℕ)). payloads_of path 0 is.settled ++ l) (payloads-append path old.offset front.first front.later)
+    ∙ sym (append_assoc (payloads_of path 0 is.settled) (payloads_of path old.offset front.first) behind) in
+    let are : payloads_of path 0 is.settled ++ payloads_of path old.offset front.first ≡ payloads_of path 0 events =
+    ap (λ (n : ℕ). payloads_of path 0 is.settled ++ payloads_of path n front.first) (sym here) ∙ sym (payloads-append path 0 is.settled front.first) in
+    record {
+      settled = events;
+      rest = lines_bytes front.later ++ old.rest.items;
+      each = events-append moments is.settled front.first is.each (events_front moments front.first front.later (subst E front.parts is.waiting_each));
+      done = subst D
+          (ap (λ (l : List Waiting). waiting_of path 0 is.settled ++ l) (front.are ∙ ap (λ (n : ℕ). waiting_of path n front.first) (sym here))
+          ∙ sym (waiting-append path 0 is.settled front.first))
+          settles.done;
+      acknowledged = subst H are (first_served told after (payloads_of path 0 is.settled ++ payloads_of path old.offset front.first) behind (subst S payloads settled));
+      spelled = is.spelled
+          ∙ ap (λ (l : List Event). lines_bytes is.settled ++ (lines_bytes l ++ old.rest.items)) front.parts
+          ∙ ap (λ (l : List ℕ). lines_bytes is.settled ++ (l ++ old.rest.items)) (lines_bytes-append front.first front.later)
+          ∙ ap (λ (l : List ℕ). lines_bytes is.settled ++ l) (append_assoc (lines_bytes front.first) (lines_bytes front.later) old.rest.items)
+          ∙ sym (append_assoc (lines_bytes is.settled) (lines_bytes front.first) (lines_bytes front.later ++ old.rest.items))
+          ∙ ap (λ (l : List ℕ). l ++ (lines_bytes front.later ++ old.rest.items)) (sym (lines_bytes-append is.settled front.first));
+    }
+
+-- all of them are
+pub flushed : {L : Type 0} (told : L → Option Talk) (moments : Option (List ℕ)) (key path : List ℕ) (link after : Option L) (old new : Shipment) (bytes : List ℕ) (is : IsShipped told moments key path link old bytes) →
+    HasSettled told after (payloads_of path 0 is.settled ++ payloads_of path old.offset is.waiting) →
+    SettlesFirst key path (waiting_of path 0 is.settled) old.batch.waiting.items (λ left. left ≡ []) new.progress →
+    new.offset ≡ old.offset + old.batch.size → HoldsLines path new.offset new.batch [] → new.rest ≡ old.rest →
+    IsShipped told moments key path after new bytes
+flushed told moments key path link after old new bytes is settled settles offset none rest =
+    let here : 0 + length (lines_bytes is.settled) ≡ old.offset = place_is old.offset is.settled is.offset in
+    let all : settles.front ≡ waiting_of path old.offset is.waiting =
+    sym (append-nil settles.front) ∙ ap (λ (l : List Waiting). settles.front ++ l) (sym settles.so) ∙ sym settles.parts ∙ is.holds.waits in
+    let D : List Waiting → Type 0 = λ l. IsDoneBy key path new.progress l in
+    let S : List (List ℕ) → Type 0 = λ l. HasSettled told after l in
+    let P : _ → Type 0 = λ r. All IsPlainByte r.items in
+    record {
+      settled = is.settled ++ is.waiting;
+      each = events-append moments is.settled is.waiting is.each is.waiting_each;
+      done = subst D
+          (ap (λ (l : List Waiting). waiting_of path 0 is.settled ++ l) (all ∙ ap (λ (n : ℕ). waiting_of path n is.waiting) (sym here))
+          ∙ sym (waiting-append path 0 is.settled is.waiting))
+          settles.done;
+      acknowledged = subst S (ap (λ (n : ℕ). payloads_of path 0 is.settled ++ payloads_of path n is.waiting) (sym here) ∙ sym (payloads-append path 0 is.settled is.waiting)) settled;
+      offset = omega (arith, offset, is.offset, is.holds.size, ap (λ (l : List ℕ). length l) (lines_bytes-append is.settled is.waiting), length-append (lines_bytes is.settled) (lines_bytes is.waiting));
+      waiting = [];
+      waiting_each = tt;
+      holds = none;
+      plain = subst P (sym rest) is.plain;
+      spelled = is.spelled
+          ∙ sym (append_assoc (lines_bytes is.settled) (lines_bytes is.waiting) old.rest.items)
+          ∙ ap (λ (l : List ℕ). l ++ old.rest.items) (sym (lines_bytes-append is.settled is.waiting))
+          ∙ ap (λ r. lines_bytes (is.settled ++ is.waiting) ++ r.items) (sym rest);
+    }
+
+-- by what became of the settling
+pub settled_so : {L : Type 0} (told : L → Option Talk) (moments : Option (List ℕ)) (key path : List ℕ) (link after : Option L) (old new : Shipment) (bytes : List ℕ) (result : Result (Unit {0}) Status) (is : IsShipped told moments key path link old bytes) →
+    HasSettled told after (payloads_of path 0 is.settled ++ payloads_of path old.offset is.waiting) →
+    SettlesFirst key path (waiting_of path 0 is.settled) old.batch.waiting.items (λ left. OnOk result (left ≡ [])) new.progress →
+    OnOk result (new.offset ≡ old.offset + old.batch.size) → OnOk result (HoldsLines path new.offset new.batch []) → OnOk result (new.rest ≡ old.rest) →
+    MatchResult result (λ _. IsShipped told moments key path after new bytes) (λ _. IsCovered told moments key path after new.progress bytes)
+settled_so told moments key path link after old new bytes (Ok done) is settled settles offset none rest = flushed told moments key path link after old new bytes is settled settles offset none rest
+settled_so told moments key path link after old new bytes (Err status) is settled settles offset none rest =
+    partly told moments key path link after old new.progress bytes (λ left. Unit {0}) is settled settles
+
+-- ---- a line, or the rest of a piece
 
 -- the line of the rest waits
-pub line_waits : {L : Type 0} (told : L → Option Talk) (path : List ℕ) (link : Option L) (old new : Shipment) (bytes content whole : List ℕ) (is : IsShipped told path link old bytes) →
-    whole ≡ old.rest.items ++ content → HoldsLines path old.offset new.batch (is.waiting ++ (whole ++ 10 ∷ [])) → new.offset ≡ old.offset → new.shipped ≡ old.shipped → new.rest.items ≡ [] →
-    IsShipped told path link new (bytes ++ (content ++ 10 ∷ []))
-line_waits told path link old new bytes content whole is whole_is held offset shipped rest =
-    let W : List ℕ → Type 0 = λ l. HoldsLines path old.offset new.batch (is.waiting ++ (l ++ 10 ∷ [])) in
-    let holds : HoldsLines path old.offset new.batch (is.waiting ++ ((old.rest.items ++ content) ++ 10 ∷ [])) = subst W whole_is held in
-    let H : ℕ → Type 0 = λ n. HoldsLines path n new.batch (is.waiting ++ ((old.rest.items ++ content) ++ 10 ∷ [])) in
+pub line_waits : {L : Type 0} (told : L → Option Talk) (moments : Option (List ℕ)) (key path : List ℕ) (link : Option L) (old new : Shipment) (bytes content whole : List ℕ) (now : ℕ) (is : IsShipped told moments key path link old bytes) →
+    IsMoment (record { 0 = now }) → IsGiven moments now → All IsPlainByte content → vec_len old.rest + length content ≤ LINE → whole ≡ old.rest.items ++ content →
+    HoldsLines path old.offset new.batch (is.waiting ++ record { content = whole; now = now } ∷ []) → new.progress ≡ old.progress → new.offset ≡ old.offset → new.rest.items ≡ [] →
+    IsShipped told moments key path link new (bytes ++ (content ++ 10 ∷ []))
+line_waits told moments key path link old new bytes content whole now is range given plain short whole_is held progress offset rest =
+    let E : List ℕ → Type 0 = λ l. HoldsLines path old.offset new.batch (is.waiting ++ record { content = l; now = now } ∷ []) in
+    let event : Event = record { content = old.rest.items ++ content; now = now } in
+    let H : ℕ → Type 0 = λ n. HoldsLines path n new.batch (is.waiting ++ event ∷ []) in
+    let R : List ℕ → Type 0 = λ l. All IsPlainByte l in
+    let D : Progress → Type 0 = λ p. IsDoneBy key path p (waiting_of path 0 is.settled) in
+    let line : IsLineEvent moments event = record {
+      plain = All-append IsPlainByte old.rest.items content is.plain plain;
+      short = omega (arith, short, length-append old.rest.items content);
+      in_range = range;
+      given = given;
+    } in
     record {
       settled = is.settled;
-      payloads = is.payloads;
-      lines = is.lines;
+      each = is.each;
+      done = subst D (sym progress) is.done;
       acknowledged = is.acknowledged;
       offset = offset ∙ is.offset;
-      shipped = shipped ∙ is.shipped;
-      waiting = is.waiting ++ ((old.rest.items ++ content) ++ 10 ∷ []);
-      holds = subst H (sym offset) holds;
-      plain = let P : List ℕ → Type 0 = λ l. All (λ byte. byte ≢ 10) l in subst P (sym rest) (All-nil (λ (byte : ℕ). byte ≢ 10));
+      waiting = is.waiting ++ event ∷ [];
+      waiting_each = events-append moments is.waiting (event ∷ []) is.waiting_each (line, tt);
+      holds = subst H (sym offset) (subst E whole_is held);
+      plain = subst R (sym rest) (All-nil IsPlainByte);
       spelled =
           ap (λ (l : List ℕ). l ++ (content ++ 10 ∷ [])) is.spelled
-          ∙ append_assoc is.settled (is.waiting ++ old.rest.items) (content ++ 10 ∷ [])
-          ∙ ap (λ (l : List ℕ). is.settled ++ l)
-          (append_assoc is.waiting old.rest.items (content ++ 10 ∷ [])
-          ∙ ap (λ (l : List ℕ). is.waiting ++ l) (sym (append_assoc old.rest.items content (10 ∷ [])))
-          ∙ sym (append-nil (is.waiting ++ ((old.rest.items ++ content) ++ 10 ∷ []))))
-          ∙ ap (λ (l : List ℕ). is.settled ++ ((is.waiting ++ ((old.rest.items ++ content) ++ 10 ∷ [])) ++ l)) (sym rest);
+          ∙ append_assoc (lines_bytes is.settled) (lines_bytes is.waiting ++ old.rest.items) (content ++ 10 ∷ [])
+          ∙ ap (λ (l : List ℕ). lines_bytes is.settled ++ l)
+          (append_assoc (lines_bytes is.waiting) old.rest.items (content ++ 10 ∷ [])
+          ∙ ap (λ (l : List ℕ). lines_bytes is.waiting ++ l) (sym (append_assoc old.rest.items content (10 ∷ [])))
+          ∙ sym (lines_bytes-snoc is.waiting event)
+          ∙ sym (append-nil (lines_bytes (is.waiting ++ event ∷ []))))
+          ∙ ap (λ (l : List ℕ). lines_bytes is.settled ++ (lines_bytes (is.waiting ++ event ∷ []) ++ l)) (sym rest);
     }
 
 -- the rest grows
-pub rest_grows : {L : Type 0} (told : L → Option Talk) (path : List ℕ) (link : Option L) (old new : Shipment) (bytes more : List ℕ) →
-    IsShipped told path link old bytes → new.offset ≡ old.offset → new.shipped ≡ old.shipped → new.batch ≡ old.batch → new.rest.items ≡ old.rest.items ++ more → All (λ byte. byte ≢ 10) more →
-    IsShipped told path link new (bytes ++ more)
-rest_grows told path link old new bytes more is offset shipped batch rest plain =
+pub rest_grows : {L : Type 0} (told : L → Option Talk) (moments : Option (List ℕ)) (key path : List ℕ) (link : Option L) (old new : Shipment) (bytes more : List ℕ) →
+    IsShipped told moments key path link old bytes → new.progress ≡ old.progress → new.offset ≡ old.offset → new.batch ≡ old.batch → new.rest.items ≡ old.rest.items ++ more → All IsPlainByte more →
+    IsShipped told moments key path link new (bytes ++ more)
+rest_grows told moments key path link old new bytes more is progress offset batch rest plain =
     let H : ℕ → Type 0 = λ n. HoldsLines path n old.batch is.waiting in
     let B : _ → Type 0 = λ b. HoldsLines path new.offset b is.waiting in
-    let P : List ℕ → Type 0 = λ l. All (λ byte. byte ≢ 10) l in
+    let R : List ℕ → Type 0 = λ l. All IsPlainByte l in
+    let D : Progress → Type 0 = λ p. IsDoneBy key path p (waiting_of path 0 is.settled) in
     record {
       settled = is.settled;
-      payloads = is.payloads;
-      lines = is.lines;
+      each = is.each;
+      done = subst D (sym progress) is.done;
       acknowledged = is.acknowledged;
       offset = offset ∙ is.offset;
-      shipped = shipped ∙ is.shipped;
       waiting = is.waiting;
+      waiting_each = is.waiting_each;
       holds = subst B (sym batch) (subst H (sym offset) is.holds);
-      plain = subst P (sym rest) (All-append (λ (byte : ℕ). byte ≢ 10) old.rest.items more is.plain plain);
-      spelled = ap (λ (l : List ℕ). l ++ more) is.spelled ∙ append_assoc is.settled (is.waiting ++ old.rest.items) more
-          ∙ ap (λ (l : List ℕ). is.settled ++ l) (append_assoc is.waiting old.rest.items more ∙ ap (λ (l : List ℕ). is.waiting ++ l) (sym rest));
+      plain = subst R (sym rest) (All-append IsPlainByte old.rest.items more is.plain plain);
+      spelled = ap (λ (l : List ℕ). l ++ more) is.spelled ∙ append_assoc (lines_bytes is.settled) (lines_bytes is.waiting ++ old.rest.items) more
+          ∙ ap (λ (l : List ℕ). lines_bytes is.settled ++ l) (append_assoc (lines_bytes is.waiting) old.rest.items more ∙ ap (λ (l : List ℕ). lines_bytes is.waiting ++ l) (sym rest));
     }
 
 one_more : (used : ℕ) → 1 ≤ used → used ≡ suc (used - 1)
@@ -150,25 +281,25 @@ plain_feed : (byte : ℕ) → IsPlainByte byte → byte ≡ 10 → ⊥
 plain_feed byte plain is = omega (arith, plain.0, is)
 
 -- a part of the piece was taken
-pub record IsTaken {L : Type 0} (told : L → Option Talk) (path : List ℕ) (link : Option L) (shipment : Shipment) (bytes piece left : List ℕ) : Type 0 where
+pub record IsTaken {L : Type 0} (told : L → Option Talk) (moments : Option (List ℕ)) (key path : List ℕ) (link : Option L) (shipment : Shipment) (bytes piece left : List ℕ) : Type 0 where
   pub taken : List ℕ
   pub parts : piece ≡ taken ++ left
-  pub shipped : IsShipped told path link shipment (bytes ++ taken)
+  pub shipped : IsShipped told moments key path link shipment (bytes ++ taken)
 
-pub taking_starts : {L : Type 0} (told : L → Option Talk) (path : List ℕ) (link : Option L) (shipment : Shipment) (bytes piece : List ℕ) →
-    IsShipped told path link shipment bytes → IsTaken told path link shipment bytes piece piece
-taking_starts told path link shipment bytes piece is =
-    let P : List ℕ → Type 0 = λ l. IsShipped told path link shipment l in
-    record { taken = []; parts = refl; shipped = subst P (sym (append-nil bytes)) is }
+pub taking_starts : {L : Type 0} (told : L → Option Talk) (moments : Option (List ℕ)) (now : ℕ) (after : Option (List ℕ)) (key path : List ℕ) (link : Option L) (shipment : Shipment) (bytes piece : List ℕ) →
+    GivesMoment moments now after → IsShipped told moments key path link shipment bytes → IsTaken told after key path link shipment bytes piece piece
+taking_starts told moments now after key path link shipment bytes piece gives is =
+    let P : List ℕ → Type 0 = λ l. IsShipped told after key path link shipment l in
+    record { taken = []; parts = refl; shipped = subst P (sym (append-nil bytes)) (shipped_still told moments now after key path link shipment bytes gives is) }
 
 -- a whole line was taken
-pub taking_goes_on : {L : Type 0} (told : L → Option Talk) (path : List ℕ) (link after : Option L) (old new : Shipment) (bytes piece left : List ℕ) (used most : ℕ) →
-    (is : IsTaken told path link old bytes piece left) → 1 ≤ used → used ≤ length left → length left ≤ used + most → get_or left (used - 1) 0 ≡ 10 →
-    IsShipped told path after new ((bytes ++ is.taken) ++ (take (used - 1) left ++ 10 ∷ [])) →
-    IsTaken told path after new bytes piece (take most (drop used left))
-taking_goes_on told path link after old new bytes piece left used most is some within all line shipped =
-    let P : List ℕ → Type 0 = λ l. IsShipped told path after new l in
-    let Q : List ℕ → Type 0 = λ l. IsTaken told path after new bytes piece l in
+pub taking_goes_on : {L : Type 0} (told : L → Option Talk) (moments : Option (List ℕ)) (key path : List ℕ) (link after : Option L) (old new : Shipment) (bytes piece left : List ℕ) (used most : ℕ) →
+    (is : IsTaken told moments key path link old bytes piece left) → 1 ≤ used → used ≤ length left → length left ≤ used + most → get_or left (used - 1) 0 ≡ 10 →
+    IsShipped told moments key path after new ((bytes ++ is.taken) ++ (take (used - 1) left ++ 10 ∷ [])) →
+    IsTaken told moments key path after new bytes piece (take most (drop used left))
+taking_goes_on told moments key path link after old new bytes piece left used most is some within all line shipped =
+    let P : List ℕ → Type 0 = λ l. IsShipped told moments key path after new l in
+    let Q : List ℕ → Type 0 = λ l. IsTaken told moments key path after new bytes piece l in
     subst Q (sym (take_all most (drop used left) (omega (arith, length-drop used left))))
     (record {
       taken = is.taken ++ (take (used - 1) left ++ 10 ∷ []);
@@ -178,22 +309,22 @@ taking_goes_on told path link after old new bytes piece left used most is some w
     })
 
 -- what is left is no whole line
-pub taking_ends : {L : Type 0} (told : L → Option Talk) (path : List ℕ) (link : Option L) (old new : Shipment) (bytes piece left : List ℕ) →
-    IsTaken told path link old bytes piece left → new.offset ≡ old.offset → new.shipped ≡ old.shipped → new.batch ≡ old.batch → new.rest.items ≡ old.rest.items ++ left → All IsPlainByte left →
-    IsShipped told path link new (bytes ++ piece)
-taking_ends told path link old new bytes piece left is offset shipped batch rest plain =
-    let P : List ℕ → Type 0 = λ l. IsShipped told path link new l in
+pub taking_ends : {L : Type 0} (told : L → Option Talk) (moments : Option (List ℕ)) (key path : List ℕ) (link : Option L) (old new : Shipment) (bytes piece left : List ℕ) →
+    IsTaken told moments key path link old bytes piece left → new.progress ≡ old.progress → new.offset ≡ old.offset → new.batch ≡ old.batch → new.rest.items ≡ old.rest.items ++ left → All IsPlainByte left →
+    IsShipped told moments key path link new (bytes ++ piece)
+taking_ends told moments key path link old new bytes piece left is progress offset batch rest plain =
+    let P : List ℕ → Type 0 = λ l. IsShipped told moments key path link new l in
     subst P (append_assoc bytes is.taken left ∙ ap (λ (l : List ℕ). bytes ++ l) (sym is.parts))
-    (rest_grows told path link old new (bytes ++ is.taken) left is.shipped offset shipped batch rest (λ k d within feed. plain_feed (get_or left k d) (plain k d within) feed))
+    (rest_grows told moments key path link old new (bytes ++ is.taken) left is.shipped progress offset batch rest plain)
 
 -- what was settled stays covered, whatever becomes of the piece
-pub taking_covers : {L : Type 0} (told : L → Option Talk) (path : List ℕ) (link after : Option L) (offset : ℕ) (shipment : Shipment) (bytes piece left : List ℕ) →
-    (is : IsTaken told path link shipment bytes piece left) → IsCovered told path after offset (bytes ++ is.taken) →
-    IsCovered told path after offset (bytes ++ piece)
-taking_covers told path link after offset shipment bytes piece left is covered =
-    let P : List ℕ → Type 0 = λ l. IsCovered told path after offset l in
+pub taking_covers : {L : Type 0} (told : L → Option Talk) (moments : Option (List ℕ)) (key path : List ℕ) (link after : Option L) (progress : Progress) (shipment : Shipment) (bytes piece left : List ℕ) →
+    (is : IsTaken told moments key path link shipment bytes piece left) → IsCovered told moments key path after progress (bytes ++ is.taken) →
+    IsCovered told moments key path after progress (bytes ++ piece)
+taking_covers told moments key path link after progress shipment bytes piece left is covered =
+    let P : List ℕ → Type 0 = λ l. IsCovered told moments key path after progress l in
     subst P (append_assoc bytes is.taken left ∙ ap (λ (l : List ℕ). bytes ++ l) (sym is.parts))
-    (covers_more told path after offset (bytes ++ is.taken) left covered)
+    (covers_more told moments key path after progress (bytes ++ is.taken) left covered)
 
 -- the place behind what was taken and what is left
 pub placed_still : (old new total used most : ℕ) (left : List ℕ) → 1 ≤ used → used ≤ length left → length left ≤ used + most →
@@ -203,38 +334,62 @@ placed_still old new total used most left some within all moved was =
     ap (λ (l : List ℕ). length l) (take_all most (drop used left) (omega (arith, length-drop used left))) ∙ length-drop used left in
     omega (arith, length-take-le (used - 1) left (omega arith), rest, moved, was)
 
+-- ---- what can be sent
+
+abbrev pub contents_of : List Event → List (List ℕ)
+contents_of events = map (λ event. event.content) events
+
+lines_are : (events : List Event) → whole_lines (contents_of events) ≡ lines_bytes events
+lines_are [] = refl
+lines_are (event ∷ events) = ap (λ (l : List ℕ). (event.content ++ 10 ∷ []) ++ l) (lines_are events)
+
+each_sendable : (moments : Option (List ℕ)) (events : List Event) → AreLineEvents moments events → AllByRecursion IsSendableLine (contents_of events)
+each_sendable moments [] each = tt
+each_sendable moments (event ∷ events) each = ((each.0.plain, each.0.short), each_sendable moments events each.1)
+
+-- every byte that was read can be sent
+pub sendable : {L : Type 0} (told : L → Option Talk) (moments : Option (List ℕ)) (key path : List ℕ) (link : Option L) (shipment : Shipment) (bytes : List ℕ) →
+    IsShipped told moments key path link shipment bytes → vec_len shipment.rest ≤ LINE → IsSendable bytes
+sendable told moments key path link shipment bytes is short = record {
+  contents = contents_of (is.settled ++ is.waiting);
+  line = shipment.rest.items;
+  spelled = is.spelled
+      ∙ sym (append_assoc (lines_bytes is.settled) (lines_bytes is.waiting) shipment.rest.items)
+      ∙ ap (λ (l : List ℕ). l ++ shipment.rest.items) (sym (lines_bytes-append is.settled is.waiting) ∙ sym (lines_are (is.settled ++ is.waiting)));
+  each = each_sendable moments (is.settled ++ is.waiting) (events-append moments is.settled is.waiting is.each is.waiting_each);
+  last = (is.plain, omega (arith, short));
+}
+
 -- the byte behind the rest and what of the piece can be sent
-pub unsendable : {L : Type 0} (told : L → Option Talk) (path : List ℕ) (link : Option L) (shipment : Shipment) (bytes piece left : List ℕ) (place at : ℕ) →
-    (is : IsTaken told path link shipment bytes piece left) → place < length left → All IsPlainByte (take place left) →
+pub unsendable : {L : Type 0} (told : L → Option Talk) (moments : Option (List ℕ)) (key path : List ℕ) (link : Option L) (shipment : Shipment) (bytes piece left : List ℕ) (place at : ℕ) →
+    (is : IsTaken told moments key path link shipment bytes piece left) → place < length left → All IsPlainByte (take place left) →
     IsExcluded (vec_len shipment.rest) left place → at ≡ shipment.offset + shipment.batch.size + vec_len shipment.rest + place →
     IsUnsendableAt (bytes ++ piece) at
-unsendable told path link shipment bytes piece left place at is within plain excluded at_is =
+unsendable told moments key path link shipment bytes piece left place at is within plain excluded at_is =
     let now = is.shipped in
-    let whole : List ℕ = now.settled ++ now.waiting in
-    let all : List (List ℕ) = now.lines.contents ++ now.holds.lines.contents in
-    let lines : lines_bytes all ≡ whole =
-    flat_map-append (λ (c : List ℕ). c ++ 10 ∷ []) now.lines.contents now.holds.lines.contents
-    ∙ ap (λ (l : List ℕ). l ++ lines_bytes now.holds.lines.contents) (sym now.lines.spelled)
-    ∙ ap (λ (l : List ℕ). now.settled ++ l) (sym now.holds.lines.spelled) in
+    let events : List Event = now.settled ++ now.waiting in
+    let whole : List ℕ = lines_bytes events in
     let rest : List ℕ = shipment.rest.items in
     let line : List ℕ = rest ++ take place left in
     let cut : left ≡ take place left ++ get_or left place 0 ∷ drop (suc place) left = cut_at left place within in
     let size : length line ≡ vec_len shipment.rest + place = omega (arith, length-append rest (take place left), length-take-le place left (omega (arith, within))) in
     record {
-      contents = all;
+      contents = contents_of events;
       line = line;
       byte = get_or left place 0;
       behind = drop (suc place) left;
       spelled =
           ap (λ (l : List ℕ). bytes ++ l) is.parts
           ∙ sym (append_assoc bytes is.taken left)
-          ∙ ap (λ (l : List ℕ). l ++ left) (now.spelled ∙ sym (append_assoc now.settled now.waiting rest))
+          ∙ ap (λ (l : List ℕ). l ++ left)
+          (now.spelled ∙ sym (append_assoc (lines_bytes now.settled) (lines_bytes now.waiting) rest) ∙ ap (λ (l : List ℕ). l ++ rest) (sym (lines_bytes-append now.settled now.waiting)))
           ∙ append_assoc whole rest left
           ∙ ap (λ (l : List ℕ). whole ++ (rest ++ l)) cut
           ∙ ap (λ (l : List ℕ). whole ++ l) (sym (append_assoc rest (take place left) (get_or left place 0 ∷ drop (suc place) left)))
-          ∙ ap (λ (l : List ℕ). l ++ (line ++ get_or left place 0 ∷ drop (suc place) left)) (sym lines);
-      plain = All-append (λ (byte : ℕ). byte ≢ 10) rest (take place left) now.plain (λ k d inside feed. plain_feed (get_or (take place left) k d) (plain k d inside) feed);
-      at_is = omega (arith, at_is, size, ap length lines, length-append now.settled now.waiting, now.offset, now.holds.size);
+          ∙ ap (λ (l : List ℕ). l ++ (line ++ get_or left place 0 ∷ drop (suc place) left)) (sym (lines_are events));
+      plain = All-append (λ (byte : ℕ). byte ≢ 10) rest (take place left) (λ k d inside feed. plain_feed (get_or rest k d) (now.plain k d inside) feed)
+          (λ k d inside feed. plain_feed (get_or (take place left) k d) (plain k d inside) feed);
+      at_is = omega (arith, at_is, size, ap (λ (l : List ℕ). length l) (lines_are events), ap (λ (l : List ℕ). length l) (lines_bytes-append now.settled now.waiting), length-append (lines_bytes now.settled) (lines_bytes now.waiting), now.offset, now.holds.size);
       cannot = cannot_be_sent (vec_len shipment.rest) left place line size excluded;
     }
   where
@@ -244,6 +399,5 @@ unsendable told path link shipment bytes piece left place at is within plain exc
     cut_at (x ∷ list) (suc i) inside = ap (λ (l : List ℕ). x ∷ l) (cut_at list i (omega (arith, inside)))
 
     cannot_be_sent : (before : ℕ) (list : List ℕ) (i : ℕ) (line : List ℕ) → length line ≡ before + i → IsExcluded before list i → CannotBeSent line (get_or list i 0)
-    cannot_be_sent before list i line many (inl long) = inl (many ∙ long.0, long.1)
-    cannot_be_sent before list i line many (inr (inl empty)) = inr (inl (many ∙ empty.0, empty.1))
-    cannot_be_sent before list i line many (inr (inr escaped)) = inr (inr escaped)
+    cannot_be_sent before list i line many (other, inl long) = (other, inl (many ∙ long))
+    cannot_be_sent before list i line many (other, inr escaped) = (other, inr escaped)

@@ -1,89 +1,401 @@
 -- How the one worker stands with its wire, call by call.
-use Rattle.std.proofs.Common.{ℕ, List, [], ◌∷◌, ◌++◌, All, Contains, Option, Some, None, IfSome, IsSome, Vec, length, get_or, set, slice_get, arith, inr, refl, sym, ap, subst, append-nil, ◌≡◌}
+use Rattle.std.proofs.Common.{inl, inr, ℕ, ◌+◌, ◌-◌, ◌^◌, ◌≤◌, ◌<◌, zero, suc, List, [], ◌∷◌, ◌++◌, drop, Option, Some, None, is_some, false, Result, Ok, Err, IfErr, IfSome, IsSome, MatchResult, OnErr, OnOk, Vec, length, get_or, set, slice_get, arith, refl, sym, ◌∙◌, ap, subst, append_assoc, append-nil, ◌≡◌, ◌⊎◌, max, min}
 use Rattle.std.specs.Vec.{with_item}
 use Rattle.std.specs.declared.alloc.Global.{Global}
 use Rattle.std.specs.List.{flat_map}
+use Rattle.std.proofs.Math.Seq.{drop-append_seam, drop-length}
 use Rattle.std.proofs.lemmas.Bool.{false≢true}
+use Rattle.std.proofs.lemmas.Bool.Decides.{leb_tells}
 use Rattle.std.proofs.lemmas.List.Elements.{Contains-push}
 use Rattle.wire_base.specs.declared.talk.Piece.{Piece}
-use Rattle.outside.specs.Talks.{Talk}
-use Rattle.outside.specs.Wires.{Outcome, Finished, TellsFinishing}
+use Rattle.outside.specs.declared.failed.Failed.{Failed}
+use Rattle.outside.specs.Counts.{IsAtEnd, Rose, added_counts, next_count}
+use Rattle.outside.specs.Talks.{Talk, no_talk}
+use Rattle.outside.specs.Wires.{Outcome, Finished, Refused, KeepsRefusal, TellsConnecting, TellsFinishing}
 use Rattle.lumber_frame.specs.Acknowledged.{Acknowledges}
+use Rattle.lumber_frame.specs.PeerFault.{HasPeerFault}
 use Rattle.lumber_frame.specs.Settled.{IsSettled}
-use Rattle.beat_run.specs.Serving.{HasServed, Serves}
-use Rattle.beat_run.specs.Standing.{AreAcknowledged, GoesOn, IsJoined, OnFirst, with_link}
+use Rattle.beat_run.specs.declared.status.Status.{Status}
+use Rattle.beat_run.specs.declared.status.Status.TheVariants.{Done, Usage, RegistryBad, DiskFault, FolderFault, Unreachable, OutFault, SourceFault, NoMemory, Unbuilt}
+use Rattle.beat_run.specs.Acknowledged.{AcknowledgeInAll, AreAcknowledged, FailsFor, IsAcknowledgedInOne, IsFailure, IsFaultOfPeer}
+use Rattle.beat_run.specs.Ends.{IsReadingEnd}
+use Rattle.beat_run.specs.Serving.{HasFailed, HasServed, HasSettled, IsSomeWindow, IsWindowOf, Serves, Settles}
+use Rattle.beat_run.specs.Standing.{Blames, GoesOn, IsParted, IsSettledLink, IsStanding, OnFirst, Tells, outcomes_since, with_link}
+
+-- ---- lists that go on
+
+pub goes_on_itself : (outcomes : Option (List Outcome)) → GoesOn outcomes outcomes
+goes_on_itself None = refl
+goes_on_itself (Some list) = ([], ap (λ (l : List Outcome). Some l) (sym (append-nil list)))
+
+pub goes_on_same : (start outcomes : Option (List Outcome)) → outcomes ≡ start → GoesOn start outcomes
+goes_on_same start outcomes same =
+    let P : Option (List Outcome) → Type 0 = λ o. GoesOn start o in
+    subst P (sym same) (goes_on_itself start)
+
+since : (before more : List Outcome) (after : Option (List Outcome)) → after ≡ Some (before ++ more) → outcomes_since (Some before) after ≡ Some more
+since before more after is =
+    ap (λ (o : Option (List Outcome)). outcomes_since (Some before) o) is ∙ ap (λ (l : List Outcome). Some l) (drop-append_seam before more)
+
+-- nothing came since then
+pub since_none : (outcomes : Option (List Outcome)) (P : List Outcome → Type 0) → P [] → IfSome (outcomes_since outcomes outcomes) P
+since_none None P holds = tt
+since_none (Some list) P holds = subst P (sym (drop-length list)) holds
+
+-- ---- the link is made, and used
 
 tells_still : {L : Type 0} (told : L → Option Talk) (outcomes : Option (List Outcome)) (link after : L) →
-    (IsSome (told link) → IsSome (told after)) →
-    IfSome outcomes (λ _. IsSome (told link)) → IfSome outcomes (λ _. IsSome (told after))
+    (IsSome (told link) → IsSome (told after)) → Tells told outcomes (Some link) → Tells told outcomes (Some after)
 tells_still told None link after keeps tells = tt
 tells_still told (Some list) link after keeps tells = keeps tells
 
--- the link was used
-pub joined_still : {L : Type 0} (told : L → Option Talk) (start : Option (List Outcome)) (count : ℕ) (outcomes : Option (List Outcome)) (links : ℕ) (link after : L) →
-    (IsSome (told link) → IsSome (told after)) →
-    IsJoined told start count outcomes links (Some link) → IsJoined told start count outcomes links (Some after)
-joined_still told start count outcomes links link after keeps is = record {
-  goes_on = is.goes_on;
-  tells = tells_still told outcomes link after keeps is.tells;
+blames_any : {L : Type 0} (told : L → Option Talk) (link_faults : L → ℕ) (first faults : ℕ) (link : Option L) (status : Status) →
+    (Rose first faults ⊎ HasFailed told link_faults link) → Blames told link_faults first faults link status
+blames_any told link_faults first faults link Done failed = tt
+blames_any told link_faults first faults link Usage failed = tt
+blames_any told link_faults first faults link (RegistryBad area at) failed = tt
+blames_any told link_faults first faults link DiskFault failed = tt
+blames_any told link_faults first faults link FolderFault failed = tt
+blames_any told link_faults first faults link (Unreachable worker failures) failed = failed
+blames_any told link_faults first faults link OutFault failed = tt
+blames_any told link_faults first faults link SourceFault failed = tt
+blames_any told link_faults first faults link NoMemory failed = tt
+blames_any told link_faults first faults link (Unbuilt what) failed = tt
+
+-- a reading blames no peer
+pub reading_blames : {L : Type 0} (told : L → Option Talk) (link_faults : L → ℕ) (first faults : ℕ) (link : Option L) (before now : ℕ) (status : Status) →
+    IsReadingEnd before now status → Blames told link_faults first faults link status
+reading_blames told link_faults first faults link before now Done ends = tt
+reading_blames told link_faults first faults link before now Usage ends = tt
+reading_blames told link_faults first faults link before now (RegistryBad area at) ends = tt
+reading_blames told link_faults first faults link before now DiskFault ends = tt
+reading_blames told link_faults first faults link before now FolderFault ends = tt
+reading_blames told link_faults first faults link before now (Unreachable worker failures) ends = absurd ends
+reading_blames told link_faults first faults link before now OutFault ends = tt
+reading_blames told link_faults first faults link before now SourceFault ends = tt
+reading_blames told link_faults first faults link before now NoMemory ends = tt
+reading_blames told link_faults first faults link before now (Unbuilt what) ends = tt
+
+-- a worker that stands well gave up for another reason
+pub parts_well : {L : Type 0} (told : L → Option Talk) (link_faults : L → ℕ) (start : Option (List Outcome)) (count first : ℕ) (outcomes : Option (List Outcome)) (links faults : ℕ) (link : Option L) (status : Status) →
+    Blames told link_faults first faults link status → IsStanding told start count first outcomes links faults link → IsParted told link_faults start count first outcomes links faults link status
+parts_well told link_faults start count first outcomes links faults link status blamed is = record {
+  goes_on = goes_on_same start outcomes is.none_came;
+  tells = is.tells;
   opened = is.opened;
+  counted = is.counted;
+  blamed = blamed;
 }
 
--- what a settled talk acknowledged stays acknowledged, by the law of frames
-abbrev pub StaysAcknowledged : Type 0
-StaysAcknowledged = (talk more : List Piece) (windows : List (List (List ℕ))) → IsSettled talk windows →
-    (later : List (List ℕ)) × Acknowledges (talk ++ more) later × All (Contains later) (flat_map (λ window. window) windows)
+pub standing_served : {L : Type 0} (told : L → Option Talk) (link_faults : L → ℕ) (start : Option (List Outcome)) (count first : ℕ) (outcomes : Option (List Outcome)) (links faults : ℕ) (link after : L) (frames : List ℕ) (number : ℕ) (result : Result (Unit {0}) Status) →
+    IsSomeWindow frames number → (IsSome (told link) → IsSome (told after)) →
+    ((earlier payloads : List (List ℕ)) → HasSettled told (Some link) earlier → IsWindowOf payloads frames number →
+    MatchResult result (λ _. HasSettled told (Some after) (earlier ++ payloads)) (λ _. HasServed told (Some after) earlier)) →
+    ((earlier payloads : List (List ℕ)) → HasSettled told (Some link) earlier → IsWindowOf payloads frames number → OnErr result (HasFailed told link_faults (Some after))) →
+    IsStanding told start count first outcomes links faults (Some link) →
+    MatchResult result (λ _. IsStanding told start count first outcomes links faults (Some after)) (IsParted told link_faults start count first outcomes links faults (Some after))
+standing_served told link_faults start count first outcomes links faults link after frames number (Ok done) window keeps serves fails is = record {
+  none_came = is.none_came;
+  tells = tells_still told outcomes link after keeps is.tells;
+  opened = is.opened;
+  counted = is.counted;
+  settled = record {
+    payloads = is.settled.payloads ++ window.payloads;
+    settled = serves is.settled.payloads window.payloads is.settled.settled window.window;
+  };
+}
+standing_served told link_faults start count first outcomes links faults link after frames number (Err status) window keeps serves fails is = record {
+  goes_on = goes_on_same start outcomes is.none_came;
+  tells = tells_still told outcomes link after keeps is.tells;
+  opened = is.opened;
+  counted = is.counted;
+  blamed = blames_any told link_faults first faults (Some after) status (inr (fails is.settled.payloads window.payloads is.settled.settled window.window));
+}
 
-served_acknowledges : StaysAcknowledged → (list : List Outcome) (talk : Talk) (faults idles : ℕ) (payloads : List (List ℕ)) →
-    Serves talk.pieces payloads → AreAcknowledged (list ++ Finished talk faults idles ∷ []) payloads
-served_acknowledges law list talk faults idles payloads serves =
-    let stays = law serves.front serves.more serves.settles.windows serves.settles.settled in
-    let A : List Piece → Type 0 = λ l. Acknowledges l stays.0 in
-    let E : List (List ℕ) → Type 0 = λ l. All (Contains stays.0) l in
-    inr (record {
-      talk = talk;
-      faults = faults;
-      idles = idles;
-      there = Contains-push list (Finished talk faults idles);
-      acknowledged = stays.0;
-      acknowledges = subst A (sym serves.begins) stays.1;
-      each = subst E (sym serves.settles.are) stays.2;
-    })
+-- by what became of a settling, which the wire does not see
+pub standing_so : {L : Type 0} (told : L → Option Talk) (link_faults : L → ℕ) (start : Option (List Outcome)) (count first : ℕ) (outcomes : Option (List Outcome)) (links faults : ℕ) (link : Option L) (result : Result (Unit {0}) Status) →
+    IfErr result (λ status. status ≡ NoMemory) → IsStanding told start count first outcomes links faults link →
+    MatchResult result (λ _. IsStanding told start count first outcomes links faults link) (IsParted told link_faults start count first outcomes links faults link)
+standing_so told link_faults start count first outcomes links faults link (Ok done) ends is = is
+standing_so told link_faults start count first outcomes links faults link (Err status) ends is =
+    let P : Status → Type 0 = λ s. IsParted told link_faults start count first outcomes links faults link s in
+    subst P (sym ends) (parts_well told link_faults start count first outcomes links faults link NoMemory tt is)
 
-finished_acknowledges : StaysAcknowledged → (outcomes : Option (List Outcome)) (talk : Option Talk) (faults idles : ℕ) (after : Option (List Outcome)) (payloads : List (List ℕ)) →
-    IfSome outcomes (λ _. IsSome talk) → IfSome talk (λ t. Serves t.pieces payloads) → TellsFinishing outcomes talk faults idles after →
-    IfSome after (λ list. AreAcknowledged list payloads)
-finished_acknowledges law None talk faults idles after payloads tells served finishes =
-    let P : Option (List Outcome) → Type 0 = λ o. IfSome o (λ list. AreAcknowledged list payloads) in
-    subst P (sym finishes) tt
-finished_acknowledges law (Some list) None faults idles after payloads tells served finishes = absurd (false≢true tells)
-finished_acknowledges law (Some list) (Some talk) faults idles after payloads tells served finishes =
-    let P : Option (List Outcome) → Type 0 = λ o. IfSome o (λ l. AreAcknowledged l payloads) in
-    subst P (sym finishes) (served_acknowledges law list talk faults idles payloads served)
+pub none_there : {L : Type 0} (link : Option L) → is_some link ≡ false → link ≡ None
+none_there None none = refl
+none_there (Some one) none = absurd cc
 
--- the link was given back
-pub ended_acknowledges : {L : Type 0} (told : L → Option Talk) (start : Option (List Outcome)) (count : ℕ) (outcomes : Option (List Outcome)) (links : ℕ) (link : L)
-    (faults idles : ℕ) (after : Option (List Outcome)) (payloads : List (List ℕ)) → StaysAcknowledged →
-    IsJoined told start count outcomes links (Some link) → HasServed told (Some link) payloads → TellsFinishing outcomes (told link) faults idles after →
-    IfSome after (λ list. AreAcknowledged list payloads)
-ended_acknowledges told start count outcomes links link faults idles after payloads law is served finishes =
-    finished_acknowledges law outcomes (told link) faults idles after payloads is.tells served finishes
+-- a wire that made a link
+connected_tells : {L : Type 0} (told : L → Option Talk) (outcomes after : Option (List Outcome)) (link : L) (faults : ℕ) →
+    TellsConnecting told outcomes (Ok link) after faults → (after ≡ outcomes) × Tells told after (Some link)
+connected_tells told None after link faults tells =
+    let P : Option (List Outcome) → Type 0 = λ o. Tells told o (Some link) in
+    (tells.0, subst P (sym tells.0) tt)
+connected_tells told (Some list) after link faults tells =
+    let P : Option (List Outcome) → Type 0 = λ o. Tells told o (Some link) in
+    let T : Option Talk → Type 0 = λ o. IsSome o in
+    (tells.1, subst P (sym tells.1) (subst T (sym tells.0) refl))
 
-unlinked_tells : {L : Type 0} (told : L → Option Talk) (outcomes : Option (List Outcome)) → (link : Option L) → link ≡ None → IfSome outcomes (λ _. IfSome link (λ one. IsSome (told one)))
+settled_first : IsSettled [] [] → {L : Type 0} (told : L → Option Talk) (outcomes after : Option (List Outcome)) (link : L) (faults : ℕ) →
+    TellsConnecting told outcomes (Ok link) after faults → IfSome (told link) (λ talk. Settles talk.pieces [])
+settled_first nothing told None after link faults tells =
+    let P : Option Talk → Type 0 = λ o. IfSome o (λ talk. Settles talk.pieces []) in
+    subst P (sym tells.1) tt
+settled_first nothing told (Some list) after link faults tells =
+    let P : Option Talk → Type 0 = λ o. IfSome o (λ talk. Settles talk.pieces []) in
+    subst P (sym tells.0) (record { windows = []; settled = nothing; are = refl })
+
+pub standing_connected : IsSettled [] [] → {L : Type 0} (told : L → Option Talk) (start : Option (List Outcome)) (count first : ℕ) (outcomes : Option (List Outcome)) (links faults : ℕ) (old : Option L) (link : L)
+    (after : Option (List Outcome)) (links_after faults_after : ℕ) → old ≡ None → TellsConnecting told outcomes (Ok link) after faults_after → links_after ≡ next_count links → faults ≤ faults_after →
+    IsStanding told start count first outcomes links faults old → IsStanding told start count first after links_after faults_after (Some link)
+standing_connected nothing told start count first outcomes links faults old link after links_after faults_after none tells opened rises is =
+    let both = connected_tells told outcomes after link faults_after tells in
+    record {
+      none_came = both.0 ∙ is.none_came;
+      tells = both.1;
+      opened = opened ∙ ap next_count (is.opened ∙ ap (λ l. with_link count l) none);
+      counted = omega (arith, is.counted, rises);
+      settled = record { payloads = []; settled = settled_first nothing told outcomes after link faults_after tells };
+    }
+
+refused_goes_on : {L : Type 0} (told : L → Option Talk) (start outcomes after : Option (List Outcome)) (failed : Failed) (faults : ℕ) →
+    outcomes ≡ start → TellsConnecting told outcomes (Err failed) after faults → GoesOn start after
+refused_goes_on told start None after failed faults same tells =
+    let P : Option (List Outcome) → Type 0 = λ o. GoesOn o after in
+    subst P same tells.0
+refused_goes_on told start (Some list) after failed faults same (inl refused) =
+    let P : Option (List Outcome) → Type 0 = λ o. GoesOn o after in
+    subst P same (Refused ∷ [], refused)
+refused_goes_on told start (Some list) after failed faults same (inr full) =
+    let P : Option (List Outcome) → Type 0 = λ o. GoesOn o after in
+    subst P same (goes_on_same (Some list) after full.1)
+
+unlinked_tells : {L : Type 0} (told : L → Option Talk) (outcomes : Option (List Outcome)) (link : Option L) → link ≡ None → Tells told outcomes link
 unlinked_tells told None link is = tt
 unlinked_tells told (Some list) link is =
     let P : _ → Type 0 = λ l. IfSome l (λ one. IsSome (told one)) in
     subst P (sym is) tt
 
-goes_on_itself : (outcomes : Option (List Outcome)) → GoesOn outcomes outcomes
-goes_on_itself None = refl
-goes_on_itself (Some list) = ([], ap (λ (l : List Outcome). Some l) (sym (append-nil list)))
+rose_since : (first faults after : ℕ) → first ≤ faults → Rose faults after → Rose first after
+rose_since first faults after counted (inl rose) = inl (omega (arith, counted, rose))
+rose_since first faults after counted (inr end) = inr end
+
+pub parted_refused : {L : Type 0} (told : L → Option Talk) (link_faults : L → ℕ) (start : Option (List Outcome)) (count first : ℕ) (outcomes : Option (List Outcome)) (links faults : ℕ) (link : Option L) (failed : Failed) (status : Status)
+    (after : Option (List Outcome)) (links_after faults_after : ℕ) → link ≡ None → TellsConnecting told outcomes (Err failed) after faults_after → links_after ≡ links → faults ≤ faults_after → Rose faults faults_after →
+    IsStanding told start count first outcomes links faults link → IsParted told link_faults start count first after links_after faults_after link status
+parted_refused told link_faults start count first outcomes links faults link failed status after links_after faults_after none tells opened rises rose is = record {
+  goes_on = refused_goes_on told start outcomes after failed faults_after is.none_came tells;
+  tells = unlinked_tells told after link none;
+  opened = opened ∙ is.opened;
+  counted = omega (arith, is.counted, rises);
+  blamed = blames_any told link_faults first faults_after link status (inl (rose_since first faults faults_after is.counted rose));
+}
 
 -- a worker that has not connected
-pub joined_first : {L : Type 0} (told : L → Option Talk) (outcomes : Option (List Outcome)) (links : ℕ) (link : Option L) → link ≡ None →
-    IsJoined told outcomes links outcomes links link
-joined_first told outcomes links link none =
-    record { goes_on = goes_on_itself outcomes; tells = unlinked_tells told outcomes link none; opened = ap (λ l. with_link links l) (sym none) }
+pub standing_first : {L : Type 0} (told : L → Option Talk) (outcomes : Option (List Outcome)) (links faults : ℕ) (link : Option L) → link ≡ None → HasSettled told link [] →
+    IsStanding told outcomes links faults outcomes links faults link
+standing_first told outcomes links faults link none settled = record {
+  none_came = refl;
+  tells = unlinked_tells told outcomes link none;
+  opened = ap (λ l. with_link links l) (sym none);
+  counted = omega arith;
+  settled = record { payloads = []; settled = settled };
+}
+
+-- ---- the link is given back
+
+-- what a settled talk acknowledged stays the first that it acknowledges, by the law of frames
+abbrev pub StaysAcknowledged : Type 0
+StaysAcknowledged = (talk more : List Piece) (windows : List (List (List ℕ))) → IsSettled talk windows →
+    (later : List (List ℕ)) × Acknowledges (talk ++ more) (flat_map (λ window. window) windows ++ later)
+
+abbrev pub IsAcknowledged : Type 0
+IsAcknowledged = (talk : List Piece) (windows : List (List (List ℕ))) → IsSettled talk windows → Acknowledges talk (flat_map (λ window. window) windows)
+
+last_is : (list : List Outcome) (one : Outcome) → slice_get (list ++ one ∷ []) (length list) ≡ Some one
+last_is [] one = refl
+last_is (first ∷ list) one = last_is list one
+
+pub finished_goes_on : (start before after : Option (List Outcome)) (talk : Option Talk) (faults idles : ℕ) → GoesOn start before → TellsFinishing before talk faults idles after → GoesOn start after
+finished_goes_on None before after talk faults idles goes finishes =
+    let F : Option (List Outcome) → Type 0 = λ o. TellsFinishing o talk faults idles after in
+    subst F goes finishes
+finished_goes_on (Some list) before after None faults idles goes finishes =
+    let F : Option (List Outcome) → Type 0 = λ o. TellsFinishing o None faults idles after in
+    (goes.0, subst F goes.1 finishes)
+finished_goes_on (Some list) before after (Some talk) faults idles goes finishes =
+    let F : Option (List Outcome) → Type 0 = λ o. TellsFinishing o (Some talk) faults idles after in (
+      goes.0 ++ Finished talk faults idles ∷ [],
+      subst F goes.1 finishes ∙ ap (λ (l : List Outcome). Some l) (append_assoc list goes.0 (Finished talk faults idles ∷ [])),
+    )
+
+-- the list since then, with the link's talk at its end
+pub record EndsWith (start after : Option (List Outcome)) (talk : Talk) (faults idles : ℕ) : Type 0 where
+  pub more : List Outcome
+  pub are : outcomes_since start after ≡ Some (more ++ Finished talk faults idles ∷ [])
+
+ends_with : (list : List Outcome) (before after : Option (List Outcome)) (talk : Talk) (faults idles : ℕ) → GoesOn (Some list) before → TellsFinishing before (Some talk) faults idles after →
+    EndsWith (Some list) after talk faults idles
+ends_with list before after talk faults idles goes finishes =
+    let F : Option (List Outcome) → Type 0 = λ o. TellsFinishing o (Some talk) faults idles after in
+    record {
+      more = goes.0;
+      are = since list (goes.0 ++ Finished talk faults idles ∷ []) after
+          (subst F goes.1 finishes ∙ ap (λ (l : List Outcome). Some l) (append_assoc list goes.0 (Finished talk faults idles ∷ [])));
+    }
+
+-- the link tells where the wire has told
+told_talk : (list : List Outcome) (before : Option (List Outcome)) (talk : Option Talk) → GoesOn (Some list) before → IfSome before (λ _. IsSome talk) → IsSome talk
+told_talk list before talk goes tells =
+    let P : Option (List Outcome) → Type 0 = λ o. IfSome o (λ _. IsSome talk) in
+    subst P goes.1 tells
+
+served_acknowledges : StaysAcknowledged → (more : List Outcome) (talk : Talk) (faults idles : ℕ) (payloads : List (List ℕ)) →
+    Serves talk.pieces payloads → AreAcknowledged (more ++ Finished talk faults idles ∷ []) payloads
+served_acknowledges law more talk faults idles payloads serves =
+    let stays = law serves.front serves.more serves.settles.windows serves.settles.settled in
+    let A : List Piece → Type 0 = λ l. Acknowledges l (payloads ++ (serves.later ++ stays.0)) in
+    let E : List (List ℕ) → Type 0 = λ l. Acknowledges (serves.front ++ serves.more) l in
+    inr (record {
+      outcome = length more;
+      talk = talk;
+      faults = faults;
+      idles = idles;
+      finished = last_is more (Finished talk faults idles);
+      later = serves.later ++ stays.0;
+      acknowledges = subst A (sym serves.begins)
+          (subst E (ap (λ (l : List (List ℕ)). l ++ stays.0) (sym serves.settles.are) ∙ append_assoc payloads serves.later stays.0) stays.1);
+    })
+
+finished_acknowledges : StaysAcknowledged → (start before after : Option (List Outcome)) (talk : Option Talk) (faults idles : ℕ) (payloads : List (List ℕ)) →
+    GoesOn start before → IfSome before (λ _. IsSome talk) → IfSome talk (λ t. Serves t.pieces payloads) → TellsFinishing before talk faults idles after →
+    IfSome (outcomes_since start after) (λ outcomes. AreAcknowledged outcomes payloads)
+finished_acknowledges law None before after talk faults idles payloads goes tells served finishes = tt
+finished_acknowledges law (Some list) before after None faults idles payloads goes tells served finishes = absurd (false≢true (told_talk list before None goes tells))
+finished_acknowledges law (Some list) before after (Some talk) faults idles payloads goes tells served finishes =
+    let ends = ends_with list before after talk faults idles goes finishes in
+    let P : Option (List Outcome) → Type 0 = λ o. IfSome o (λ outcomes. AreAcknowledged outcomes payloads) in
+    subst P (sym ends.are) (served_acknowledges law ends.more talk faults idles payloads served)
+
+pub ended_acknowledges : {L : Type 0} (told : L → Option Talk) (start before after : Option (List Outcome)) (link : L) (faults idles : ℕ) (payloads : List (List ℕ)) → StaysAcknowledged →
+    GoesOn start before → Tells told before (Some link) → HasServed told (Some link) payloads → TellsFinishing before (told link) faults idles after →
+    IfSome (outcomes_since start after) (λ outcomes. AreAcknowledged outcomes payloads)
+ended_acknowledges told start before after link faults idles payloads law goes tells served finishes =
+    finished_acknowledges law start before after (told link) faults idles payloads goes tells served finishes
+
+pub none_acknowledged : (outcomes : Option (List Outcome)) (payloads : List (List ℕ)) → payloads ≡ [] → IfSome outcomes (λ list. AreAcknowledged list payloads)
+none_acknowledged None payloads none = tt
+none_acknowledged (Some list) payloads none = inl none
+
+finished_counts : IsAcknowledged → (before after : Option (List Outcome)) (talk : Option Talk) (faults idles : ℕ) (payloads : List (List ℕ)) →
+    IfSome before (λ _. IsSome talk) → IfSome talk (λ t. Settles t.pieces payloads) → TellsFinishing before talk faults idles after →
+    IfSome (outcomes_since before after) (λ outcomes. AcknowledgeInAll outcomes (length payloads))
+finished_counts law None after talk faults idles payloads tells settled finishes = tt
+finished_counts law (Some list) after None faults idles payloads tells settled finishes = absurd (false≢true tells)
+finished_counts law (Some list) after (Some talk) faults idles payloads tells settled finishes =
+    let P : Option (List Outcome) → Type 0 = λ o. IfSome o (λ outcomes. AcknowledgeInAll outcomes (length payloads)) in
+    let A : List (List ℕ) → Type 0 = λ l. Acknowledges talk.pieces l in
+    subst P (sym (since list (Finished talk faults idles ∷ []) after finishes))
+    (record {
+      acknowledged = payloads;
+      acknowledges = subst A (sym settled.are) (law talk.pieces settled.windows settled.settled);
+      others = 0;
+      together = omega arith;
+      by_others = refl;
+    })
+
+pub ended_counts : {L : Type 0} (told : L → Option Talk) (before after : Option (List Outcome)) (link : L) (faults idles : ℕ) (payloads : List (List ℕ)) → IsAcknowledged →
+    Tells told before (Some link) → HasSettled told (Some link) payloads → TellsFinishing before (told link) faults idles after →
+    IfSome (outcomes_since before after) (λ outcomes. AcknowledgeInAll outcomes (length payloads))
+ended_counts told before after link faults idles payloads law tells settled finishes = finished_counts law before after (told link) faults idles payloads tells settled finishes
+
+pub none_counted : (outcomes : Option (List Outcome)) (payloads : List (List ℕ)) → payloads ≡ [] → IfSome (outcomes_since outcomes outcomes) (λ list. AcknowledgeInAll list (length payloads))
+none_counted outcomes payloads none = since_none outcomes (λ list. AcknowledgeInAll list (length payloads)) (ap (λ (l : List (List ℕ)). length l) none)
+
+-- a fault of the wire, of the link or of the peer
+counted_still : (first before faults after : ℕ) → first ≤ before → added_counts before faults ≤ after → Rose first before → Rose first after
+counted_still first before faults after counted counts (inl rose) = inl (omega (arith, counts, rose))
+counted_still first before faults after counted counts (inr end) = inr (omega (arith, counts, end))
+
+counted_more : (first before faults after : ℕ) → first ≤ before → added_counts before faults ≤ after → Rose 0 faults → Rose first after
+counted_more first before faults after counted counts (inl rose) =
+    elim (at_most (before + faults) after (omega (arith, counts))) [ inl more ↦ inl (omega (arith, more, rose, counted)) | inr end ↦ inr end ]
+  where
+    at_most : (sum most : ℕ) → min sum (2 ^ 64 - 1) ≤ most → (sum ≤ most) ⊎ IsAtEnd most
+    at_most sum most is = elim (leb_tells sum most) [ inl few ↦ inl few.1 | inr many ↦ inr (omega (arith, is, many.1)) ]
+counted_more first before faults after counted counts (inr end) = inr (omega (arith, counts, end))
+
+finished_fault : (start before after : Option (List Outcome)) (talk : Option Talk) (faults idles : ℕ) →
+    GoesOn start before → IfSome before (λ _. IsSome talk) → IfSome talk (λ t. HasPeerFault t.pieces) → TellsFinishing before talk faults idles after →
+    IfSome (outcomes_since start after) IsFaultOfPeer
+finished_fault None before after talk faults idles goes tells fault finishes = tt
+finished_fault (Some list) before after None faults idles goes tells fault finishes = absurd (false≢true (told_talk list before None goes tells))
+finished_fault (Some list) before after (Some talk) faults idles goes tells fault finishes =
+    let ends = ends_with list before after talk faults idles goes finishes in
+    let P : Option (List Outcome) → Type 0 = λ o. IfSome o IsFaultOfPeer in
+    subst P (sym ends.are) (record { talk = talk; faults = faults; idles = idles; there = Contains-push ends.more (Finished talk faults idles); fault = fault })
+
+pub ended_fails : {L : Type 0} (told : L → Option Talk) (link_faults : L → ℕ) (start before after : Option (List Outcome)) (link : L) (idles first wire_faults faults_after : ℕ) →
+    added_counts wire_faults (link_faults link) ≤ faults_after → TellsFinishing before (told link) (link_faults link) idles after →
+    GoesOn start before → Tells told before (Some link) → first ≤ wire_faults → (Rose first wire_faults ⊎ HasFailed told link_faults (Some link)) →
+    IsFailure first faults_after (outcomes_since start after)
+ended_fails told link_faults start before after link idles first wire_faults faults_after counts finishes goes tells counted (inl rose) = inl (counted_still first wire_faults (link_faults link) faults_after counted counts rose)
+ended_fails told link_faults start before after link idles first wire_faults faults_after counts finishes goes tells counted (inr (inl failed)) = inl (counted_more first wire_faults (link_faults link) faults_after counted counts failed)
+ended_fails told link_faults start before after link idles first wire_faults faults_after counts finishes goes tells counted (inr (inr fault)) =
+    inr (finished_fault start before after (told link) (link_faults link) idles goes tells fault finishes)
+
+-- ---- how the run of a file left the wire
+
+abbrev pub LeftSo : {L : Type 0} → (L → Option Talk) → (L → ℕ) → Option (List Outcome) → ℕ → ℕ → Option (List Outcome) → ℕ → ℕ → Option L → Result (Unit {0}) Status → Type 0
+LeftSo told link_faults start count first outcomes links faults link result =
+    MatchResult result (λ _. IsStanding told start count first outcomes links faults link) (IsParted told link_faults start count first outcomes links faults link)
+
+pub left_goes_on : {L : Type 0} (told : L → Option Talk) (link_faults : L → ℕ) (start : Option (List Outcome)) (count first : ℕ) (outcomes : Option (List Outcome)) (links faults : ℕ) (link : Option L) (result : Result (Unit {0}) Status) →
+    LeftSo told link_faults start count first outcomes links faults link result → GoesOn start outcomes
+left_goes_on told link_faults start count first outcomes links faults link (Ok done) left = goes_on_same start outcomes left.none_came
+left_goes_on told link_faults start count first outcomes links faults link (Err status) left = left.goes_on
+
+pub left_tells : {L : Type 0} (told : L → Option Talk) (link_faults : L → ℕ) (start : Option (List Outcome)) (count first : ℕ) (outcomes : Option (List Outcome)) (links faults : ℕ) (link : Option L) (result : Result (Unit {0}) Status) →
+    LeftSo told link_faults start count first outcomes links faults link result → Tells told outcomes link
+left_tells told link_faults start count first outcomes links faults link (Ok done) left = left.tells
+left_tells told link_faults start count first outcomes links faults link (Err status) left = left.tells
+
+pub left_opened : {L : Type 0} (told : L → Option Talk) (link_faults : L → ℕ) (start : Option (List Outcome)) (count first : ℕ) (outcomes : Option (List Outcome)) (links faults : ℕ) (link : Option L) (result : Result (Unit {0}) Status) →
+    LeftSo told link_faults start count first outcomes links faults link result → links ≡ with_link count link
+left_opened told link_faults start count first outcomes links faults link (Ok done) left = left.opened
+left_opened told link_faults start count first outcomes links faults link (Err status) left = left.opened
+
+-- all that was acknowledged is counted
+pub left_counts : {L : Type 0} (told : L → Option Talk) (link_faults : L → ℕ) (start : Option (List Outcome)) (count first : ℕ) (outcomes after : Option (List Outcome)) (links faults : ℕ) (link : Option L) (result : Result (Unit {0}) Status) →
+    LeftSo told link_faults start count first outcomes links faults link result →
+    ((payloads : List (List ℕ)) → Tells told outcomes link → HasSettled told link payloads → IfSome (outcomes_since outcomes after) (λ list. AcknowledgeInAll list (length payloads))) →
+    OnOk result ((payloads : List (List ℕ)) → HasSettled told link payloads → IfSome (outcomes_since start after) (λ list. AcknowledgeInAll list (length payloads)))
+left_counts told link_faults start count first outcomes after links faults link (Ok done) left counts = λ payloads settled.
+    let P : Option (List Outcome) → Type 0 = λ o. IfSome (outcomes_since o after) (λ list. AcknowledgeInAll list (length payloads)) in
+    subst P left.none_came (counts payloads left.tells settled)
+left_counts told link_faults start count first outcomes after links faults link (Err status) left counts = tt
+
+fails_for : (before now : ℕ) (outcomes : Option (List Outcome)) {L : Type 0} (told : L → Option Talk) (link_faults : L → ℕ) (first faults : ℕ) (link : Option L) (status : Status) →
+    ((Rose first faults ⊎ HasFailed told link_faults link) → IsFailure before now outcomes) → Blames told link_faults first faults link status → FailsFor before now outcomes status
+fails_for before now outcomes told link_faults first faults link Done fails blamed = tt
+fails_for before now outcomes told link_faults first faults link Usage fails blamed = tt
+fails_for before now outcomes told link_faults first faults link (RegistryBad area at) fails blamed = tt
+fails_for before now outcomes told link_faults first faults link DiskFault fails blamed = tt
+fails_for before now outcomes told link_faults first faults link FolderFault fails blamed = tt
+fails_for before now outcomes told link_faults first faults link (Unreachable worker failures) fails blamed = fails blamed
+fails_for before now outcomes told link_faults first faults link OutFault fails blamed = tt
+fails_for before now outcomes told link_faults first faults link SourceFault fails blamed = tt
+fails_for before now outcomes told link_faults first faults link NoMemory fails blamed = tt
+fails_for before now outcomes told link_faults first faults link (Unbuilt what) fails blamed = tt
+
+-- the status that blames the peer has its cause
+pub left_fails : {L : Type 0} (told : L → Option Talk) (link_faults : L → ℕ) (start : Option (List Outcome)) (count first : ℕ) (outcomes after : Option (List Outcome)) (links faults faults_after : ℕ) (link : Option L) (result : Result (Unit {0}) Status) →
+    LeftSo told link_faults start count first outcomes links faults link result →
+    (GoesOn start outcomes → Tells told outcomes link → first ≤ faults → (Rose first faults ⊎ HasFailed told link_faults link) → IsFailure first faults_after (outcomes_since start after)) →
+    IfErr result (FailsFor first faults_after (outcomes_since start after))
+left_fails told link_faults start count first outcomes after links faults faults_after link (Ok done) left fails = tt
+left_fails told link_faults start count first outcomes after links faults faults_after link (Err status) left fails =
+    fails_for first faults_after (outcomes_since start after) told link_faults first faults link status (fails left.goes_on left.tells left.counted) left.blamed
 
 -- what was done to the first wire
 pub on_first : {W A : Type 0} (member : W → A) (old new : Vec W Global) (first last : W) (Relation : A → A → Type 0) →

@@ -3,7 +3,6 @@ use Rattle.std.proofs.Common.{◌≡◌, ◌⊎◌, inl, inr, ℕ, ◌≤◌, Li
 use Rattle.outside.specs.declared.history.Look.{Look}
 use Rattle.outside.specs.Files.{File}
 use Rattle.outside.specs.Folders.{FolderHistory}
-use Rattle.outside.specs.Wires.{Outcome}
 use Rattle.wire_base.specs.declared.row.Row.{Row}
 use Rattle.beat_run.specs.declared.form.Form.{Form}
 use Rattle.beat_run.specs.declared.status.Lack.TheVariants.{Settings, Byte, Life}
@@ -11,6 +10,7 @@ use Rattle.beat_run.specs.declared.status.Status.{Status}
 use Rattle.beat_run.specs.declared.status.Status.TheVariants.{Done, Usage, RegistryBad, DiskFault, FolderFault, Unreachable, OutFault, SourceFault, NoMemory, Unbuilt}
 use Rattle.beat_run.specs.Area.{area_bytes, Stores}
 use Rattle.beat_run.specs.Ends.{IsFindingEnd, IsOpeningEnd, IsPrintingEnd, IsSettingsEnd, IsStoringEnd}
+use Rattle.beat_run.specs.Evidence.{Evidence}
 use Rattle.beat_run.specs.Noted.{IsNoted, IsNotedBy}
 use Rattle.beat_run.specs.Stored.{HoldsNoRow, IsNamed, IsStored, IsStoredBy, MissesRow}
 use Rattle.beat_run.specs.Unbuilt.{StopsFor, StopsUnopened}
@@ -25,37 +25,37 @@ stores_blank row given (Some bytes) between new same blank kept stores =
     let P : Option (List ℕ) → Type 0 = λ o. Stores row o new in
     subst P kept (subst R same stores) blank
 
-noted_stored : (settings : Option (List ℕ)) (form : Form) (told : FolderHistory) (outcomes : Option (List Outcome)) (row : Option Row) (Unopened : Type 0) (Stops : File → List Look → Type 0) (after : Option FolderHistory) (old new : Option (List ℕ)) (Missing So : Type 0) →
+noted_stored : (settings : Option (List ℕ)) (form : Form) (told : FolderHistory) (evidence : Evidence) (row : Option Row) (Unopened : Type 0) (Stops : File → List Look → Type 0) (after : Option FolderHistory) (old new : Option (List ℕ)) (Missing So : Type 0) →
     (Unopened → IfSome old (λ _. new ≡ Some (area_bytes None)) → So) →
-    IsNamed settings form → (noted : IsNoted form told outcomes row Unopened Stops after) → IfSome old (λ _. new ≡ Some (area_bytes row)) →
-    IsStored settings told outcomes after old new Missing So Stops
-noted_stored settings form told outcomes row Unopened Stops after old new Missing So so named noted stored =
+    IsNamed settings form → (noted : IsNoted form told evidence row Unopened Stops after) → IfSome old (λ _. new ≡ Some (area_bytes row)) →
+    IsStored settings told evidence after old new Missing So Stops
+noted_stored settings form told evidence row Unopened Stops after old new Missing So so named noted stored =
     let P : Option Row → Type 0 = λ r. IfSome old (λ _. new ≡ Some (area_bytes r)) in
     elim noted.cases [
       | inl unopened ↦ inl (unopened.0, so unopened.2 (subst P unopened.1 stored))
       | inr read ↦ inr (inl (record { form = form; named = named; root = noted.root; shown = noted.shown; row = row; read = read; stored = stored }))
     ]
 
-pub done_noted : (settings : Option (List ℕ)) (form : Form) (told : Option FolderHistory) (outcomes : Option (List Outcome)) (row : Option Row) (after : Option FolderHistory) (before now : ℕ) (old new : Option (List ℕ)) →
-    IsNamed settings form → IfSome told (λ history. IsNotedBy form history outcomes row after (Ok tt)) → IfSome old (λ _. new ≡ Some (area_bytes row)) →
-    IfSome told (λ history. IsStored settings history outcomes after old new ⊥ (HoldsNoRow before now old new) (λ file looks. Unit {0}))
-done_noted settings form None outcomes row after before now old new named noted stored = tt
-done_noted settings form (Some told) outcomes row after before now old new named noted stored =
-    noted_stored settings form told outcomes row (Unit {0}) (λ file looks. Unit {0}) after old new ⊥ (HoldsNoRow before now old new) (λ unopened started. inr (inl started)) named noted stored
+pub done_noted : (settings : Option (List ℕ)) (form : Form) (told : Option FolderHistory) (evidence : Evidence) (row : Option Row) (after : Option FolderHistory) (before now : ℕ) (old new : Option (List ℕ)) →
+    IsNamed settings form → IfSome told (λ history. IsNotedBy form history evidence row after (Ok tt)) → IfSome old (λ _. new ≡ Some (area_bytes row)) →
+    IfSome told (λ history. IsStored settings history evidence after old new ⊥ (HoldsNoRow before now old new) (λ file looks. Unit {0}))
+done_noted settings form None evidence row after before now old new named noted stored = tt
+done_noted settings form (Some told) evidence row after before now old new named noted stored =
+    noted_stored settings form told evidence row (Unit {0}) (λ file looks. Unit {0}) after old new ⊥ (HoldsNoRow before now old new) (λ unopened started. inr (inl started)) named noted stored
 
-pub stopped_noted : (settings : Option (List ℕ)) (form : Form) (told : Option FolderHistory) (outcomes : Option (List Outcome)) (row : Option Row) (after : Option FolderHistory) (before now : ℕ) (old new : Option (List ℕ)) (status : Status) →
-    IsNamed settings form → IfSome told (λ history. IsNotedBy form history outcomes row after (Err status)) → IfSome old (λ _. new ≡ Some (area_bytes row)) →
-    IfSome told (λ history. IsStoredBy settings history outcomes after before now old new status)
-stopped_noted settings form None outcomes row after before now old new status named noted stored = tt
-stopped_noted settings form (Some told) outcomes row after before now old new status named noted stored =
-    noted_stored settings form told outcomes row (StopsUnopened status) (StopsFor status) after old new (MissesRow before now old new status) (StopsUnopened status × HoldsNoRow before now old new)
+pub stopped_noted : (settings : Option (List ℕ)) (form : Form) (told : Option FolderHistory) (evidence : Evidence) (row : Option Row) (after : Option FolderHistory) (before now : ℕ) (old new : Option (List ℕ)) (status : Status) →
+    IsNamed settings form → IfSome told (λ history. IsNotedBy form history evidence row after (Err status)) → IfSome old (λ _. new ≡ Some (area_bytes row)) →
+    IfSome told (λ history. IsStoredBy settings history evidence after before now old new status)
+stopped_noted settings form None evidence row after before now old new status named noted stored = tt
+stopped_noted settings form (Some told) evidence row after before now old new status named noted stored =
+    noted_stored settings form told evidence row (StopsUnopened status) (StopsFor status) after old new (MissesRow before now old new status) (StopsUnopened status × HoldsNoRow before now old new)
     (λ unopened started. (unopened, inr (inl started))) named noted stored
 
 -- nothing was opened yet
-pub early_stored : (settings : Option (List ℕ)) (told : Option FolderHistory) (outcomes : Option (List Outcome)) (before now : ℕ) (old new : Option (List ℕ)) (status : Status) →
-    StopsUnopened status → new ≡ old → IfSome told (λ history. IsStoredBy settings history outcomes told before now old new status)
-early_stored settings None outcomes before now old new status stops kept = tt
-early_stored settings (Some told) outcomes before now old new status stops kept = inl (unopened_where_told (Some told), (stops, inl kept))
+pub early_stored : (settings : Option (List ℕ)) (told : Option FolderHistory) (evidence : Evidence) (before now : ℕ) (old new : Option (List ℕ)) (status : Status) →
+    StopsUnopened status → new ≡ old → IfSome told (λ history. IsStoredBy settings history evidence told before now old new status)
+early_stored settings None evidence before now old new status stops kept = tt
+early_stored settings (Some told) evidence before now old new status stops kept = inl (unopened_where_told (Some told), (stops, inl kept))
 
 pub settings_stop : (before now : ℕ) (status : Status) → IsSettingsEnd before now status → StopsUnopened status
 settings_stop before now Done ends = tt
@@ -99,10 +99,10 @@ finding_stops before now (Unbuilt Settings) ends = tt
 finding_stops before now (Unbuilt (Byte at)) ends = ends
 finding_stops before now (Unbuilt Life) ends = ends
 
-pub all_missing : (settings : Option (List ℕ)) (told : Option FolderHistory) (outcomes : Option (List Outcome)) (after : Option FolderHistory) (before now : ℕ) (old new : Option (List ℕ)) (status : Status) →
-    MissesRow before now old new status → IfSome told (λ history. IsStoredBy settings history outcomes after before now old new status)
-all_missing settings None outcomes after before now old new status is = tt
-all_missing settings (Some told) outcomes after before now old new status is = inr (inr is)
+pub all_missing : (settings : Option (List ℕ)) (told : Option FolderHistory) (evidence : Evidence) (after : Option FolderHistory) (before now : ℕ) (old new : Option (List ℕ)) (status : Status) →
+    MissesRow before now old new status → IfSome told (λ history. IsStoredBy settings history evidence after before now old new status)
+all_missing settings None evidence after before now old new status is = tt
+all_missing settings (Some told) evidence after before now old new status is = inr (inr is)
 
 -- the area could not be started
 pub misses : (before between now : ℕ) (old kept new : Option (List ℕ)) (status : Status) → before ≤ between → kept ≡ old →
@@ -133,12 +133,12 @@ misses_out before now old new NoMemory is = inr is
 misses_out before now old new (Unbuilt what) is = absurd is
 
 -- what was printed in the place of a status
-stored_so : (settings : Option (List ℕ)) (told : FolderHistory) (outcomes : Option (List Outcome)) (after : Option FolderHistory) (old new : Option (List ℕ))
+stored_so : (settings : Option (List ℕ)) (told : FolderHistory) (evidence : Evidence) (after : Option FolderHistory) (old new : Option (List ℕ))
     (Missing Other : Type 0) (Unopened So : Type 0) (Stops Looked : File → List Look → Type 0) →
     (Missing → Other) → (Unopened → So) → ((file : File) (looks : List Look) → Stops file looks → Looked file looks) →
-    IsStored settings told outcomes after old new Missing Unopened Stops → IsStored settings told outcomes after old new Other So Looked
-stored_so settings told outcomes after old new Missing Other Unopened So Stops Looked misses so looks (inl unopened) = inl (unopened.0, so unopened.1)
-stored_so settings told outcomes after old new Missing Other Unopened So Stops Looked misses so looks (inr (inl stores)) = inr (inl (record {
+    IsStored settings told evidence after old new Missing Unopened Stops → IsStored settings told evidence after old new Other So Looked
+stored_so settings told evidence after old new Missing Other Unopened So Stops Looked misses so looks (inl unopened) = inl (unopened.0, so unopened.1)
+stored_so settings told evidence after old new Missing Other Unopened So Stops Looked misses so looks (inr (inl stores)) = inr (inl (record {
   form = stores.form;
   named = stores.named;
   root = stores.root;
@@ -158,7 +158,7 @@ stored_so settings told outcomes after old new Missing Other Unopened So Stops L
   };
   stored = stores.stored;
 }))
-stored_so settings told outcomes after old new Missing Other Unopened So Stops Looked misses so looks (inr (inr missing)) = inr (inr (misses missing))
+stored_so settings told evidence after old new Missing Other Unopened So Stops Looked misses so looks (inr (inr missing)) = inr (inr (misses missing))
 
 printing_unopened : (before now : ℕ) (status : Status) → IsPrintingEnd before now status → StopsUnopened status
 printing_unopened before now Done ends = tt
@@ -179,7 +179,7 @@ printing_stops before now Done ends file looks = tt
 printing_stops before now Usage ends file looks = tt
 printing_stops before now (RegistryBad area at) ends file looks = tt
 printing_stops before now DiskFault ends file looks = tt
-printing_stops before now FolderFault ends file looks = tt
+printing_stops before now FolderFault ends file looks = absurd ends
 printing_stops before now (Unreachable worker failures) ends file looks = tt
 printing_stops before now OutFault ends file looks = tt
 printing_stops before now SourceFault ends file looks = tt
@@ -189,30 +189,30 @@ printing_stops before now (Unbuilt (Byte at)) ends file looks = absurd ends
 printing_stops before now (Unbuilt Life) ends file looks = absurd ends
 
 -- the run was done, and the report was printed
-pub done_stored : (settings : Option (List ℕ)) (told : Option FolderHistory) (outcomes : Option (List Outcome)) (after : Option FolderHistory) (before now : ℕ) (old new : Option (List ℕ)) (first last : ℕ) (status : Status) →
-    IsPrintingEnd first last status → IfSome told (λ history. IsStored settings history outcomes after old new ⊥ (HoldsNoRow before now old new) (λ file looks. Unit {0})) →
-    IfSome told (λ history. IsStoredBy settings history outcomes after before now old new status)
-done_stored settings None outcomes after before now old new first last status ends stored = tt
-done_stored settings (Some told) outcomes after before now old new first last status ends stored =
-    stored_so settings told outcomes after old new ⊥ (MissesRow before now old new status) (HoldsNoRow before now old new) (StopsUnopened status × HoldsNoRow before now old new) (λ file looks. Unit {0}) (StopsFor status)
+pub done_stored : (settings : Option (List ℕ)) (told : Option FolderHistory) (evidence : Evidence) (after : Option FolderHistory) (before now : ℕ) (old new : Option (List ℕ)) (first last : ℕ) (status : Status) →
+    IsPrintingEnd first last status → IfSome told (λ history. IsStored settings history evidence after old new ⊥ (HoldsNoRow before now old new) (λ file looks. Unit {0})) →
+    IfSome told (λ history. IsStoredBy settings history evidence after before now old new status)
+done_stored settings None evidence after before now old new first last status ends stored = tt
+done_stored settings (Some told) evidence after before now old new first last status ends stored =
+    stored_so settings told evidence after old new ⊥ (MissesRow before now old new status) (HoldsNoRow before now old new) (StopsUnopened status × HoldsNoRow before now old new) (λ file looks. Unit {0}) (StopsFor status)
     (λ none. absurd none) (λ so. (printing_unopened first last status ends, so)) (λ file looks so. printing_stops first last status ends file looks) stored
 
-printed_so : (faulted : Type 0) (settings : Option (List ℕ)) (told : FolderHistory) (outcomes : Option (List Outcome)) (after : Option FolderHistory) (before now : ℕ) (old new : Option (List ℕ)) (status printed : Status) →
+printed_so : (faulted : Type 0) (settings : Option (List ℕ)) (told : FolderHistory) (evidence : Evidence) (after : Option FolderHistory) (before now : ℕ) (old new : Option (List ℕ)) (status printed : Status) →
     ((printed ≡ status) ⊎ ((printed ≡ OutFault) × faulted)) →
-    IsStoredBy settings told outcomes after before now old new status → IsStoredBy settings told outcomes after before now old new printed
-printed_so faulted settings told outcomes after before now old new status printed (inl same) is =
-    let P : Status → Type 0 = λ s. IsStoredBy settings told outcomes after before now old new s in
+    IsStoredBy settings told evidence after before now old new status → IsStoredBy settings told evidence after before now old new printed
+printed_so faulted settings told evidence after before now old new status printed (inl same) is =
+    let P : Status → Type 0 = λ s. IsStoredBy settings told evidence after before now old new s in
     subst P (sym same) is
-printed_so faulted settings told outcomes after before now old new status printed (inr out) is =
-    let P : Status → Type 0 = λ s. IsStoredBy settings told outcomes after before now old new s in
+printed_so faulted settings told evidence after before now old new status printed (inr out) is =
+    let P : Status → Type 0 = λ s. IsStoredBy settings told evidence after before now old new s in
     subst P (sym out.0)
-    (stored_so settings told outcomes after old new (MissesRow before now old new status) (MissesRow before now old new OutFault) (StopsUnopened status × HoldsNoRow before now old new) (Unit {0} × HoldsNoRow before now old new) (StopsFor status) (λ file looks. Unit {0})
+    (stored_so settings told evidence after old new (MissesRow before now old new status) (MissesRow before now old new OutFault) (StopsUnopened status × HoldsNoRow before now old new) (Unit {0} × HoldsNoRow before now old new) (StopsFor status) (λ file looks. Unit {0})
     (misses_out before now old new status) (λ so. (tt, so.1)) (λ file looks so. tt) is)
 
-pub printed_stored : (faulted : Type 0) (settings : Option (List ℕ)) (told : Option FolderHistory) (outcomes : Option (List Outcome)) (after : Option FolderHistory) (before now : ℕ) (old new : Option (List ℕ)) (status printed : Status) →
+pub printed_stored : (faulted : Type 0) (settings : Option (List ℕ)) (told : Option FolderHistory) (evidence : Evidence) (after : Option FolderHistory) (before now : ℕ) (old new : Option (List ℕ)) (status printed : Status) →
     ((printed ≡ status) ⊎ ((printed ≡ OutFault) × faulted)) →
-    IfSome told (λ history. IsStoredBy settings history outcomes after before now old new status) →
-    IfSome told (λ history. IsStoredBy settings history outcomes after before now old new printed)
-printed_stored faulted settings None outcomes after before now old new status printed prints stored = tt
-printed_stored faulted settings (Some told) outcomes after before now old new status printed prints stored =
-    printed_so faulted settings told outcomes after before now old new status printed prints stored
+    IfSome told (λ history. IsStoredBy settings history evidence after before now old new status) →
+    IfSome told (λ history. IsStoredBy settings history evidence after before now old new printed)
+printed_stored faulted settings None evidence after before now old new status printed prints stored = tt
+printed_stored faulted settings (Some told) evidence after before now old new status printed prints stored =
+    printed_so faulted settings told evidence after before now old new status printed prints stored

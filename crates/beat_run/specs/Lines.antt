@@ -9,17 +9,15 @@ abbrev pub IsPlainByte : ℕ → Type 0
 IsPlainByte byte = (0x20 ≤ byte) × (byte ≤ 0x7e) × (byte ≢ 34) × (byte ≢ 92)
 
 -- where so many bytes of the line stand before the piece, this byte of it cannot be sent, and those before it can: the
--- line is too long, or empty, or the byte needs an escape
+-- line is too long, or the byte needs an escape
 abbrev pub IsExcluded : ℕ → List ℕ → ℕ → Type 0
 IsExcluded before piece at =
-    ((before + at ≡ LINE) × (slice_index piece at ≢ 10))
-    ⊎ (((before + at ≡ 0) × (slice_index piece at ≡ 10))
-    ⊎ ((¬ (IsPlainByte (slice_index piece at))) × (slice_index piece at ≢ 10)))
+    (slice_index piece at ≢ 10) × ((before + at ≡ LINE) ⊎ (¬ (IsPlainByte (slice_index piece at))))
 
 -- what a piece begins with
 abbrev pub IsNext : ℕ → List ℕ → Next → Type 0
 IsNext before piece (Line used) =
-    (1 ≤ used) × (used ≤ length piece) × (1 < before + used) × (before + used ≤ LINE + 1)
+    (1 ≤ used) × (used ≤ length piece) × (before + used ≤ LINE + 1)
     × All IsPlainByte (take (used - 1) piece) × (slice_index piece (used - 1) ≡ 10)
 IsNext before piece Rest = (before + length piece ≤ LINE) × All IsPlainByte piece
 IsNext before piece (Excluded at) =

@@ -1,8 +1,10 @@
 -- Which payloads the peer of a worker has acknowledged (Lumberjack v2; this project's profile).
-use Rattle.std.specs.Prelude.{◌≡◌, ℕ, List, [], ◌++◌, length, Option, Some, None, IfSome}
+use Rattle.std.specs.Prelude.{◌≡◌, ◌⊎◌, ℕ, List, [], ◌++◌, length, Option, Some, None, IfSome}
 use Rattle.std.specs.List.{flat_map}
 use Rattle.wire_base.specs.declared.talk.Piece.{Piece}
+use Rattle.outside.specs.Counts.{Rose}
 use Rattle.outside.specs.Talks.{Talk}
+use Rattle.lumber_frame.specs.PeerFault.{HasPeerFault}
 use Rattle.lumber_frame.specs.Settled.{IsSettled}
 use Rattle.lumber_frame.specs.Window.{IsWindow, numbered}
 
@@ -12,12 +14,13 @@ pub record Settles (talk : List Piece) (payloads : List (List ℕ)) : Type 0 whe
   pub settled : IsSettled talk windows
   pub are : payloads ≡ flat_map (λ window. window) windows
 
--- the talk begins with whole windows of these payloads, each acknowledged in full
+-- the talk begins with whole windows, each acknowledged in full, of which these payloads are the first
 pub record Serves (talk : List Piece) (payloads : List (List ℕ)) : Type 0 where
   pub front : List Piece
   pub more : List Piece
   pub begins : talk ≡ front ++ more
-  pub settles : Settles front payloads
+  pub later : List (List ℕ)
+  pub settles : Settles front (payloads ++ later)
 
 -- a worker that has not connected has no payload acknowledged
 abbrev pub HasSettled : {L : Type 0} → (L → Option Talk) → Option L → List (List ℕ) → Type 0
@@ -33,3 +36,12 @@ pub record IsWindowOf (payloads : List (List ℕ)) (frames : List ℕ) (count : 
   pub window : IsWindow payloads
   pub frames_are : frames ≡ numbered 1 payloads
   pub counted : count ≡ length payloads
+
+pub record IsSomeWindow (frames : List ℕ) (count : ℕ) : Type 0 where
+  pub payloads : List (List ℕ)
+  pub window : IsWindowOf payloads frames count
+
+-- the link has counted a fault, or its talk has a fault of the peer
+abbrev pub HasFailed : {L : Type 0} → (L → Option Talk) → (L → ℕ) → Option L → Type 0
+HasFailed told faults None = ⊥
+HasFailed told faults (Some link) = Rose 0 (faults link) ⊎ IfSome (told link) (λ talk. HasPeerFault talk.pieces)

@@ -1,41 +1,60 @@
--- How the one worker stands with its wire: what the wire tells so far, and whether a link is open (this project's profile).
-use Rattle.std.specs.Prelude.{◌≡◌, ◌⊎◌, ℕ, List, [], ◌++◌, All, Contains, slice_get, Option, Some, None, IfSome, IsSome, Vec}
+-- How the one worker stands with its wire since the run began: what the wire tells so far, and whether a link is open
+-- (this project's profile).
+use Rattle.std.specs.Prelude.{◌≡◌, ◌⊎◌, ℕ, ◌≤◌, List, [], ◌∷◌, ◌++◌, drop, length, slice_get, Option, Some, None, IfSome, IsSome, Vec}
 use Rattle.std.specs.declared.alloc.Global.{Global}
-use Rattle.outside.specs.Counts.{next_count}
+use Rattle.outside.specs.Counts.{Rose, next_count}
 use Rattle.outside.specs.Talks.{Talk}
-use Rattle.outside.specs.Wires.{Outcome, Finished}
-use Rattle.lumber_frame.specs.Acknowledged.{Acknowledges}
+use Rattle.outside.specs.Wires.{Outcome}
+use Rattle.beat_run.specs.declared.status.Status.{Status}
+use Rattle.beat_run.specs.declared.status.Status.TheVariants.{Unreachable}
+use Rattle.beat_run.specs.Serving.{HasFailed, HasSettled}
 
 -- a wire that tells goes on telling, and its list goes on
 abbrev pub GoesOn : Option (List Outcome) → Option (List Outcome) → Type 0
 GoesOn None after = after ≡ None
 GoesOn (Some outcomes) after = (more : List Outcome) × (after ≡ Some (outcomes ++ more))
 
+-- what came to the list since then
+abbrev pub outcomes_since : Option (List Outcome) → Option (List Outcome) → Option (List Outcome)
+outcomes_since None after = None
+outcomes_since (Some before) None = None
+outcomes_since (Some before) (Some now) = Some (drop (length before) now)
+
 -- the count of open links, with the worker's link where it has one
 abbrev pub with_link : {L : Type 0} → ℕ → Option L → ℕ
 with_link count None = count
 with_link count (Some link) = next_count count
 
--- since the wire told this list and had so many open links: the list went on, the worker's link alone came to them, and
--- it tells where the wire tells
-pub record IsJoined {L : Type 0} (told : L → Option Talk) (start : Option (List Outcome)) (count : ℕ) (outcomes : Option (List Outcome)) (open_links : ℕ) (link : Option L) : Type 0 where
-  pub goes_on : GoesOn start outcomes
-  pub tells : IfSome outcomes (λ _. IfSome link (λ one. IsSome (told one)))
+-- the worker's link tells where the wire tells
+abbrev pub Tells : {L : Type 0} → (L → Option Talk) → Option (List Outcome) → Option L → Type 0
+Tells told outcomes link = IfSome outcomes (λ _. IfSome link (λ one. IsSome (told one)))
+
+-- the link's talk, where there is one, is settled windows
+pub record IsSettledLink {L : Type 0} (told : L → Option Talk) (link : Option L) : Type 0 where
+  pub payloads : List (List ℕ)
+  pub settled : HasSettled told link payloads
+
+-- since the wire told this list, had so many open links and had counted so many faults: nothing came to the list, the
+-- worker's link alone came to the open ones, and it tells where the wire tells; its talk is settled windows
+pub record IsStanding {L : Type 0} (told : L → Option Talk) (start : Option (List Outcome)) (count first : ℕ) (outcomes : Option (List Outcome)) (open_links faults : ℕ) (link : Option L) : Type 0 where
+  pub none_came : outcomes ≡ start
+  pub tells : Tells told outcomes link
   pub opened : open_links ≡ with_link count link
+  pub counted : first ≤ faults
+  pub settled : IsSettledLink told link
 
--- the talk of a finished link acknowledges these payloads
-pub record IsAcknowledgedInOne (outcomes : List Outcome) (payloads : List (List ℕ)) : Type 0 where
-  pub talk : Talk
-  pub faults : ℕ
-  pub idles : ℕ
-  pub there : Contains outcomes (Finished talk faults idles)
-  pub acknowledged : List (List ℕ)
-  pub acknowledges : Acknowledges talk.pieces acknowledged
-  pub each : All (Contains acknowledged) payloads
+-- the wire has counted a fault since, or the worker's link has failed; only the one status says so
+abbrev pub Blames : {L : Type 0} → (L → Option Talk) → (L → ℕ) → ℕ → ℕ → Option L → Status → Type 0
+Blames told link_faults first faults link (Unreachable worker failures) = Rose first faults ⊎ HasFailed told link_faults link
+Blames told link_faults first faults link status = Unit {0}
 
--- there are no payloads, or the talk of one finished link acknowledges each of them
-abbrev pub AreAcknowledged : List Outcome → List (List ℕ) → Type 0
-AreAcknowledged outcomes payloads = (payloads ≡ []) ⊎ IsAcknowledgedInOne outcomes payloads
+-- the same of a worker that gave up with this status: the list may have gone on
+pub record IsParted {L : Type 0} (told : L → Option Talk) (link_faults : L → ℕ) (start : Option (List Outcome)) (count first : ℕ) (outcomes : Option (List Outcome)) (open_links faults : ℕ) (link : Option L) (status : Status) : Type 0 where
+  pub goes_on : GoesOn start outcomes
+  pub tells : Tells told outcomes link
+  pub opened : open_links ≡ with_link count link
+  pub counted : first ≤ faults
+  pub blamed : Blames told link_faults first faults link status
 
 -- what a member tells of the first wire, before and after
 abbrev pub OnFirst : {W A : Type 0} → (W → A) → Vec W Global → Vec W Global → (A → A → Type 0) → Type 0

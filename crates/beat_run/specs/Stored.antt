@@ -6,7 +6,6 @@ use Rattle.outside.specs.declared.history.Shown.{Shown}
 use Rattle.outside.specs.declared.history.Look.{Look}
 use Rattle.outside.specs.Files.{File}
 use Rattle.outside.specs.Folders.{FolderHistory, with_event, Listed}
-use Rattle.outside.specs.Wires.{Outcome}
 use Rattle.wire_base.specs.declared.row.Row.{Row}
 use Rattle.beat_run.specs.declared.form.Form.{Form}
 use Rattle.beat_run.specs.declared.report.Ending.{Ending}
@@ -14,24 +13,25 @@ use Rattle.beat_run.specs.declared.settings.TheConstants.{LIMIT}
 use Rattle.beat_run.specs.declared.status.Status.{Status}
 use Rattle.beat_run.specs.declared.status.Status.TheVariants.{DiskFault, OutFault, NoMemory}
 use Rattle.beat_run.specs.Area.{area_bytes}
+use Rattle.beat_run.specs.Evidence.{Evidence}
 use Rattle.beat_run.specs.Form.{IsForm}
 use Rattle.beat_run.specs.Followed.{IsRead, IsUnopened}
 use Rattle.beat_run.specs.Report.{report_bytes}
 use Rattle.beat_run.specs.Unbuilt.{StopsFor, StopsUnopened}
-use Rattle.beat_run.specs.Noted.{NotesCovered, IsDrained}
+use Rattle.beat_run.specs.Noted.{NotesKept, IsDrained}
 
 -- the form that the settings have, as far as the source tells
 abbrev pub IsNamed : Option (List ℕ) → Form → Type 0
 IsNamed settings form = IfSome settings (λ bytes. IsForm (take LIMIT bytes) form)
 
--- the area holds the row of the file that was opened, and its offset covers what was read
-pub record StoresCovered (settings : Option (List ℕ)) (told : FolderHistory) (outcomes : Option (List Outcome)) (Stops : File → List Look → Type 0) (after : Option FolderHistory) (old new : Option (List ℕ)) : Type 0 where
+-- the area holds the row of the file that was opened, and that row is right
+pub record StoresKept (settings : Option (List ℕ)) (told : FolderHistory) (evidence : Evidence) (Stops : File → List Look → Type 0) (after : Option FolderHistory) (old new : Option (List ℕ)) : Type 0 where
   pub form : Form
   pub named : IsNamed settings form
   pub root : List ℕ
   pub shown : List Shown
   pub row : Option Row
-  pub read : IsRead form.path (with_event told (Listed root 1 shown)) shown (λ file looks. NotesCovered form outcomes row file looks × Stops file looks) after
+  pub read : IsRead form.path (with_event told (Listed root 1 shown)) shown (λ file looks. NotesKept form evidence row file looks × Stops file looks) after
   pub stored : IfSome old (λ _. new ≡ Some (area_bytes row))
 
 -- the ends at which the area holds no row of it: the area failed, or memory was wanting and the area is as it was; a fault
@@ -47,24 +47,24 @@ abbrev pub HoldsNoRow : ℕ → ℕ → Option (List ℕ) → Option (List ℕ) 
 HoldsNoRow before now old new = (new ≡ old) ⊎ (IfSome old (λ _. new ≡ Some (area_bytes None)) ⊎ Rose before now)
 
 -- no file was opened, and that is so; or the area holds its row, and the looks at the file are so; or the row is missing
-abbrev pub IsStored : Option (List ℕ) → FolderHistory → Option (List Outcome) → Option FolderHistory → Option (List ℕ) → Option (List ℕ) → Type 0 → Type 0 → (File → List Look → Type 0) → Type 0
-IsStored settings told outcomes after old new Missing Unopened Stops =
-    (IsUnopened told after × Unopened) ⊎ (StoresCovered settings told outcomes Stops after old new ⊎ Missing)
+abbrev pub IsStored : Option (List ℕ) → FolderHistory → Evidence → Option FolderHistory → Option (List ℕ) → Option (List ℕ) → Type 0 → Type 0 → (File → List Look → Type 0) → Type 0
+IsStored settings told evidence after old new Missing Unopened Stops =
+    (IsUnopened told after × Unopened) ⊎ (StoresKept settings told evidence Stops after old new ⊎ Missing)
 
 -- by the status, and by the area's count of faults before and now
-abbrev pub IsStoredBy : Option (List ℕ) → FolderHistory → Option (List Outcome) → Option FolderHistory → ℕ → ℕ → Option (List ℕ) → Option (List ℕ) → Status → Type 0
-IsStoredBy settings told outcomes after before now old new status =
-    IsStored settings told outcomes after old new (MissesRow before now old new status) (StopsUnopened status × HoldsNoRow before now old new) (StopsFor status)
+abbrev pub IsStoredBy : Option (List ℕ) → FolderHistory → Evidence → Option FolderHistory → ℕ → ℕ → Option (List ℕ) → Option (List ℕ) → Status → Type 0
+IsStoredBy settings told evidence after before now old new status =
+    IsStored settings told evidence after old new (MissesRow before now old new status) (StopsUnopened status × HoldsNoRow before now old new) (StopsFor status)
 
 -- the path that the settings name was followed to its end, and the area holds the row of what was found
-pub record IsEnded (settings : Option (List ℕ)) (told : FolderHistory) (outcomes : Option (List Outcome)) (after : Option FolderHistory) (old new : Option (List ℕ)) (ending : Ending) : Type 0 where
+pub record IsEnded (settings : Option (List ℕ)) (told : FolderHistory) (evidence : Evidence) (after : Option FolderHistory) (old new : Option (List ℕ)) (ending : Ending) : Type 0 where
   pub form : Form
   pub named : IsNamed settings form
-  pub drained : IsDrained form told outcomes ending after
+  pub drained : IsDrained form told evidence ending after
   pub stored : IfSome old (λ _. new ≡ Some (area_bytes ending.row))
 
 -- and the report tells it
-pub record IsDone (settings : Option (List ℕ)) (told : FolderHistory) (outcomes : Option (List Outcome)) (after : Option FolderHistory) (old new : Option (List ℕ)) (written printed : Option (List ℕ)) : Type 0 where
+pub record IsDone (settings : Option (List ℕ)) (told : FolderHistory) (evidence : Evidence) (after : Option FolderHistory) (old new : Option (List ℕ)) (written printed : Option (List ℕ)) : Type 0 where
   pub ending : Ending
-  pub ended : IsEnded settings told outcomes after old new ending
+  pub ended : IsEnded settings told evidence after old new ending
   pub reported : IfSome written (λ bytes. printed ≡ Some (bytes ++ report_bytes ending))

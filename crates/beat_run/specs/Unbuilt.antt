@@ -1,6 +1,7 @@
 -- Where a run meets what is not built yet: a byte of the file that cannot be sent, or a file that became shorter than what
 -- was read of it (this project's profile).
-use Rattle.std.specs.Prelude.{◌≡◌, ◌≢◌, ◌⊎◌, ℕ, ◌+◌, ◌<◌, List, [], ◌∷◌, ◌++◌, length, All, Option, IfSome}
+use Rattle.std.specs.Prelude.{◌≡◌, ◌≢◌, ◌⊎◌, ℕ, ◌+◌, ◌<◌, ◌≤◌, List, [], ◌∷◌, ◌++◌, length, All, Option, IfSome}
+use Rattle.std.specs.List.{AllByRecursion, flat_map}
 use Rattle.outside.specs.declared.history.Look.{Look}
 use Rattle.outside.specs.declared.history.Question.TheVariants.{Length}
 use Rattle.outside.specs.declared.history.Sight.{Sight}
@@ -9,15 +10,17 @@ use Rattle.outside.specs.Tails.{TailHistory}
 use Rattle.beat_run.specs.declared.lines.TheConstants.{LINE}
 use Rattle.beat_run.specs.declared.status.Lack.TheVariants.{Byte, Life}
 use Rattle.beat_run.specs.declared.status.Status.{Status}
-use Rattle.beat_run.specs.declared.status.Status.TheVariants.{Unbuilt}
+use Rattle.beat_run.specs.declared.status.Status.TheVariants.{FolderFault, Unbuilt}
 use Rattle.beat_run.specs.Lines.{IsPlainByte}
-use Rattle.beat_run.specs.Payloads.{lines_bytes}
 use Rattle.beat_run.specs.Reading.{bytes_read}
 
--- behind these bytes of its line: one byte too many, the line feed of an empty line, or a byte that needs an escape
+-- each line with its line feed
+abbrev pub whole_lines : List (List ℕ) → List ℕ
+whole_lines contents = flat_map (λ content. content ++ 10 ∷ []) contents
+
+-- behind these bytes of its line: one byte too many, or a byte that needs an escape
 abbrev pub CannotBeSent : List ℕ → ℕ → Type 0
-CannotBeSent line byte =
-    ((length line ≡ LINE) × (byte ≢ 10)) ⊎ (((length line ≡ 0) × (byte ≡ 10)) ⊎ ((¬ (IsPlainByte byte)) × (byte ≢ 10)))
+CannotBeSent line byte = (byte ≢ 10) × ((length line ≡ LINE) ⊎ (¬ (IsPlainByte byte)))
 
 -- the byte at this place cannot be sent; whole lines and a part of its line stand before it
 pub record IsUnsendableAt (bytes : List ℕ) (at : ℕ) : Type 0 where
@@ -25,10 +28,21 @@ pub record IsUnsendableAt (bytes : List ℕ) (at : ℕ) : Type 0 where
   pub line : List ℕ
   pub byte : ℕ
   pub behind : List ℕ
-  pub spelled : bytes ≡ lines_bytes contents ++ (line ++ byte ∷ behind)
+  pub spelled : bytes ≡ whole_lines contents ++ (line ++ byte ∷ behind)
   pub plain : All (λ b. b ≢ 10) line
-  pub at_is : at ≡ length (lines_bytes contents) + length line
+  pub at_is : at ≡ length (whole_lines contents) + length line
   pub cannot : CannotBeSent line byte
+
+-- no byte of these is one that cannot be sent: they are whole lines, and the front of one more
+abbrev pub IsSendableLine : List ℕ → Type 0
+IsSendableLine line = All IsPlainByte line × (length line ≤ LINE)
+
+pub record IsSendable (bytes : List ℕ) : Type 0 where
+  pub contents : List (List ℕ)
+  pub line : List ℕ
+  pub spelled : bytes ≡ whole_lines contents ++ line
+  pub each : AllByRecursion IsSendableLine contents
+  pub last : IsSendableLine line
 
 -- the last look asked the length, which was below the place
 pub record IsShortened (place : ℕ) (looks : List Look) : Type 0 where
@@ -47,10 +61,11 @@ abbrev pub StopsBy : ℕ → Option TailHistory → Status → Type 0
 StopsBy place after (Unbuilt Life) = IfSome after (λ history. IsShortened place history.looks)
 StopsBy place after _ = Unit {0}
 
--- the cause of each of the two
+-- the cause of each of the two; neither they nor a fault of the folder hide a byte that was read and cannot be sent
 abbrev pub StopsFor : Status → File → List Look → Type 0
 StopsFor (Unbuilt (Byte at)) file looks = IsUnsendableAt (bytes_read file looks) at
-StopsFor (Unbuilt Life) file looks = IsShortened (length (bytes_read file looks)) looks
+StopsFor (Unbuilt Life) file looks = IsShortened (length (bytes_read file looks)) looks × IsSendable (bytes_read file looks)
+StopsFor FolderFault file looks = IsSendable (bytes_read file looks)
 StopsFor _ file looks = Unit {0}
 
 -- neither comes where no file was opened

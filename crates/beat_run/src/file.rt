@@ -3,8 +3,8 @@ ghost use Rattle.wire_base.specs.Ranges.{IsPlace};
 ghost use Rattle.beat_run.specs.Ends.{IsReadingEnd, IsShippingEnd};
 ghost use Rattle.beat_run.specs.Serving.{HasSettled};
 ghost use Rattle.outside.specs.Wires.{Outcome};
-ghost use Rattle.beat_run.specs.Standing.{IsJoined};
-ghost use Rattle.beat_run.specs.Shipping.{IsFileStopped, IsFileWhole, IsSeen, IsUnused};
+ghost use Rattle.beat_run.specs.Standing.{IsParted, IsStanding};
+ghost use Rattle.beat_run.specs.Shipping.{IsFileStopped, IsFileWhole, IsSeen, IsSound, IsUnused};
 ghost use Rattle.beat_run.specs.Unbuilt.{StopsBy};
 ghost use Rattle.beat_run.specs.Reading.{AddsBytes, ReadsPiece};
 
@@ -53,25 +53,28 @@ pub fn ship_file<X: Wait, T: Tail, W: Wire, K: Clock>(
     clock: &mut K,
     shipment: &mut Shipment,
 ) -> Result<(), Status>
-    requires { IsUnused shipment.old }
-    ensures seen { IfSome (T.told tail.old) (λ start. start.looks ≡ [] → HasSettled W.Link.told worker.old.link [] →
-        MatchResult result (λ _. IsSeen start (IsFileWhole W.Link.told form.now.path worker.new.link shipment.new) (T.told tail.new))
-        (λ status. IsSeen start (IsFileStopped W.Link.told form.now.path worker.new.link shipment.new.offset status) (T.told tail.new))) }
-    ensures joined { (start : Option (List Outcome)) (links : ℕ) → IsJoined W.Link.told start links (W.outcomes wire.old) (W.open_links wire.old) worker.old.link → IsJoined W.Link.told start links (W.outcomes wire.new) (W.open_links wire.new) worker.new.link }
+    requires { IsSound shipment.old }
+    ensures seen { (key : List ℕ) → IsUnused key form.now.path shipment.old →
+        IfSome (T.told tail.old) (λ start. start.looks ≡ [] → HasSettled W.Link.told worker.old.link [] →
+        MatchResult result (λ _. IsSeen start (IsFileWhole W.Link.told (K.moments clock.new) key form.now.path worker.new.link shipment.new.progress) (T.told tail.new))
+        (λ status. IsSeen start (IsFileStopped W.Link.told (K.moments clock.new) key form.now.path worker.new.link shipment.new.progress status) (T.told tail.new))) }
+    ensures standing { (start : Option (List Outcome)) (count first : ℕ) → IsStanding W.Link.told start count first (W.outcomes wire.old) (W.open_links wire.old) (W.faults wire.old) worker.old.link →
+        MatchResult result (λ _. IsStanding W.Link.told start count first (W.outcomes wire.new) (W.open_links wire.new) (W.faults wire.new) worker.new.link)
+        (IsParted W.Link.told W.Link.faults start count first (W.outcomes wire.new) (W.open_links wire.new) (W.faults wire.new) worker.new.link) }
     ensures ends { IfErr result (IsShippingEnd (T.faults tail.old) (T.faults tail.new)) }
     ensures faults_never_fall { T.faults tail.old ≤ T.faults tail.new }
 {
     let mut piece = [0u8; PIECE];
     for _ in rt.forever() {
         match read_piece(tail, shipment.position(), &mut piece) {
-            Ok(0) => return shipment.flush(rt, worker, wire, &form.host, clock),
+            Ok(0) => return shipment.flush(rt, alloc, worker, wire, &form.host, clock),
             Ok(count) => {
                 match shipment.take(rt, alloc, form, &piece[..count], worker, wire, clock) {
                     Ok(()) => {}
                     Err(status) => return Err(status),
                 }
             }
-            Err(status) => match shipment.flush(rt, worker, wire, &form.host, clock) {
+            Err(status) => match shipment.flush(rt, alloc, worker, wire, &form.host, clock) {
                 Ok(()) => return Err(status),
                 Err(failure) => return Err(failure),
             },

@@ -9,7 +9,8 @@ use wire_base::{Host, MAX_PATH, NoMemory, Text, TextError, read_decimal};
 /// The port of a host that names none.
 const PORT: u16 = 5044;
 
-const MAX_ID: usize = 64;
+/// The longest id, in bytes.
+pub const MAX_ID: usize = 64;
 
 const MAX_NAME: usize = 253;
 

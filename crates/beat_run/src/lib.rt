@@ -15,12 +15,14 @@ mod form;
 mod lines;
 mod locations;
 mod peer;
+mod progress;
 mod report;
 mod run;
 mod settings;
 mod shipment;
 mod shipping;
 mod status;
+mod waiting;
 mod write;
 
 pub use arguments::places;

@@ -31,9 +31,6 @@ pub fn next_line(before: usize, piece: &[u8]) -> Next
     if content.len() == piece.len() {
         return Next::Rest;
     }
-    if before == 0 && content.is_empty() {
-        return Next::Excluded(0);
-    }
     Next::Line(content.len() + 1)
 }
 

@@ -1,17 +1,19 @@
-ghost use Rattle.std.specs.Prelude.{◌≡◌, ℕ, ◌++◌, ◌<◌, ◌≤◌, List, [], length, take, Option, Some, None, Err, IsSome, IfSome, IfOk, IfErr, OnOk, MatchResult};
-ghost use Rattle.outside.specs.Counts.{IsAtEnd};
+ghost use Rattle.std.specs.Prelude.{◌≡◌, ◌⊎◌, ℕ, ◌++◌, ◌<◌, ◌≤◌, List, [], length, take, Option, Some, None, Err, IsSome, IfSome, IfOk, IfErr, OnOk, OnErr, MatchResult};
+ghost use Rattle.outside.specs.Counts.{IsAtEnd, Rose};
 ghost use Rattle.outside.specs.Talks.{Talk};
 ghost use Rattle.outside.specs.Wires.{Outcome};
+ghost use Rattle.beat_run.specs.Acknowledged.{AcknowledgeInAll, AreAcknowledged, IsFailure};
 ghost use Rattle.beat_run.specs.Ends.{IsSendingEnd};
 ghost use Rattle.beat_run.specs.Hearing.{IsHeardAs};
-ghost use Rattle.beat_run.specs.Serving.{HasServed, HasSettled, IsWindowOf};
-ghost use Rattle.beat_run.specs.Standing.{AreAcknowledged, GoesOn, IsJoined};
+ghost use Rattle.beat_run.specs.Serving.{HasFailed, HasServed, HasSettled, IsSomeWindow, IsWindowOf};
+ghost use Rattle.beat_run.specs.Standing.{GoesOn, IsParted, IsStanding, Tells, outcomes_since, with_link};
 ghost use Rattle.beat_run.specs.Talking.{HearsAll, IsFrontHeard, SendsAll};
 
 use crate::status::Status;
 use lumber_frame::{
-    FrameRead, FrameView, a_window_is_settled, nothing_is_settled, read_frame,
-    settled_stays_acknowledged, window_head,
+    FrameRead, FrameView, a_fault_is_met, a_window_is_settled, no_acknowledgement_begins,
+    nothing_is_settled, read_frame, settled_is_acknowledged, settled_stays_acknowledged,
+    window_head,
 };
 use outside::{Clock, Link, Recv, Wire};
 use std::mem;
@@ -45,15 +47,20 @@ impl<L: Link> Worker<L> {
 
     /// Gives the link back.
     pub fn end<W: Wire<Link = L>>(self, wire: &mut W)
-        ensures goes_on { (start : Option (List Outcome)) (links : ℕ) → IsJoined L.told start links (W.outcomes wire.old) (W.open_links wire.old) self.link → GoesOn start (W.outcomes wire.new) }
-        ensures closed { (start : Option (List Outcome)) (links : ℕ) → IsJoined L.told start links (W.outcomes wire.old) (W.open_links wire.old) self.link → ¬ (IsAtEnd links) → W.open_links wire.new ≡ links }
-        ensures acknowledged { (start : Option (List Outcome)) (links : ℕ) (payloads : List (List ℕ)) → IsJoined L.told start links (W.outcomes wire.old) (W.open_links wire.old) self.link →
-            HasServed L.told self.link payloads → IfSome (W.outcomes wire.new) (λ outcomes. AreAcknowledged outcomes payloads) }
+        ensures goes_on { (start : Option (List Outcome)) → GoesOn start (W.outcomes wire.old) → GoesOn start (W.outcomes wire.new) }
+        ensures closed { (count : ℕ) → W.open_links wire.old ≡ with_link count self.link → ¬ (IsAtEnd count) → W.open_links wire.new ≡ count }
+        ensures acknowledged { (start : Option (List Outcome)) (payloads : List (List ℕ)) → GoesOn start (W.outcomes wire.old) → Tells L.told (W.outcomes wire.old) self.link →
+            HasServed L.told self.link payloads → IfSome (outcomes_since start (W.outcomes wire.new)) (λ outcomes. AreAcknowledged outcomes payloads) }
+        ensures counted { (payloads : List (List ℕ)) → Tells L.told (W.outcomes wire.old) self.link → HasSettled L.told self.link payloads →
+            IfSome (outcomes_since (W.outcomes wire.old) (W.outcomes wire.new)) (λ outcomes. AcknowledgeInAll outcomes (length payloads)) }
+        ensures failed { (start : Option (List Outcome)) (first : ℕ) → GoesOn start (W.outcomes wire.old) → Tells L.told (W.outcomes wire.old) self.link → first ≤ W.faults wire.old →
+            Rose first (W.faults wire.old) ⊎ HasFailed L.told L.faults self.link → IsFailure first (W.faults wire.new) (outcomes_since start (W.outcomes wire.new)) }
     {
         let Worker { link } = self;
         match link {
             Some(link) => {
                 settled_stays_acknowledged();
+                settled_is_acknowledged();
                 wire.finish(link);
             }
             None => {}
@@ -70,9 +77,13 @@ impl<L: Link> Worker<L> {
         frames: &[u8],
         count: u32,
     ) -> Result<(), Status>
+        requires window { IsSomeWindow frames.now count }
         ensures told { (earlier payloads : List (List ℕ)) → HasSettled L.told self.old.link earlier → IsWindowOf payloads frames.now count →
             MatchResult result (λ _. HasSettled L.told self.new.link (earlier ++ payloads)) (λ _. HasServed L.told self.new.link earlier) }
-        ensures joined { (start : Option (List Outcome)) (links : ℕ) → IsJoined L.told start links (W.outcomes wire.old) (W.open_links wire.old) self.old.link → IsJoined L.told start links (W.outcomes wire.new) (W.open_links wire.new) self.new.link }
+        ensures standing { (start : Option (List Outcome)) (count first : ℕ) → IsStanding L.told start count first (W.outcomes wire.old) (W.open_links wire.old) (W.faults wire.old) self.old.link →
+            MatchResult result (λ _. IsStanding L.told start count first (W.outcomes wire.new) (W.open_links wire.new) (W.faults wire.new) self.new.link)
+            (IsParted L.told L.faults start count first (W.outcomes wire.new) (W.open_links wire.new) (W.faults wire.new) self.new.link) }
+        ensures moments_kept { K.moments clock.new ≡ K.moments clock.old }
         ensures ends { IfErr result IsSendingEnd }
     {
         self.connect(wire, host)?;
@@ -87,7 +98,9 @@ impl<L: Link> Worker<L> {
         ensures there { OnOk result (IsSome self.new.link) }
         ensures told { (payloads : List (List ℕ)) → HasSettled L.told self.old.link payloads →
             MatchResult result (λ _. HasSettled L.told self.new.link payloads) (λ _. HasServed L.told self.new.link payloads) }
-        ensures joined { (start : Option (List Outcome)) (links : ℕ) → IsJoined L.told start links (W.outcomes wire.old) (W.open_links wire.old) self.old.link → IsJoined L.told start links (W.outcomes wire.new) (W.open_links wire.new) self.new.link }
+        ensures standing { (start : Option (List Outcome)) (count first : ℕ) → IsStanding L.told start count first (W.outcomes wire.old) (W.open_links wire.old) (W.faults wire.old) self.old.link →
+            MatchResult result (λ _. IsStanding L.told start count first (W.outcomes wire.new) (W.open_links wire.new) (W.faults wire.new) self.new.link)
+            (IsParted L.told L.faults start count first (W.outcomes wire.new) (W.open_links wire.new) (W.faults wire.new) self.new.link) }
         ensures ends { IfErr result IsSendingEnd }
     {
         if self.link.is_some() {
@@ -124,11 +137,15 @@ fn serve<X: Wait, L: Link, K: Clock>(
 ) -> Result<(), Status>
     ensures told { (earlier payloads : List (List ℕ)) → HasSettled L.told (Some link.old) earlier → IsWindowOf payloads frames.now count →
         MatchResult result (λ _. HasSettled L.told (Some link.new) (earlier ++ payloads)) (λ _. HasServed L.told (Some link.new) earlier) }
+    ensures failed { (earlier payloads : List (List ℕ)) → HasSettled L.told (Some link.old) earlier → IsWindowOf payloads frames.now count →
+        OnErr result (HasFailed L.told L.faults (Some link.new)) }
     ensures tells { IsSome (L.told link.old) → IsSome (L.told link.new) }
+    ensures moments_kept { K.moments clock.new ≡ K.moments clock.old }
     ensures ends { IfErr result IsSendingEnd }
 {
     send_all(link, &window_head(count))?;
     send_all(link, frames)?;
+    a_fault_is_met();
     await_acknowledgement(rt, link, clock, count)?;
     a_window_is_settled();
     Ok(())
@@ -136,6 +153,7 @@ fn serve<X: Wait, L: Link, K: Clock>(
 
 fn send_all<L: Link>(link: &mut L, bytes: &[u8]) -> Result<(), Status>
     ensures told { SendsAll (L.told link.old) bytes.now result (L.told link.new) }
+    ensures failed { OnErr result (Rose 0 (L.faults link.new)) }
     ensures ends { IfErr result IsSendingEnd }
 {
     let mut left = bytes;
@@ -154,7 +172,8 @@ fn await_acknowledgement<X: Wait, L: Link, K: Clock>(
     clock: &mut K,
     count: u32,
 ) -> Result<(), Status>
-    ensures told { HearsAll (L.told link.old) count result (L.told link.new) }
+    ensures told { HearsAll (L.told link.old) count (Rose 0 (L.faults link.new)) result (L.told link.new) }
+    ensures moments_kept { K.moments clock.new ≡ K.moments clock.old }
     ensures ends { IfErr result IsSendingEnd }
 {
     let mut frame = [0u8; ACKNOWLEDGEMENT];
@@ -165,7 +184,8 @@ fn await_acknowledgement<X: Wait, L: Link, K: Clock>(
             Heard::Acknowledgement(number) if number == count => return Ok(()),
             Heard::Acknowledgement(number) if number < count => filled = 0,
             Heard::Front => {}
-            _ => return Err(UNREACHABLE),
+            Heard::Acknowledgement(_) => return Err(UNREACHABLE),
+            Heard::Fault => return Err(UNREACHABLE),
         }
     }
     unreachable!()
@@ -181,7 +201,8 @@ fn hear<L: Link, K: Clock>(
     requires { filled < length frame.old }
     ensures within { IfOk result (λ count. count ≤ length frame.old) }
     ensures told { (start : Option Talk) (count : ℕ) → IsFrontHeard start count (take filled frame.old) (L.told link.old) →
-        MatchResult result (λ filled. IsFrontHeard start count (take filled frame.new) (L.told link.new)) (λ status. HearsAll start count (Err status) (L.told link.new)) }
+        MatchResult result (λ filled. IsFrontHeard start count (take filled frame.new) (L.told link.new)) (λ status. HearsAll start count (Rose 0 (L.faults link.new)) (Err status) (L.told link.new)) }
+    ensures moments_kept { K.moments clock.new ≡ K.moments clock.old }
     ensures ends { IfErr result IsSendingEnd }
 {
     match link.recv(&mut frame[filled..]) {
@@ -207,6 +228,7 @@ fn heard_of(bytes: &[u8]) -> Heard
     requires { length bytes.now ≤ ACKNOWLEDGEMENT }
     ensures { IsHeardAs bytes.now result }
 {
+    no_acknowledgement_begins();
     match read_frame(bytes) {
         FrameRead::Whole {
             frame: FrameView::Ack(number),

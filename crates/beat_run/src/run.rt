@@ -5,26 +5,30 @@ ghost use Rattle.beat_run.specs.Area.{area_bytes};
 ghost use Rattle.beat_run.specs.Command.{IsNoCommand};
 ghost use Rattle.beat_run.specs.Ends.{IsRefusal, RefusesArea, IsRunEnd, IsShippingEnd, RefusesForm};
 ghost use Rattle.beat_run.specs.Noted.{IsDrained, IsEmptyEnding, IsNotedBy};
-ghost use Rattle.beat_run.specs.Standing.{GoesOn};
+ghost use Rattle.beat_run.specs.Standing.{GoesOn, outcomes_since};
+ghost use Rattle.beat_run.specs.Acknowledged.{FailsFor};
 ghost use Rattle.beat_run.specs.Stored.{HoldsNoRow, IsEnded, IsStored, IsStoredBy};
 ghost use Rattle.beat_run.specs.Form.{IsNoForm, IsPlainPath};
-ghost use Rattle.beat_run.specs.Keys.{path_key, path_row};
+ghost use Rattle.beat_run.specs.Evidence.{evidence_of};
+ghost use Rattle.beat_run.specs.Keys.{path_key};
 ghost use Rattle.beat_run.specs.declared.settings.TheConstants.{LIMIT};
 
 use crate::area::{check_blank, start_area};
 use crate::arguments::settings_file;
 use crate::file::ship_file;
 use crate::find::{Found, find};
-use crate::form::Form;
+use crate::form::{Form, MAX_ID};
 use crate::peer::Worker;
+use crate::progress::Progress;
 use crate::report::Ending;
 use crate::settings::read_settings;
 use crate::shipment::Shipment;
 use crate::status::{Lack, Status};
+use multiline_core::each_line_is_an_event;
 use outside::{Clock, Disk, Folder, Source, Wire};
 use std::alloc::Global;
 use std::sync::Wait;
-use wire_base::{Epoch, NoMemory, Row, Text, Which};
+use wire_base::{NoMemory, Row, Text, Which};
 
 /// Everything but the printing.
 pub fn run<X: Wait, F: Folder, W: Wire, D: Disk, K: Clock, R: Source>(
@@ -40,12 +44,12 @@ pub fn run<X: Wait, F: Folder, W: Wire, D: Disk, K: Clock, R: Source>(
     ensures usage { IsErrOf result Status.Usage ↔ IsNoCommand words.now }
     ensures other_form_only { IsErrOf result (Status.Unbuilt Lack.Settings) → IfSome (R.left settings.old) (λ bytes. IsNoForm (take LIMIT bytes)) }
     ensures other_form_refused { IfSome (R.left settings.old) (λ bytes. IsNoForm (take LIMIT bytes) → MatchResult result (λ _. ⊥) RefusesForm) }
-    ensures done { IfOk result (λ ending. IfSome (F.told folder.old) (λ told. IsEnded (R.left settings.old) told (W.outcomes wire.new) (F.told folder.new) (D.contents area.old) (D.contents area.new) ending)) }
+    ensures done { IfOk result (λ ending. IfSome (F.told folder.old) (λ told. IsEnded (R.left settings.old) told (evidence_of (K.moments clock.new) (W.outcomes wire.old) (W.outcomes wire.new)) (F.told folder.new) (D.contents area.old) (D.contents area.new) ending)) }
     ensures registry_bad { (area' : Which) (at : ℕ) → IsErrOf result (Status.RegistryBad area' at) → (area' ≡ Which.A) × (at ≡ 0) × IfSome (D.contents area.old) (λ bytes. 1 < length bytes) }
     ensures area_refused { IfSome (D.contents area.old) (λ bytes. 1 < length bytes → MatchResult result (λ _. ⊥) RefusesArea) }
     ensures row { IfSome (F.told folder.old) (λ told. MatchResult result
-        (λ _. IsStored (R.left settings.old) told (W.outcomes wire.new) (F.told folder.new) (D.contents area.old) (D.contents area.new) ⊥ (HoldsNoRow (D.faults area.old) (D.faults area.new) (D.contents area.old) (D.contents area.new)) (λ file looks. Unit {0}))
-        (IsStoredBy (R.left settings.old) told (W.outcomes wire.new) (F.told folder.new) (D.faults area.old) (D.faults area.new) (D.contents area.old) (D.contents area.new))) }
+        (λ _. IsStored (R.left settings.old) told (evidence_of (K.moments clock.new) (W.outcomes wire.old) (W.outcomes wire.new)) (F.told folder.new) (D.contents area.old) (D.contents area.new) ⊥ (HoldsNoRow (D.faults area.old) (D.faults area.new) (D.contents area.old) (D.contents area.new)) (λ file looks. Unit {0}))
+        (IsStoredBy (R.left settings.old) told (evidence_of (K.moments clock.new) (W.outcomes wire.old) (W.outcomes wire.new)) (F.told folder.new) (D.faults area.old) (D.faults area.new) (D.contents area.old) (D.contents area.new))) }
     ensures stored { IfOk result (λ ending. IfSome (D.contents area.old) (λ _. D.contents area.new ≡ Some (area_bytes ending.row))) }
     ensures durable { IfOk result (λ _. Only (D.contents area.new) (D.images area.new)) }
     ensures area_kept { IfErr result (λ status. IsRefusal status → D.contents area.new ≡ D.contents area.old) }
@@ -56,6 +60,7 @@ pub fn run<X: Wait, F: Folder, W: Wire, D: Disk, K: Clock, R: Source>(
     ensures tails_closed { ¬ (IsAtEnd (F.open_tails folder.old)) → F.open_tails folder.new ≡ F.open_tails folder.old }
     ensures disk_fault { IsErrOf result Status.DiskFault → Rose (D.faults area.old) (D.faults area.new) }
     ensures folder_fault { IsErrOf result Status.FolderFault → Rose (F.faults folder.old) (F.faults folder.new) }
+    ensures unreachable { IfErr result (FailsFor (W.faults wire.old) (W.faults wire.new) (outcomes_since (W.outcomes wire.old) (W.outcomes wire.new))) }
     ensures source_fault { IsErrOf result Status.SourceFault → Rose (R.faults settings.old) (R.faults settings.new) }
     ensures ends { IfErr result IsRunEnd }
 {
@@ -98,32 +103,37 @@ fn follow<X: Wait, F: Folder, W: Wire, K: Clock>(
     ending: &mut Ending,
 ) -> Result<(), Status>
     requires path { IsPlainPath form.now.path }
+    requires id { length form.now.id ≤ MAX_ID }
     requires unnoted { IsEmptyEnding ending.old }
-    ensures drained { OnOk result (IfSome (F.told folder.old) (λ told. IsDrained form.now told (W.outcomes wire.new) ending.new (F.told folder.new))) }
-    ensures noted { IfSome (F.told folder.old) (λ told. IsNotedBy form.now told (W.outcomes wire.new) ending.new.row (F.told folder.new) result) }
+    ensures drained { OnOk result (IfSome (F.told folder.old) (λ told. IsDrained form.now told (evidence_of (K.moments clock.new) (W.outcomes wire.old) (W.outcomes wire.new)) ending.new (F.told folder.new))) }
+    ensures noted { IfSome (F.told folder.old) (λ told. IsNotedBy form.now told (evidence_of (K.moments clock.new) (W.outcomes wire.old) (W.outcomes wire.new)) ending.new.row (F.told folder.new) result) }
     ensures wire_goes_on { GoesOn (W.outcomes wire.old) (W.outcomes wire.new) }
     ensures links_finished { ¬ (IsAtEnd (W.open_links wire.old)) → W.open_links wire.new ≡ W.open_links wire.old }
     ensures tails_closed { ¬ (IsAtEnd (F.open_tails folder.old)) → F.open_tails folder.new ≡ F.open_tails folder.old }
+    ensures unreachable { IfErr result (FailsFor (W.faults wire.old) (W.faults wire.new) (outcomes_since (W.outcomes wire.old) (W.outcomes wire.new))) }
     ensures ends { IfErr result (IsShippingEnd (F.faults folder.old) (F.faults folder.new)) }
     ensures faults_never_fall { F.faults folder.old ≤ F.faults folder.new }
 {
     // Made first, so that none of its memory is wanted once lines were acknowledged.
-    let Ok(row) = row_of(alloc, form, 0) else {
+    let Ok(key) = key_of(alloc, form) else {
+        return Err(Status::NoMemory);
+    };
+    let Ok(path) = form.path.copy(alloc) else {
+        return Err(Status::NoMemory);
+    };
+    let Ok(progress) = Progress::begin(alloc, &key, &path) else {
         return Err(Status::NoMemory);
     };
     match find(alloc, folder, &form.path) {
         Err(status) => Err(status),
         Ok(Found::NotListed) => Ok(()),
         Ok(Found::Gone) => {
-            let Ok(path) = form.path.copy(alloc) else {
-                return Err(Status::NoMemory);
-            };
             ending.gone = Some(path);
             Ok(())
         }
         Ok(Found::Tail(mut tail)) => {
             let mut worker = Worker::new();
-            let mut shipment = Shipment::new(alloc);
+            let mut shipment = Shipment::new(alloc, progress);
             let met = ship_file(
                 rt,
                 alloc,
@@ -136,44 +146,23 @@ fn follow<X: Wait, F: Folder, W: Wire, K: Clock>(
             );
             worker.end(wire);
             folder.close(tail);
-            note(row, &shipment, ending);
+            each_line_is_an_event();
+            note(shipment.progress.row(key, path), &shipment.progress, ending);
             met
         }
     }
 }
 
 // The row and the counts of what was shipped.
-fn note(row: Row, shipment: &Shipment, ending: &mut Ending)
-    ensures row { ending.new.row ≡ Some (record row { offset = shipment.now.offset }) }
+fn note(row: Option<Row>, progress: &Progress, ending: &mut Ending)
+    ensures row { ending.new.row ≡ row }
     ensures gone { ending.new.gone ≡ ending.old.gone }
-    ensures shipped { ending.new.shipped ≡ shipment.now.shipped }
-    ensures dropped { ending.new.dropped ≡ shipment.now.dropped }
+    ensures shipped { ending.new.shipped ≡ progress.now.shipped }
+    ensures dropped { ending.new.dropped ≡ progress.now.dropped }
 {
-    let Row {
-        key,
-        path,
-        epoch,
-        ..
-    } = row;
-    ending.row = Some(Row {
-        key,
-        path,
-        epoch,
-        offset: shipment.offset,
-    });
-    ending.shipped = shipment.shipped;
-    ending.dropped = shipment.dropped;
-}
-
-fn row_of(alloc: Global, form: &Form, offset: u64) -> Result<Row, NoMemory>
-    ensures { IfOk result (λ row. row ≡ path_row form.now offset) }
-{
-    Ok(Row {
-        key: key_of(alloc, form)?,
-        path: form.path.copy(alloc)?,
-        epoch: Epoch(0),
-        offset,
-    })
+    ending.row = row;
+    ending.shipped = progress.shipped;
+    ending.dropped = progress.dropped;
 }
 
 fn key_of(alloc: Global, form: &Form) -> Result<Text, NoMemory>

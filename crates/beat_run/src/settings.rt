@@ -3,7 +3,7 @@ ghost use Rattle.outside.specs.Counts.{Rose};
 ghost use Rattle.beat_run.specs.Ends.{IsSettingsEnd};
 ghost use Rattle.beat_run.specs.Form.{IsForm, IsNoForm, IsPlainPath, IsReadAs};
 
-use crate::form::{Form, read_form};
+use crate::form::{Form, MAX_ID, read_form};
 use crate::status::{Lack, Status};
 use outside::{Failed, Source};
 use std::alloc::Global;
@@ -15,6 +15,7 @@ pub const LIMIT: usize = 8_193;
 pub fn read_settings<R: Source>(alloc: Global, source: &mut R) -> Result<Form, Status>
     ensures form { IfOk result (λ form. IfSome (R.left source.old) (λ bytes. IsForm (take LIMIT bytes) form)) }
     ensures path { IfOk result (λ form. IsPlainPath form.path) }
+    ensures id { IfOk result (λ form. length form.id ≤ MAX_ID) }
     ensures other_form_only { IsErrOf result (Status.Unbuilt Lack.Settings) → IfSome (R.left source.old) (λ bytes. IsNoForm (take LIMIT bytes)) }
     ensures ends { IfErr result (IsSettingsEnd (R.faults source.old) (R.faults source.new)) }
 {

@@ -1,18 +1,22 @@
 ghost use Rattle.std.specs.Prelude.{◌≡◌, ◌≢◌, ℕ, ◌+◌, ◌++◌, ◌∷◌, [], ◌<◌, ◌≤◌, List, All, Option, length, vec_len, IfErr, OnOk, MatchResult};
 ghost use Rattle.wire_base.specs.Ranges.{IsMoment};
 ghost use Rattle.beat_run.specs.Ends.{IsLineEnd, IsPieceEnd, IsSendingEnd};
-ghost use Rattle.beat_run.specs.Batches.{HoldsPayloads};
-ghost use Rattle.beat_run.specs.Unbuilt.{StopsAt};
+ghost use Rattle.beat_run.specs.Batches.{HoldsLines, HoldsPayloads};
+ghost use Rattle.beat_run.specs.Events.{IsGiven};
 ghost use Rattle.beat_run.specs.Lines.{IsPlainByte};
+ghost use Rattle.beat_run.specs.Progress.{IsDoneBy, SettlesFirst};
+ghost use Rattle.beat_run.specs.declared.waiting.Waiting.{Waiting};
 ghost use Rattle.beat_run.specs.Serving.{HasServed, HasSettled};
 ghost use Rattle.outside.specs.Wires.{Outcome};
-ghost use Rattle.beat_run.specs.Standing.{IsJoined};
+ghost use Rattle.beat_run.specs.Standing.{IsParted, IsStanding};
 ghost use Rattle.beat_run.specs.Shipping.{IsCovered, IsShipped, IsSound, IsUnused};
+ghost use Rattle.beat_run.specs.Unbuilt.{StopsAt};
 
 use crate::batch::{Batch, EVENTS};
 use crate::form::Form;
 use crate::lines::{LINE, Next, next_line};
 use crate::peer::Worker;
+use crate::progress::Progress;
 use crate::status::{Lack, Status};
 use outside::{Clock, Wire};
 use std::alloc::Global;
@@ -22,10 +26,10 @@ use wire_base::{Host, MAX_PLACE, Moment};
 /// One file on its way to the peer.
 #[derive(Drop)]
 pub struct Shipment {
-    /// The end of the last line that is settled: its window was acknowledged, or its payload is too long.
+    /// What is settled: the lines whose window was acknowledged, and those among them that a rule drops.
+    pub progress: Progress,
+    /// Where these end.
     pub offset: u64,
-    pub shipped: u64,
-    pub dropped: u64,
     /// The lines behind the offset that wait for their window.
     pub batch: Batch,
     /// What was read behind these and ends no line yet.
@@ -33,13 +37,13 @@ pub struct Shipment {
 }
 
 impl Shipment {
-    pub fn new(alloc: Global) -> Shipment
-        ensures { IsUnused result }
+    /// Nothing of the file was read yet.
+    pub fn new(alloc: Global, progress: Progress) -> Shipment
+        ensures { (key path : List ℕ) → IsDoneBy key path progress [] → IsUnused key path result }
     {
         Shipment {
+            progress,
             offset: 0,
-            shipped: 0,
-            dropped: 0,
             batch: Batch::new(alloc),
             rest: Vec::new(alloc),
         }
@@ -57,25 +61,31 @@ impl Shipment {
     pub fn flush<X: Wait, W: Wire, K: Clock>(
         &mut self,
         rt: &X,
+        alloc: Global,
         worker: &mut Worker<W::Link>,
         wire: &mut W,
         host: &Host,
         clock: &mut K,
     ) -> Result<(), Status>
         requires { IsSound self.old }
-        ensures told { (path bytes : List ℕ) → IsShipped W.Link.told path worker.old.link self.old bytes →
-            MatchResult result (λ _. IsShipped W.Link.told path worker.new.link self.new bytes) (λ _. IsCovered W.Link.told path worker.new.link self.new.offset bytes) }
+        ensures told { (moments : Option (List ℕ)) (key path bytes : List ℕ) → IsShipped W.Link.told moments key path worker.old.link self.old bytes →
+            MatchResult result (λ _. IsShipped W.Link.told moments key path worker.new.link self.new bytes) (λ _. IsCovered W.Link.told moments key path worker.new.link self.new.progress bytes) }
         ensures sound { OnOk result (IsSound self.new) }
         ensures empty { OnOk result (self.new.batch.size ≡ 0) }
-        ensures room { OnOk result (self.new.batch.count + self.new.batch.dropped ≡ 0) }
+        ensures room { OnOk result (vec_len self.new.batch.waiting ≡ 0) }
         ensures placed { OnOk result (self.new.offset ≡ self.old.offset + self.old.batch.size) }
         ensures rest_kept { OnOk result (self.new.rest ≡ self.old.rest) }
-        ensures joined { (start : Option (List Outcome)) (links : ℕ) → IsJoined W.Link.told start links (W.outcomes wire.old) (W.open_links wire.old) worker.old.link → IsJoined W.Link.told start links (W.outcomes wire.new) (W.open_links wire.new) worker.new.link }
-        ensures ends { IfErr result IsSendingEnd }
+        ensures standing { (start : Option (List Outcome)) (count first : ℕ) → IsStanding W.Link.told start count first (W.outcomes wire.old) (W.open_links wire.old) (W.faults wire.old) worker.old.link →
+            MatchResult result (λ _. IsStanding W.Link.told start count first (W.outcomes wire.new) (W.open_links wire.new) (W.faults wire.new) worker.new.link)
+            (IsParted W.Link.told W.Link.faults start count first (W.outcomes wire.new) (W.open_links wire.new) (W.faults wire.new) worker.new.link) }
+        ensures moments_kept { K.moments clock.new ≡ K.moments clock.old }
+        ensures ends { IfErr result IsLineEnd }
     {
-        self.send(rt, worker, wire, host, clock)?;
-        self.settle();
-        Ok(())
+        match self.send(rt, worker, wire, host, clock) {
+            Ok(()) => {}
+            Err(status) => return Err(status),
+        }
+        self.settle(alloc)
     }
 
     // Sends what waits as one window.
@@ -87,9 +97,13 @@ impl Shipment {
         host: &Host,
         clock: &mut K,
     ) -> Result<(), Status>
+        requires { IsSound self.now }
         ensures told { (payloads waiting : List (List ℕ)) → HasSettled W.Link.told worker.old.link payloads → HoldsPayloads self.now.batch waiting →
             MatchResult result (λ _. HasSettled W.Link.told worker.new.link (payloads ++ waiting)) (λ _. HasServed W.Link.told worker.new.link payloads) }
-        ensures joined { (start : Option (List Outcome)) (links : ℕ) → IsJoined W.Link.told start links (W.outcomes wire.old) (W.open_links wire.old) worker.old.link → IsJoined W.Link.told start links (W.outcomes wire.new) (W.open_links wire.new) worker.new.link }
+        ensures standing { (start : Option (List Outcome)) (count first : ℕ) → IsStanding W.Link.told start count first (W.outcomes wire.old) (W.open_links wire.old) (W.faults wire.old) worker.old.link →
+            MatchResult result (λ _. IsStanding W.Link.told start count first (W.outcomes wire.new) (W.open_links wire.new) (W.faults wire.new) worker.new.link)
+            (IsParted W.Link.told W.Link.faults start count first (W.outcomes wire.new) (W.open_links wire.new) (W.faults wire.new) worker.new.link) }
+        ensures moments_kept { K.moments clock.new ≡ K.moments clock.old }
         ensures ends { IfErr result IsSendingEnd }
     {
         if self.batch.count == 0 {
@@ -99,21 +113,25 @@ impl Shipment {
     }
 
     // What waited is settled.
-    fn settle(&mut self)
+    fn settle(&mut self, alloc: Global) -> Result<(), Status>
         requires { IsSound self.old }
-        ensures sound { IsSound self.new }
-        ensures offset { self.new.offset ≡ self.old.offset + self.old.batch.size }
-        ensures shipped { self.new.shipped ≡ self.old.shipped + self.old.batch.count }
-        ensures empty { self.new.batch.size ≡ 0 }
-        ensures frames { self.new.batch.frames.items ≡ [] }
-        ensures count { self.new.batch.count ≡ 0 }
-        ensures dropped { self.new.batch.dropped ≡ 0 }
-        ensures rest_kept { self.new.rest ≡ self.old.rest }
+        ensures settles { (key path : List ℕ) (settled : List Waiting) → IsDoneBy key path self.old.progress settled →
+            SettlesFirst key path settled self.old.batch.waiting.items (λ left. OnOk result (left ≡ [])) self.new.progress }
+        ensures nothing { (path : List ℕ) (start : ℕ) → OnOk result (HoldsLines path start self.new.batch []) }
+        ensures sound { OnOk result (IsSound self.new) }
+        ensures offset { OnOk result (self.new.offset ≡ self.old.offset + self.old.batch.size) }
+        ensures empty { OnOk result (self.new.batch.size ≡ 0) }
+        ensures room { OnOk result (self.new.batch.waiting.items ≡ []) }
+        ensures rest_kept { OnOk result (self.new.rest ≡ self.old.rest) }
+        ensures ends { IfErr result (λ status. status ≡ Status.NoMemory) }
     {
+        match self.progress.settle(alloc, &self.batch.waiting) {
+            Ok(()) => {}
+            Err(_) => return Err(Status::NoMemory),
+        }
         self.offset += self.batch.size;
-        self.shipped += u64::from(self.batch.count);
-        self.dropped += u64::from(self.batch.dropped);
         self.batch.clear();
+        Ok(())
     }
 
     /// Ships the lines that end in the piece, which was read behind the rest; what is left of it is
@@ -130,13 +148,15 @@ impl Shipment {
     ) -> Result<(), Status>
         requires sound { IsSound self.old }
         requires in_range { self.old.offset + self.old.batch.size + vec_len self.old.rest + length piece.now ≤ MAX_PLACE }
-        ensures told { (bytes : List ℕ) → IsShipped W.Link.told form.now.path worker.old.link self.old bytes →
-            MatchResult result (λ _. IsShipped W.Link.told form.now.path worker.new.link self.new (bytes ++ piece.now))
-            (λ _. IsCovered W.Link.told form.now.path worker.new.link self.new.offset (bytes ++ piece.now)) }
+        ensures told { (key bytes : List ℕ) → IsShipped W.Link.told (K.moments clock.old) key form.now.path worker.old.link self.old bytes →
+            MatchResult result (λ _. IsShipped W.Link.told (K.moments clock.new) key form.now.path worker.new.link self.new (bytes ++ piece.now))
+            (λ _. IsCovered W.Link.told (K.moments clock.new) key form.now.path worker.new.link self.new.progress (bytes ++ piece.now)) }
         ensures sound { OnOk result (IsSound self.new) }
         ensures placed { OnOk result (self.new.offset + self.new.batch.size + vec_len self.new.rest ≡ self.old.offset + self.old.batch.size + vec_len self.old.rest + length piece.now) }
-        ensures joined { (start : Option (List Outcome)) (links : ℕ) → IsJoined W.Link.told start links (W.outcomes wire.old) (W.open_links wire.old) worker.old.link → IsJoined W.Link.told start links (W.outcomes wire.new) (W.open_links wire.new) worker.new.link }
-        ensures stops { (bytes : List ℕ) → IsShipped W.Link.told form.now.path worker.old.link self.old bytes → IfErr result (StopsAt (bytes ++ piece.now)) }
+        ensures standing { (start : Option (List Outcome)) (count first : ℕ) → IsStanding W.Link.told start count first (W.outcomes wire.old) (W.open_links wire.old) (W.faults wire.old) worker.old.link →
+            MatchResult result (λ _. IsStanding W.Link.told start count first (W.outcomes wire.new) (W.open_links wire.new) (W.faults wire.new) worker.new.link)
+            (IsParted W.Link.told W.Link.faults start count first (W.outcomes wire.new) (W.open_links wire.new) (W.faults wire.new) worker.new.link) }
+        ensures stops { (key bytes : List ℕ) → IsShipped W.Link.told (K.moments clock.old) key form.now.path worker.old.link self.old bytes → IfErr result (StopsAt (bytes ++ piece.now)) }
         ensures ends { IfErr result IsPieceEnd }
     {
         let now = clock.now();
@@ -158,7 +178,7 @@ impl Shipment {
                 }
                 Next::Excluded(place) => {
                     let at = self.position() + place as u64;
-                    return match self.flush(rt, worker, wire, &form.host, clock) {
+                    return match self.flush(rt, alloc, worker, wire, &form.host, clock) {
                         Ok(()) => Err(Status::Unbuilt {
                             what: Lack::Byte(at),
                         }),
@@ -186,16 +206,22 @@ impl Shipment {
         requires plain { All IsPlainByte content.now }
         requires short { vec_len self.old.rest + length content.now ≤ LINE }
         requires in_range { self.old.offset + self.old.batch.size + vec_len self.old.rest + length content.now + 1 ≤ MAX_PLACE }
-        ensures told { (bytes : List ℕ) → IsShipped W.Link.told form.now.path worker.old.link self.old bytes →
-            MatchResult result (λ _. IsShipped W.Link.told form.now.path worker.new.link self.new (bytes ++ (content.now ++ 10 ∷ [])))
-            (λ _. IsCovered W.Link.told form.now.path worker.new.link self.new.offset bytes) }
+        ensures told { (moments : Option (List ℕ)) (key bytes : List ℕ) → IsGiven moments now.0 → IsShipped W.Link.told moments key form.now.path worker.old.link self.old bytes →
+            MatchResult result (λ _. IsShipped W.Link.told moments key form.now.path worker.new.link self.new (bytes ++ (content.now ++ 10 ∷ [])))
+            (λ _. IsCovered W.Link.told moments key form.now.path worker.new.link self.new.progress bytes) }
         ensures sound { OnOk result (IsSound self.new) }
         ensures placed { OnOk result (self.new.offset + self.new.batch.size + vec_len self.new.rest
             ≡ self.old.offset + self.old.batch.size + vec_len self.old.rest + length content.now + 1) }
-        ensures joined { (start : Option (List Outcome)) (links : ℕ) → IsJoined W.Link.told start links (W.outcomes wire.old) (W.open_links wire.old) worker.old.link → IsJoined W.Link.told start links (W.outcomes wire.new) (W.open_links wire.new) worker.new.link }
+        ensures standing { (start : Option (List Outcome)) (count first : ℕ) → IsStanding W.Link.told start count first (W.outcomes wire.old) (W.open_links wire.old) (W.faults wire.old) worker.old.link →
+            MatchResult result (λ _. IsStanding W.Link.told start count first (W.outcomes wire.new) (W.open_links wire.new) (W.faults wire.new) worker.new.link)
+            (IsParted W.Link.told W.Link.faults start count first (W.outcomes wire.new) (W.open_links wire.new) (W.faults wire.new) worker.new.link) }
+        ensures moments_kept { K.moments clock.new ≡ K.moments clock.old }
         ensures ends { IfErr result IsLineEnd }
     {
-        self.make_room(rt, worker, wire, &form.host, clock)?;
+        match self.make_room(rt, alloc, worker, wire, &form.host, clock) {
+            Ok(()) => {}
+            Err(status) => return Err(status),
+        }
         if self.rest.extend_from_slice(content).is_err() {
             return Err(Status::NoMemory);
         }
@@ -215,24 +241,27 @@ impl Shipment {
     fn make_room<X: Wait, W: Wire, K: Clock>(
         &mut self,
         rt: &X,
+        alloc: Global,
         worker: &mut Worker<W::Link>,
         wire: &mut W,
         host: &Host,
         clock: &mut K,
     ) -> Result<(), Status>
         requires { IsSound self.old }
-        ensures told { (path bytes : List ℕ) → IsShipped W.Link.told path worker.old.link self.old bytes →
-            MatchResult result (λ _. IsShipped W.Link.told path worker.new.link self.new bytes) (λ _. IsCovered W.Link.told path worker.new.link self.new.offset bytes) }
+        ensures told { (moments : Option (List ℕ)) (key path bytes : List ℕ) → IsShipped W.Link.told moments key path worker.old.link self.old bytes →
+            MatchResult result (λ _. IsShipped W.Link.told moments key path worker.new.link self.new bytes) (λ _. IsCovered W.Link.told moments key path worker.new.link self.new.progress bytes) }
         ensures sound { OnOk result (IsSound self.new) }
-        ensures room { OnOk result (self.new.batch.count < EVENTS) }
-        ensures few_dropped { OnOk result (self.new.batch.dropped < EVENTS) }
+        ensures room { OnOk result (vec_len self.new.batch.waiting < EVENTS) }
         ensures placed { OnOk result (self.new.offset + self.new.batch.size ≡ self.old.offset + self.old.batch.size) }
         ensures rest_kept { OnOk result (self.new.rest ≡ self.old.rest) }
-        ensures joined { (start : Option (List Outcome)) (links : ℕ) → IsJoined W.Link.told start links (W.outcomes wire.old) (W.open_links wire.old) worker.old.link → IsJoined W.Link.told start links (W.outcomes wire.new) (W.open_links wire.new) worker.new.link }
-        ensures ends { IfErr result IsSendingEnd }
+        ensures standing { (start : Option (List Outcome)) (count first : ℕ) → IsStanding W.Link.told start count first (W.outcomes wire.old) (W.open_links wire.old) (W.faults wire.old) worker.old.link →
+            MatchResult result (λ _. IsStanding W.Link.told start count first (W.outcomes wire.new) (W.open_links wire.new) (W.faults wire.new) worker.new.link)
+            (IsParted W.Link.told W.Link.faults start count first (W.outcomes wire.new) (W.open_links wire.new) (W.faults wire.new) worker.new.link) }
+        ensures moments_kept { K.moments clock.new ≡ K.moments clock.old }
+        ensures ends { IfErr result IsLineEnd }
     {
         if self.batch.is_full() {
-            return self.flush(rt, worker, wire, host, clock);
+            return self.flush(rt, alloc, worker, wire, host, clock);
         }
         Ok(())
     }

@@ -1,12 +1,15 @@
-ghost use Rattle.std.specs.Prelude.{◌≡◌, ◌⊎◌, ℕ, ◌<◌, ◌≤◌, ◌++◌, drop, length, take, vec_len, Option, Some, IfSome};
+ghost use Rattle.std.specs.Prelude.{◌≡◌, ◌⊎◌, ℕ, ◌<◌, ◌≤◌, ◌++◌, List, drop, length, take, vec_len, Option, Some, IfSome};
 ghost use Rattle.outside.specs.Counts.{IsAtEnd, Rose};
+ghost use Rattle.outside.specs.Wires.{Outcome};
 ghost use Rattle.beat_run.specs.Area.{area_bytes};
 ghost use Rattle.wire_base.specs.declared.row.Row.{Row};
 ghost use Rattle.outside.specs.DiskImages.{Only};
 ghost use Rattle.beat_run.specs.Command.{IsNoCommand};
 ghost use Rattle.beat_run.specs.Ends.{IsPrintingEnd, IsRefusal, RefusesArea, RefusesForm};
 ghost use Rattle.beat_run.specs.Report.{IsPrinted, report_bytes};
-ghost use Rattle.beat_run.specs.Standing.{GoesOn, OnFirst};
+ghost use Rattle.beat_run.specs.Acknowledged.{FailsFor};
+ghost use Rattle.beat_run.specs.Evidence.{evidence_of};
+ghost use Rattle.beat_run.specs.Standing.{GoesOn, OnFirst, outcomes_since};
 ghost use Rattle.beat_run.specs.Stored.{IsDone, IsStoredBy};
 ghost use Rattle.beat_run.specs.Form.{IsNoForm};
 ghost use Rattle.beat_run.specs.declared.settings.TheConstants.{LIMIT};
@@ -52,17 +55,18 @@ where
     ensures other_words_are_usage { IsNoCommand words.now → (result ≡ Status.Usage) ⊎ (result ≡ Status.OutFault) }
     ensures unbuilt_settings_only_of_another_form { result ≡ Status.Unbuilt Lack.Settings → IfSome (R.left settings.old) (λ bytes. IsNoForm (take LIMIT bytes)) }
     ensures another_form_is_unbuilt { IfSome (R.left settings.old) (λ bytes. IsNoForm (take LIMIT bytes) → RefusesForm result) }
-    ensures done_only_where_the_file_was_drained { result ≡ Status.Done → IfSome (F.told folder.old) (λ told. OnFirst W.outcomes wires.old wires.new (λ _ outcomes.
-        IsDone (R.left settings.old) told outcomes (F.told folder.new) (D.contents area_a.old) (D.contents area_a.new) (S.written out.old) (S.written out.new))) }
+    ensures done_only_where_the_file_was_drained { result ≡ Status.Done → IfSome (F.told folder.old) (λ told. OnFirst W.outcomes wires.old wires.new (λ before outcomes.
+        IsDone (R.left settings.old) told (evidence_of (K.moments clock.new) before outcomes) (F.told folder.new) (D.contents area_a.old) (D.contents area_a.new) (S.written out.old) (S.written out.new))) }
     ensures registry_bad_only_where_the_area_has_bytes { (area : Which) (at : ℕ) → result ≡ Status.RegistryBad area at → (area ≡ Which.A) × (at ≡ 0) × IfSome (D.contents area_a.old) (λ bytes. 1 < length bytes) }
     ensures area_with_bytes_is_refused { IfSome (D.contents area_a.old) (λ bytes. 1 < length bytes → RefusesArea result) }
-    ensures stored_row_is_covered { IfSome (F.told folder.old) (λ told. OnFirst W.outcomes wires.old wires.new (λ _ outcomes.
-        IsStoredBy (R.left settings.old) told outcomes (F.told folder.new) (D.faults area_a.old) (D.faults area_a.new) (D.contents area_a.old) (D.contents area_a.new) result)) }
+    ensures stored_row_is_kept { IfSome (F.told folder.old) (λ told. OnFirst W.outcomes wires.old wires.new (λ before outcomes.
+        IsStoredBy (R.left settings.old) told (evidence_of (K.moments clock.new) before outcomes) (F.told folder.new) (D.faults area_a.old) (D.faults area_a.new) (D.contents area_a.old) (D.contents area_a.new) result)) }
     ensures row_is_durable { result ≡ Status.Done → Only (D.contents area_a.new) (D.images area_a.new) }
     ensures area_kept_on_refusal { IsRefusal result → D.contents area_a.new ≡ D.contents area_a.old }
     ensures folder_kept_on_refusal { IsRefusal result → folder.new ≡ folder.old }
     ensures wires_kept_on_refusal { IsRefusal result → wires.new.items ≡ wires.old.items }
     ensures first_failure_of_the_only_worker { (worker failures : ℕ) → result ≡ Status.Unreachable worker failures → (worker ≡ 0) × (failures ≡ 1) }
+    ensures unreachable_only_where_the_wire_or_a_peer_failed { OnFirst {A = ℕ × Option (List Outcome)} (λ wire. (W.faults wire, W.outcomes wire)) wires.old wires.new (λ before now. FailsFor before.0 now.0 (outcomes_since before.1 now.1) result) }
     ensures wire_goes_on { OnFirst W.outcomes wires.old wires.new GoesOn }
     ensures links_finished { OnFirst W.open_links wires.old wires.new (λ old new. ¬ (IsAtEnd old) → new ≡ old) }
     ensures as_many_wires { vec_len wires.new ≡ vec_len wires.old }

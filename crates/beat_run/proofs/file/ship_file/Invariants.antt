@@ -1,7 +1,7 @@
 use Rattle.std.proofs.Common.{◌≤◌, ℕ, List, Option}
 use Rattle.outside.specs.Wires.{Outcome}
-use Rattle.beat_run.specs.Shipping.{IsSound}
-use Rattle.beat_run.specs.Standing.{IsJoined}
+use Rattle.beat_run.specs.Shipping.{IsSound, IsUnused}
+use Rattle.beat_run.specs.Standing.{IsStanding}
 use Rattle.beat_run.proofs.FileShipments.{IsReadWhereTold}
 use Rattle.beat_run.proofs.file.ship_file.Given as goal
 
@@ -11,8 +11,9 @@ invariant-loop g l = record {
   ends : (goal.iterator-loop g).is_finite l.iterator';
   sound : IsSound l.shipment;
   faults : g.T.Tail.faults l.initial.tail ≤ g.T.Tail.faults l.tail;
-  told : IsReadWhereTold g.W.Link.Link.told l.form.path l.initial.worker.link l.worker.link l.shipment (g.T.Tail.told l.initial.tail) (g.T.Tail.told l.tail);
-  joined : (start : Option (List Outcome)) (links : ℕ) →
-      IsJoined g.W.Link.Link.told start links (g.W.Wire.outcomes l.initial.wire) (g.W.Wire.open_links l.initial.wire) l.initial.worker.link →
-      IsJoined g.W.Link.Link.told start links (g.W.Wire.outcomes l.wire) (g.W.Wire.open_links l.wire) l.worker.link;
+  told : (key : List ℕ) → IsUnused key l.form.path l.initial.shipment →
+      IsReadWhereTold g.W.Link.Link.told (g.K.Clock.moments l.clock) key l.form.path l.initial.worker.link l.worker.link l.shipment (g.T.Tail.told l.initial.tail) (g.T.Tail.told l.tail);
+  standing : (start : Option (List Outcome)) (count first : ℕ) →
+      IsStanding g.W.Link.Link.told start count first (g.W.Wire.outcomes l.initial.wire) (g.W.Wire.open_links l.initial.wire) (g.W.Wire.faults l.initial.wire) l.initial.worker.link →
+      IsStanding g.W.Link.Link.told start count first (g.W.Wire.outcomes l.wire) (g.W.Wire.open_links l.wire) (g.W.Wire.faults l.wire) l.worker.link;
 }

@@ -1,5 +1,5 @@
 use Rattle.std.proofs.Common.{rules}
-use Rattle.beat_run.proofs.LinePayloads.{holds-snoc}
+use Rattle.beat_run.proofs.EventLines.{holds-snoc}
 use Rattle.beat_run.proofs.batch.Batch.frame.Goals as goal
 
 pub returns-clause-added : goal.returns-clause-added

@@ -1,6 +1,7 @@
-use Rattle.beat_run.proofs.Standings.{joined_still}
+use Rattle.beat_run.proofs.Standings.{standing_served}
 use Rattle.beat_run.proofs.peer.Worker.deliver.Goals as goal
 
-pub returns-clause-joined : goal.returns-clause-joined
-returns-clause-joined g c = λ start links is.
-    joined_still _ _ _ _ _ c.in-Some.link c.serve.new.link c.serve.ensures.tells (rw c.in-Some.is at (c.connect.ensures.joined start links is))
+pub returns-clause-standing : goal.returns-clause-standing
+returns-clause-standing g c = λ start count first is.
+    standing_served _ g.L.Link.faults start count first _ _ _ c.in-Some.link c.serve.new.link _ _ c.serve.result c.requires.window c.serve.ensures.tells
+    c.serve.ensures.told c.serve.ensures.failed (rw c.in-Some.is at (rw c.in_ok-connect.was at (c.connect.ensures.standing start count first is)))

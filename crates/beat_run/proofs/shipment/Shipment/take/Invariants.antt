@@ -1,7 +1,8 @@
 use Rattle.std.proofs.Common.{◌≡◌, ◌+◌, ℕ, List, Option, length, vec_len}
+use Rattle.outside.specs.Times.{GivesMoment}
 use Rattle.outside.specs.Wires.{Outcome}
 use Rattle.beat_run.specs.Shipping.{IsSound, IsShipped}
-use Rattle.beat_run.specs.Standing.{IsJoined}
+use Rattle.beat_run.specs.Standing.{IsStanding}
 use Rattle.beat_run.proofs.Shipments.{IsTaken}
 use Rattle.beat_run.proofs.shipment.Shipment.take.Given as goal
 
@@ -10,11 +11,12 @@ invariant-loop-used g l = record {
   sound : IsSound l.self;
   placed : l.self.offset + l.self.batch.size + vec_len l.self.rest + length l.left
       ≡ l.initial.self.offset + l.initial.self.batch.size + vec_len l.initial.self.rest + length l.piece;
-  told : (bytes : List ℕ) → IsShipped g.W.Link.Link.told l.form.path l.initial.worker.link l.initial.self bytes →
-      IsTaken g.W.Link.Link.told l.form.path l.worker.link l.self bytes l.piece l.left;
-  joined : (start : Option (List Outcome)) (links : ℕ) →
-      IsJoined g.W.Link.Link.told start links (g.W.Wire.outcomes l.initial.wire) (g.W.Wire.open_links l.initial.wire) l.initial.worker.link →
-      IsJoined g.W.Link.Link.told start links (g.W.Wire.outcomes l.wire) (g.W.Wire.open_links l.wire) l.worker.link;
+  given : GivesMoment (g.K.Clock.moments l.fn.clock) l.now.0 (g.K.Clock.moments l.clock);
+  told : (key bytes : List ℕ) → IsShipped g.W.Link.Link.told (g.K.Clock.moments l.fn.clock) key l.form.path l.initial.worker.link l.initial.self bytes →
+      IsTaken g.W.Link.Link.told (g.K.Clock.moments l.clock) key l.form.path l.worker.link l.self bytes l.piece l.left;
+  standing : (start : Option (List Outcome)) (count first : ℕ) →
+      IsStanding g.W.Link.Link.told start count first (g.W.Wire.outcomes l.initial.wire) (g.W.Wire.open_links l.initial.wire) (g.W.Wire.faults l.initial.wire) l.initial.worker.link →
+      IsStanding g.W.Link.Link.told start count first (g.W.Wire.outcomes l.wire) (g.W.Wire.open_links l.wire) (g.W.Wire.faults l.wire) l.worker.link;
 }
 
 abbrev pub decreases-loop-used : goal.decreases-loop-used
