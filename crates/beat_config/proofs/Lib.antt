@@ -4,5 +4,6 @@ pub mod Each
 pub mod First
 pub mod Inputs
 pub mod Lists
+pub mod Nests
 pub mod Numbers
 pub mod Patterns

@@ -1,5 +1,5 @@
 -- What a document says, and what is wrong with it; and the same of the bytes that spell it (this project's profile).
-use Rattle.std.specs.Prelude.{◌≡◌, ◌⊎◌, ℕ, ◌<◌, ◌≤◌, List, [], ◌∷◌, ◌++◌, length, codes, Some, None, IsUtf8}
+use Rattle.std.specs.Prelude.{◌≡◌, ◌⊎◌, true, false, ℕ, ◌<◌, ◌≤◌, List, [], ◌∷◌, ◌++◌, length, codes, Some, None, IsUtf8}
 use Rattle.event_tree.specs.declared.settings.Settings.{Settings}
 use Rattle.toml.specs.Data.{Members, get_member}
 use Rattle.toml.specs.Parse.{parse_document}
@@ -7,6 +7,7 @@ use Rattle.beat_config.specs.declared.settings_error.SettingsError.{SettingsErro
 use Rattle.beat_config.specs.declared.settings_error.SettingsError.TheVariants.{TooLong, NotToml}
 use Rattle.beat_config.specs.Finding.{IsFirst}
 use Rattle.beat_config.specs.Input.{inputs_of, inputs_findings}
+use Rattle.beat_config.specs.Nesting.{nests_too_deep}
 use Rattle.beat_config.specs.Output.{output_of, output_findings, events_of, queue_findings, lanes_of, harvest_findings}
 use Rattle.beat_config.specs.Processors.{AreProcessorsOf, processors_findings}
 use Rattle.beat_config.specs.Table.{keys_findings}
@@ -36,18 +37,20 @@ pub record AreSettings (document : Members) (settings : Settings) : Type 0 where
 pub record AreSettingsOf (bytes : List ℕ) (settings : Settings) : Type 0 where
   pub few : length bytes ≤ 1048576
   pub text : IsUtf8 bytes
+  pub shallow : nests_too_deep bytes ≡ false
   pub document : Members
   pub parsed : parse_document bytes ≡ Some document
   pub faultless : document_findings document ≡ []
   pub said : AreSettings document settings
 
--- the bytes are no text, or no TOML document
+-- the bytes are no text, nest too deep, or are no TOML document
 abbrev pub IsNotToml : List ℕ → Type 0
-IsNotToml bytes = (¬ IsUtf8 bytes) ⊎ (parse_document bytes ≡ None)
+IsNotToml bytes = (¬ IsUtf8 bytes) ⊎ ((nests_too_deep bytes ≡ true) ⊎ (parse_document bytes ≡ None))
 
 -- the fault of a document is its first
 pub record IsFaultOf (bytes : List ℕ) (fault : SettingsError) : Type 0 where
   pub text : IsUtf8 bytes
+  pub shallow : nests_too_deep bytes ≡ false
   pub document : Members
   pub parsed : parse_document bytes ≡ Some document
   pub first : IsFirst (document_findings document) fault

@@ -7,6 +7,7 @@ pub mod Host
 pub mod Input
 pub mod Multiline
 pub mod Name
+pub mod Nesting
 pub mod Number
 pub mod Output
 pub mod Pairs

@@ -15,6 +15,7 @@ mod input;
 mod member;
 mod multiline;
 mod names;
+mod nesting;
 mod noted;
 mod number;
 mod output;

@@ -9,7 +9,7 @@ pub enum SettingsError {
     /// There are more than 1,048,576 bytes.
     #[error("too long")]
     TooLong,
-    /// The bytes are no TOML document.
+    /// The bytes are no TOML document, or nest too deep for one.
     #[error("not toml")]
     NotToml,
     /// There is no such key.
