@@ -6,7 +6,6 @@ All files that a run makes lie in a temporary folder.
 """
 
 import shutil
-import subprocess
 import sys
 import tempfile
 from pathlib import Path
@@ -29,19 +28,8 @@ def settings_for(log, host):
 
 def run_unproved(settings):
     """Builds and runs the program with no proof. It runs in a folder of its own, of which nothing is kept."""
-    started = subprocess.Popen(
-        ["rt", "try", "--", "-c", str(settings), "--once"],
-        cwd=program.CRATE,
-        stdin=subprocess.DEVNULL,
-        stdout=subprocess.PIPE,
-        stderr=subprocess.PIPE,
-    )
-    try:
-        wrote, complained = started.communicate(timeout=PATIENCE)
-    except subprocess.TimeoutExpired:
-        started.terminate()
-        wrote, complained = started.communicate()
-    return subprocess.CompletedProcess(started.args, started.returncode, wrote, complained)
+    started = program.start("rt", ["try", "--", "-c", str(settings), "--once"], program.CRATE)
+    return program.finish(started, PATIENCE)
 
 
 def show(payload):

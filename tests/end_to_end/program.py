@@ -7,8 +7,9 @@ from pathlib import Path
 ROOT = Path(__file__).resolve().parents[2]
 CRATE = ROOT / "crates" / "beat_main"
 
-# seconds after which a run is ended
+# seconds that a run may take, and seconds that it has to end once it is asked to
 LIMIT = 20
+GRACE = 5
 
 
 class Missing(Exception):
@@ -51,19 +52,37 @@ def settings_text(path, host, input_id="w"):
     )
 
 
-def run(program, words, folder):
-    """Runs the program in a folder, and ends it after the limit; its status and what it wrote."""
-    started = subprocess.Popen(
+def start(program, words, folder):
+    """Starts a program in a folder; `finish` waits for its end."""
+    return subprocess.Popen(
         [os.fspath(program), *words],
         cwd=folder,
         stdin=subprocess.DEVNULL,
         stdout=subprocess.PIPE,
         stderr=subprocess.PIPE,
     )
+
+
+def finish(started, limit=LIMIT):
+    """Waits until a started program has ended, and ends it after the limit; its status and what it wrote."""
     try:
-        wrote, complained = started.communicate(timeout=LIMIT)
+        wrote, complained = started.communicate(timeout=limit)
+    except subprocess.TimeoutExpired:
+        wrote, complained = end(started)
+        raise TooLong(f"not ended after {limit} seconds; it wrote {wrote!r} {complained!r}") from None
+    return subprocess.CompletedProcess(started.args, started.returncode, wrote, complained)
+
+
+def end(started):
+    """Asks a started program to end, and kills it where it does not; what it wrote."""
+    started.terminate()
+    try:
+        return started.communicate(timeout=GRACE)
     except subprocess.TimeoutExpired:
         started.kill()
-        wrote, complained = started.communicate()
-        raise TooLong(f"not ended after {LIMIT} seconds; it wrote {wrote!r} {complained!r}") from None
-    return subprocess.CompletedProcess(started.args, started.returncode, wrote, complained)
+        return started.communicate()
+
+
+def run(program, words, folder):
+    """Runs the program in a folder, at most until the limit; its status and what it wrote."""
+    return finish(start(program, words, folder))
