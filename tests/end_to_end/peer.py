@@ -18,6 +18,9 @@ from dataclasses import dataclass
 # how long a call on a socket waits before it looks whether the receiver is to end
 GLANCE = 0.05
 
+# the fault of a client that ends, or is ended, before its window is whole
+CUT_OFF = "the connection ended within a window"
+
 
 class Behaviour(enum.Enum):
     """What the receiver does once a whole window has come in."""
@@ -85,6 +88,7 @@ class Talk:
         self._peer = peer
         self._window = []
         self._count = 0
+        self._answered = 0
 
     @property
     def is_between(self):
@@ -108,6 +112,9 @@ class Talk:
         return self.is_between and self._answer()
 
     def _answer(self):
+        if self._answered == self._peer.windows:
+            return True
+        self._answered += 1
         behaviour = self._peer.behaviour
         if behaviour is Behaviour.WHOLE:
             self._acknowledge(self._count)
@@ -122,15 +129,13 @@ class Talk:
         return behaviour in (Behaviour.SILENT, Behaviour.PART)
 
     def _acknowledge(self, sequence, pause=None):
-        # noted first: once it is out, the client may end before this thread goes on
-        self._peer.acknowledged += self._window[:sequence]
         answer = struct.pack(">2sI", b"2A", sequence)
-        if pause is None:
-            self._link.sendall(answer)
-            return
-        for byte in answer:
-            self._link.sendall(bytes([byte]))
-            time.sleep(pause)
+        if pause is not None:
+            for byte in answer[:-1]:
+                self._link.sendall(bytes([byte]))
+                time.sleep(pause)
+            answer = answer[-1:]
+        self._peer.acknowledge(self._window[:sequence], self._link, answer)
 
 
 class Peer:
@@ -139,8 +144,10 @@ class Peer:
     Read what it recorded after `end`, which waits until all that came in was taken.
     """
 
-    def __init__(self, behaviour=Behaviour.WHOLE, port=0, tell=None):
+    def __init__(self, behaviour=Behaviour.WHOLE, windows=None, port=0, tell=None):
         self.behaviour = behaviour
+        # how many windows of a connection it answers; in place of one more answer it closes the connection
+        self.windows = windows
         # what was received: the bytes of each connection, all frames and all payloads, in order
         self.raw = []
         self.frames = []
@@ -149,7 +156,11 @@ class Peer:
         self.acknowledged = []
         # how the client broke the protocol
         self.faults = []
+        # set once it has closed a connection of its own accord
+        self.hung_up = threading.Event()
         self._tell = tell
+        self._acknowledging = threading.Lock()
+        self._is_silent = False
         self._ending = threading.Event()
         self._listener = socket.create_server(("127.0.0.1", port))
         self._listener.settimeout(GLANCE)
@@ -181,6 +192,20 @@ class Peer:
         self.payloads.append(payload)
         if self._tell:
             self._tell(payload)
+
+    def acknowledge(self, payloads, link, answer):
+        """Notes the payloads, and sends what is left of the answer that acknowledges them."""
+        with self._acknowledging:
+            if self._is_silent:
+                return
+            # noted first: once it is out, the client may end before this thread goes on
+            self.acknowledged += payloads
+            link.sendall(answer)
+
+    def fall_silent(self):
+        """Nothing is acknowledged from now on."""
+        with self._acknowledging:
+            self._is_silent = True
 
     def _serve(self):
         while True:
@@ -214,12 +239,14 @@ class Peer:
                 continue
             if not piece:
                 if not (frames.is_between and talk.is_between):
-                    raise Fault("the connection ended within a window")
+                    raise Fault(CUT_OFF)
                 return
             self.raw[-1] += piece
             for frame in frames.feed(piece):
                 self.frames.append(frame)
                 if talk.take(frame):
+                    link.close()
+                    self.hung_up.set()
                     return
 
 

@@ -1,28 +1,45 @@
 #!/usr/bin/env python3
 """Runs the program over real files, a real socket and a real registry area, and compares what it did.
 
-    python3 tests/end_to_end/run.py [--program PATH] [NAME..]
+    python3 tests/end_to_end/run.py [--program PATH] [--seed N] [NAME..]
 
 Names choose tests; without any, all are run.
 """
 
 import argparse
+import contextlib
 import datetime
 import json
+import random
 import re
+import signal
 import socket
+import subprocess
 import sys
 import tempfile
+import time
 import traceback
 import unittest
 from pathlib import Path
 
 import program
 from area import area, key_of, row, rows_of, text
-from peer import Behaviour, Peer, Window
+from peer import CUT_OFF, Behaviour, Peer, Window
 
 USAGE = "status 2 usage: beat_main -c FILE [--once] [--data DIR] [--generate N]"
 UNREACHABLE = "status 7 unreachable worker 0 failures 1"
+ONCE = ("-c", "beat.toml", "--once")
+# so many lines go into one window at most
+WINDOW = 2048
+# the peers of the runs that are killed: how they acknowledge, and how many windows before they hang up
+KILLED_WITH = (
+    (Behaviour.WHOLE, None),
+    (Behaviour.SINGLE_BYTES, None),
+    (Behaviour.WHOLE, 2),
+    (Behaviour.SINGLE_BYTES, 1),
+)
+# so many runs are killed with each of them
+KILLS = 5
 STAMP = re.compile(rb'\{"@timestamp":"(\d{4}-\d\d-\d\dT\d\d:\d\d:\d\d\.\d{3}Z)"')
 
 
@@ -37,10 +54,36 @@ def unused_host():
     return holder, "127.0.0.1:%d" % holder.getsockname()[1]
 
 
+def numbered_lines(count):
+    """So many short lines as the content of a file, and as events: the offset and the message of each."""
+    content, events = "", []
+    for number in range(count):
+        message = f"line {number}"
+        events.append((len(content), message))
+        content += f"{message}\n"
+    return content.encode(), events
+
+
+def events_of(payloads):
+    """The offset and the message of each."""
+    events = map(json.loads, payloads)
+    return [(event["log"]["offset"], event["message"]) for event in events]
+
+
+def end_of(events):
+    """The place behind the last of these lines."""
+    return max((offset + len(message) + 1 for offset, message in events), default=0)
+
+
 class EndToEnd(unittest.TestCase):
     tested = None
+    seed = 0
 
     def setUp(self):
+        self.enter_new_folder()
+
+    def enter_new_folder(self):
+        """The folder of the next run; it is removed when the test has ended."""
         room = tempfile.TemporaryDirectory(prefix="beat-test-")
         self.addCleanup(room.cleanup)
         self.folder = Path(room.name).resolve()
@@ -52,15 +95,55 @@ class EndToEnd(unittest.TestCase):
     def run_words(self, *words):
         return program.run(self.tested, words, self.folder)
 
-    def run_settings(self, settings):
+    def write_settings(self, settings):
         (self.folder / "beat.toml").write_bytes(settings.encode())
-        return self.run_words("-c", "beat.toml", "--once")
+
+    def run_settings(self, settings):
+        self.write_settings(settings)
+        return self.run_words(*ONCE)
+
+    def start(self, content, peer):
+        """Starts a run over a file with this content; without content there is no file."""
+        if content is not None:
+            Path(self.path).write_bytes(content)
+        self.write_settings(program.settings_text(self.path, peer.host))
+        return program.start(self.tested, ONCE, self.folder)
 
     def ship(self, content, peer):
         """One run over a file with this content; without content there is no file."""
-        if content is not None:
-            Path(self.path).write_bytes(content)
-        return self.run_settings(program.settings_text(self.path, peer.host))
+        return program.finish(self.start(content, peer))
+
+    @contextlib.contextmanager
+    def shipping(self, content, peer):
+        """A run in a folder of its own, from its start on or, where the peer hangs up, from then on."""
+        self.enter_new_folder()
+        with peer, self.start(content, peer) as started:
+            try:
+                if peer.windows is not None:
+                    self.assertTrue(peer.hung_up.wait(program.LIMIT), "the peer got no window to hang up at")
+                yield started
+            finally:
+                started.kill()
+
+    def seconds_undisturbed(self, content, peer):
+        """How long such a run goes on that nobody kills. It stores all that was acknowledged."""
+        with self.shipping(content, peer) as started:
+            since = time.monotonic()
+            program.finish(started)
+            seconds = time.monotonic() - since
+        self.assertEqual(self.area.read_bytes(), area(row(self.path, end_of(events_of(peer.acknowledged)))))
+        return seconds
+
+    def ship_and_kill(self, content, peer, seconds):
+        """Such a run, killed after so many seconds. True where it had not ended before."""
+        with self.shipping(content, peer) as started:
+            try:
+                started.communicate(timeout=seconds)
+            except subprocess.TimeoutExpired:
+                # so that nothing is noted as acknowledged that the program could not have heard
+                peer.fall_silent()
+                started.kill()
+        return started.returncode == -signal.SIGKILL
 
     # what it compares
 
@@ -92,9 +175,21 @@ class EndToEnd(unittest.TestCase):
         """The area has the one row of the file, at 0 or at the end of an event that was acknowledged."""
         (stored,) = rows_of(self.area.read_bytes())
         self.assertEqual(stored, row(self.path, stored["offset"]))
-        events = [json.loads(payload) for payload in peer.acknowledged]
-        ends = [event["log"]["offset"] + len(event["message"]) + 1 for event in events]
-        self.assertIn(stored["offset"], [0, *ends])
+        ends = [0] + [end_of([event]) for event in events_of(peer.acknowledged)]
+        why = f"{stored['offset']} ends no acknowledged line; the last of them ends at {ends[-1]}"
+        self.assertTrue(stored["offset"] in ends, why)
+
+    def assert_first_acknowledged(self, peer, events):
+        """What was acknowledged are the first of these events, in order and without a gap."""
+        acknowledged = events_of(peer.acknowledged)
+        self.assertTrue(acknowledged == events[: len(acknowledged)], "not the first lines were acknowledged")
+
+    def assert_killed_is_covered(self, peer, events):
+        """Each line before the offset of the row was acknowledged, where the run left an area that is opened."""
+        self.assertLessEqual(set(peer.faults), {CUT_OFF})
+        self.assert_first_acknowledged(peer, events)
+        if self.area.exists() and self.area.read_bytes().startswith(b"{"):
+            self.assert_covered(peer)
 
     # one file and a peer that acknowledges all
 
@@ -150,16 +245,12 @@ class EndToEnd(unittest.TestCase):
 
     def test_more_lines_than_a_window(self):
         since = now()
-        lines = [f"line {number}" for number in range(2050)]
-        content = "".join(f"{line}\n" for line in lines)
-        offsets = [0]
-        for line in lines:
-            offsets.append(offsets[-1] + len(line) + 1)
+        content, events = numbered_lines(WINDOW + 2)
         with Peer() as peer:
-            ran = self.ship(content.encode(), peer)
-        self.assert_events(peer, list(zip(offsets, lines)), since)
-        self.assert_report(ran, len(content), 2050)
-        self.assertLessEqual(max(it.count for it in peer.frames if isinstance(it, Window)), 2048)
+            ran = self.ship(content, peer)
+        self.assert_events(peer, events, since)
+        self.assert_report(ran, len(content), WINDOW + 2)
+        self.assertLessEqual(max(it.count for it in peer.frames if isinstance(it, Window)), WINDOW)
 
     # words and settings that are refused
 
@@ -236,6 +327,33 @@ class EndToEnd(unittest.TestCase):
     def test_acknowledgement_of_a_part(self):
         self.ship_to_faulty(Behaviour.PART)
 
+    def test_second_window_unacknowledged_keeps_the_first(self):
+        since = now()
+        content, events = numbered_lines(WINDOW + 2)
+        with Peer(windows=1) as peer:
+            ran = self.ship(content, peer)
+        self.assert_events(peer, events, since)
+        self.assertEqual(len(peer.acknowledged), WINDOW)
+        self.assert_first_acknowledged(peer, events)
+        self.assert_wrote(ran, UNREACHABLE)
+        self.assertEqual(self.area.read_bytes(), area(row(self.path, end_of(events[:WINDOW]))))
+
+    # runs that are killed
+
+    def test_killed_at_random_no_offset_passes_an_unacknowledged_line(self):
+        chance = random.Random(self.seed)
+        content, events = numbered_lines(3 * WINDOW)
+        killed = 0
+        for behaviour, windows in KILLED_WITH:
+            undisturbed = self.seconds_undisturbed(content, Peer(behaviour, windows))
+            for part in range(KILLS):
+                seconds = undisturbed * (part + chance.random()) / KILLS
+                with self.subTest(seed=self.seed, peer=behaviour.name, windows=windows, seconds=seconds):
+                    peer = Peer(behaviour, windows)
+                    killed += self.ship_and_kill(content, peer, seconds)
+                    self.assert_killed_is_covered(peer, events)
+        self.assertGreater(killed, 0, f"no run was killed before its end, with the seed {self.seed}")
+
 
 class Lines(unittest.TestResult):
     """One line for each test, and below a failed one what was wrong."""
@@ -280,6 +398,7 @@ def main():
     every = [it[len("test_") :] for it in vars(EndToEnd) if it.startswith("test_")]
     words = argparse.ArgumentParser(description="Tests the program from outside.")
     words.add_argument("--program", type=Path, help="the program (default: the one that rt ci built)")
+    words.add_argument("--seed", type=int, default=random.randrange(10**6), help="what random moments come from")
     words.add_argument("names", nargs="*", metavar="NAME", help="a test (default: all)")
     given = words.parse_args()
     unknown = [it for it in given.names if it not in every]
@@ -291,6 +410,7 @@ def main():
         print(fault)
         print("end to end: 0 passed, 1 failed")
         return 1
+    EndToEnd.seed = given.seed
     result = Lines()
     for name in given.names or every:
         EndToEnd(f"test_{name}").run(result)
