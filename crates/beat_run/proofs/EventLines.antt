@@ -1,5 +1,5 @@
 -- Lines that are events, lines behind lines, and one line more.
-use Rattle.std.proofs.Common.{◌≡◌, ℕ, suc, ◌+◌, ◌<◌, ◌≤◌, List, [], ◌∷◌, ◌++◌, length, drop, get_or, map, All, Option, Some, None, refl, sym, ◌∙◌, ap, subst, append_assoc, append-nil, arith, length-append}
+use Rattle.std.proofs.Common.{◌≡◌, ℕ, suc, ◌+◌, ◌<◌, ◌≤◌, List, [], ◌∷◌, ◌++◌, length, drop, get_or, Option, Some, None, refl, sym, ◌∙◌, ap, subst, append_assoc, append-nil, arith, length-append}
 use Rattle.std.specs.List.{AllByRecursion}
 use Rattle.std.proofs.lemmas.Grind.{flat_map-append}
 use Rattle.wire_base.specs.Extent.{Extent}
@@ -8,12 +8,12 @@ use Rattle.wire_base.specs.declared.parcel.TheConstants.{MAX_PAYLOAD}
 use Rattle.lumber_frame.specs.declared.frame.Frame.TheVariants.{Json}
 use Rattle.lumber_frame.specs.Frame.{frame_bytes, json_head_bytes}
 use Rattle.lumber_frame.specs.Window.{numbered}
-use Rattle.ship_core.specs.CoveredEnd.{Adjoin, last_end}
+use Rattle.ship_core.specs.CoveredEnd.{Adjoin}
 use Rattle.ship_core.specs.OneLife.{spans_of}
 use Rattle.beat_run.specs.declared.batch.Batch.{Batch}
 use Rattle.beat_run.specs.declared.waiting.Waiting.{Waiting}
-use Rattle.beat_run.specs.Batches.{HoldsPayloads, HoldsLines, IsBatch, behind_payload}
-use Rattle.beat_run.specs.Events.{Event, AreLineEvents, IsLineEvent, line_bytes, lines_bytes, end_of, fate_of_line, with_payload, payloads_of, waiting_of, settlements_in, acked_by, dropped_by, acked_in, dropped_in}
+use Rattle.beat_run.specs.Batches.{HoldsPayloads, HoldsLines, behind_payload}
+use Rattle.beat_run.specs.Events.{Event, AreLineEvents, line_bytes, lines_bytes, end_of, fate_of_line, with_payload, payloads_of, waiting_of, settlements_in, acked_by, dropped_by, acked_in, dropped_in}
 use Rattle.beat_run.specs.Fate.{Fate, DroppedBy, ShippedAs, payload_of_fate, cause_of_fate}
 
 -- one frame more
@@ -96,10 +96,6 @@ waiting-append path start (event ∷ events) more =
 pub events-append : (moments : Option (List ℕ)) (events more : List Event) → AreLineEvents moments events → AreLineEvents moments more → AreLineEvents moments (events ++ more)
 events-append moments [] more each others = others
 events-append moments (event ∷ events) more each others = (each.0, events-append moments events more each.1 others)
-
-pub events_front : (moments : Option (List ℕ)) (events more : List Event) → AreLineEvents moments (events ++ more) → AreLineEvents moments events
-events_front moments [] more each = tt
-events_front moments (event ∷ events) more each = (each.0, events_front moments events more each.1)
 
 -- the first of what waits is the first of the lines
 pub record FrontOfLines (path : List ℕ) (start : ℕ) (events : List Event) (front : List Waiting) : Type 0 where

@@ -1,5 +1,5 @@
 -- A file that is read piece by piece and shipped.
-use Rattle.std.proofs.Common.{◌≡◌, ◌≢◌, ℕ, List, [], ◌++◌, All, Option, Some, None, Result, Ok, Err, IfSome, IfErr, MatchResult, OnOk, length, vec_len, ◌+◌, ◌<◌, ◌≤◌, arith, length-append, refl, sym, ◌∙◌, ap, subst, append-nil}
+use Rattle.std.proofs.Common.{◌≡◌, ℕ, List, [], ◌++◌, All, Option, Some, None, Result, Ok, Err, IfSome, IfErr, MatchResult, OnOk, length, vec_len, ◌+◌, ◌<◌, ◌≤◌, arith, length-append, refl, sym, ◌∙◌, ap, subst, append-nil}
 use Rattle.std.proofs.lemmas.List.{nil_from_length}
 use Rattle.std.proofs.lemmas.List.Elements.{All-nil}
 use Rattle.outside.specs.declared.history.Look.{Look}
@@ -11,15 +11,15 @@ use Rattle.beat_run.specs.declared.progress.Progress.{Progress}
 use Rattle.beat_run.specs.declared.status.Status.{Status}
 use Rattle.beat_run.specs.declared.shipment.Shipment.{Shipment}
 use Rattle.beat_run.specs.Ends.{IsLineEnd}
-use Rattle.beat_run.specs.Events.{lines_bytes, payloads_of}
+use Rattle.beat_run.specs.Events.{AreLineEvents, Event, lines_bytes, payloads_of}
 use Rattle.beat_run.specs.Followed.{HasEndLook}
 use Rattle.beat_run.specs.Lines.{IsPlainByte}
-use Rattle.beat_run.specs.Reading.{AddsBytes, AreInOrder, ReadsPiece, bytes_read}
-use Rattle.beat_run.specs.Serving.{HasSettled}
+use Rattle.beat_run.specs.Reading.{AddsBytes, AreInOrder, GoesOnReaching, NoneShorter, ReadsPiece, bytes_read}
+use Rattle.beat_run.specs.Serving.{HasServed, HasSettled}
 use Rattle.beat_run.specs.Unbuilt.{IsSendable}
 use Rattle.beat_run.specs.Shipping.{IsShipped, IsCovered, IsFileStopped, IsFileWhole, IsSeen, IsUnused}
 use Rattle.beat_run.proofs.Living.{front_of_life, in_order-append, read_many, total}
-use Rattle.beat_run.proofs.PieceReads.{EndsAt, reads_end}
+use Rattle.beat_run.proofs.PieceReads.{EndsAt, none_shorter_still, reads_end}
 use Rattle.beat_run.proofs.Services.{settled_serves}
 use Rattle.beat_run.proofs.Shipments.{sendable}
 use Rattle.beat_run.proofs.Stoppings.{sending_ends}
@@ -31,6 +31,7 @@ pub record IsReadSo {L : Type 0} (told : L → Option Talk) (moments : Option (L
   pub same_opening : history.opening ≡ start.opening
   pub same_file : history.file ≡ start.file
   pub in_order : AreInOrder history.file 0 history.looks
+  pub reaches : NoneShorter 0 history.looks
   pub shipped : IsShipped told moments key path link shipment (bytes_read history.file history.looks)
 
 abbrev pub IsReadWhereTold : {L : Type 0} → (L → Option Talk) → Option (List ℕ) → List ℕ → List ℕ → Option L → Option L → Shipment → Option TailHistory → Option TailHistory → Type 0
@@ -44,12 +45,14 @@ reading_starts told moments key path link shipment (Some begun) unused = λ none
     let P : List ℕ → Type 0 = λ l. IsShipped told moments key path link shipment l in
     let A : List ℕ → Type 0 = λ l. All IsPlainByte l in
     let O : List Look → Type 0 = λ l. AreInOrder begun.file 0 l in
+    let N : List Look → Type 0 = λ l. NoneShorter 0 l in
     record {
       history = begun;
       tail_told = refl;
       same_opening = refl;
       same_file = refl;
       in_order = subst O (sym none) tt;
+      reaches = subst N (sym none) tt;
       shipped = subst P (sym (ap (λ looks. bytes_read begun.file looks) none)) (record {
         settled = [];
         each = tt;
@@ -80,13 +83,28 @@ in_order_still file later looks more all place first second same are position =
     let here : place ≡ 0 + total looks = omega (arith, position, read_many file 0 looks first) in
     subst F (sym same) (subst L (sym are) (in_order-append file 0 looks more first (subst P here second)))
 
+-- the place that was read up to
+looks_total : {L : Type 0} (told : L → Option Talk) (moments : Option (List ℕ)) (key path : List ℕ) (first link : Option L) (shipment : Shipment) (begun : TailHistory) (between : Option TailHistory) (place : ℕ) →
+    place ≡ shipment.offset + shipment.batch.size + vec_len shipment.rest → (so : IsReadSo told moments key path link shipment begun between) → place ≡ 0 + total so.history.looks
+looks_total told moments key path first link shipment begun between place position so =
+    omega (arith, position, position_is told moments key path link shipment (bytes_read so.history.file so.history.looks) so.shipped, read_many so.history.file 0 so.history.looks so.in_order)
+
+-- looks on, where both are told
+looks_between : (before now : TailHistory) (told after : Option TailHistory) (P : List Look → List Look → Type 0) → told ≡ Some before → after ≡ Some now →
+    IfSome told (λ t. IfSome after (λ a. P t.looks a.looks)) → P before.looks now.looks
+looks_between before now told after P is now_is looks =
+    let T : Option TailHistory → Type 0 = λ o. IfSome o (λ t. IfSome after (λ a. P t.looks a.looks)) in
+    let A : Option TailHistory → Type 0 = λ o. IfSome o (λ a. P before.looks a.looks) in
+    subst A now_is (subst T is looks)
+
 -- a piece more
 pub reading_goes_on : {L : Type 0} (told : L → Option Talk) (moments later : Option (List ℕ)) (key path : List ℕ) (first link after : Option L) (old new : Shipment) (start between now : Option TailHistory) (place : ℕ) (piece : List ℕ) →
     place ≡ old.offset + old.batch.size + vec_len old.rest → IsReadWhereTold told moments key path first link old start between → IfSome between (λ history. AddsBytes history place piece now) →
+    IfSome between (λ before. IfSome now (λ after. GoesOnReaching place before.looks after.looks)) →
     ((bytes : List ℕ) → IsShipped told moments key path link old bytes → IsShipped told later key path after new (bytes ++ piece)) →
     IsReadWhereTold told later key path first after new start now
-reading_goes_on told moments later key path first link after old new None between now place piece position was adds takes = tt
-reading_goes_on told moments later key path first link after old new (Some begun) between now place piece position was adds takes = λ none settled.
+reading_goes_on told moments later key path first link after old new None between now place piece position was adds looks takes = tt
+reading_goes_on told moments later key path first link after old new (Some begun) between now place piece position was adds looks takes = λ none settled.
     let so = was none settled in
     let A : Option TailHistory → Type 0 = λ o. IfSome o (λ history. AddsBytes history place piece now) in
     let more : AddsBytes so.history place piece now = subst A so.tail_told adds in
@@ -98,6 +116,8 @@ reading_goes_on told moments later key path first link after old new (Some begun
       same_file = more.same_file ∙ so.same_file;
       in_order = in_order_still so.history.file more.history.file so.history.looks more.more more.history.looks place so.in_order more.in_order more.same_file more.looks_on
           (position ∙ sym (position_is told moments key path link old (bytes_read so.history.file so.history.looks) so.shipped));
+      reaches = none_shorter_still place so.history.looks more.history.looks (looks_total told moments key path first link old begun between place position so) so.reaches
+          (looks_between so.history more.history between now (GoesOnReaching place) so.tail_told more.tail_told looks);
       shipped = subst P (sym more.added) (takes (bytes_read so.history.file so.history.looks) so.shipped);
     }
 
@@ -106,10 +126,12 @@ pub reading_stops : {L : Type 0} (told : L → Option Talk) (moments : Option (L
     (Q : List ℕ → Type 0) (P : File → List Look → Type 0) →
     place ≡ old.offset + old.batch.size + vec_len old.rest → IsReadWhereTold told moments key path first link old start between → IfSome between (λ history. AddsBytes history place piece now) →
     ((bytes : List ℕ) → IsShipped told moments key path link old bytes → Q (bytes ++ piece)) →
-    ((history : TailHistory) → now ≡ Some history → (bytes : List ℕ) → length bytes ≡ place → bytes_read history.file history.looks ≡ bytes ++ piece → Q (bytes_read history.file history.looks) → P history.file history.looks) →
+    (R : List Look → List Look → Type 0) → IfSome between (λ before. IfSome now (λ after. R before.looks after.looks)) →
+    ((history : TailHistory) → now ≡ Some history → (bytes : List ℕ) → length bytes ≡ place → bytes_read history.file history.looks ≡ bytes ++ piece → Q (bytes_read history.file history.looks) →
+    (before : List Look) → NoneShorter 0 before → place ≡ 0 + total before → R before history.looks → P history.file history.looks) →
     IfSome start (λ begun. begun.looks ≡ [] → HasSettled told first [] → IsSeen begun P now)
-reading_stops told moments key path first link old None between now place piece Q P position was adds takes so = tt
-reading_stops told moments key path first link old (Some begun) between now place piece Q P position was adds takes so = λ none settled.
+reading_stops told moments key path first link old None between now place piece Q P position was adds takes R looks so = tt
+reading_stops told moments key path first link old (Some begun) between now place piece Q P position was adds takes R looks so = λ none settled.
     let was_so = was none settled in
     let A : Option TailHistory → Type 0 = λ o. IfSome o (λ history. AddsBytes history place piece now) in
     let more : AddsBytes was_so.history place piece now = subst A was_so.tail_told adds in
@@ -121,39 +143,49 @@ reading_stops told moments key path first link old (Some begun) between now plac
       same_opening = more.same_opening ∙ was_so.same_opening;
       same_file = more.same_file ∙ was_so.same_file;
       front = front_of_life more.history.file more.history.looks (in_order_still was_so.history.file more.history.file was_so.history.looks more.more more.history.looks place was_so.in_order more.in_order more.same_file more.looks_on (sym here));
-      seen = so more.history more.tail_told bytes here more.added (subst Q (sym more.added) (takes bytes was_so.shipped));
+      seen = so more.history more.tail_told bytes here more.added (subst Q (sym more.added) (takes bytes was_so.shipped))
+          was_so.history.looks was_so.reaches (looks_total told moments key path first link old begun between place position was_so) (looks_between was_so.history more.history between now R was_so.tail_told more.tail_told looks);
     }
 
 -- nothing waits: the lines that are settled are all
 whole : {L : Type 0} (told : L → Option Talk) (moments : Option (List ℕ)) (key path : List ℕ) (link : Option L) (shipment : Shipment) (file : File) (looks : List Look) (bytes : List ℕ) →
-    bytes_read file looks ≡ bytes → shipment.batch.size ≡ 0 → vec_len shipment.rest ≤ LINE → IsShipped told moments key path link shipment bytes → HasEndLook (length (bytes_read file looks)) looks →
+    bytes_read file looks ≡ bytes → shipment.batch.size ≡ 0 → vec_len shipment.rest ≤ LINE → IsShipped told moments key path link shipment bytes → NoneShorter 0 looks → HasEndLook (length (bytes_read file looks)) looks →
     IsFileWhole told moments key path link shipment.progress file looks
-whole told moments key path link shipment file looks bytes read empty short is ended =
+whole told moments key path link shipment file looks bytes read empty short is reaches ended =
     let none : lines_bytes is.waiting ≡ [] = nil_from_length (lines_bytes is.waiting) (sym is.holds.size ∙ empty) in
     let S : List ℕ → Type 0 = λ l. IsSendable l in
+    let H : List Event → Type 0 = λ l. HasServed told link (payloads_of path 0 is.settled) (payloads_of path 0 l) in
+    let E : List Event → Type 0 = λ l. AreLineEvents moments l in
     record {
       whole = record {
         covered = record {
           settled = is.settled;
+          sent = [];
           rest = shipment.rest.items;
-          each = is.each;
+          each = subst E (sym (append-nil is.settled)) is.each;
           done = is.done;
-          acknowledged = settled_serves told link (payloads_of path 0 is.settled) is.acknowledged;
-          spelled = read ∙ is.spelled ∙ ap (λ (l : List ℕ). lines_bytes is.settled ++ (l ++ shipment.rest.items)) none;
+          acknowledged = subst H (sym (append-nil is.settled)) (settled_serves told link (payloads_of path 0 is.settled) is.acknowledged);
+          spelled = read ∙ is.spelled ∙ ap (λ (l : List ℕ). lines_bytes is.settled ++ (l ++ shipment.rest.items)) none
+              ∙ ap (λ (l : List Event). lines_bytes l ++ shipment.rest.items) (sym (append-nil is.settled));
         };
+        all = refl;
         complete = is.plain;
         acknowledged = is.acknowledged;
       };
       sendable = subst S (sym read) (sendable told moments key path link shipment bytes is short);
+      none_shorter = reaches;
       ended = ended;
     }
 
+end_reaches : (before : List Look) (place : ℕ) (now : List Look) → NoneShorter 0 before → place ≡ 0 + total before → GoesOnReaching place before now → NoneShorter 0 now
+end_reaches before place now none here goes = none_shorter_still place before now here none goes
+
 ended : {L : Type 0} (told : L → Option Talk) (moments : Option (List ℕ)) (key path : List ℕ) (link after : Option L) (old new : Shipment) (begun : TailHistory) (between now : Option TailHistory)
-    (place : ℕ) (result : Result (Unit {0}) Status) (so : IsReadSo told moments key path link old begun between) → EndsAt so.history place now →
+    (place : ℕ) (result : Result (Unit {0}) Status) (so : IsReadSo told moments key path link old begun between) → EndsAt so.history place now → place ≡ 0 + total so.history.looks →
     place ≡ old.offset + old.batch.size + vec_len old.rest → OnOk result (new.batch.size ≡ 0) → OnOk result (vec_len new.rest ≤ LINE) →
     MatchResult result (λ _. IsShipped told moments key path after new (bytes_read so.history.file so.history.looks)) (λ _. IsCovered told moments key path after new.progress (bytes_read so.history.file so.history.looks)) → IfErr result IsLineEnd →
     MatchResult result (λ _. IsSeen begun (IsFileWhole told moments key path after new.progress) now) (λ status. IsSeen begun (IsFileStopped told moments key path after new.progress status) now)
-ended told moments key path link after old new begun between now place (Ok done) so end position empty short sent ends =
+ended told moments key path link after old new begun between now place (Ok done) so end total_is position empty short sent ends =
     let E : ℕ → Type 0 = λ n. HasEndLook n end.history.looks in
     record {
       history = end.history;
@@ -162,10 +194,10 @@ ended told moments key path link after old new begun between now place (Ok done)
       same_file = end.same_file ∙ so.same_file;
       front = front_of_life end.history.file end.history.looks (in_order_still so.history.file end.history.file so.history.looks end.more end.history.looks place so.in_order end.in_order end.same_file end.looks_on
           (position ∙ sym (position_is told moments key path link old (bytes_read so.history.file so.history.looks) so.shipped)));
-      seen = whole told moments key path after new end.history.file end.history.looks (bytes_read so.history.file so.history.looks) end.none_more empty short sent
+      seen = whole told moments key path after new end.history.file end.history.looks (bytes_read so.history.file so.history.looks) end.none_more empty short sent (end_reaches so.history.looks place end.history.looks so.reaches total_is end.reaches)
           (subst E (position ∙ sym (position_is told moments key path link old (bytes_read so.history.file so.history.looks) so.shipped) ∙ sym (ap length end.none_more)) end.ended);
     }
-ended told moments key path link after old new begun between now place (Err status) so end position empty short sent ends =
+ended told moments key path link after old new begun between now place (Err status) so end total_is position empty short sent ends =
     let C : List ℕ → Type 0 = λ l. IsCovered told moments key path after new.progress l in
     record {
       history = end.history;
@@ -191,7 +223,7 @@ reading_ends told moments key path first link after old new (Some begun) between
     let so = was unused settled in
     let R : Option TailHistory → Type 0 = λ o. ReadsPiece o place into count now in
     let end : EndsAt so.history place now = reads_end so.history place count into now some none (subst R so.tail_told reads) in
-    ended told moments key path link after old new begun between now place result so end position empty short (sent (bytes_read so.history.file so.history.looks) so.shipped) ends
+    ended told moments key path link after old new begun between now place result so end (looks_total told moments key path first link old begun between place position so) position empty short (sent (bytes_read so.history.file so.history.looks) so.shipped) ends
 
 -- no byte more
 pub nothing_more : {L : Type 0} (told : L → Option Talk) (moments : Option (List ℕ)) (key path : List ℕ) (after : Option L) (progress : Progress) (bytes none : List ℕ) → none ≡ [] →

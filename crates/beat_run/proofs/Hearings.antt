@@ -1,5 +1,5 @@
 -- What the bytes of a peer are that are no front of an acknowledgement.
-use Rattle.std.proofs.Common.{◌≡◌, ℕ, ◌≤◌, ◌<◌, List, [], ◌++◌, length, take, All, refl, sym, ◌∙◌, arith}
+use Rattle.std.proofs.Common.{◌≡◌, ℕ, ◌≤◌, ◌<◌, List, ◌++◌, length, All, refl, sym, ◌∙◌, arith}
 use Rattle.std.proofs.lemmas.List.{take-append-le}
 use Rattle.lumber_frame.specs.declared.frame.Frame.{Frame}
 use Rattle.lumber_frame.specs.declared.frame.Frame.TheVariants.{Ack}

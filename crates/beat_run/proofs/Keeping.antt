@@ -1,6 +1,6 @@
 -- A row is right where the lines that are settled are the first of a life, and their payloads are acknowledged.
-use Rattle.std.proofs.Common.{◌≡◌, ◌≢◌, inl, inr, ℕ, zero, suc, ◌+◌, ◌-◌, ◌<◌, ◌≤◌, Bool, true, false, cond, eqb, List, [], ◌∷◌, ◌++◌, length, map, take, drop, get_or, All, Contains, Option, Some, None, IfSome, slice_get, refl, sym, ◌∙◌, ap, subst, append_assoc, append-nil, arith, length-append}
-use Rattle.std.proofs.Math.Seq.{drop-append_seam, drop-append-add}
+use Rattle.std.proofs.Common.{◌≡◌, inl, inr, ℕ, zero, suc, ◌+◌, ◌-◌, ◌<◌, ◌≤◌, Bool, true, false, eqb, List, [], ◌∷◌, ◌++◌, length, map, take, drop, get_or, All, Option, Some, None, IfSome, slice_get, refl, sym, ◌∙◌, ap, subst, append_assoc, append-nil, arith, length-append}
+use Rattle.std.proofs.Math.Seq.{drop-append_seam}
 use Rattle.std.proofs.lemmas.Bool.{ne_eqb}
 use Rattle.std.proofs.lemmas.List.{map-append, take_all, take-append-drop}
 use Rattle.std.proofs.lemmas.List.Elements.{All-head, All-tail}
@@ -11,27 +11,28 @@ use Rattle.event_tree.specs.declared.group_rule.GroupRule.TheVariants.{Single}
 use Rattle.line_cutter.specs.declared.line.Line.{Line}
 use Rattle.line_cutter.specs.Cut.{Cut, rest, line, cut, in_front}
 use Rattle.line_cutter.specs.Lines.{complete_lines, ends_in_return, line_at, lines_in, without_return}
-use Rattle.multiline_core.specs.Message.{message_of, row_end}
+use Rattle.multiline_core.specs.Message.{message_of}
 use Rattle.multiline_core.specs.Partition.{IsPartition, lines_from}
 use Rattle.outside.specs.Files.{File, life_of}
 use Rattle.outside.specs.declared.history.Look.{Look}
 use Rattle.outside.specs.Wires.{Outcome}
 use Rattle.ship_core.specs.CoveredEnd.{last_end}
-use Rattle.ship_core.specs.OneLife.{spans_of}
+use Rattle.std.specs.List.{AllByRecursion}
+use Rattle.ship_core.specs.OneLife.{spans_of as settled_spans}
 use Rattle.beat_run.specs.declared.form.Form.{Form}
 use Rattle.beat_run.specs.declared.lines.TheConstants.{LINE}
 use Rattle.beat_run.specs.declared.progress.Progress.{Progress}
-use Rattle.beat_run.specs.Acknowledged.{AreAcknowledged, IsAcknowledgedAt, IsAcknowledgedInOne, Place}
-use Rattle.beat_run.specs.Events.{AreLineEvents, Event, IsLineEvent, end_of, fate_of_line, line_bytes, lines_bytes, payloads_of, settlements_in, waiting_of, with_payload}
+use Rattle.beat_run.specs.Acknowledged.{AreAcknowledged, IsAcknowledgedAt, Place, SendOnly}
+use Rattle.beat_run.specs.Events.{AreLineEvents, Event, end_of, fate_of_line, line_bytes, lines_bytes, payloads_of, settlements_in, waiting_of, with_payload}
 use Rattle.beat_run.specs.Evidence.{Evidence}
 use Rattle.beat_run.specs.Fate.{DroppedBy, Fate, ShippedAs, fate_of, payload_of_fate}
-use Rattle.beat_run.specs.Keys.{path_key, path_row}
-use Rattle.beat_run.specs.Kept.{AreApart, AreSettled, HasFate, IsKeptRow, IsSettledFirst, IsWholeRow, NothingIsFlushed, SettlesAs, TakesPlace, event_rule, line_rule}
+use Rattle.beat_run.specs.Keys.{path_row}
+use Rattle.beat_run.specs.Kept.{AreApart, AreSettled, AreTold, HasFate, IsKeptRow, IsWholeRow, NothingIsFlushed, SettlesAs, ToldEvent, event_rule, line_rule, payloads_in, spans_of}
 use Rattle.beat_run.specs.Lines.{IsPlainByte}
 use Rattle.beat_run.specs.Lives.{IsFrontOfLife, SeesTruncations, last_read}
 use Rattle.beat_run.specs.Progress.{IsDoneBy}
 use Rattle.beat_run.specs.Reading.{bytes_read}
-use Rattle.beat_run.proofs.EventLines.{acked_are, both_are, place_behind, spans_adjoin}
+use Rattle.beat_run.proofs.EventLines.{acked_are, both_are, place_behind}
 
 -- ---- lines of plain bytes
 
@@ -175,44 +176,55 @@ somewhere (Some list) (first ∷ payloads) (inr one) = record {
       };
 }
 
--- ---- events that are settled
+-- ---- events that were told
 
-settles_as : (evidence : Evidence) (outcome index : ℕ) (fate : Fate) (payloads : List (List ℕ)) (Behind : List Place → Type 0) →
-    StandAt evidence.outcomes outcome index (with_payload (payload_of_fate fate) payloads) →
-    ((next : ℕ) → StandAt evidence.outcomes outcome next payloads → Behind (places_from outcome next (length payloads))) →
-    SettlesAs evidence fate Behind (places_from outcome index (length (with_payload (payload_of_fate fate) payloads)))
-settles_as evidence outcome index (DroppedBy rule) payloads Behind stand behind = behind index stand
-settles_as evidence outcome index (ShippedAs payload) payloads Behind stand behind =
-    let P : ℕ → Type 0 = λ n. IfSome evidence.outcomes (λ list. IsAcknowledgedAt list payload (record { outcome = outcome; index = n })) in
-    let here : index + 0 ≡ index = omega arith in
-    record {
-      place = record { outcome = outcome; index = index };
-      later = places_from outcome (suc index) (length payloads);
-      are = refl;
-      acknowledged = subst P here (stand 0 payload refl);
-      behind = behind (suc index) (stand_behind evidence.outcomes outcome index payload payloads stand);
-    }
+abbrev pub told_of : List ℕ → ℕ → List Event → List ToldEvent
+told_of path start [] = []
+told_of path start (event ∷ events) =
+    record { span = record { start = start; end = end_of start event }; fate = fate_of_line path start event } ∷ told_of path (end_of start event) events
 
-spans_in : List Line → List Extent
-spans_in lines = map (λ one. one.span) lines
+told-append : (path : List ℕ) (start : ℕ) (events more : List Event) → told_of path start (events ++ more) ≡ told_of path start events ++ told_of path (start + length (lines_bytes events)) more
+told-append path start [] more =
+    let here : start ≡ start + 0 = omega arith in
+    ap (λ (n : ℕ). told_of path n more) here
+told-append path start (event ∷ events) more =
+    let first : ToldEvent = record { span = record { start = start; end = end_of start event }; fate = fate_of_line path start event } in
+    ap (λ (l : List ToldEvent). first ∷ l)
+    (told-append path (end_of start event) events more
+    ∙ ap (λ (n : ℕ). told_of path (end_of start event) events ++ told_of path n more) (place_behind start event events))
+
+told_payloads : (path : List ℕ) (start : ℕ) (events : List Event) → payloads_in (told_of path start events) ≡ payloads_of path start events
+told_payloads path start [] = refl
+told_payloads path start (event ∷ events) = ap (with_payload (payload_of_fate (fate_of_line path start event))) (told_payloads path (end_of start event) events)
+
+told_spans : (path : List ℕ) (start : ℕ) (events : List Event) → spans_of (told_of path start events) ≡ map (λ one. one.span) (lines_of start events)
+told_spans path start [] = refl
+told_spans path start (event ∷ events) =
+    ap (λ (l : List Extent). record { start = start; end = end_of start event } ∷ l) (told_spans path (end_of start event) events)
+
+told_length : (path : List ℕ) (start : ℕ) (events : List Event) → length (told_of path start events) ≡ length events
+told_length path start [] = refl
+told_length path start (event ∷ events) = ap suc (told_length path (end_of start event) events)
+
+waiting_spans : (path : List ℕ) (start : ℕ) (events : List Event) → settled_spans (settlements_in (waiting_of path start events)) ≡ spans_of (told_of path start events)
+waiting_spans path start [] = refl
+waiting_spans path start (event ∷ events) =
+    ap (λ (l : List Extent). record { start = start; end = end_of start event } ∷ l) (waiting_spans path (end_of start event) events)
 
 behind_line : (start : ℕ) (front : List ℕ) (event : Event) → start ≡ length front → end_of start event ≡ length (front ++ line_bytes event)
 behind_line start front event is = omega (arith, is, length-append front (line_bytes event), length-append event.content (10 ∷ []))
 
-settled_from : IsHeadMessage → (evidence : Evidence) (path life front : List ℕ) (events : List Event) (more : List ℕ) (start outcome index : ℕ) →
+fates_from : IsHeadMessage → (evidence : Evidence) (path life front : List ℕ) (events : List Event) (more : List ℕ) (start : ℕ) →
     AreLineEvents evidence.moments events → start ≡ length front → life ≡ front ++ (lines_bytes events ++ more) →
-    StandAt evidence.outcomes outcome index (payloads_of path start events) →
-    AreSettled evidence path life (map (λ one. one.span) (lines_of start events)) (places_from outcome index (length (payloads_of path start events)))
-settled_from law evidence path life front [] more start outcome index each place is stand = refl
-settled_from law evidence path life front (event ∷ events) more start outcome index each place is stand =
+    AllByRecursion (λ one. HasFate evidence path life one.span one.fate) (told_of path start events)
+fates_from law evidence path life front [] more start each place is = tt
+fates_from law evidence path life front (event ∷ events) more start each place is =
     let message = message_is law start event each.0.plain each.0.short in
     let here : drop start life ≡ lines_bytes (event ∷ events) ++ more =
     ap (λ (l : List ℕ). drop start l) is ∙ ap (λ (n : ℕ). drop n (front ++ (lines_bytes (event ∷ events) ++ more))) place ∙ drop-append_seam front (lines_bytes (event ∷ events) ++ more) in
     let next : life ≡ (front ++ line_bytes event) ++ (lines_bytes events ++ more) =
-    is ∙ ap (λ (l : List ℕ). front ++ l) (append_assoc (line_bytes event) (lines_bytes events) more) ∙ sym (append_assoc front (line_bytes event) (lines_bytes events ++ more)) in
-    record {
-      fate = fate_of_line path start event;
-      has = record {
+    is ∙ ap (λ (l : List ℕ). front ++ l) (append_assoc (line_bytes event) (lines_bytes events) more) ∙ sym (append_assoc front (line_bytes event) (lines_bytes events ++ more)) in (
+      record {
         row = line_of start event ∷ [];
         behind = lines_of (end_of start event) events ++ complete_lines line_rule (start + length (lines_bytes (event ∷ events))) more;
         lines = ap (λ (l : List ℕ). complete_lines line_rule start l) here ∙ lines_are evidence.moments start (event ∷ events) more each;
@@ -221,70 +233,127 @@ settled_from law evidence path life front (event ∷ events) more start outcome 
         in_range = each.0.in_range;
         given = each.0.given;
         is = ap (λ (m : List ℕ). fate_of path start m event.now) (sym message);
-      };
-      settled = settles_as evidence outcome index (fate_of_line path start event) (payloads_of path (end_of start event) events)
-          (AreSettled evidence path life (map (λ one. one.span) (lines_of (end_of start event) events))) stand
-          (λ later stands. settled_from law evidence path life (front ++ line_bytes event) events more (end_of start event) outcome later each.1 (behind_line start front event place) next stands);
-    }
-
--- ---- the row
-
-spans_are : (path : List ℕ) (start : ℕ) (events : List Event) → spans_of (settlements_in (waiting_of path start events)) ≡ map (λ one. one.span) (lines_of start events)
-spans_are path start [] = refl
-spans_are path start (event ∷ events) =
-    ap (λ (l : List Extent). record { start = start; end = end_of start event } ∷ l) (spans_are path (end_of start event) events)
+      },
+      fates_from law evidence path life (front ++ line_bytes event) events more (end_of start event) each.1 (behind_line start front event place) next,
+    )
 
 -- each line is an event by rule, by the law of events
 abbrev pub ArePartition : Type 0
 ArePartition = (lines : LineRule) (message_max_bytes : ℕ) (licensed : ℕ → Bool) (bytes : List ℕ) (start : ℕ) →
     IsPartition lines (Single message_max_bytes) (λ place. licensed place ≡ true) bytes start (map (λ one. one.span) (lines_from lines bytes start))
 
--- the row that the notes of the settled lines give
-abbrev pub HasOffset : Form → List ℕ → List Event → Row → Type 0
-HasOffset form path settled row = row ≡ path_row form (last_end 0 (spans_of (settlements_in (waiting_of path 0 settled))))
+partition_front : (life : List ℕ) (start : ℕ) (spans more : List Extent) → IsPartition line_rule event_rule NothingIsFlushed life start (spans ++ more) → IsPartition line_rule event_rule NothingIsFlushed life start spans
+partition_front life start [] more is = tt
+partition_front life start (span ∷ spans) more is = (is.0, is.1, partition_front life span.end spans more is.2)
 
-pub kept_row : ArePartition → IsHeadMessage → (evidence : Evidence) (form : Form) (row : Row) (settled : List Event) (life more : List ℕ) →
-    life ≡ lines_bytes settled ++ more → AreLineEvents evidence.moments settled → IfSome evidence.outcomes (λ list. AreAcknowledged list (payloads_of form.path 0 settled)) →
-    HasOffset form form.path settled row → IsKeptRow evidence form life row
-kept_row partition law evidence form row settled life more is each acknowledged row_is =
-    let some = somewhere evidence.outcomes (payloads_of form.path 0 settled) acknowledged in
-    let offset : row.offset ≡ last_end 0 (spans_of (settlements_in (waiting_of form.path 0 settled))) = ap (λ (r : Row). r.offset) row_is in
+told_events : ArePartition → IsHeadMessage → (evidence : Evidence) (path life : List ℕ) (events : List Event) (more : List ℕ) →
+    life ≡ lines_bytes events ++ more → AreLineEvents evidence.moments events → AreTold evidence path life (told_of path 0 events)
+told_events partition law evidence path life events more is each =
+    let P : List Extent → Type 0 = λ l. IsPartition line_rule event_rule NothingIsFlushed life 0 l in
+    let behind : List Extent = map (λ one. one.span) (complete_lines line_rule (0 + length (lines_bytes events)) more) in
+    let all : map (λ one. one.span) (lines_from line_rule life 0) ≡ map (λ one. one.span) (lines_of 0 events) ++ behind =
+    ap (λ (l : List ℕ). map (λ one. one.span) (complete_lines line_rule 0 l)) is
+    ∙ ap (λ (l : List Line). map (λ one. one.span) l) (lines_are evidence.moments 0 events more each)
+    ∙ map-append (λ one. one.span) (lines_of 0 events) (complete_lines line_rule (0 + length (lines_bytes events)) more) in
     record {
-      named = row_is ∙ ap (λ (n : ℕ). path_row form n) (sym offset);
-      events = map (λ one. one.span) (lines_from line_rule life 0);
-      partition = partition line_rule 10485760 (λ place. false) life 0;
-      front = map (λ one. one.span) (lines_of 0 settled);
-      behind = map (λ one. one.span) (complete_lines line_rule (0 + length (lines_bytes settled)) more);
-      parts = ap (λ (l : List ℕ). map (λ one. one.span) (complete_lines line_rule 0 l)) is
-          ∙ ap (λ (l : List Line). map (λ one. one.span) l) (lines_are evidence.moments 0 settled more each)
-          ∙ map-append (λ one. one.span) (lines_of 0 settled) (complete_lines line_rule (0 + length (lines_bytes settled)) more);
-      offset = offset ∙ ap (λ (l : List Extent). last_end 0 l) (spans_are form.path 0 settled);
-      places = places_from some.outcome 0 (length (payloads_of form.path 0 settled));
-      settled = settled_from law evidence form.path life [] settled more 0 some.outcome 0 each refl is some.stand;
-      apart = apart some.outcome 0 (length (payloads_of form.path 0 settled));
+      partition = subst P (sym (told_spans path 0 events))
+          (partition_front life 0 (map (λ one. one.span) (lines_of 0 events)) behind (subst P all (partition line_rule 10485760 (λ place. false) life 0)));
+      fates = fates_from law evidence path life [] events more 0 each refl is;
     }
 
-lines_length : (start : ℕ) (events : List Event) → length (map (λ one. one.span) (lines_of start events)) ≡ length events
-lines_length start [] = refl
-lines_length start (event ∷ events) = ap suc (lines_length (end_of start event) events)
+-- ---- events that are settled
 
-pub whole_row : ArePartition → IsHeadMessage → (evidence : Evidence) (form : Form) (row : Row) (key : List ℕ) (progress : Progress) (settled : List Event) (bytes left life more : List ℕ) →
-    bytes ≡ lines_bytes settled ++ left → All IsPlainByte left → life ≡ bytes ++ more → AreLineEvents evidence.moments settled →
-    IfSome evidence.outcomes (λ list. AreAcknowledged list (payloads_of form.path 0 settled)) →
-    HasOffset form form.path settled row → IsDoneBy key form.path progress (waiting_of form.path 0 settled) → IsWholeRow evidence form bytes life row progress.shipped progress.dropped
-unfolding kept_row
-whole_row partition law evidence form row key progress settled bytes left life more is plain life_is each acknowledged row_is done =
-    let some = somewhere evidence.outcomes (payloads_of form.path 0 settled) acknowledged in
+settles_as : (outcomes : Option (List Outcome)) (outcome index : ℕ) (fate : Fate) (payloads : List (List ℕ)) (Behind : List Place → Type 0) →
+    StandAt outcomes outcome index (with_payload (payload_of_fate fate) payloads) →
+    ((next : ℕ) → StandAt outcomes outcome next payloads → Behind (places_from outcome next (length payloads))) →
+    SettlesAs outcomes fate Behind (places_from outcome index (length (with_payload (payload_of_fate fate) payloads)))
+settles_as outcomes outcome index (DroppedBy rule) payloads Behind stand behind = behind index stand
+settles_as outcomes outcome index (ShippedAs payload) payloads Behind stand behind =
+    let P : ℕ → Type 0 = λ n. IfSome outcomes (λ list. IsAcknowledgedAt list payload (record { outcome = outcome; index = n })) in
+    let here : index + 0 ≡ index = omega arith in
     record {
-      kept = kept_row partition law evidence form row settled life (left ++ more)
-          (life_is ∙ ap (λ (l : List ℕ). l ++ more) is ∙ append_assoc (lines_bytes settled) left more) each acknowledged row_is;
-      all = sym (ap (λ (l : List ℕ). map (λ one. one.span) (complete_lines line_rule 0 l)) is
+      place = record { outcome = outcome; index = index };
+      later = places_from outcome (suc index) (length payloads);
+      are = refl;
+      acknowledged = subst P here (stand 0 payload refl);
+      behind = behind (suc index) (stand_behind outcomes outcome index payload payloads stand);
+    }
+
+settled_from : (outcomes : Option (List Outcome)) (path : List ℕ) (events : List Event) (start outcome index : ℕ) →
+    StandAt outcomes outcome index (payloads_of path start events) →
+    AreSettled outcomes (told_of path start events) (places_from outcome index (length (payloads_of path start events)))
+settled_from outcomes path [] start outcome index stand = refl
+settled_from outcomes path (event ∷ events) start outcome index stand =
+    settles_as outcomes outcome index (fate_of_line path start event) (payloads_of path (end_of start event) events)
+    (AreSettled outcomes (told_of path (end_of start event) events)) stand
+    (λ later stands. settled_from outcomes path events (end_of start event) outcome later stands)
+
+-- ---- the row
+
+-- the row that the notes of the settled lines give
+abbrev pub HasOffset : Form → List Event → Row → Type 0
+HasOffset form settled row = row ≡ path_row form (last_end 0 (settled_spans (settlements_in (waiting_of form.path 0 settled))))
+
+-- the payloads of the settled lines are acknowledged, and those of all these were sent
+abbrev pub AreServed : Evidence → List ℕ → List Event → List Event → Type 0
+AreServed evidence path settled sent = IfSome evidence.outcomes (λ list. AreAcknowledged list (payloads_of path 0 settled) × SendOnly (payloads_of path 0 (settled ++ sent)) list)
+
+first_of : (outcomes : Option (List Outcome)) (P Q : List Outcome → Type 0) → IfSome outcomes (λ list. P list × Q list) → IfSome outcomes P
+first_of None P Q both = tt
+first_of (Some list) P Q both = both.0
+
+second_of : (outcomes : Option (List Outcome)) (P Q : List Outcome → Type 0) → IfSome outcomes (λ list. P list × Q list) → IfSome outcomes Q
+second_of None P Q both = tt
+second_of (Some list) P Q both = both.1
+
+acknowledged_of : (evidence : Evidence) (path : List ℕ) (settled sent : List Event) → AreServed evidence path settled sent → IfSome evidence.outcomes (λ list. AreAcknowledged list (payloads_of path 0 settled))
+acknowledged_of evidence path settled sent served =
+    first_of evidence.outcomes (λ list. AreAcknowledged list (payloads_of path 0 settled)) (SendOnly (payloads_of path 0 (settled ++ sent))) served
+
+sent_of : (evidence : Evidence) (path : List ℕ) (settled sent : List Event) → AreServed evidence path settled sent → IfSome evidence.outcomes (SendOnly (payloads_of path 0 (settled ++ sent)))
+sent_of evidence path settled sent served =
+    second_of evidence.outcomes (λ list. AreAcknowledged list (payloads_of path 0 settled)) (SendOnly (payloads_of path 0 (settled ++ sent))) served
+
+pub kept_row : ArePartition → IsHeadMessage → (evidence : Evidence) (form : Form) (row : Row) (settled sent : List Event) (life more : List ℕ) →
+    life ≡ lines_bytes (settled ++ sent) ++ more → AreLineEvents evidence.moments (settled ++ sent) → AreServed evidence form.path settled sent →
+    HasOffset form settled row → IsKeptRow evidence form life row
+kept_row partition law evidence form row settled sent life more is each served row_is =
+    let some = somewhere evidence.outcomes (payloads_of form.path 0 settled) (acknowledged_of evidence form.path settled sent served) in
+    let offset : row.offset ≡ last_end 0 (settled_spans (settlements_in (waiting_of form.path 0 settled))) = ap (λ (r : Row). r.offset) row_is in
+    let S : List (List ℕ) → Type 0 = λ l. IfSome evidence.outcomes (SendOnly l) in
+    record {
+      named = row_is ∙ ap (λ (n : ℕ). path_row form n) (sym offset);
+      told = told_of form.path 0 (settled ++ sent);
+      are_told = told_events partition law evidence form.path life (settled ++ sent) more is each;
+      front = told_of form.path 0 settled;
+      behind = told_of form.path (0 + length (lines_bytes settled)) sent;
+      parts = told-append form.path 0 settled sent;
+      offset = offset ∙ ap (λ (l : List Extent). last_end 0 l) (waiting_spans form.path 0 settled);
+      places = places_from some.outcome 0 (length (payloads_of form.path 0 settled));
+      settled = settled_from evidence.outcomes form.path settled 0 some.outcome 0 some.stand;
+      apart = apart some.outcome 0 (length (payloads_of form.path 0 settled));
+      sent = subst S (sym (told_payloads form.path 0 (settled ++ sent))) (sent_of evidence form.path settled sent served);
+    }
+
+pub whole_row : ArePartition → IsHeadMessage → (evidence : Evidence) (form : Form) (row : Row) (key : List ℕ) (progress : Progress) (settled sent : List Event) (bytes left life more : List ℕ) →
+    sent ≡ [] → bytes ≡ lines_bytes (settled ++ sent) ++ left → All IsPlainByte left → life ≡ bytes ++ more → AreLineEvents evidence.moments (settled ++ sent) → AreServed evidence form.path settled sent →
+    HasOffset form settled row → IsDoneBy key form.path progress (waiting_of form.path 0 settled) → IsWholeRow evidence form bytes life row progress.shipped progress.dropped
+unfolding kept_row
+whole_row partition law evidence form row key progress settled sent bytes left life more none is plain life_is each served row_is done =
+    let some = somewhere evidence.outcomes (payloads_of form.path 0 settled) (acknowledged_of evidence form.path settled sent served) in
+    let all : settled ++ sent ≡ settled = ap (λ (l : List Event). settled ++ l) none ∙ append-nil settled in
+    record {
+      kept = kept_row partition law evidence form row settled sent life (left ++ more)
+          (life_is ∙ ap (λ (l : List ℕ). l ++ more) is ∙ append_assoc (lines_bytes (settled ++ sent)) left more) each served row_is;
+      all = told_spans form.path 0 (settled ++ sent)
+          ∙ sym (ap (λ (l : List ℕ). map (λ one. one.span) (complete_lines line_rule 0 l)) is
           ∙ ap (λ (l : List Line). map (λ one. one.span) l)
-          (lines_are evidence.moments 0 settled left each
-          ∙ ap (λ (l : List Line). lines_of 0 settled ++ l) (none_behind (0 + length (lines_bytes settled)) left plain)
-          ∙ append-nil (lines_of 0 settled)));
+          (lines_are evidence.moments 0 (settled ++ sent) left each
+          ∙ ap (λ (l : List Line). lines_of 0 (settled ++ sent) ++ l) (none_behind (0 + length (lines_bytes (settled ++ sent))) left plain)
+          ∙ append-nil (lines_of 0 (settled ++ sent))));
+      none_behind = ap (λ (l : List Event). told_of form.path (0 + length (lines_bytes settled)) l) none;
       shipped_are = done.shipped ∙ acked_are form.path 0 settled ∙ sym (places_length some.outcome 0 (length (payloads_of form.path 0 settled)));
-      together = omega (arith, done.shipped, done.dropped, both_are form.path 0 settled, lines_length 0 settled);
+      together = omega (arith, done.shipped, done.dropped, both_are form.path 0 settled, told_length form.path 0 (settled ++ sent), ap (λ (l : List Event). length l) all);
     }
 
 -- ---- the life of a file

@@ -24,4 +24,5 @@ mod StartedArea
 mod Stoppings
 mod Storings
 mod Words
+mod Worked
 mod Writings

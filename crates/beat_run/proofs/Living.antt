@@ -10,14 +10,13 @@ use Rattle.beat_run.specs.Lives.{SeesTruncations, IsFrontOfLife, last_read, read
 use Rattle.beat_run.specs.Reading.{AreInOrder, IsReadAt, bytes_read, bytes_of_look, count_of}
 
 -- how many bytes these looks read
-pub total : List Look → ℕ
+abbrev pub total : List Look → ℕ
 total [] = 0
 total (look ∷ looks) = count_of look.question + total looks
 
 -- more looks behind
 pub in_order-append : (file : File) (place : ℕ) (looks more : List Look) →
     AreInOrder file place looks → AreInOrder file (place + total looks) more → AreInOrder file place (looks ++ more)
-unfolding total
 in_order-append file place [] more first second =
     let P : ℕ → Type 0 = λ n. AreInOrder file n more in
     let same : place + 0 ≡ place = omega arith in
@@ -75,7 +74,7 @@ passes : (file : File) (place life : ℕ) (question : Question) (sight : Sight) 
     bytes_of_look file question sight ≡ [] → Behind file looks → place ≤ length (life_of file life) →
     AreInOrder file (place + count_of question) looks → SeesTruncations (place + count_of question) (read_then life question sight.life) looks →
     IsFront file place life (record { question = question; sight = sight } ∷ looks)
-unfolding Behind total
+unfolding Behind
 passes file place life question sight looks none same empty behind fits order sees =
     let here : place + count_of question ≡ place = omega (arith, none) in
     let O : ℕ → Type 0 = λ n. AreInOrder file n looks in
@@ -97,7 +96,7 @@ reads : (file : File) (place life at more : ℕ) (sight : Sight) (looks : List L
     AreInOrder file place (record { question = ReadAt at (suc more); sight = sight } ∷ looks) →
     SeesTruncations place life (record { question = ReadAt at (suc more); sight = sight } ∷ looks) →
     IsFront file place life (record { question = ReadAt at (suc more); sight = sight } ∷ looks)
-unfolding Behind total
+unfolding Behind
 reads file place life at more sight looks behind order sees =
     let fits : place + suc more ≤ length (life_of file sight.life) = omega (arith, order.0.0, order.0.1 (omega arith), order.0.2) in
     let now = behind (place + suc more) sight.life fits order.1 sees.1 in
@@ -120,7 +119,7 @@ looked file place life (ReadAt at zero) sight looks behind fits order sees = pas
 looked file place life (ReadAt at (suc more)) sight looks behind fits order sees = reads file place life at more sight looks behind order sees
 
 fronts : (file : File) (looks : List Look) → Behind file looks
-unfolding Behind total
+unfolding Behind
 fronts file [] = λ place life fits order sees.
     let all : place ≡ place + 0 = omega arith in
     record {
@@ -139,7 +138,6 @@ front_of_life file looks order sees =
 
 -- how many bytes looks in order read
 pub read_many : (file : File) (place : ℕ) (looks : List Look) → AreInOrder file place looks → length (bytes_read file looks) ≡ total looks
-unfolding total
 read_many file place [] order = refl
 read_many file place (look ∷ looks) order =
     omega (

@@ -20,7 +20,7 @@ use Rattle.beat_run.specs.declared.progress.Progress.{Progress}
 use Rattle.beat_run.specs.declared.report.Ending.{Ending}
 use Rattle.beat_run.specs.declared.status.Status.{Status}
 use Rattle.beat_run.specs.declared.waiting.Waiting.{Waiting}
-use Rattle.beat_run.specs.Acknowledged.{AcknowledgeInAll, AreAcknowledged}
+use Rattle.beat_run.specs.Acknowledged.{AcknowledgeInAll, AreAcknowledged, SendOnly}
 use Rattle.beat_run.specs.Events.{Event as LineEvent, lines_bytes, payloads_of, settlements_in, waiting_of}
 use Rattle.beat_run.specs.Evidence.{Evidence}
 use Rattle.beat_run.specs.Finding.{FindsIn, IsOpened}
@@ -28,7 +28,7 @@ use Rattle.beat_run.specs.Followed.{IsNoOpening, IsNotListed, IsRead, IsUnopened
 use Rattle.beat_run.specs.Kept.{IsKeptRow, IsWholeRow}
 use Rattle.beat_run.specs.Lives.{IsFrontOfLife}
 use Rattle.beat_run.specs.Keys.{path_key, path_row}
-use Rattle.beat_run.specs.Noted.{IsDrained, IsEmptyEnding, IsGoneEnding, IsNoted, IsNotedBy, NotesKept, NotesWhole}
+use Rattle.beat_run.specs.Noted.{IsDrained, IsEmptyEnding, IsGoneEnding, IsNoted, IsNotedBy, NotesKept, NotesWhole, SendsNothing}
 use Rattle.beat_run.specs.Progress.{IsDoneBy}
 use Rattle.beat_run.specs.Reading.{bytes_read}
 use Rattle.beat_run.specs.Serving.{HasServed, HasSettled}
@@ -84,21 +84,21 @@ listed_unopened (Some told) states present root depth entries between faults aft
 
 -- without a file there is no row
 pub none_noted : (form : Form) (told : Option FolderHistory) (evidence : Evidence) (row : Option Row) (Unopened : Type 0) (Stops : File → List Look → Type 0) (after : Option FolderHistory) →
-    row ≡ None → Unopened → IfSome told (λ history. IsUnopened history after) → IfSome told (λ history. IsNoted form history evidence row Unopened Stops after)
-none_noted form None evidence row Unopened Stops after none so unopened = tt
-none_noted form (Some told) evidence row Unopened Stops after none so unopened = record { root = []; shown = []; cases = inl (unopened, none, so) }
+    row ≡ None → SendsNothing evidence → Unopened → IfSome told (λ history. IsUnopened history after) → IfSome told (λ history. IsNoted form history evidence row Unopened Stops after)
+none_noted form None evidence row Unopened Stops after none sends so unopened = tt
+none_noted form (Some told) evidence row Unopened Stops after none sends so unopened = record { root = []; shown = []; cases = inl (unopened, none, (sends, so)) }
 
 pub not_listed_noted : {T : Type 0} (tail_told : T → Option TailHistory) (form : Form) (told : Option FolderHistory) (evidence : Evidence) (row : Option Row) (Unopened : Type 0) (Stops : File → List Look → Type 0) (after : Option FolderHistory) →
-    row ≡ None → Unopened → IfSome told (λ history. FindsIn tail_told form.path history NotListed after) → IfSome told (λ history. IsNoted form history evidence row Unopened Stops after)
-not_listed_noted tail_told form None evidence row Unopened Stops after none so finds = tt
-not_listed_noted tail_told form (Some told) evidence row Unopened Stops after none so finds =
-    none_noted form (Some told) evidence row Unopened Stops after none so (unopened_event told (Listed finds.root 1 finds.shown) after tt finds.cases.kept)
+    row ≡ None → SendsNothing evidence → Unopened → IfSome told (λ history. FindsIn tail_told form.path history NotListed after) → IfSome told (λ history. IsNoted form history evidence row Unopened Stops after)
+not_listed_noted tail_told form None evidence row Unopened Stops after none sends so finds = tt
+not_listed_noted tail_told form (Some told) evidence row Unopened Stops after none sends so finds =
+    none_noted form (Some told) evidence row Unopened Stops after none sends so (unopened_event told (Listed finds.root 1 finds.shown) after tt finds.cases.kept)
 
 pub gone_noted : {T : Type 0} (tail_told : T → Option TailHistory) (form : Form) (told : Option FolderHistory) (evidence : Evidence) (row : Option Row) (Unopened : Type 0) (Stops : File → List Look → Type 0) (after : Option FolderHistory) →
-    row ≡ None → Unopened → IfSome told (λ history. FindsIn tail_told form.path history Gone after) → IfSome told (λ history. IsNoted form history evidence row Unopened Stops after)
-gone_noted tail_told form None evidence row Unopened Stops after none so finds = tt
-gone_noted tail_told form (Some told) evidence row Unopened Stops after none so finds =
-    none_noted form (Some told) evidence row Unopened Stops after none so
+    row ≡ None → SendsNothing evidence → Unopened → IfSome told (λ history. FindsIn tail_told form.path history Gone after) → IfSome told (λ history. IsNoted form history evidence row Unopened Stops after)
+gone_noted tail_told form None evidence row Unopened Stops after none sends so finds = tt
+gone_noted tail_told form (Some told) evidence row Unopened Stops after none sends so finds =
+    none_noted form (Some told) evidence row Unopened Stops after none sends so
     (unopened_behind told (Listed finds.root 1 finds.shown) after tt (unopened_event (with_event told (Listed finds.root 1 finds.shown)) (NotThere form.path) after tt finds.cases.kept))
 
 -- the tail was closed
@@ -128,7 +128,7 @@ closed_read path listed shown tail between after tail_after faults Q R maps ther
 
 -- the payloads that a worker's peer has acknowledged are so in the wire's list
 abbrev pub EndsAcknowledged : {L : Type 0} → (L → Option Talk) → Option L → Evidence → Type 0
-EndsAcknowledged told link evidence = (payloads : List (List ℕ)) → HasServed told link payloads → IfSome evidence.outcomes (λ list. AreAcknowledged list payloads)
+EndsAcknowledged told link evidence = (payloads all : List (List ℕ)) → HasServed told link payloads all → IfSome evidence.outcomes (λ list. AreAcknowledged list payloads × SendOnly all list)
 
 -- and, where nothing else was sent, there are no others
 abbrev pub EndsCounted : {L : Type 0} → (L → Option Talk) → Option L → Evidence → Type 0
@@ -164,8 +164,9 @@ notes_kept : {L : Type 0} (laws : EventLaws) (told : L → Option Talk) (form : 
 notes_kept laws told form key link progress evidence ending ends noted file looks front is =
     let bytes : List ℕ = bytes_read file looks in
     let keeps : (more : List ℕ) → IsKeptRow evidence form (bytes ++ more) (row_here form is.settled) = λ more.
-    kept_row laws.partition laws.message evidence form (row_here form is.settled) is.settled (bytes ++ more) (is.rest ++ more)
-    (ap (λ (l : List ℕ). l ++ more) is.spelled ∙ append_assoc (lines_bytes is.settled) is.rest more) is.each (ends (payloads_of form.path 0 is.settled) is.acknowledged) refl in
+    kept_row laws.partition laws.message evidence form (row_here form is.settled) is.settled is.sent (bytes ++ more) (is.rest ++ more)
+    (ap (λ (l : List ℕ). l ++ more) is.spelled ∙ append_assoc (lines_bytes (is.settled ++ is.sent)) is.rest more) is.each
+    (ends (payloads_of form.path 0 is.settled) (payloads_of form.path 0 (is.settled ++ is.sent)) is.acknowledged) refl in
     let P : List ℕ → Type 0 = λ l. IsKeptRow evidence form l (row_here form is.settled) in
     record {
       one = row_here form is.settled;
@@ -182,8 +183,8 @@ notes_whole laws told form key link progress evidence ending ends noted file loo
     let bytes : List ℕ = bytes_read file looks in
     let row : Row = row_here form covered.settled in
     let wholly : (more : List ℕ) → IsWholeRow evidence form bytes (bytes ++ more) row progress.shipped progress.dropped = λ more.
-    whole_row laws.partition laws.message evidence form row key progress covered.settled bytes covered.rest (bytes ++ more) more covered.spelled is.whole.complete refl covered.each
-    (ends (payloads_of form.path 0 covered.settled) covered.acknowledged) refl covered.done in
+    whole_row laws.partition laws.message evidence form row key progress covered.settled covered.sent bytes covered.rest (bytes ++ more) more is.whole.all covered.spelled is.whole.complete refl covered.each
+    (ends (payloads_of form.path 0 covered.settled) (payloads_of form.path 0 (covered.settled ++ covered.sent)) covered.acknowledged) refl covered.done in
     let P : List ℕ → Type 0 = λ l. IsWholeRow evidence form bytes l row ending.shipped ending.dropped in
     let S : List ℕ → ℕ → Type 0 = λ l n. IsWholeRow evidence form bytes l row n progress.dropped in
     let D : List ℕ → ℕ → Type 0 = λ l n. IsWholeRow evidence form bytes l row ending.shipped n in
@@ -196,6 +197,7 @@ notes_whole laws told form key link progress evidence ending ends noted file loo
       whole = subst P (append-nil bytes) (noted_so []);
       whole_in_life = in_life file looks P noted_so front;
       sendable = is.sendable;
+      none_shorter = is.none_shorter;
       ended = is.ended;
     }
 
@@ -212,18 +214,24 @@ seen_noted : {L T : Type 0} (laws : EventLaws) (told : L → Option Talk) (tail_
 seen_noted laws told tail_told form key link progress evidence ending history tail between after tail_after faults (Ok done) finds seen closes ends noted = record {
   root = finds.root;
   shown = finds.shown;
-  cases = inr (closed_read form.path (with_event history (Listed finds.root 1 finds.shown)) finds.shown (tail_told tail) between after tail_after faults
-      (IsFileWhole told evidence.moments key form.path link progress) (λ file looks. NotesKept form evidence ending.row file looks × Unit {0})
-      (λ file looks front whole. (notes_kept laws told form key link progress evidence ending ends noted file looks front whole.whole.covered, tt))
-      finds.cases.0 finds.cases.1 seen closes);
+  cases = inr (
+    finds.folder,
+    closed_read form.path (with_event history (Listed finds.root 1 finds.shown)) finds.shown (tail_told tail) between after tail_after faults
+        (IsFileWhole told evidence.moments key form.path link progress) (λ file looks. NotesKept form evidence ending.row file looks × Unit {0})
+        (λ file looks front whole. (notes_kept laws told form key link progress evidence ending ends noted file looks front whole.whole.covered, tt))
+        finds.cases.0 finds.cases.1 seen closes,
+  );
 }
 seen_noted laws told tail_told form key link progress evidence ending history tail between after tail_after faults (Err status) finds seen closes ends noted = record {
   root = finds.root;
   shown = finds.shown;
-  cases = inr (closed_read form.path (with_event history (Listed finds.root 1 finds.shown)) finds.shown (tail_told tail) between after tail_after faults
-      (IsFileStopped told evidence.moments key form.path link progress status) (λ file looks. NotesKept form evidence ending.row file looks × StopsFor status file looks)
-      (λ file looks front stopped. (notes_kept laws told form key link progress evidence ending ends noted file looks front stopped.covered, stopped.stops))
-      finds.cases.0 finds.cases.1 seen closes);
+  cases = inr (
+    finds.folder,
+    closed_read form.path (with_event history (Listed finds.root 1 finds.shown)) finds.shown (tail_told tail) between after tail_after faults
+        (IsFileStopped told evidence.moments key form.path link progress status) (λ file looks. NotesKept form evidence ending.row file looks × StopsFor status file looks)
+        (λ file looks front stopped. (notes_kept laws told form key link progress evidence ending ends noted file looks front stopped.covered, stopped.stops))
+        finds.cases.0 finds.cases.1 seen closes,
+  );
 }
 
 -- of a file that was read to its end, all that the peer has acknowledged is what was shipped

@@ -7,8 +7,9 @@ use Rattle.outside.specs.declared.failed.Failed.{Failed}
 use Rattle.outside.specs.Files.{File, life_of}
 use Rattle.outside.specs.Tails.{TailHistory, with_look, TellsLength, TellsRead, LooksAtLength, LooksAtBytes}
 use Rattle.beat_run.specs.Followed.{HasEndLook}
-use Rattle.beat_run.specs.Unbuilt.{IsShortened}
-use Rattle.beat_run.specs.Reading.{ReadsPiece, AddsBytes, AreInOrder, IsReadAt, bytes_read, bytes_of_look, count_of}
+use Rattle.beat_run.specs.Unbuilt.{GoesOnShorter}
+use Rattle.beat_run.specs.Reading.{ReadsPiece, AddsBytes, AreInOrder, GoesOnReaching, IsReadAt, NoneShorter, Reaches, bytes_read, bytes_of_look, count_of}
+use Rattle.beat_run.proofs.Living.{total}
 
 -- the two looks of a read into a buffer of some bytes
 record TwoLooks (told : TailHistory) (place count : ℕ) (after : Option TailHistory) : Type 0 where
@@ -141,6 +142,19 @@ reading_adds (Some told) between after size place count (byte ∷ bytes) some as
           ∙ ap (λ (l : List ℕ). bytes_read told.file told.looks ++ l) (sym second.bytes);
     }
 
+-- ---- no length was below the place
+
+asked_reaches : (place : ℕ) (asked : Look) → asked.question ≡ Length → place ≤ asked.sight.length → NoneShorter place (asked ∷ [])
+asked_reaches place asked asks reaches =
+    let P : Question → Type 0 = λ q. Reaches place q asked.sight in
+    (subst P (sym asks) reaches, tt)
+
+read_reaches : (place at count : ℕ) (asked read : Look) → asked.question ≡ Length → read.question ≡ ReadAt at count → place ≤ asked.sight.length → NoneShorter place (asked ∷ read ∷ [])
+read_reaches place at count asked read asks reads reaches =
+    let P : Question → Type 0 = λ q. Reaches place q asked.sight in
+    let R : Question → Type 0 = λ q. Reaches (place + count_of asked.question) q read.sight in
+    (subst P (sym asks) reaches, (subst R (sym reads) tt, tt))
+
 -- the tail's last looks are the file's end look, and no byte was read more
 pub record EndsAt (told : TailHistory) (place : ℕ) (after : Option TailHistory) : Type 0 where
   pub history : TailHistory
@@ -151,6 +165,7 @@ pub record EndsAt (told : TailHistory) (place : ℕ) (after : Option TailHistory
   pub looks_on : history.looks ≡ told.looks ++ more
   pub in_order : AreInOrder told.file place more
   pub none_more : bytes_read history.file history.looks ≡ bytes_read told.file told.looks
+  pub reaches : GoesOnReaching place told.looks history.looks
   pub ended : HasEndLook place history.looks
 
 pub reads_end : (told : TailHistory) (place count : ℕ) (into : List ℕ) (after : Option TailHistory) →
@@ -171,6 +186,11 @@ reads_end told place count (byte ∷ bytes) after some none reads =
           ∙ append-nil (bytes_read told.file (told.looks ++ looks.asked ∷ []))
           ∙ one_look told looks.asked Length looks.asks
           ∙ append-nil (bytes_read told.file told.looks);
+      reaches = record {
+        more = looks.asked ∷ looks.read ∷ [];
+        are = append_assoc told.looks (looks.asked ∷ []) (looks.read ∷ []);
+        none = read_reaches place place count looks.asked looks.read looks.asks looks.reads looks.reaches;
+      };
       ended = record {
         before = told.looks;
         asked = looks.asked.sight;
@@ -184,16 +204,67 @@ reads_end told place count (byte ∷ bytes) after some none reads =
       };
     }
 
+abbrev pub LooksOn : ℕ → Option TailHistory → Option TailHistory → Type 0
+LooksOn place told after = IfSome told (λ before. IfSome after (λ now. GoesOnReaching place before.looks now.looks))
+
+looks_same : (told : TailHistory) (place : ℕ) (after : Option TailHistory) → after ≡ Some told → IfSome after (λ now. GoesOnReaching place told.looks now.looks)
+looks_same told place after is =
+    let P : Option TailHistory → Type 0 = λ o. IfSome o (λ now. GoesOnReaching place told.looks now.looks) in
+    subst P (sym is) (record { more = []; are = sym (append-nil told.looks); none = tt })
+
+pub asking_stops : (told after : Option TailHistory) (place : ℕ) (failed : Failed) → TellsLength told (Err failed) after → LooksOn place told after
+asking_stops None after place failed tells = tt
+asking_stops (Some told) after place failed tells = looks_same told place after tells
+
+pub reading_stops_there : (told between after : Option TailHistory) (length place : ℕ) (into : List ℕ) (failed : Failed) → place ≤ length →
+    TellsLength told (Ok length) between → TellsRead between place into (Err failed) after → LooksOn place told after
+reading_stops_there None between after length place into failed reaches asks reads = tt
+reading_stops_there (Some told) between after length place into failed reaches asks reads =
+    let R : Option TailHistory → Type 0 = λ b. TellsRead b place into (Err failed) after in
+    let P : Option TailHistory → Type 0 = λ o. IfSome o (λ now. GoesOnReaching place told.looks now.looks) in
+    subst P (sym (subst R asks.kept reads))
+    (record { more = asks.look ∷ []; are = refl; none = asked_reaches place asks.look asks.asked (omega (arith, reaches, asks.answered)) })
+
+pub reading_looks : (told between after : Option TailHistory) (size place count : ℕ) (into : List ℕ) → place ≤ size → 0 < length into →
+    TellsLength told (Ok size) between → TellsRead between place into (Ok count) after → LooksOn place told after
+reading_looks None between after size place count into reaches some asks reads = tt
+reading_looks (Some told) between after size place count [] reaches some asks reads = absurd (omega arith)
+reading_looks (Some told) between after size place count (byte ∷ bytes) reaches some asks reads =
+    let R : Option TailHistory → Type 0 = λ b. TellsRead b place (byte ∷ bytes) (Ok count) after in
+    let P : Option TailHistory → Type 0 = λ o. IfSome o (λ now. GoesOnReaching place told.looks now.looks) in
+    let second : LooksAtBytes (with_look told asks.look) place (byte ∷ bytes) count after = subst R asks.kept reads in
+    subst P (sym second.kept)
+    (record {
+      more = asks.look ∷ second.look ∷ [];
+      are = append_assoc told.looks (asks.look ∷ []) (second.look ∷ []);
+      none = read_reaches place place count asks.look second.look asks.asked second.asked (omega (arith, reaches, asks.answered));
+    })
+
 -- a length below the place
-pub shortened : (told after : Option TailHistory) (place length : ℕ) → length < place → TellsLength told (Ok length) after → IfSome after (λ history. IsShortened place history.looks)
-shortened None after place length below tells =
-    let P : Option TailHistory → Type 0 = λ o. IfSome o (λ history. IsShortened place history.looks) in
-    subst P (sym tells) tt
+pub shortened : (told after : Option TailHistory) (place length : ℕ) → length < place → TellsLength told (Ok length) after →
+    IfSome told (λ before. IfSome after (λ now. GoesOnShorter place before.looks now.looks))
+shortened None after place length below tells = tt
 shortened (Some told) after place length below tells =
-    let P : Option TailHistory → Type 0 = λ o. IfSome o (λ history. IsShortened place history.looks) in
+    let P : Option TailHistory → Type 0 = λ o. IfSome o (λ now. GoesOnShorter place told.looks now.looks) in
     subst P (sym tells.kept) (record {
-      before = told.looks;
       sight = tells.look.sight;
       shorter = omega (arith, below, tells.answered);
-      looks_are = ap (λ (q : Question). told.looks ++ record { question = q; sight = tells.look.sight } ∷ []) tells.asked;
+      are = ap (λ (q : Question). told.looks ++ record { question = q; sight = tells.look.sight } ∷ []) tells.asked;
     })
+
+none_shorter-append : (place : ℕ) (looks more : List Look) → NoneShorter place looks → NoneShorter (place + total looks) more → NoneShorter place (looks ++ more)
+none_shorter-append place [] more first second =
+    let P : ℕ → Type 0 = λ n. NoneShorter n more in
+    let same : place + 0 ≡ place = omega arith in
+    subst P same second
+none_shorter-append place (look ∷ looks) more first second =
+    let P : ℕ → Type 0 = λ n. NoneShorter n more in
+    let same : place + (count_of look.question + total looks) ≡ place + count_of look.question + total looks = omega arith in
+    (first.0, none_shorter-append (place + count_of look.question) looks more first.1 (subst P same second))
+
+-- looks that go on so from the place that was read up to
+pub none_shorter_still : (place : ℕ) (before now : List Look) → place ≡ 0 + total before → NoneShorter 0 before → GoesOnReaching place before now → NoneShorter 0 now
+none_shorter_still place before now here none goes =
+    let P : List Look → Type 0 = λ l. NoneShorter 0 l in
+    let Q : ℕ → Type 0 = λ n. NoneShorter n goes.more in
+    subst P (sym goes.are) (none_shorter-append 0 before goes.more none (subst Q here goes.none))

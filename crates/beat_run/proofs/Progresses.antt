@@ -1,9 +1,8 @@
 -- How far a file is done, note by note.
-use Rattle.std.proofs.Common.{◌≡◌, ℕ, ◌+◌, ◌<◌, ◌≤◌, suc, List, [], ◌∷◌, ◌++◌, length, take, drop, map, get_or, Option, Some, None, unwrap_or, refl, sym, ◌∙◌, ap, subst, append_assoc, append-nil, arith}
-use Rattle.std.proofs.lemmas.List.{take-append-drop, take_all}
+use Rattle.std.proofs.Common.{◌≡◌, ℕ, ◌+◌, ◌<◌, ◌≤◌, suc, List, [], ◌∷◌, ◌++◌, length, take, drop, get_or, Option, Some, None, unwrap_or, refl, sym, ◌∙◌, ap, subst, append_assoc, append-nil, arith}
+use Rattle.std.proofs.lemmas.List.{take-append-drop}
 use Rattle.std.proofs.Math.ListN.{drop_of_length-le}
 use Rattle.std.proofs.Math.Seq.{take-suc}
-use Rattle.wire_base.specs.Extent.{Extent}
 use Rattle.wire_base.specs.declared.note.Note.{Note}
 use Rattle.wire_base.specs.declared.note.Note.TheVariants.{Settle}
 use Rattle.wire_base.specs.declared.numbers.Epoch.{Epoch}
@@ -12,7 +11,7 @@ use Rattle.ship_core.specs.OneLife.{settles}
 use Rattle.beat_run.specs.declared.progress.Progress.{Progress}
 use Rattle.beat_run.specs.declared.progress.TheConstants.{SLOT, EPOCH}
 use Rattle.beat_run.specs.declared.waiting.Waiting.{Waiting}
-use Rattle.beat_run.specs.Events.{acked_by, acked_in, dropped_by, dropped_in, settlements_in}
+use Rattle.beat_run.specs.Events.{acked_by, dropped_by, settlements_in}
 use Rattle.beat_run.specs.Progress.{IsDoneBy, SettlesFirst}
 use Rattle.beat_run.proofs.EventLines.{acked-append, dropped-append}
 

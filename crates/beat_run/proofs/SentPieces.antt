@@ -104,6 +104,8 @@ sending_fails (Some talk) bytes left failed status before after was tells =
       pieces = was.pieces;
       added = was.added;
       none_heard = was.none_heard;
+      left = left;
+      sent = was.sent;
       all_sent = tt;
     }
 
@@ -116,7 +118,9 @@ sending_ends (Some talk) bytes [] after none was = record {
   pieces = was.pieces;
   added = was.added;
   none_heard = was.none_heard;
-  all_sent = sym (append-nil (out_bytes was.pieces)) ∙ was.sent;
+  left = [];
+  sent = was.sent;
+  all_sent = refl;
 }
 sending_ends (Some talk) bytes (byte ∷ left) after none was = absurd (omega (arith, none))
 

@@ -1,6 +1,6 @@
 -- What a worker's peer has acknowledged, as windows are sent.
-use Rattle.std.proofs.Common.{◌≡◌, ◌⊎◌, inl, inr, ℕ, ◌≤◌, ◌<◌, ◌^◌, All, Contains, length, arith, List, [], ◌∷◌, ◌++◌, Option, Some, None, Result, Ok, Err, IfSome, OnErr, refl, sym, ◌∙◌, ap, subst, append_assoc, append-nil}
-use Rattle.std.specs.List.{flat_map}
+use Rattle.std.proofs.Common.{◌≡◌, ◌⊎◌, inl, inr, ℕ, ◌≤◌, ◌<◌, ◌^◌, All, Contains, length, arith, List, [], ◌∷◌, ◌++◌, Option, Some, None, Result, Ok, Err, IfSome, IsErr, MatchResult, OnErr, refl, sym, ◌∙◌, ap, subst, append_assoc, append-nil}
+use Rattle.std.specs.List.{AllByRecursion, flat_map}
 use Rattle.wire_base.specs.declared.talk.Piece.{Piece}
 use Rattle.outside.specs.Talks.{Talk}
 use Rattle.std.proofs.lemmas.Grind.{flat_map-append}
@@ -12,43 +12,57 @@ use Rattle.lumber_frame.specs.Settled.{IsSettled, ack_bytes}
 use Rattle.lumber_frame.specs.Talk.{out_bytes, in_bytes}
 use Rattle.lumber_frame.specs.Window.{IsWindow, window_bytes}
 use Rattle.beat_run.specs.declared.status.Status.{Status}
+use Rattle.beat_run.specs.Acknowledged.{SendsFront}
 use Rattle.beat_run.specs.Serving.{Settles, Serves, HasSettled, HasServed, IsWindowOf}
 use Rattle.beat_run.specs.Talking.{AcknowledgesAll, MeetsFault, SendsAll, SendsPieces, HearsAll, HearsPieces}
 use Rattle.beat_run.proofs.SentPieces.{out_bytes-append, in_bytes-append}
 
--- pieces were put behind the talk
-pub record Adds (talk : Talk) (after : Option Talk) : Type 0 where
+-- pieces were put behind the talk, and what of them was sent is a front of these bytes
+pub record Adds (talk : Talk) (bytes : List ℕ) (after : Option Talk) : Type 0 where
   pub now : Talk
   pub told : after ≡ Some now
   pub pieces : List Piece
   pub added : now.pieces ≡ talk.pieces ++ pieces
+  pub left : List ℕ
+  pub sent : out_bytes pieces ++ left ≡ bytes
 
-abbrev pub IsLonger : Option Talk → Option Talk → Type 0
-IsLonger None after = after ≡ None
-IsLonger (Some talk) after = Adds talk after
+abbrev pub IsLonger : Option Talk → List ℕ → Option Talk → Type 0
+IsLonger None bytes after = after ≡ None
+IsLonger (Some talk) bytes after = Adds talk bytes after
 
 pub sending_adds : (start : Option Talk) (bytes : List ℕ) (result : Result (Unit {0}) Status) (after : Option Talk) →
-    SendsAll start bytes result after → IsLonger start after
+    SendsAll start bytes result after → IsLonger start bytes after
 sending_adds None bytes result after sends = sends
-sending_adds (Some talk) bytes result after sends = record { now = sends.now; told = sends.told; pieces = sends.pieces; added = sends.added }
+sending_adds (Some talk) bytes result after sends =
+    record { now = sends.now; told = sends.told; pieces = sends.pieces; added = sends.added; left = sends.left; sent = sends.sent }
 
 pub hearing_adds : (start : Option Talk) (count : ℕ) (Failed : Type 0) (result : Result (Unit {0}) Status) (after : Option Talk) →
-    HearsAll start count Failed result after → IsLonger start after
+    HearsAll start count Failed result after → IsLonger start [] after
 hearing_adds None count Failed result after hears = hears
-hearing_adds (Some talk) count Failed result after hears = record { now = hears.now; told = hears.told; pieces = hears.pieces; added = hears.added }
+hearing_adds (Some talk) count Failed result after hears =
+    record { now = hears.now; told = hears.told; pieces = hears.pieces; added = hears.added; left = []; sent = append-nil (out_bytes hears.pieces) ∙ hears.none_sent }
 
-pub longer_still : (start between after : Option Talk) → IsLonger start between → IsLonger between after → IsLonger start after
-longer_still None between after first second =
-    let P : Option Talk → Type 0 = λ o. IsLonger o after in
+-- where nothing is left, all was sent
+all_of : (front left bytes : List ℕ) → front ++ left ≡ bytes → left ≡ [] → front ≡ bytes
+all_of front left bytes is none = sym (append-nil front) ∙ ap (λ (l : List ℕ). front ++ l) (sym none) ∙ is
+
+pub sent_adds : (start between after : Option Talk) (bytes more : List ℕ) → SendsAll start bytes (Ok tt) between → IsLonger between more after → IsLonger start (bytes ++ more) after
+sent_adds None between after bytes more first second =
+    let P : Option Talk → Type 0 = λ o. IsLonger o more after in
     subst P first second
-longer_still (Some talk) between after first second =
-    let P : Option Talk → Type 0 = λ o. IsLonger o after in
-    let next : Adds first.now after = subst P first.told second in
+sent_adds (Some talk) between after bytes more first second =
+    let P : Option Talk → Type 0 = λ o. IsLonger o more after in
+    let next : Adds first.now more after = subst P first.told second in
     record {
       now = next.now;
       told = next.told;
       pieces = first.pieces ++ next.pieces;
       added = next.added ∙ ap (λ (l : List Piece). l ++ next.pieces) first.added ∙ append_assoc talk.pieces first.pieces next.pieces;
+      left = next.left;
+      sent = ap (λ (l : List ℕ). l ++ next.left) (out_bytes-append first.pieces next.pieces)
+          ∙ append_assoc (out_bytes first.pieces) (out_bytes next.pieces) next.left
+          ∙ ap (λ (l : List ℕ). out_bytes first.pieces ++ l) next.sent
+          ∙ ap (λ (l : List ℕ). l ++ more) (all_of (out_bytes first.pieces) first.left bytes first.sent first.all_sent);
     }
 
 settles_all : (talk : List Piece) (payloads : List (List ℕ)) → Settles talk payloads → Settles talk (payloads ++ [])
@@ -56,18 +70,55 @@ settles_all talk payloads settles =
     let P : List (List ℕ) → Type 0 = λ l. Settles talk l in
     subst P (sym (append-nil payloads)) settles
 
-serves_first : (front more talk : List Piece) (payloads later : List (List ℕ)) → talk ≡ front ++ more → Settles front (payloads ++ later) → Serves talk payloads
-serves_first front more talk payloads later begins settles = record { front = front; more = more; begins = begins; later = later; settles = settles }
+-- a settled talk has sent the windows of its payloads
+settled_sends : (talk : List Piece) (payloads : List (List ℕ)) → Settles talk payloads → SendsFront talk payloads
+settled_sends talk payloads settles =
+    record { windows = settles.windows; each = settles.settled.each; are = settles.are; left = []; sent = append-nil (out_bytes talk) ∙ settles.settled.sent }
 
--- what was acknowledged stays so in a longer talk
-pub served : (start after : Option Talk) (payloads : List (List ℕ)) →
-    IfSome start (λ talk. Settles talk.pieces payloads) → IsLonger start after → IfSome after (λ talk. Serves talk.pieces payloads)
-served None after payloads settles longer =
-    let P : Option Talk → Type 0 = λ o. IfSome o (λ talk. Serves talk.pieces payloads) in
+-- the bytes of a window's frames
+pub window_is : (payloads : List (List ℕ)) (head frames : List ℕ) (count : ℕ) → head ≡ frame_bytes (Window count) → IsWindowOf payloads frames count → head ++ frames ≡ window_bytes payloads
+window_is payloads head frames count head_is window =
+    ap (λ (l : List ℕ). l ++ frames) (head_is ∙ ap (λ (n : ℕ). frame_bytes (Window n)) window.counted)
+    ∙ ap (λ (l : List ℕ). frame_bytes (Window (length payloads)) ++ l) window.frames_are
+
+windows-snoc : (windows : List (List (List ℕ))) (payloads : List (List ℕ)) → AllByRecursion IsWindow windows → IsWindow payloads → AllByRecursion IsWindow (windows ++ payloads ∷ [])
+windows-snoc [] payloads each one = (one, tt)
+windows-snoc (window ∷ windows) payloads each one = (each.0, windows-snoc windows payloads each.1 one)
+
+sends_more : (talk : Talk) (earlier payloads : List (List ℕ)) (bytes rest : List ℕ) (pieces : List Piece) (left : List ℕ) → Settles talk.pieces earlier →
+    IsWindow payloads → out_bytes pieces ++ left ≡ bytes → bytes ++ rest ≡ window_bytes payloads → SendsFront (talk.pieces ++ pieces) (earlier ++ payloads)
+sends_more talk earlier payloads bytes rest pieces left settles one sent window = record {
+  windows = settles.windows ++ payloads ∷ [];
+  each = windows-snoc settles.windows payloads settles.settled.each one;
+  are = ap (λ (l : List (List ℕ)). l ++ payloads) settles.are
+      ∙ ap (λ (l : List (List ℕ)). flat_map (λ w. w) settles.windows ++ l) (sym (append-nil payloads))
+      ∙ sym (flat_map-append (λ w. w) settles.windows (payloads ∷ []));
+  left = left ++ rest;
+  sent = ap (λ (l : List ℕ). l ++ (left ++ rest)) (out_bytes-append talk.pieces pieces)
+      ∙ append_assoc (out_bytes talk.pieces) (out_bytes pieces) (left ++ rest)
+      ∙ ap (λ (l : List ℕ). out_bytes talk.pieces ++ l) (sym (append_assoc (out_bytes pieces) left rest) ∙ ap (λ (l : List ℕ). l ++ rest) sent ∙ window)
+      ∙ ap (λ (l : List ℕ). l ++ window_bytes payloads) settles.settled.sent
+      ∙ ap (λ (l : List ℕ). flat_map window_bytes settles.windows ++ l) (sym (append-nil (window_bytes payloads)))
+      ∙ sym (flat_map-append window_bytes settles.windows (payloads ∷ []));
+}
+
+-- what was acknowledged stays so in a talk that goes on by a front of a window
+pub served : (start after : Option Talk) (earlier payloads : List (List ℕ)) (bytes rest : List ℕ) →
+    IfSome start (λ talk. Settles talk.pieces earlier) → IsLonger start bytes after → IsWindow payloads → bytes ++ rest ≡ window_bytes payloads → IfSome after (λ talk. Serves talk.pieces earlier (earlier ++ payloads))
+served None after earlier payloads bytes rest settles longer one window =
+    let P : Option Talk → Type 0 = λ o. IfSome o (λ talk. Serves talk.pieces earlier (earlier ++ payloads)) in
     subst P (sym longer) tt
-served (Some talk) after payloads settles longer =
-    let P : Option Talk → Type 0 = λ o. IfSome o (λ t. Serves t.pieces payloads) in
-    subst P (sym longer.told) (serves_first talk.pieces longer.pieces longer.now.pieces payloads [] longer.added (settles_all talk.pieces payloads settles))
+served (Some talk) after earlier payloads bytes rest settles longer one window =
+    let P : Option Talk → Type 0 = λ o. IfSome o (λ t. Serves t.pieces earlier (earlier ++ payloads)) in
+    let S : List Piece → Type 0 = λ l. SendsFront l (earlier ++ payloads) in
+    subst P (sym longer.told) (record {
+      front = talk.pieces;
+      more = longer.pieces;
+      begins = longer.added;
+      later = [];
+      settles = settles_all talk.pieces earlier settles;
+      sent = subst S (sym longer.added) (sends_more talk earlier payloads bytes rest longer.pieces longer.left settles one longer.sent window);
+    })
 
 -- one more window of a settled talk is settled, by the law of frames
 abbrev pub SettlesOneMore : Type 0
@@ -125,29 +176,35 @@ serves_window law Failed (Some talk) between third after earlier payloads head f
     let three : HearsPieces two.now count Failed (Ok tt) after = subst H two.told hears in
     subst R (sym three.told)
     (settles_more law talk earlier payloads head frames count first.pieces two.pieces three.pieces three.now.pieces head_is window
-    first.none_heard first.all_sent two.none_heard two.all_sent three.none_sent three.heard
+    first.none_heard (all_of (out_bytes first.pieces) first.left head first.sent first.all_sent) two.none_heard (all_of (out_bytes two.pieces) two.left frames two.sent two.all_sent) three.none_sent three.heard
     (three.added ∙ ap (λ (l : List Piece). l ++ three.pieces) (two.added ∙ ap (λ (l : List Piece). l ++ two.pieces) first.added))
     settles)
 
-serves_itself : (talk : Option Talk) (payloads later : List (List ℕ)) → IfSome talk (λ t. Settles t.pieces (payloads ++ later)) → IfSome talk (λ t. Serves t.pieces payloads)
+serves_itself : (talk : Option Talk) (payloads later : List (List ℕ)) → IfSome talk (λ t. Settles t.pieces (payloads ++ later)) → IfSome talk (λ t. Serves t.pieces payloads (payloads ++ later))
 serves_itself None payloads later settles = tt
-serves_itself (Some talk) payloads later settles = serves_first talk.pieces [] talk.pieces payloads later (sym (append-nil talk.pieces)) settles
+serves_itself (Some talk) payloads later settles =
+    record { front = talk.pieces; more = []; begins = sym (append-nil talk.pieces); later = later; settles = settles; sent = settled_sends talk.pieces (payloads ++ later) settles }
 
 front_is_nothing : (payloads later : List (List ℕ)) → payloads ++ later ≡ [] → payloads ≡ []
 front_is_nothing [] later none = refl
 front_is_nothing (payload ∷ payloads) later none = absurd cc
 
 -- of what a settled talk acknowledges, the first payloads are acknowledged
-pub first_served : {L : Type 0} (told : L → Option Talk) (link : Option L) (payloads later : List (List ℕ)) → HasSettled told link (payloads ++ later) → HasServed told link payloads
+pub first_served : {L : Type 0} (told : L → Option Talk) (link : Option L) (payloads later : List (List ℕ)) → HasSettled told link (payloads ++ later) → HasServed told link payloads (payloads ++ later)
 first_served told None payloads later settles = front_is_nothing payloads later settles
 first_served told (Some link) payloads later settles = serves_itself (told link) payloads later settles
 
-pub settled_serves : {L : Type 0} (told : L → Option Talk) (link : Option L) (payloads : List (List ℕ)) → HasSettled told link payloads → HasServed told link payloads
+pub settled_serves : {L : Type 0} (told : L → Option Talk) (link : Option L) (payloads : List (List ℕ)) → HasSettled told link payloads → HasServed told link payloads payloads
 settled_serves told link payloads settles =
     let P : List (List ℕ) → Type 0 = λ l. HasSettled told link l in
-    first_served told link payloads [] (subst P (sym (append-nil payloads)) settles)
+    let Q : List (List ℕ) → Type 0 = λ l. HasServed told link payloads l in
+    subst Q (append-nil payloads) (first_served told link payloads [] (subst P (sym (append-nil payloads)) settles))
 
 -- ---- the link or the peer failed
+
+pub match_err : {T E : Type 0} (A : T → Type 0) (B : Type 0) (result : Result T E) → IsErr result → B → MatchResult result A (λ _. B)
+match_err A B (Ok value) is holds = absurd cc
+match_err A B (Err error) is holds = holds
 
 pub on_err : {T E P : Type 0} (result : Result T E) → P → OnErr result P
 on_err (Ok value) holds = tt
@@ -214,7 +271,7 @@ fails_window other above Failed status (Some talk) between third after earlier p
     let two : SendsPieces first.now frames (Ok tt) third = subst S first.told second in
     let three : HearsPieces two.now count Failed (Err status) after = subst H two.told hears in
     elim (fails_so other above Failed talk earlier payloads head frames count first.pieces two.pieces three.pieces three.now.pieces head_is window
-    first.none_heard first.all_sent two.none_heard two.all_sent three.none_sent three.heard
+    first.none_heard (all_of (out_bytes first.pieces) first.left head first.sent first.all_sent) two.none_heard (all_of (out_bytes two.pieces) two.left frames two.sent two.all_sent) three.none_sent three.heard
     (three.added ∙ ap (λ (l : List Piece). l ++ three.pieces) (two.added ∙ ap (λ (l : List Piece). l ++ two.pieces) first.added))
     settles) [
       | inl failed ↦ inl failed

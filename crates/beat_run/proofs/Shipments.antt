@@ -1,7 +1,7 @@
 -- How far a file is shipped, step by step.
-use Rattle.std.proofs.Common.{◌≡◌, ◌≢◌, inl, inr, ℕ, zero, suc, ◌+◌, ◌-◌, take, drop, get_or, map, vec_len, ◌≤◌, ◌<◌, List, [], ◌∷◌, ◌++◌, length, All, Contains, Option, Some, None, IfSome, Result, Ok, Err, OnOk, MatchResult, slice_get, unwrap_or, refl, sym, ◌∙◌, ap, subst, append_assoc, append-nil, arith, length-append}
+use Rattle.std.proofs.Common.{◌≡◌, inl, inr, ℕ, zero, suc, ◌+◌, ◌-◌, take, drop, get_or, map, vec_len, ◌≤◌, ◌<◌, List, [], ◌∷◌, ◌++◌, length, All, Contains, Option, Some, None, Result, Ok, Err, OnOk, MatchResult, slice_get, unwrap_or, refl, sym, ◌∙◌, ap, subst, append_assoc, append-nil, arith, length-append}
 use Rattle.std.specs.List.{AllByRecursion}
-use Rattle.std.proofs.lemmas.List.{take-append-drop, take_all, length-drop, length-take-le, map-append}
+use Rattle.std.proofs.lemmas.List.{drop-append-le, take-append-drop, take_all, length-drop, length-take-le}
 use Rattle.std.proofs.Math.Seq.{take-suc}
 use Rattle.std.proofs.lemmas.List.Elements.{All-append, All-nil, Contains-push, Contains-append_left}
 use Rattle.outside.specs.Talks.{Talk}
@@ -13,13 +13,14 @@ use Rattle.beat_run.specs.declared.shipment.Shipment.{Shipment}
 use Rattle.beat_run.specs.declared.status.Status.{Status}
 use Rattle.beat_run.specs.declared.waiting.Waiting.{Waiting}
 use Rattle.beat_run.specs.Batches.{HoldsLines}
+use Rattle.beat_run.specs.Evidence.{MomentsGoOn, moments_since}
 use Rattle.beat_run.specs.Events.{Event, AreLineEvents, IsGiven, IsLineEvent, lines_bytes, payloads_of, waiting_of}
 use Rattle.beat_run.specs.Lines.{IsExcluded, IsPlainByte}
 use Rattle.beat_run.specs.Progress.{IsDoneBy, SettlesFirst}
 use Rattle.beat_run.specs.Unbuilt.{CannotBeSent, IsSendable, IsSendableLine, IsUnsendableAt, whole_lines}
 use Rattle.beat_run.specs.Serving.{HasSettled, HasServed}
 use Rattle.beat_run.specs.Shipping.{IsShipped, IsCovered}
-use Rattle.beat_run.proofs.EventLines.{events-append, events_front, front_of_lines, lines_bytes-append, lines_bytes-snoc, payloads-append, waiting-append}
+use Rattle.beat_run.proofs.EventLines.{events-append, front_of_lines, lines_bytes-append, lines_bytes-snoc, payloads-append, waiting-append}
 use Rattle.beat_run.proofs.Services.{first_served, settled_serves}
 
 -- ---- moments
@@ -31,47 +32,90 @@ contained (y ∷ list) (suc i) x is =
     let later = contained list i x is in
     (suc later.0, omega (arith, later.1), later.2)
 
--- the moment that was given is in the list, and those before it are there still
-pub given_now : (moments : Option (List ℕ)) (now : ℕ) (after : Option (List ℕ)) → GivesMoment moments now after → IsGiven after now
-given_now None now after gives =
-    let P : Option (List ℕ) → Type 0 = λ o. IsGiven o now in
-    subst P (sym gives) tt
-given_now (Some moments) now after (inl ends) =
-    let P : Option (List ℕ) → Type 0 = λ o. IsGiven o now in
-    subst P (sym ends.1) (contained moments (length moments - 1) now ends.0)
-given_now (Some moments) now after (inr grows) =
-    let P : Option (List ℕ) → Type 0 = λ o. IsGiven o now in
-    subst P (sym grows.1) (Contains-push moments now)
+contained_behind : (list : List ℕ) (k i x : ℕ) → k ≤ i → slice_get list i ≡ Some x → Contains (drop k list) x
+contained_behind [] k i x later is = absurd cc
+contained_behind (y ∷ list) zero i x later is = contained (y ∷ list) i x is
+contained_behind (y ∷ list) (suc k) zero x later is = absurd (omega (arith, later))
+contained_behind (y ∷ list) (suc k) (suc i) x later is = contained_behind list k i x (omega (arith, later)) is
 
-given_still : (moments : Option (List ℕ)) (now : ℕ) (after : Option (List ℕ)) (earlier : ℕ) → GivesMoment moments now after → IsGiven moments earlier → IsGiven after earlier
-given_still None now after earlier gives is =
-    let P : Option (List ℕ) → Type 0 = λ o. IsGiven o earlier in
-    subst P (sym gives) tt
-given_still (Some moments) now after earlier (inl ends) is =
-    let P : Option (List ℕ) → Type 0 = λ o. IsGiven o earlier in
-    subst P (sym ends.1) is
-given_still (Some moments) now after earlier (inr grows) is =
-    let P : Option (List ℕ) → Type 0 = λ o. IsGiven o earlier in
-    subst P (sym grows.1) (Contains-append_left moments (now ∷ []) earlier is)
+-- what came to the list since then, when a moment is put behind it
+behind_more : (before more : List ℕ) (now : ℕ) → drop (length before - 1) ((before ++ more) ++ now ∷ []) ≡ drop (length before - 1) (before ++ more) ++ now ∷ []
+behind_more before more now = drop-append-le (length before - 1) (before ++ more) (now ∷ []) (omega (arith, length-append before more))
 
-events_still : (moments : Option (List ℕ)) (now : ℕ) (after : Option (List ℕ)) (events : List Event) → GivesMoment moments now after → AreLineEvents moments events → AreLineEvents after events
-events_still moments now after [] gives each = tt
-events_still moments now after (event ∷ events) gives each = (
-  record { plain = each.0.plain; short = each.0.short; in_range = each.0.in_range; given = given_still moments now after event.now gives each.0.given },
-  events_still moments now after events gives each.1,
+-- the moment that was given is one of those since then
+pub given_now : (begun moments : Option (List ℕ)) (now : ℕ) (after : Option (List ℕ)) → MomentsGoOn begun moments → GivesMoment moments now after → IsGiven (moments_since begun after) now
+given_now None moments now after goes gives = tt
+given_now (Some before) moments now after goes gives = here (subst G goes.1 gives)
+  where
+    G : Option (List ℕ) → Type 0
+    G = λ o. GivesMoment o now after
+
+    here : GivesMoment (Some (before ++ goes.0)) now after → IsGiven (moments_since (Some before) after) now
+    here (inl ends) =
+        let P : Option (List ℕ) → Type 0 = λ o. IsGiven (moments_since (Some before) o) now in
+        subst P (sym ends.1) (contained_behind (before ++ goes.0) (length before - 1) (length (before ++ goes.0) - 1) now (omega (arith, length-append before goes.0)) ends.0)
+    here (inr grows) =
+        let P : Option (List ℕ) → Type 0 = λ o. IsGiven (moments_since (Some before) o) now in
+        let Q : List ℕ → Type 0 = λ l. Contains l now in
+        subst P (sym grows.1) (subst Q (sym (behind_more before goes.0 now)) (Contains-push (drop (length before - 1) (before ++ goes.0)) now))
+
+-- and those before it are there still
+given_still : (begun moments : Option (List ℕ)) (now : ℕ) (after : Option (List ℕ)) (earlier : ℕ) → MomentsGoOn begun moments → GivesMoment moments now after →
+    IsGiven (moments_since begun moments) earlier → IsGiven (moments_since begun after) earlier
+given_still None moments now after earlier goes gives is = tt
+given_still (Some before) moments now after earlier goes gives is = here (subst G goes.1 gives) (subst H goes.1 is)
+  where
+    G : Option (List ℕ) → Type 0
+    G = λ o. GivesMoment o now after
+
+    H : Option (List ℕ) → Type 0
+    H = λ o. IsGiven (moments_since (Some before) o) earlier
+
+    here : GivesMoment (Some (before ++ goes.0)) now after → Contains (drop (length before - 1) (before ++ goes.0)) earlier → IsGiven (moments_since (Some before) after) earlier
+    here (inl ends) was =
+        let P : Option (List ℕ) → Type 0 = λ o. IsGiven (moments_since (Some before) o) earlier in
+        subst P (sym ends.1) was
+    here (inr grows) was =
+        let P : Option (List ℕ) → Type 0 = λ o. IsGiven (moments_since (Some before) o) earlier in
+        let Q : List ℕ → Type 0 = λ l. Contains l earlier in
+        subst P (sym grows.1) (subst Q (sym (behind_more before goes.0 now)) (Contains-append_left (drop (length before - 1) (before ++ goes.0)) (now ∷ []) earlier was))
+
+pub moments_go : (begun moments : Option (List ℕ)) (now : ℕ) (after : Option (List ℕ)) → MomentsGoOn begun moments → GivesMoment moments now after → MomentsGoOn begun after
+moments_go None moments now after goes gives =
+    let G : Option (List ℕ) → Type 0 = λ o. GivesMoment o now after in
+    subst G goes gives
+moments_go (Some before) moments now after goes gives = here (subst G goes.1 gives)
+  where
+    G : Option (List ℕ) → Type 0
+    G = λ o. GivesMoment o now after
+
+    here : GivesMoment (Some (before ++ goes.0)) now after → MomentsGoOn (Some before) after
+    here (inl ends) = (goes.0, ends.1)
+    here (inr grows) = (goes.0 ++ now ∷ [], grows.1 ∙ ap (λ (l : List ℕ). Some l) (append_assoc before goes.0 (now ∷ [])))
+
+pub moments_go_themselves : (moments : Option (List ℕ)) → MomentsGoOn moments moments
+moments_go_themselves None = refl
+moments_go_themselves (Some list) = ([], ap (λ (l : List ℕ). Some l) (sym (append-nil list)))
+
+events_still : (begun moments : Option (List ℕ)) (now : ℕ) (after : Option (List ℕ)) (events : List Event) → MomentsGoOn begun moments → GivesMoment moments now after →
+    AreLineEvents (moments_since begun moments) events → AreLineEvents (moments_since begun after) events
+events_still begun moments now after [] goes gives each = tt
+events_still begun moments now after (event ∷ events) goes gives each = (
+  record { plain = each.0.plain; short = each.0.short; in_range = each.0.in_range; given = given_still begun moments now after event.now goes gives each.0.given },
+  events_still begun moments now after events goes gives each.1,
 )
 
 -- what is shipped stays so when the clock is asked
-pub shipped_still : {L : Type 0} (told : L → Option Talk) (moments : Option (List ℕ)) (now : ℕ) (after : Option (List ℕ)) (key path : List ℕ) (link : Option L) (shipment : Shipment) (bytes : List ℕ) →
-    GivesMoment moments now after → IsShipped told moments key path link shipment bytes → IsShipped told after key path link shipment bytes
-shipped_still told moments now after key path link shipment bytes gives is = record {
+pub shipped_still : {L : Type 0} (told : L → Option Talk) (begun moments : Option (List ℕ)) (now : ℕ) (after : Option (List ℕ)) (key path : List ℕ) (link : Option L) (shipment : Shipment) (bytes : List ℕ) →
+    MomentsGoOn begun moments → GivesMoment moments now after → IsShipped told (moments_since begun moments) key path link shipment bytes → IsShipped told (moments_since begun after) key path link shipment bytes
+shipped_still told begun moments now after key path link shipment bytes goes gives is = record {
   settled = is.settled;
-  each = events_still moments now after is.settled gives is.each;
+  each = events_still begun moments now after is.settled goes gives is.each;
   done = is.done;
   acknowledged = is.acknowledged;
   offset = is.offset;
   waiting = is.waiting;
-  waiting_each = events_still moments now after is.waiting gives is.waiting_each;
+  waiting_each = events_still begun moments now after is.waiting goes gives is.waiting_each;
   holds = is.holds;
   plain = is.plain;
   spelled = is.spelled;
@@ -79,46 +123,63 @@ shipped_still told moments now after key path link shipment bytes gives is = rec
 
 -- ---- what is covered
 
--- the settled lines stay covered, whatever was read behind them and however the next window fares
-pub covers : {L : Type 0} (told : L → Option Talk) (moments : Option (List ℕ)) (key path : List ℕ) (link after : Option L) (shipment : Shipment) (bytes more : List ℕ) (is : IsShipped told moments key path link shipment bytes) →
-    HasServed told after (payloads_of path 0 is.settled) → IsCovered told moments key path after shipment.progress (bytes ++ more)
-covers told moments key path link after shipment bytes more is served = record {
-  settled = is.settled;
-  rest = (lines_bytes is.waiting ++ shipment.rest.items) ++ more;
-  each = is.each;
-  done = is.done;
-  acknowledged = served;
-  spelled = ap (λ (l : List ℕ). l ++ more) is.spelled ∙ append_assoc (lines_bytes is.settled) (lines_bytes is.waiting ++ shipment.rest.items) more;
-}
+place_is : (offset : ℕ) (settled : List Event) → offset ≡ length (lines_bytes settled) → 0 + length (lines_bytes settled) ≡ offset
+place_is offset settled is = omega (arith, is)
 
-pub covers_here : {L : Type 0} (told : L → Option Talk) (moments : Option (List ℕ)) (key path : List ℕ) (link after : Option L) (shipment : Shipment) (bytes : List ℕ) (is : IsShipped told moments key path link shipment bytes) →
-    HasServed told after (payloads_of path 0 is.settled) → IsCovered told moments key path after shipment.progress bytes
-covers_here told moments key path link after shipment bytes is served =
-    let P : List ℕ → Type 0 = λ l. IsCovered told moments key path after shipment.progress l in
-    subst P (append-nil bytes) (covers told moments key path link after shipment bytes [] is served)
+-- the lines that are settled and those that wait
+abbrev pub lines_with : List Event → List Event → List ℕ → List ℕ
+lines_with settled waiting rest = lines_bytes (settled ++ waiting) ++ rest
+
+with_waiting : (settled waiting : List Event) (rest : List ℕ) → lines_bytes settled ++ (lines_bytes waiting ++ rest) ≡ lines_with settled waiting rest
+with_waiting settled waiting rest =
+    sym (append_assoc (lines_bytes settled) (lines_bytes waiting) rest) ∙ ap (λ (l : List ℕ). l ++ rest) (sym (lines_bytes-append settled waiting))
+
+-- the settled lines are covered, and those that wait may have been sent
+pub covers_sent : {L : Type 0} (told : L → Option Talk) (moments : Option (List ℕ)) (key path : List ℕ) (link after : Option L) (shipment : Shipment) (bytes : List ℕ) (is : IsShipped told moments key path link shipment bytes) →
+    HasServed told after (payloads_of path 0 is.settled) (payloads_of path 0 is.settled ++ payloads_of path shipment.offset is.waiting) → IsCovered told moments key path after shipment.progress bytes
+covers_sent told moments key path link after shipment bytes is served =
+    let H : List (List ℕ) → Type 0 = λ l. HasServed told after (payloads_of path 0 is.settled) l in
+    record {
+      settled = is.settled;
+      sent = is.waiting;
+      rest = shipment.rest.items;
+      each = events-append moments is.settled is.waiting is.each is.waiting_each;
+      done = is.done;
+      acknowledged = subst H
+          (ap (λ (n : ℕ). payloads_of path 0 is.settled ++ payloads_of path n is.waiting) (sym (place_is shipment.offset is.settled is.offset)) ∙ sym (payloads-append path 0 is.settled is.waiting)) served;
+      spelled = is.spelled ∙ with_waiting is.settled is.waiting shipment.rest.items;
+    }
 
 pub covers_now : {L : Type 0} (told : L → Option Talk) (moments : Option (List ℕ)) (key path : List ℕ) (link : Option L) (shipment : Shipment) (bytes : List ℕ) →
     IsShipped told moments key path link shipment bytes → IsCovered told moments key path link shipment.progress bytes
 covers_now told moments key path link shipment bytes is =
-    covers_here told moments key path link link shipment bytes is (settled_serves told link (payloads_of path 0 is.settled) is.acknowledged)
+    let H : List Event → Type 0 = λ l. HasServed told link (payloads_of path 0 is.settled) (payloads_of path 0 l) in
+    let E : List Event → Type 0 = λ l. AreLineEvents moments l in
+    record {
+      settled = is.settled;
+      sent = [];
+      rest = lines_bytes is.waiting ++ shipment.rest.items;
+      each = subst E (sym (append-nil is.settled)) is.each;
+      done = is.done;
+      acknowledged = subst H (sym (append-nil is.settled)) (settled_serves told link (payloads_of path 0 is.settled) is.acknowledged);
+      spelled = is.spelled ∙ ap (λ (l : List Event). lines_bytes l ++ (lines_bytes is.waiting ++ shipment.rest.items)) (sym (append-nil is.settled));
+    }
 
 pub covers_more : {L : Type 0} (told : L → Option Talk) (moments : Option (List ℕ)) (key path : List ℕ) (link : Option L) (progress : Progress) (bytes more : List ℕ) →
     IsCovered told moments key path link progress bytes → IsCovered told moments key path link progress (bytes ++ more)
 covers_more told moments key path link progress bytes more covered = record {
   settled = covered.settled;
+  sent = covered.sent;
   rest = covered.rest ++ more;
   each = covered.each;
   done = covered.done;
   acknowledged = covered.acknowledged;
-  spelled = ap (λ (l : List ℕ). l ++ more) covered.spelled ∙ append_assoc (lines_bytes covered.settled) covered.rest more;
+  spelled = ap (λ (l : List ℕ). l ++ more) covered.spelled ∙ append_assoc (lines_bytes (covered.settled ++ covered.sent)) covered.rest more;
 }
 
 -- ---- what waited is settled
 
-place_is : (offset : ℕ) (settled : List Event) → offset ≡ length (lines_bytes settled) → 0 + length (lines_bytes settled) ≡ offset
-place_is offset settled is = omega (arith, is)
-
--- the first of the lines that waited are settled, and those behind them wait no more
+-- the first of the lines that waited are settled, and those behind them were sent
 pub partly : {L : Type 0} (told : L → Option Talk) (moments : Option (List ℕ)) (key path : List ℕ) (link after : Option L) (old : Shipment) (progress : Progress) (bytes : List ℕ) (Left : List Waiting → Type 0)
     (is : IsShipped told moments key path link old bytes) → HasSettled told after (payloads_of path 0 is.settled ++ payloads_of path old.offset is.waiting) →
     SettlesFirst key path (waiting_of path 0 is.settled) old.batch.waiting.items Left progress → IsCovered told moments key path after progress bytes
@@ -128,30 +189,27 @@ partly told moments key path link after old progress bytes Left is settled settl
     let here : 0 + length (lines_bytes is.settled) ≡ old.offset = place_is old.offset is.settled is.offset in
     let D : List Waiting → Type 0 = λ l. IsDoneBy key path progress l in
     let S : List (List ℕ) → Type 0 = λ l. HasSettled told after l in
-    let H : List (List ℕ) → Type 0 = λ l. HasServed told after l in
+    let H : List (List ℕ) → Type 0 = λ l. HasServed told after (payloads_of path 0 events) l in
     let E : List Event → Type 0 = λ l. AreLineEvents moments l in
-    let behind : List (List ℕ) = payloads_of path (old.offset + length (lines_bytes front.first)) front.later in
-    let payloads : payloads_of path 0 is.settled ++ payloads_of path old.offset is.waiting ≡ (payloads_of path 0 is.settled ++ payloads_of path old.offset front.first) ++ behind =
-    ap (λ (l : List Event). payloads_of path 0 is.settled ++ payloads_of path old.offset l) front.parts
-    ∙ ap (λ (l : List (List ℕ)). payloads_of path 0 is.settled ++ l) (payloads-append path old.offset front.first front.later)
-    ∙ sym (append_assoc (payloads_of path 0 is.settled) (payloads_of path old.offset front.first) behind) in
-    let are : payloads_of path 0 is.settled ++ payloads_of path old.offset front.first ≡ payloads_of path 0 events =
-    ap (λ (n : ℕ). payloads_of path 0 is.settled ++ payloads_of path n front.first) (sym here) ∙ sym (payloads-append path 0 is.settled front.first) in
+    let both : is.settled ++ is.waiting ≡ events ++ front.later =
+    ap (λ (l : List Event). is.settled ++ l) front.parts ∙ sym (append_assoc is.settled front.first front.later) in
+    let behind : List (List ℕ) = payloads_of path (0 + length (lines_bytes events)) front.later in
+    let payloads : payloads_of path 0 is.settled ++ payloads_of path old.offset is.waiting ≡ payloads_of path 0 events ++ behind =
+    ap (λ (n : ℕ). payloads_of path 0 is.settled ++ payloads_of path n is.waiting) (sym here)
+    ∙ sym (payloads-append path 0 is.settled is.waiting)
+    ∙ ap (λ (l : List Event). payloads_of path 0 l) both
+    ∙ payloads-append path 0 events front.later in
     record {
       settled = events;
-      rest = lines_bytes front.later ++ old.rest.items;
-      each = events-append moments is.settled front.first is.each (events_front moments front.first front.later (subst E front.parts is.waiting_each));
+      sent = front.later;
+      rest = old.rest.items;
+      each = subst E both (events-append moments is.settled is.waiting is.each is.waiting_each);
       done = subst D
           (ap (λ (l : List Waiting). waiting_of path 0 is.settled ++ l) (front.are ∙ ap (λ (n : ℕ). waiting_of path n front.first) (sym here))
           ∙ sym (waiting-append path 0 is.settled front.first))
           settles.done;
-      acknowledged = subst H are (first_served told after (payloads_of path 0 is.settled ++ payloads_of path old.offset front.first) behind (subst S payloads settled));
-      spelled = is.spelled
-          ∙ ap (λ (l : List Event). lines_bytes is.settled ++ (lines_bytes l ++ old.rest.items)) front.parts
-          ∙ ap (λ (l : List ℕ). lines_bytes is.settled ++ (l ++ old.rest.items)) (lines_bytes-append front.first front.later)
-          ∙ ap (λ (l : List ℕ). lines_bytes is.settled ++ l) (append_assoc (lines_bytes front.first) (lines_bytes front.later) old.rest.items)
-          ∙ sym (append_assoc (lines_bytes is.settled) (lines_bytes front.first) (lines_bytes front.later ++ old.rest.items))
-          ∙ ap (λ (l : List ℕ). l ++ (lines_bytes front.later ++ old.rest.items)) (sym (lines_bytes-append is.settled front.first));
+      acknowledged = subst H (sym (payloads-append path 0 events front.later)) (first_served told after (payloads_of path 0 events) behind (subst S payloads settled));
+      spelled = is.spelled ∙ with_waiting is.settled is.waiting old.rest.items ∙ ap (λ (l : List Event). lines_bytes l ++ old.rest.items) both;
     }
 
 -- all of them are
@@ -276,21 +334,17 @@ line_cut left used some within is =
     sym (take-append-drop used left)
     ∙ ap (λ (l : List ℕ). l ++ drop used left) (last_taken left used some within is)
 
--- a plain byte is no line feed
-plain_feed : (byte : ℕ) → IsPlainByte byte → byte ≡ 10 → ⊥
-plain_feed byte plain is = omega (arith, plain.0, is)
-
 -- a part of the piece was taken
 pub record IsTaken {L : Type 0} (told : L → Option Talk) (moments : Option (List ℕ)) (key path : List ℕ) (link : Option L) (shipment : Shipment) (bytes piece left : List ℕ) : Type 0 where
   pub taken : List ℕ
   pub parts : piece ≡ taken ++ left
   pub shipped : IsShipped told moments key path link shipment (bytes ++ taken)
 
-pub taking_starts : {L : Type 0} (told : L → Option Talk) (moments : Option (List ℕ)) (now : ℕ) (after : Option (List ℕ)) (key path : List ℕ) (link : Option L) (shipment : Shipment) (bytes piece : List ℕ) →
-    GivesMoment moments now after → IsShipped told moments key path link shipment bytes → IsTaken told after key path link shipment bytes piece piece
-taking_starts told moments now after key path link shipment bytes piece gives is =
-    let P : List ℕ → Type 0 = λ l. IsShipped told after key path link shipment l in
-    record { taken = []; parts = refl; shipped = subst P (sym (append-nil bytes)) (shipped_still told moments now after key path link shipment bytes gives is) }
+pub taking_starts : {L : Type 0} (told : L → Option Talk) (begun moments : Option (List ℕ)) (now : ℕ) (after : Option (List ℕ)) (key path : List ℕ) (link : Option L) (shipment : Shipment) (bytes piece : List ℕ) →
+    MomentsGoOn begun moments → GivesMoment moments now after → IsShipped told (moments_since begun moments) key path link shipment bytes → IsTaken told (moments_since begun after) key path link shipment bytes piece piece
+taking_starts told begun moments now after key path link shipment bytes piece goes gives is =
+    let P : List ℕ → Type 0 = λ l. IsShipped told (moments_since begun after) key path link shipment l in
+    record { taken = []; parts = refl; shipped = subst P (sym (append-nil bytes)) (shipped_still told begun moments now after key path link shipment bytes goes gives is) }
 
 -- a whole line was taken
 pub taking_goes_on : {L : Type 0} (told : L → Option Talk) (moments : Option (List ℕ)) (key path : List ℕ) (link after : Option L) (old new : Shipment) (bytes piece left : List ℕ) (used most : ℕ) →
@@ -362,10 +416,10 @@ sendable told moments key path link shipment bytes is short = record {
 
 -- the byte behind the rest and what of the piece can be sent
 pub unsendable : {L : Type 0} (told : L → Option Talk) (moments : Option (List ℕ)) (key path : List ℕ) (link : Option L) (shipment : Shipment) (bytes piece left : List ℕ) (place at : ℕ) →
-    (is : IsTaken told moments key path link shipment bytes piece left) → place < length left → All IsPlainByte (take place left) →
+    (is : IsTaken told moments key path link shipment bytes piece left) → place < length left → vec_len shipment.rest + place ≤ LINE → All IsPlainByte (take place left) →
     IsExcluded (vec_len shipment.rest) left place → at ≡ shipment.offset + shipment.batch.size + vec_len shipment.rest + place →
     IsUnsendableAt (bytes ++ piece) at
-unsendable told moments key path link shipment bytes piece left place at is within plain excluded at_is =
+unsendable told moments key path link shipment bytes piece left place at is within few plain excluded at_is =
     let now = is.shipped in
     let events : List Event = now.settled ++ now.waiting in
     let whole : List ℕ = lines_bytes events in
@@ -387,8 +441,8 @@ unsendable told moments key path link shipment bytes piece left place at is with
           ∙ ap (λ (l : List ℕ). whole ++ (rest ++ l)) cut
           ∙ ap (λ (l : List ℕ). whole ++ l) (sym (append_assoc rest (take place left) (get_or left place 0 ∷ drop (suc place) left)))
           ∙ ap (λ (l : List ℕ). l ++ (line ++ get_or left place 0 ∷ drop (suc place) left)) (sym (lines_are events));
-      plain = All-append (λ (byte : ℕ). byte ≢ 10) rest (take place left) (λ k d inside feed. plain_feed (get_or rest k d) (now.plain k d inside) feed)
-          (λ k d inside feed. plain_feed (get_or (take place left) k d) (plain k d inside) feed);
+      each = each_sendable moments events (events-append moments now.settled now.waiting now.each now.waiting_each);
+      last = (All-append IsPlainByte rest (take place left) now.plain plain, omega (arith, size, few));
       at_is = omega (arith, at_is, size, ap (λ (l : List ℕ). length l) (lines_are events), ap (λ (l : List ℕ). length l) (lines_bytes-append now.settled now.waiting), length-append (lines_bytes now.settled) (lines_bytes now.waiting), now.offset, now.holds.size);
       cannot = cannot_be_sent (vec_len shipment.rest) left place line size excluded;
     }

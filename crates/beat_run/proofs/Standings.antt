@@ -1,26 +1,24 @@
 -- How the one worker stands with its wire, call by call.
-use Rattle.std.proofs.Common.{inl, inr, ℕ, ◌+◌, ◌-◌, ◌^◌, ◌≤◌, ◌<◌, zero, suc, List, [], ◌∷◌, ◌++◌, drop, Option, Some, None, is_some, false, Result, Ok, Err, IfErr, IfSome, IsSome, MatchResult, OnErr, OnOk, Vec, length, get_or, set, slice_get, arith, refl, sym, ◌∙◌, ap, subst, append_assoc, append-nil, ◌≡◌, ◌⊎◌, max, min}
+use Rattle.std.proofs.Common.{inl, inr, ℕ, ◌≤◌, List, [], ◌∷◌, ◌++◌, Option, Some, None, is_some, false, Result, Ok, Err, IfErr, IfSome, IsSome, MatchResult, OnErr, OnOk, Vec, length, get_or, set, slice_get, arith, refl, sym, ◌∙◌, ap, subst, append_assoc, append-nil, ◌≡◌, ◌⊎◌}
 use Rattle.std.specs.Vec.{with_item}
 use Rattle.std.specs.declared.alloc.Global.{Global}
-use Rattle.std.specs.List.{flat_map}
+use Rattle.std.specs.List.{AllByRecursion, flat_map}
 use Rattle.std.proofs.Math.Seq.{drop-append_seam, drop-length}
 use Rattle.std.proofs.lemmas.Bool.{false≢true}
-use Rattle.std.proofs.lemmas.Bool.Decides.{leb_tells}
-use Rattle.std.proofs.lemmas.List.Elements.{Contains-push}
 use Rattle.wire_base.specs.declared.talk.Piece.{Piece}
 use Rattle.outside.specs.declared.failed.Failed.{Failed}
-use Rattle.outside.specs.Counts.{IsAtEnd, Rose, added_counts, next_count}
-use Rattle.outside.specs.Talks.{Talk, no_talk}
-use Rattle.outside.specs.Wires.{Outcome, Finished, Refused, KeepsRefusal, TellsConnecting, TellsFinishing}
+use Rattle.outside.specs.Counts.{Rose, next_count}
+use Rattle.outside.specs.Talks.{Talk}
+use Rattle.outside.specs.Wires.{Outcome, Finished, Refused, TellsConnecting, TellsFinishing}
 use Rattle.lumber_frame.specs.Acknowledged.{Acknowledges}
 use Rattle.lumber_frame.specs.PeerFault.{HasPeerFault}
 use Rattle.lumber_frame.specs.Settled.{IsSettled}
 use Rattle.beat_run.specs.declared.status.Status.{Status}
 use Rattle.beat_run.specs.declared.status.Status.TheVariants.{Done, Usage, RegistryBad, DiskFault, FolderFault, Unreachable, OutFault, SourceFault, NoMemory, Unbuilt}
-use Rattle.beat_run.specs.Acknowledged.{AcknowledgeInAll, AreAcknowledged, FailsFor, IsAcknowledgedInOne, IsFailure, IsFaultOfPeer}
+use Rattle.beat_run.specs.Acknowledged.{AcknowledgeInAll, AreAcknowledged, FailsFor, IsFailure, SendOnly, SendsFront, SendsNothingElse}
 use Rattle.beat_run.specs.Ends.{IsReadingEnd}
 use Rattle.beat_run.specs.Serving.{HasFailed, HasServed, HasSettled, IsSomeWindow, IsWindowOf, Serves, Settles}
-use Rattle.beat_run.specs.Standing.{Blames, GoesOn, IsParted, IsSettledLink, IsStanding, OnFirst, Tells, outcomes_since, with_link}
+use Rattle.beat_run.specs.Standing.{Blames, GoesOn, GoesOnRefused, HasParted, IsParted, IsRefusal, IsStanding, OnFirst, Tells, WasRefused, outcomes_since, with_link}
 
 -- ---- lists that go on
 
@@ -28,10 +26,18 @@ pub goes_on_itself : (outcomes : Option (List Outcome)) → GoesOn outcomes outc
 goes_on_itself None = refl
 goes_on_itself (Some list) = ([], ap (λ (l : List Outcome). Some l) (sym (append-nil list)))
 
-pub goes_on_same : (start outcomes : Option (List Outcome)) → outcomes ≡ start → GoesOn start outcomes
-goes_on_same start outcomes same =
-    let P : Option (List Outcome) → Type 0 = λ o. GoesOn start o in
-    subst P (sym same) (goes_on_itself start)
+none_refused : (outcomes : Option (List Outcome)) → GoesOnRefused outcomes outcomes
+none_refused None = refl
+none_refused (Some list) = ([], (tt, ap (λ (l : List Outcome). Some l) (sym (append-nil list))))
+
+same_refused : (start outcomes : Option (List Outcome)) → outcomes ≡ start → GoesOnRefused start outcomes
+same_refused start outcomes same =
+    let P : Option (List Outcome) → Type 0 = λ o. GoesOnRefused start o in
+    subst P (sym same) (none_refused start)
+
+pub refused_goes : (start outcomes : Option (List Outcome)) → GoesOnRefused start outcomes → GoesOn start outcomes
+refused_goes None outcomes goes = goes
+refused_goes (Some list) outcomes goes = (goes.0, goes.1.1)
 
 since : (before more : List Outcome) (after : Option (List Outcome)) → after ≡ Some (before ++ more) → outcomes_since (Some before) after ≡ Some more
 since before more after is =
@@ -42,6 +48,10 @@ pub since_none : (outcomes : Option (List Outcome)) (P : List Outcome → Type 0
 since_none None P holds = tt
 since_none (Some list) P holds = subst P (sym (drop-length list)) holds
 
+-- and nothing was sent
+pub nothing_sent : (outcomes : Option (List Outcome)) → IfSome (outcomes_since outcomes outcomes) (SendOnly [])
+nothing_sent outcomes = since_none outcomes (SendOnly []) tt
+
 -- ---- the link is made, and used
 
 tells_still : {L : Type 0} (told : L → Option Talk) (outcomes : Option (List Outcome)) (link after : L) →
@@ -49,38 +59,38 @@ tells_still : {L : Type 0} (told : L → Option Talk) (outcomes : Option (List O
 tells_still told None link after keeps tells = tt
 tells_still told (Some list) link after keeps tells = keeps tells
 
-blames_any : {L : Type 0} (told : L → Option Talk) (link_faults : L → ℕ) (first faults : ℕ) (link : Option L) (status : Status) →
-    (Rose first faults ⊎ HasFailed told link_faults link) → Blames told link_faults first faults link status
-blames_any told link_faults first faults link Done failed = tt
-blames_any told link_faults first faults link Usage failed = tt
-blames_any told link_faults first faults link (RegistryBad area at) failed = tt
-blames_any told link_faults first faults link DiskFault failed = tt
-blames_any told link_faults first faults link FolderFault failed = tt
-blames_any told link_faults first faults link (Unreachable worker failures) failed = failed
-blames_any told link_faults first faults link OutFault failed = tt
-blames_any told link_faults first faults link SourceFault failed = tt
-blames_any told link_faults first faults link NoMemory failed = tt
-blames_any told link_faults first faults link (Unbuilt what) failed = tt
+blames_any : {L : Type 0} (told : L → Option Talk) (link_faults : L → ℕ) (start outcomes : Option (List Outcome)) (faults : ℕ) (link : Option L) (status : Status) →
+    HasParted told link_faults start outcomes faults link → Blames told link_faults start outcomes faults link status
+blames_any told link_faults start outcomes faults link Done parted = tt
+blames_any told link_faults start outcomes faults link Usage parted = tt
+blames_any told link_faults start outcomes faults link (RegistryBad area at) parted = tt
+blames_any told link_faults start outcomes faults link DiskFault parted = tt
+blames_any told link_faults start outcomes faults link FolderFault parted = tt
+blames_any told link_faults start outcomes faults link (Unreachable worker failures) parted = parted
+blames_any told link_faults start outcomes faults link OutFault parted = tt
+blames_any told link_faults start outcomes faults link SourceFault parted = tt
+blames_any told link_faults start outcomes faults link NoMemory parted = tt
+blames_any told link_faults start outcomes faults link (Unbuilt what) parted = tt
 
 -- a reading blames no peer
-pub reading_blames : {L : Type 0} (told : L → Option Talk) (link_faults : L → ℕ) (first faults : ℕ) (link : Option L) (before now : ℕ) (status : Status) →
-    IsReadingEnd before now status → Blames told link_faults first faults link status
-reading_blames told link_faults first faults link before now Done ends = tt
-reading_blames told link_faults first faults link before now Usage ends = tt
-reading_blames told link_faults first faults link before now (RegistryBad area at) ends = tt
-reading_blames told link_faults first faults link before now DiskFault ends = tt
-reading_blames told link_faults first faults link before now FolderFault ends = tt
-reading_blames told link_faults first faults link before now (Unreachable worker failures) ends = absurd ends
-reading_blames told link_faults first faults link before now OutFault ends = tt
-reading_blames told link_faults first faults link before now SourceFault ends = tt
-reading_blames told link_faults first faults link before now NoMemory ends = tt
-reading_blames told link_faults first faults link before now (Unbuilt what) ends = tt
+pub reading_blames : {L : Type 0} (told : L → Option Talk) (link_faults : L → ℕ) (start outcomes : Option (List Outcome)) (faults : ℕ) (link : Option L) (before now : ℕ) (status : Status) →
+    IsReadingEnd before now status → Blames told link_faults start outcomes faults link status
+reading_blames told link_faults start outcomes faults link before now Done ends = tt
+reading_blames told link_faults start outcomes faults link before now Usage ends = tt
+reading_blames told link_faults start outcomes faults link before now (RegistryBad area at) ends = tt
+reading_blames told link_faults start outcomes faults link before now DiskFault ends = tt
+reading_blames told link_faults start outcomes faults link before now FolderFault ends = tt
+reading_blames told link_faults start outcomes faults link before now (Unreachable worker failures) ends = absurd ends
+reading_blames told link_faults start outcomes faults link before now OutFault ends = tt
+reading_blames told link_faults start outcomes faults link before now SourceFault ends = tt
+reading_blames told link_faults start outcomes faults link before now NoMemory ends = tt
+reading_blames told link_faults start outcomes faults link before now (Unbuilt what) ends = tt
 
 -- a worker that stands well gave up for another reason
 pub parts_well : {L : Type 0} (told : L → Option Talk) (link_faults : L → ℕ) (start : Option (List Outcome)) (count first : ℕ) (outcomes : Option (List Outcome)) (links faults : ℕ) (link : Option L) (status : Status) →
-    Blames told link_faults first faults link status → IsStanding told start count first outcomes links faults link → IsParted told link_faults start count first outcomes links faults link status
+    Blames told link_faults start outcomes faults link status → IsStanding told start count first outcomes links faults link → IsParted told link_faults start count first outcomes links faults link status
 parts_well told link_faults start count first outcomes links faults link status blamed is = record {
-  goes_on = goes_on_same start outcomes is.none_came;
+  refused = same_refused start outcomes is.none_came;
   tells = is.tells;
   opened = is.opened;
   counted = is.counted;
@@ -90,7 +100,7 @@ parts_well told link_faults start count first outcomes links faults link status 
 pub standing_served : {L : Type 0} (told : L → Option Talk) (link_faults : L → ℕ) (start : Option (List Outcome)) (count first : ℕ) (outcomes : Option (List Outcome)) (links faults : ℕ) (link after : L) (frames : List ℕ) (number : ℕ) (result : Result (Unit {0}) Status) →
     IsSomeWindow frames number → (IsSome (told link) → IsSome (told after)) →
     ((earlier payloads : List (List ℕ)) → HasSettled told (Some link) earlier → IsWindowOf payloads frames number →
-    MatchResult result (λ _. HasSettled told (Some after) (earlier ++ payloads)) (λ _. HasServed told (Some after) earlier)) →
+    MatchResult result (λ _. HasSettled told (Some after) (earlier ++ payloads)) (λ _. HasServed told (Some after) earlier (earlier ++ payloads))) →
     ((earlier payloads : List (List ℕ)) → HasSettled told (Some link) earlier → IsWindowOf payloads frames number → OnErr result (HasFailed told link_faults (Some after))) →
     IsStanding told start count first outcomes links faults (Some link) →
     MatchResult result (λ _. IsStanding told start count first outcomes links faults (Some after)) (IsParted told link_faults start count first outcomes links faults (Some after))
@@ -105,11 +115,11 @@ standing_served told link_faults start count first outcomes links faults link af
   };
 }
 standing_served told link_faults start count first outcomes links faults link after frames number (Err status) window keeps serves fails is = record {
-  goes_on = goes_on_same start outcomes is.none_came;
+  refused = same_refused start outcomes is.none_came;
   tells = tells_still told outcomes link after keeps is.tells;
   opened = is.opened;
   counted = is.counted;
-  blamed = blames_any told link_faults first faults (Some after) status (inr (fails is.settled.payloads window.payloads is.settled.settled window.window));
+  blamed = blames_any told link_faults start outcomes faults (Some after) status (fails is.settled.payloads window.payloads is.settled.settled window.window);
 }
 
 -- by what became of a settling, which the wire does not see
@@ -159,16 +169,16 @@ standing_connected nothing told start count first outcomes links faults old link
     }
 
 refused_goes_on : {L : Type 0} (told : L → Option Talk) (start outcomes after : Option (List Outcome)) (failed : Failed) (faults : ℕ) →
-    outcomes ≡ start → TellsConnecting told outcomes (Err failed) after faults → GoesOn start after
+    outcomes ≡ start → TellsConnecting told outcomes (Err failed) after faults → GoesOnRefused start after
 refused_goes_on told start None after failed faults same tells =
-    let P : Option (List Outcome) → Type 0 = λ o. GoesOn o after in
+    let P : Option (List Outcome) → Type 0 = λ o. GoesOnRefused o after in
     subst P same tells.0
 refused_goes_on told start (Some list) after failed faults same (inl refused) =
-    let P : Option (List Outcome) → Type 0 = λ o. GoesOn o after in
-    subst P same (Refused ∷ [], refused)
+    let P : Option (List Outcome) → Type 0 = λ o. GoesOnRefused o after in
+    subst P same (Refused ∷ [], ((tt, tt), refused))
 refused_goes_on told start (Some list) after failed faults same (inr full) =
-    let P : Option (List Outcome) → Type 0 = λ o. GoesOn o after in
-    subst P same (goes_on_same (Some list) after full.1)
+    let P : Option (List Outcome) → Type 0 = λ o. GoesOnRefused o after in
+    subst P same (same_refused (Some list) after full.1)
 
 unlinked_tells : {L : Type 0} (told : L → Option Talk) (outcomes : Option (List Outcome)) (link : Option L) → link ≡ None → Tells told outcomes link
 unlinked_tells told None link is = tt
@@ -176,19 +186,33 @@ unlinked_tells told (Some list) link is =
     let P : _ → Type 0 = λ l. IfSome l (λ one. IsSome (told one)) in
     subst P (sym is) tt
 
-rose_since : (first faults after : ℕ) → first ≤ faults → Rose faults after → Rose first after
-rose_since first faults after counted (inl rose) = inl (omega (arith, counted, rose))
-rose_since first faults after counted (inr end) = inr end
+was_refused : {L : Type 0} (told : L → Option Talk) (start outcomes after : Option (List Outcome)) (failed : Failed) (faults : ℕ) →
+    outcomes ≡ start → TellsConnecting told outcomes (Err failed) after faults → WasRefused start after faults
+was_refused told start None after failed faults same tells =
+    let P : Option (List Outcome) → Type 0 = λ o. WasRefused o after faults in
+    subst P same tt
+was_refused told start (Some list) after failed faults same (inl refused) =
+    let P : Option (List Outcome) → Type 0 = λ o. WasRefused o after faults in
+    subst P same (inl refused)
+was_refused told start (Some list) after failed faults same (inr full) =
+    let P : Option (List Outcome) → Type 0 = λ o. WasRefused o after faults in
+    subst P same (inr full.0)
+
+parted_so : {L : Type 0} (told : L → Option Talk) (link_faults : L → ℕ) (start outcomes : Option (List Outcome)) (faults : ℕ) (link : Option L) → link ≡ None → WasRefused start outcomes faults → HasParted told link_faults start outcomes faults link
+parted_so told link_faults start outcomes faults link none refused =
+    let P : _ → Type 0 = λ l. HasParted told link_faults start outcomes faults l in
+    subst P (sym none) refused
 
 pub parted_refused : {L : Type 0} (told : L → Option Talk) (link_faults : L → ℕ) (start : Option (List Outcome)) (count first : ℕ) (outcomes : Option (List Outcome)) (links faults : ℕ) (link : Option L) (failed : Failed) (status : Status)
-    (after : Option (List Outcome)) (links_after faults_after : ℕ) → link ≡ None → TellsConnecting told outcomes (Err failed) after faults_after → links_after ≡ links → faults ≤ faults_after → Rose faults faults_after →
+    (after : Option (List Outcome)) (links_after faults_after : ℕ) → link ≡ None → TellsConnecting told outcomes (Err failed) after faults_after → links_after ≡ links → faults ≤ faults_after →
     IsStanding told start count first outcomes links faults link → IsParted told link_faults start count first after links_after faults_after link status
-parted_refused told link_faults start count first outcomes links faults link failed status after links_after faults_after none tells opened rises rose is = record {
-  goes_on = refused_goes_on told start outcomes after failed faults_after is.none_came tells;
+parted_refused told link_faults start count first outcomes links faults link failed status after links_after faults_after none tells opened rises is = record {
+  refused = refused_goes_on told start outcomes after failed faults_after is.none_came tells;
   tells = unlinked_tells told after link none;
   opened = opened ∙ is.opened;
   counted = omega (arith, is.counted, rises);
-  blamed = blames_any told link_faults first faults_after link status (inl (rose_since first faults faults_after is.counted rose));
+  blamed = blames_any told link_faults start after faults_after link status
+      (parted_so told link_faults start after faults_after link none (was_refused told start outcomes after failed faults_after is.none_came tells));
 }
 
 -- a worker that has not connected
@@ -216,43 +240,58 @@ last_is : (list : List Outcome) (one : Outcome) → slice_get (list ++ one ∷ [
 last_is [] one = refl
 last_is (first ∷ list) one = last_is list one
 
-pub finished_goes_on : (start before after : Option (List Outcome)) (talk : Option Talk) (faults idles : ℕ) → GoesOn start before → TellsFinishing before talk faults idles after → GoesOn start after
+pub finished_goes_on : (start before after : Option (List Outcome)) (talk : Option Talk) (faults idles : ℕ) → GoesOnRefused start before → TellsFinishing before talk faults idles after → GoesOn start after
 finished_goes_on None before after talk faults idles goes finishes =
     let F : Option (List Outcome) → Type 0 = λ o. TellsFinishing o talk faults idles after in
     subst F goes finishes
 finished_goes_on (Some list) before after None faults idles goes finishes =
     let F : Option (List Outcome) → Type 0 = λ o. TellsFinishing o None faults idles after in
-    (goes.0, subst F goes.1 finishes)
+    (goes.0, subst F goes.1.1 finishes)
 finished_goes_on (Some list) before after (Some talk) faults idles goes finishes =
     let F : Option (List Outcome) → Type 0 = λ o. TellsFinishing o (Some talk) faults idles after in (
       goes.0 ++ Finished talk faults idles ∷ [],
-      subst F goes.1 finishes ∙ ap (λ (l : List Outcome). Some l) (append_assoc list goes.0 (Finished talk faults idles ∷ [])),
+      subst F goes.1.1 finishes ∙ ap (λ (l : List Outcome). Some l) (append_assoc list goes.0 (Finished talk faults idles ∷ [])),
     )
 
--- the list since then, with the link's talk at its end
+-- the list since then: connections that failed, and the link's talk at its end
 pub record EndsWith (start after : Option (List Outcome)) (talk : Talk) (faults idles : ℕ) : Type 0 where
   pub more : List Outcome
+  pub refusals : AllByRecursion IsRefusal more
   pub are : outcomes_since start after ≡ Some (more ++ Finished talk faults idles ∷ [])
 
-ends_with : (list : List Outcome) (before after : Option (List Outcome)) (talk : Talk) (faults idles : ℕ) → GoesOn (Some list) before → TellsFinishing before (Some talk) faults idles after →
+ends_with : (list : List Outcome) (before after : Option (List Outcome)) (talk : Talk) (faults idles : ℕ) → GoesOnRefused (Some list) before → TellsFinishing before (Some talk) faults idles after →
     EndsWith (Some list) after talk faults idles
 ends_with list before after talk faults idles goes finishes =
     let F : Option (List Outcome) → Type 0 = λ o. TellsFinishing o (Some talk) faults idles after in
     record {
       more = goes.0;
+      refusals = goes.1.0;
       are = since list (goes.0 ++ Finished talk faults idles ∷ []) after
-          (subst F goes.1 finishes ∙ ap (λ (l : List Outcome). Some l) (append_assoc list goes.0 (Finished talk faults idles ∷ [])));
+          (subst F goes.1.1 finishes ∙ ap (λ (l : List Outcome). Some l) (append_assoc list goes.0 (Finished talk faults idles ∷ [])));
     }
 
 -- the link tells where the wire has told
-told_talk : (list : List Outcome) (before : Option (List Outcome)) (talk : Option Talk) → GoesOn (Some list) before → IfSome before (λ _. IsSome talk) → IsSome talk
+told_talk : (list : List Outcome) (before : Option (List Outcome)) (talk : Option Talk) → GoesOnRefused (Some list) before → IfSome before (λ _. IsSome talk) → IsSome talk
 told_talk list before talk goes tells =
     let P : Option (List Outcome) → Type 0 = λ o. IfSome o (λ _. IsSome talk) in
-    subst P goes.1 tells
+    subst P goes.1.1 tells
 
-served_acknowledges : StaysAcknowledged → (more : List Outcome) (talk : Talk) (faults idles : ℕ) (payloads : List (List ℕ)) →
-    Serves talk.pieces payloads → AreAcknowledged (more ++ Finished talk faults idles ∷ []) payloads
-served_acknowledges law more talk faults idles payloads serves =
+-- connections that failed sent nothing
+refusal_sends : (all : List (List ℕ)) (outcome : Outcome) → IsRefusal outcome → SendsNothingElse all outcome
+refusal_sends all Refused is = tt
+refusal_sends all (Finished talk faults idles) is = absurd is
+
+refusals_send : (all : List (List ℕ)) (more : List Outcome) → AllByRecursion IsRefusal more → SendOnly all more
+refusals_send all [] refusals = tt
+refusals_send all (outcome ∷ more) refusals = (refusal_sends all outcome refusals.0, refusals_send all more refusals.1)
+
+talk_sends : (all : List (List ℕ)) (more : List Outcome) (talk : Talk) (faults idles : ℕ) → AllByRecursion IsRefusal more → SendsFront talk.pieces all → SendOnly all (more ++ Finished talk faults idles ∷ [])
+talk_sends all [] talk faults idles refusals sends = (sends, tt)
+talk_sends all (outcome ∷ more) talk faults idles refusals sends = (refusal_sends all outcome refusals.0, talk_sends all more talk faults idles refusals.1 sends)
+
+served_acknowledges : StaysAcknowledged → (more : List Outcome) (talk : Talk) (faults idles : ℕ) (payloads all : List (List ℕ)) →
+    Serves talk.pieces payloads all → AreAcknowledged (more ++ Finished talk faults idles ∷ []) payloads
+served_acknowledges law more talk faults idles payloads all serves =
     let stays = law serves.front serves.more serves.settles.windows serves.settles.settled in
     let A : List Piece → Type 0 = λ l. Acknowledges l (payloads ++ (serves.later ++ stays.0)) in
     let E : List (List ℕ) → Type 0 = λ l. Acknowledges (serves.front ++ serves.more) l in
@@ -267,25 +306,28 @@ served_acknowledges law more talk faults idles payloads serves =
           (subst E (ap (λ (l : List (List ℕ)). l ++ stays.0) (sym serves.settles.are) ∙ append_assoc payloads serves.later stays.0) stays.1);
     })
 
-finished_acknowledges : StaysAcknowledged → (start before after : Option (List Outcome)) (talk : Option Talk) (faults idles : ℕ) (payloads : List (List ℕ)) →
-    GoesOn start before → IfSome before (λ _. IsSome talk) → IfSome talk (λ t. Serves t.pieces payloads) → TellsFinishing before talk faults idles after →
-    IfSome (outcomes_since start after) (λ outcomes. AreAcknowledged outcomes payloads)
-finished_acknowledges law None before after talk faults idles payloads goes tells served finishes = tt
-finished_acknowledges law (Some list) before after None faults idles payloads goes tells served finishes = absurd (false≢true (told_talk list before None goes tells))
-finished_acknowledges law (Some list) before after (Some talk) faults idles payloads goes tells served finishes =
+finished_acknowledges : StaysAcknowledged → (start before after : Option (List Outcome)) (talk : Option Talk) (faults idles : ℕ) (payloads all : List (List ℕ)) →
+    GoesOnRefused start before → IfSome before (λ _. IsSome talk) → IfSome talk (λ t. Serves t.pieces payloads all) → TellsFinishing before talk faults idles after →
+    IfSome (outcomes_since start after) (λ outcomes. AreAcknowledged outcomes payloads × SendOnly all outcomes)
+finished_acknowledges law None before after talk faults idles payloads all goes tells served finishes = tt
+finished_acknowledges law (Some list) before after None faults idles payloads all goes tells served finishes = absurd (false≢true (told_talk list before None goes tells))
+finished_acknowledges law (Some list) before after (Some talk) faults idles payloads all goes tells served finishes =
     let ends = ends_with list before after talk faults idles goes finishes in
-    let P : Option (List Outcome) → Type 0 = λ o. IfSome o (λ outcomes. AreAcknowledged outcomes payloads) in
-    subst P (sym ends.are) (served_acknowledges law ends.more talk faults idles payloads served)
+    let P : Option (List Outcome) → Type 0 = λ o. IfSome o (λ outcomes. AreAcknowledged outcomes payloads × SendOnly all outcomes) in
+    subst P (sym ends.are) (served_acknowledges law ends.more talk faults idles payloads all served, talk_sends all ends.more talk faults idles ends.refusals served.sent)
 
-pub ended_acknowledges : {L : Type 0} (told : L → Option Talk) (start before after : Option (List Outcome)) (link : L) (faults idles : ℕ) (payloads : List (List ℕ)) → StaysAcknowledged →
-    GoesOn start before → Tells told before (Some link) → HasServed told (Some link) payloads → TellsFinishing before (told link) faults idles after →
-    IfSome (outcomes_since start after) (λ outcomes. AreAcknowledged outcomes payloads)
-ended_acknowledges told start before after link faults idles payloads law goes tells served finishes =
-    finished_acknowledges law start before after (told link) faults idles payloads goes tells served finishes
+pub ended_acknowledges : {L : Type 0} (told : L → Option Talk) (start before after : Option (List Outcome)) (link : L) (faults idles : ℕ) (payloads all : List (List ℕ)) → StaysAcknowledged →
+    GoesOnRefused start before → Tells told before (Some link) → HasServed told (Some link) payloads all → TellsFinishing before (told link) faults idles after →
+    IfSome (outcomes_since start after) (λ outcomes. AreAcknowledged outcomes payloads × SendOnly all outcomes)
+ended_acknowledges told start before after link faults idles payloads all law goes tells served finishes =
+    finished_acknowledges law start before after (told link) faults idles payloads all goes tells served finishes
 
-pub none_acknowledged : (outcomes : Option (List Outcome)) (payloads : List (List ℕ)) → payloads ≡ [] → IfSome outcomes (λ list. AreAcknowledged list payloads)
-none_acknowledged None payloads none = tt
-none_acknowledged (Some list) payloads none = inl none
+pub none_acknowledged : (start before : Option (List Outcome)) (payloads all : List (List ℕ)) → GoesOnRefused start before → payloads ≡ [] →
+    IfSome (outcomes_since start before) (λ outcomes. AreAcknowledged outcomes payloads × SendOnly all outcomes)
+none_acknowledged None before payloads all goes none = tt
+none_acknowledged (Some list) before payloads all goes none =
+    let P : Option (List Outcome) → Type 0 = λ o. IfSome o (λ outcomes. AreAcknowledged outcomes payloads × SendOnly all outcomes) in
+    subst P (sym (since list goes.0 before goes.1.1)) (inl none, refusals_send all goes.0 goes.1.0)
 
 finished_counts : IsAcknowledged → (before after : Option (List Outcome)) (talk : Option Talk) (faults idles : ℕ) (payloads : List (List ℕ)) →
     IfSome before (λ _. IsSome talk) → IfSome talk (λ t. Settles t.pieces payloads) → TellsFinishing before talk faults idles after →
@@ -313,36 +355,31 @@ pub none_counted : (outcomes : Option (List Outcome)) (payloads : List (List ℕ
 none_counted outcomes payloads none = since_none outcomes (λ list. AcknowledgeInAll list (length payloads)) (ap (λ (l : List (List ℕ)). length l) none)
 
 -- a fault of the wire, of the link or of the peer
-counted_still : (first before faults after : ℕ) → first ≤ before → added_counts before faults ≤ after → Rose first before → Rose first after
-counted_still first before faults after counted counts (inl rose) = inl (omega (arith, counts, rose))
-counted_still first before faults after counted counts (inr end) = inr (omega (arith, counts, end))
-
-counted_more : (first before faults after : ℕ) → first ≤ before → added_counts before faults ≤ after → Rose 0 faults → Rose first after
-counted_more first before faults after counted counts (inl rose) =
-    elim (at_most (before + faults) after (omega (arith, counts))) [ inl more ↦ inl (omega (arith, more, rose, counted)) | inr end ↦ inr end ]
-  where
-    at_most : (sum most : ℕ) → min sum (2 ^ 64 - 1) ≤ most → (sum ≤ most) ⊎ IsAtEnd most
-    at_most sum most is = elim (leb_tells sum most) [ inl few ↦ inl few.1 | inr many ↦ inr (omega (arith, is, many.1)) ]
-counted_more first before faults after counted counts (inr end) = inr (omega (arith, counts, end))
-
-finished_fault : (start before after : Option (List Outcome)) (talk : Option Talk) (faults idles : ℕ) →
-    GoesOn start before → IfSome before (λ _. IsSome talk) → IfSome talk (λ t. HasPeerFault t.pieces) → TellsFinishing before talk faults idles after →
-    IfSome (outcomes_since start after) IsFaultOfPeer
-finished_fault None before after talk faults idles goes tells fault finishes = tt
-finished_fault (Some list) before after None faults idles goes tells fault finishes = absurd (false≢true (told_talk list before None goes tells))
-finished_fault (Some list) before after (Some talk) faults idles goes tells fault finishes =
+finished_failed : (start before after : Option (List Outcome)) (talk : Option Talk) (faults idles faults_after : ℕ) →
+    GoesOnRefused start before → IfSome before (λ _. IsSome talk) → (Rose 0 faults ⊎ IfSome talk (λ t. HasPeerFault t.pieces)) → TellsFinishing before talk faults idles after →
+    IsFailure faults_after (outcomes_since start after)
+finished_failed None before after talk faults idles faults_after goes tells failed finishes = tt
+finished_failed (Some list) before after None faults idles faults_after goes tells failed finishes = absurd (false≢true (told_talk list before None goes tells))
+finished_failed (Some list) before after (Some talk) faults idles faults_after goes tells failed finishes =
     let ends = ends_with list before after talk faults idles goes finishes in
-    let P : Option (List Outcome) → Type 0 = λ o. IfSome o IsFaultOfPeer in
-    subst P (sym ends.are) (record { talk = talk; faults = faults; idles = idles; there = Contains-push ends.more (Finished talk faults idles); fault = fault })
+    let P : Option (List Outcome) → Type 0 = λ o. IsFailure faults_after o in
+    subst P (sym ends.are) (inl (record { earlier = ends.more; last = Finished talk faults idles; are = refl; failed = failed }))
 
-pub ended_fails : {L : Type 0} (told : L → Option Talk) (link_faults : L → ℕ) (start before after : Option (List Outcome)) (link : L) (idles first wire_faults faults_after : ℕ) →
-    added_counts wire_faults (link_faults link) ≤ faults_after → TellsFinishing before (told link) (link_faults link) idles after →
-    GoesOn start before → Tells told before (Some link) → first ≤ wire_faults → (Rose first wire_faults ⊎ HasFailed told link_faults (Some link)) →
-    IsFailure first faults_after (outcomes_since start after)
-ended_fails told link_faults start before after link idles first wire_faults faults_after counts finishes goes tells counted (inl rose) = inl (counted_still first wire_faults (link_faults link) faults_after counted counts rose)
-ended_fails told link_faults start before after link idles first wire_faults faults_after counts finishes goes tells counted (inr (inl failed)) = inl (counted_more first wire_faults (link_faults link) faults_after counted counts failed)
-ended_fails told link_faults start before after link idles first wire_faults faults_after counts finishes goes tells counted (inr (inr fault)) =
-    inr (finished_fault start before after (told link) (link_faults link) idles goes tells fault finishes)
+pub ended_fails : {L : Type 0} (told : L → Option Talk) (link_faults : L → ℕ) (start before after : Option (List Outcome)) (link : L) (idles faults_after : ℕ) →
+    TellsFinishing before (told link) (link_faults link) idles after → GoesOnRefused start before → Tells told before (Some link) → HasFailed told link_faults (Some link) →
+    IsFailure faults_after (outcomes_since start after)
+ended_fails told link_faults start before after link idles faults_after finishes goes tells failed = finished_failed start before after (told link) (link_faults link) idles faults_after goes tells failed finishes
+
+pub refused_fails : (start outcomes : Option (List Outcome)) (faults : ℕ) → WasRefused start outcomes faults → IsFailure faults (outcomes_since start outcomes)
+refused_fails None outcomes faults refused = tt
+refused_fails (Some list) outcomes faults (inl refused) =
+    let P : Option (List Outcome) → Type 0 = λ o. IsFailure faults o in
+    subst P (sym (since list (Refused ∷ []) outcomes refused)) (inl (record { earlier = []; last = Refused; are = refl; failed = tt }))
+refused_fails (Some list) outcomes faults (inr end) = at_end (outcomes_since (Some list) outcomes)
+  where
+    at_end : (o : Option (List Outcome)) → IsFailure faults o
+    at_end None = tt
+    at_end (Some l) = inr end
 
 -- ---- how the run of a file left the wire
 
@@ -350,10 +387,10 @@ abbrev pub LeftSo : {L : Type 0} → (L → Option Talk) → (L → ℕ) → Opt
 LeftSo told link_faults start count first outcomes links faults link result =
     MatchResult result (λ _. IsStanding told start count first outcomes links faults link) (IsParted told link_faults start count first outcomes links faults link)
 
-pub left_goes_on : {L : Type 0} (told : L → Option Talk) (link_faults : L → ℕ) (start : Option (List Outcome)) (count first : ℕ) (outcomes : Option (List Outcome)) (links faults : ℕ) (link : Option L) (result : Result (Unit {0}) Status) →
-    LeftSo told link_faults start count first outcomes links faults link result → GoesOn start outcomes
-left_goes_on told link_faults start count first outcomes links faults link (Ok done) left = goes_on_same start outcomes left.none_came
-left_goes_on told link_faults start count first outcomes links faults link (Err status) left = left.goes_on
+pub left_refused : {L : Type 0} (told : L → Option Talk) (link_faults : L → ℕ) (start : Option (List Outcome)) (count first : ℕ) (outcomes : Option (List Outcome)) (links faults : ℕ) (link : Option L) (result : Result (Unit {0}) Status) →
+    LeftSo told link_faults start count first outcomes links faults link result → GoesOnRefused start outcomes
+left_refused told link_faults start count first outcomes links faults link (Ok done) left = same_refused start outcomes left.none_came
+left_refused told link_faults start count first outcomes links faults link (Err status) left = left.refused
 
 pub left_tells : {L : Type 0} (told : L → Option Talk) (link_faults : L → ℕ) (start : Option (List Outcome)) (count first : ℕ) (outcomes : Option (List Outcome)) (links faults : ℕ) (link : Option L) (result : Result (Unit {0}) Status) →
     LeftSo told link_faults start count first outcomes links faults link result → Tells told outcomes link
@@ -375,27 +412,27 @@ left_counts told link_faults start count first outcomes after links faults link 
     subst P left.none_came (counts payloads left.tells settled)
 left_counts told link_faults start count first outcomes after links faults link (Err status) left counts = tt
 
-fails_for : (before now : ℕ) (outcomes : Option (List Outcome)) {L : Type 0} (told : L → Option Talk) (link_faults : L → ℕ) (first faults : ℕ) (link : Option L) (status : Status) →
-    ((Rose first faults ⊎ HasFailed told link_faults link) → IsFailure before now outcomes) → Blames told link_faults first faults link status → FailsFor before now outcomes status
-fails_for before now outcomes told link_faults first faults link Done fails blamed = tt
-fails_for before now outcomes told link_faults first faults link Usage fails blamed = tt
-fails_for before now outcomes told link_faults first faults link (RegistryBad area at) fails blamed = tt
-fails_for before now outcomes told link_faults first faults link DiskFault fails blamed = tt
-fails_for before now outcomes told link_faults first faults link FolderFault fails blamed = tt
-fails_for before now outcomes told link_faults first faults link (Unreachable worker failures) fails blamed = fails blamed
-fails_for before now outcomes told link_faults first faults link OutFault fails blamed = tt
-fails_for before now outcomes told link_faults first faults link SourceFault fails blamed = tt
-fails_for before now outcomes told link_faults first faults link NoMemory fails blamed = tt
-fails_for before now outcomes told link_faults first faults link (Unbuilt what) fails blamed = tt
+fails_for : {L : Type 0} (told : L → Option Talk) (link_faults : L → ℕ) (start before since_start : Option (List Outcome)) (faults faults_after : ℕ) (link : Option L) (status : Status) →
+    (HasParted told link_faults start before faults link → IsFailure faults_after since_start) → Blames told link_faults start before faults link status → FailsFor faults_after since_start status
+fails_for told link_faults start before since_start faults faults_after link Done fails blamed = tt
+fails_for told link_faults start before since_start faults faults_after link Usage fails blamed = tt
+fails_for told link_faults start before since_start faults faults_after link (RegistryBad area at) fails blamed = tt
+fails_for told link_faults start before since_start faults faults_after link DiskFault fails blamed = tt
+fails_for told link_faults start before since_start faults faults_after link FolderFault fails blamed = tt
+fails_for told link_faults start before since_start faults faults_after link (Unreachable worker failures) fails blamed = fails blamed
+fails_for told link_faults start before since_start faults faults_after link OutFault fails blamed = tt
+fails_for told link_faults start before since_start faults faults_after link SourceFault fails blamed = tt
+fails_for told link_faults start before since_start faults faults_after link NoMemory fails blamed = tt
+fails_for told link_faults start before since_start faults faults_after link (Unbuilt what) fails blamed = tt
 
 -- the status that blames the peer has its cause
 pub left_fails : {L : Type 0} (told : L → Option Talk) (link_faults : L → ℕ) (start : Option (List Outcome)) (count first : ℕ) (outcomes after : Option (List Outcome)) (links faults faults_after : ℕ) (link : Option L) (result : Result (Unit {0}) Status) →
     LeftSo told link_faults start count first outcomes links faults link result →
-    (GoesOn start outcomes → Tells told outcomes link → first ≤ faults → (Rose first faults ⊎ HasFailed told link_faults link) → IsFailure first faults_after (outcomes_since start after)) →
-    IfErr result (FailsFor first faults_after (outcomes_since start after))
+    (GoesOnRefused start outcomes → Tells told outcomes link → HasParted told link_faults start outcomes faults link → IsFailure faults_after (outcomes_since start after)) →
+    IfErr result (FailsFor faults_after (outcomes_since start after))
 left_fails told link_faults start count first outcomes after links faults faults_after link (Ok done) left fails = tt
 left_fails told link_faults start count first outcomes after links faults faults_after link (Err status) left fails =
-    fails_for first faults_after (outcomes_since start after) told link_faults first faults link status (fails left.goes_on left.tells left.counted) left.blamed
+    fails_for told link_faults start outcomes (outcomes_since start after) faults faults_after link status (fails left.refused left.tells) left.blamed
 
 -- what was done to the first wire
 pub on_first : {W A : Type 0} (member : W → A) (old new : Vec W Global) (first last : W) (Relation : A → A → Type 0) →
@@ -412,6 +449,15 @@ first_is (wire ∷ wires) first many is = ap (λ w. Some w) (sym is)
 set_first : {W : Type 0} (wires : List W) (last : W) → length wires ≡ 16 → slice_get (set wires 0 last) 0 ≡ Some last
 set_first [] last many = absurd (omega (arith, many))
 set_first (wire ∷ wires) last many = refl
+
+set_stays : {W : Type 0} (wires : List W) (first last : W) → length wires ≡ 16 → first ≡ get_or wires 0 first → last ≡ first → set wires 0 last ≡ wires
+set_stays [] first last many is same = absurd (omega (arith, many))
+set_stays (wire ∷ wires) first last many is same = ap (λ w. w ∷ wires) (same ∙ is)
+
+-- wires of which the first is put back as it was are as they were
+pub wires_stay : {W : Type 0} (wires : Vec W Global) (first last : W) → length wires.items ≡ 16 → first ≡ get_or wires.items 0 first → last ≡ first →
+    (with_item wires 0 last).items ≡ wires.items
+wires_stay wires first last many is same = set_stays wires.items first last many is same
 
 pub first_set : {W : Type 0} (wires : Vec W Global) (last : W) → length wires.items ≡ 16 → slice_get (with_item wires 0 last).items 0 ≡ Some last
 first_set wires last many = set_first wires.items last many

@@ -1,14 +1,15 @@
 -- Where a run stops for what is not built yet, by the status that it stops with.
-use Rattle.std.proofs.Common.{◌≡◌, ℕ, List, length, Option, Some, subst}
+use Rattle.std.proofs.Common.{◌≡◌, ℕ, ◌+◌, List, length, subst}
 use Rattle.outside.specs.declared.history.Look.{Look}
 use Rattle.outside.specs.Files.{File}
-use Rattle.outside.specs.Tails.{TailHistory}
 use Rattle.beat_run.specs.declared.status.Lack.TheVariants.{Settings, Byte, Life}
 use Rattle.beat_run.specs.declared.status.Status.{Status}
 use Rattle.beat_run.specs.declared.status.Status.TheVariants.{Done, Usage, RegistryBad, DiskFault, FolderFault, Unreachable, OutFault, SourceFault, NoMemory, Unbuilt}
 use Rattle.beat_run.specs.Ends.{IsLineEnd, IsPieceEnd, IsReadingEnd}
-use Rattle.beat_run.specs.Reading.{bytes_read}
+use Rattle.beat_run.specs.Reading.{NoneShorter, bytes_read}
 use Rattle.beat_run.specs.Unbuilt.{IsSendable, IsShortened, StopsAt, StopsBy, StopsFor}
+use Rattle.beat_run.proofs.Living.{total}
+use Rattle.beat_run.proofs.PieceReads.{none_shorter_still}
 
 pub line_stops : (bytes : List ℕ) (status : Status) → IsLineEnd status → StopsAt bytes status
 line_stops bytes Done ends = tt
@@ -40,36 +41,34 @@ sending_ends file looks (Unbuilt (Byte at)) ends = absurd ends
 sending_ends file looks (Unbuilt Life) ends = absurd ends
 
 -- a piece never stops for a length
-pub piece_ends : (file : File) (looks : List Look) (status : Status) → IsPieceEnd status → StopsAt (bytes_read file looks) status → StopsFor status file looks
-piece_ends file looks Done ends stops = tt
-piece_ends file looks Usage ends stops = tt
-piece_ends file looks (RegistryBad area at) ends stops = tt
-piece_ends file looks DiskFault ends stops = tt
-piece_ends file looks FolderFault ends stops = absurd ends
-piece_ends file looks (Unreachable worker failures) ends stops = tt
-piece_ends file looks OutFault ends stops = tt
-piece_ends file looks SourceFault ends stops = tt
-piece_ends file looks NoMemory ends stops = tt
-piece_ends file looks (Unbuilt Settings) ends stops = tt
-piece_ends file looks (Unbuilt (Byte at)) ends stops = stops
-piece_ends file looks (Unbuilt Life) ends stops = absurd ends
+pub piece_ends : (file : File) (looks : List Look) (status : Status) → IsPieceEnd status → StopsAt (bytes_read file looks) status → NoneShorter 0 looks → StopsFor status file looks
+piece_ends file looks Done ends stops reaches = tt
+piece_ends file looks Usage ends stops reaches = tt
+piece_ends file looks (RegistryBad area at) ends stops reaches = tt
+piece_ends file looks DiskFault ends stops reaches = tt
+piece_ends file looks FolderFault ends stops reaches = absurd ends
+piece_ends file looks (Unreachable worker failures) ends stops reaches = tt
+piece_ends file looks OutFault ends stops reaches = tt
+piece_ends file looks SourceFault ends stops reaches = tt
+piece_ends file looks NoMemory ends stops reaches = tt
+piece_ends file looks (Unbuilt Settings) ends stops reaches = tt
+piece_ends file looks (Unbuilt (Byte at)) ends stops reaches = (stops, reaches)
+piece_ends file looks (Unbuilt Life) ends stops reaches = absurd ends
 
 -- a reading never stops for a byte
-pub reading_ends_so : (file : File) (looks : List Look) (place before now : ℕ) (after : Option TailHistory) (history : TailHistory) (status : Status) → after ≡ Some history →
-    history.looks ≡ looks → place ≡ length (bytes_read file looks) → IsReadingEnd before now status → StopsBy place after status → IsSendable (bytes_read file looks) → StopsFor status file looks
-reading_ends_so file looks place before now after history Done told same position ends stops can = tt
-reading_ends_so file looks place before now after history Usage told same position ends stops can = tt
-reading_ends_so file looks place before now after history (RegistryBad area at) told same position ends stops can = tt
-reading_ends_so file looks place before now after history DiskFault told same position ends stops can = tt
-reading_ends_so file looks place before now after history FolderFault told same position ends stops can = can
-reading_ends_so file looks place before now after history (Unreachable worker failures) told same position ends stops can = tt
-reading_ends_so file looks place before now after history OutFault told same position ends stops can = tt
-reading_ends_so file looks place before now after history SourceFault told same position ends stops can = tt
-reading_ends_so file looks place before now after history NoMemory told same position ends stops can = tt
-reading_ends_so file looks place before now after history (Unbuilt Settings) told same position ends stops can = tt
-reading_ends_so file looks place before now after history (Unbuilt (Byte at)) told same position ends stops can = absurd ends
-reading_ends_so file looks place before now after history (Unbuilt Life) told same position ends stops can =
-    let T : Option TailHistory → Type 0 = λ o. StopsBy place o (Unbuilt Life) in
-    let N : ℕ → Type 0 = λ n. IsShortened n looks in
-    let L : List Look → Type 0 = λ l. IsShortened place l in
-    (subst N position (subst L same (subst T told stops)), can)
+pub reading_ends_so : (file : File) (looks before : List Look) (place first now : ℕ) (status : Status) →
+    place ≡ length (bytes_read file looks) → place ≡ 0 + total before → NoneShorter 0 before → IsReadingEnd first now status → StopsBy place before looks status → IsSendable (bytes_read file looks) → StopsFor status file looks
+reading_ends_so file looks before place first now Done position here none ends stops can = tt
+reading_ends_so file looks before place first now Usage position here none ends stops can = tt
+reading_ends_so file looks before place first now (RegistryBad area at) position here none ends stops can = tt
+reading_ends_so file looks before place first now DiskFault position here none ends stops can = tt
+reading_ends_so file looks before place first now FolderFault position here none ends stops can = (can, none_shorter_still place before looks here none stops)
+reading_ends_so file looks before place first now (Unreachable worker failures) position here none ends stops can = tt
+reading_ends_so file looks before place first now OutFault position here none ends stops can = tt
+reading_ends_so file looks before place first now SourceFault position here none ends stops can = tt
+reading_ends_so file looks before place first now NoMemory position here none ends stops can = tt
+reading_ends_so file looks before place first now (Unbuilt Settings) position here none ends stops can = tt
+reading_ends_so file looks before place first now (Unbuilt (Byte at)) position here none ends stops can = absurd ends
+reading_ends_so file looks before place first now (Unbuilt Life) position here none ends stops can =
+    let P : ℕ → Type 0 = λ n. IsShortened n looks in
+    (subst P position (record { before = before; earlier = none; sight = stops.sight; shorter = stops.shorter; looks_are = stops.are }), can)

@@ -4,6 +4,7 @@ use Rattle.std.proofs.lemmas.Bool.{false≢true}
 use Rattle.outside.specs.declared.failed.Failed.{Failed}
 use Rattle.beat_run.specs.declared.status.Status.{Status}
 use Rattle.beat_run.specs.declared.status.Status.TheVariants.{Done, Usage, RegistryBad, DiskFault, FolderFault, Unreachable, OutFault, SourceFault, NoMemory, Unbuilt}
+use Rattle.beat_run.specs.Ends.{IsRunEnd}
 use Rattle.beat_run.specs.Report.{HoldsFront, IsPrintable, IsPrinted, status_bytes}
 use Rattle.beat_run.specs.Writing.{WritesAll}
 
@@ -43,20 +44,20 @@ writes_failed (Some written) after a b failed (Err other) is writes =
     (more.0, writes.1 ∙ ap (λ (l : List ℕ). Some (written ++ l)) more.1)
 
 -- the last line, or a front of it where the sink failed
-pub status_printed : (old : Option (List ℕ)) (status : Status) (after : Option (List ℕ)) →
+pub status_printed : (old : Option (List ℕ)) (status : Status) (after : Option (List ℕ)) → IsRunEnd status →
     WritesAll old (status_bytes status) (Ok tt) after → IfSome old (λ written. IsPrinted written after status)
-status_printed None status after writes = tt
-status_printed (Some written) Done after writes = tt
-status_printed (Some written) Usage after writes = writes
-status_printed (Some written) (RegistryBad area at) after writes = writes
-status_printed (Some written) DiskFault after writes = writes
-status_printed (Some written) FolderFault after writes = writes
-status_printed (Some written) (Unreachable worker failures) after writes = writes
-status_printed (Some written) OutFault after writes =
+status_printed None status after ends writes = tt
+status_printed (Some written) Done after ends writes = absurd ends
+status_printed (Some written) Usage after ends writes = writes
+status_printed (Some written) (RegistryBad area at) after ends writes = writes
+status_printed (Some written) DiskFault after ends writes = writes
+status_printed (Some written) FolderFault after ends writes = writes
+status_printed (Some written) (Unreachable worker failures) after ends writes = writes
+status_printed (Some written) OutFault after ends writes =
     record { text = []; printable = inr (OutFault, refl); count = 0; held = writes }
-status_printed (Some written) SourceFault after writes = writes
-status_printed (Some written) NoMemory after writes = writes
-status_printed (Some written) (Unbuilt what) after writes = writes
+status_printed (Some written) SourceFault after ends writes = writes
+status_printed (Some written) NoMemory after ends writes = writes
+status_printed (Some written) (Unbuilt what) after ends writes = writes
 
 pub front_printed : (old : Option (List ℕ)) (text : List ℕ) (failed : Failed) (after : Option (List ℕ)) → IsPrintable text →
     WritesAll old text (Err failed) after → IfSome old (λ written. HoldsFront written after)

@@ -1,10 +1,14 @@
--- Where payloads stand among what the talks of a run acknowledge (Lumberjack v2; this project's profile).
-use Rattle.std.specs.Prelude.{◌≡◌, ◌⊎◌, ℕ, ◌+◌, List, [], ◌∷◌, ◌++◌, length, slice_get, Contains, Option, Some, IfSome}
-use Rattle.outside.specs.Counts.{Rose}
+-- Which payloads the talks of a run send, and where payloads stand among what they acknowledge (Lumberjack v2; this project's profile).
+use Rattle.std.specs.Prelude.{◌≡◌, ◌⊎◌, ℕ, ◌+◌, List, [], ◌∷◌, ◌++◌, length, slice_get, Option, Some, IfSome}
+use Rattle.std.specs.List.{AllByRecursion, flat_map}
+use Rattle.wire_base.specs.declared.talk.Piece.{Piece}
+use Rattle.outside.specs.Counts.{IsAtEnd, Rose}
 use Rattle.outside.specs.Talks.{Talk}
 use Rattle.outside.specs.Wires.{Outcome, Refused, Finished}
 use Rattle.lumber_frame.specs.Acknowledged.{Acknowledges}
 use Rattle.lumber_frame.specs.PeerFault.{HasPeerFault}
+use Rattle.lumber_frame.specs.Talk.{out_bytes}
+use Rattle.lumber_frame.specs.Window.{IsWindow, window_bytes}
 use Rattle.beat_run.specs.declared.status.Status.{Status}
 use Rattle.beat_run.specs.declared.status.Status.TheVariants.{Unreachable}
 
@@ -49,19 +53,38 @@ AcknowledgeInAll [] number = number ≡ 0
 AcknowledgeInAll (Refused ∷ outcomes) number = AcknowledgeInAll outcomes number
 AcknowledgeInAll (Finished talk faults idles ∷ outcomes) number = AcknowledgesSome talk (AcknowledgeInAll outcomes) number
 
--- the talk of some finished link has a fault of the peer
-pub record IsFaultOfPeer (outcomes : List Outcome) : Type 0 where
-  pub talk : Talk
-  pub faults : ℕ
-  pub idles : ℕ
-  pub there : Contains outcomes (Finished talk faults idles)
-  pub fault : HasPeerFault talk.pieces
+-- what was sent is a front of windows of these payloads, in their order
+pub record SendsFront (talk : List Piece) (payloads : List (List ℕ)) : Type 0 where
+  pub windows : List (List (List ℕ))
+  pub each : AllByRecursion IsWindow windows
+  pub are : payloads ≡ flat_map (λ window. window) windows
+  pub left : List ℕ
+  pub sent : out_bytes talk ++ left ≡ flat_map window_bytes windows
 
--- the wire counted a fault, or a peer made one
-abbrev pub IsFailure : ℕ → ℕ → Option (List Outcome) → Type 0
-IsFailure before now outcomes = Rose before now ⊎ IfSome outcomes IsFaultOfPeer
+abbrev pub SendsNothingElse : List (List ℕ) → Outcome → Type 0
+SendsNothingElse payloads Refused = Unit {0}
+SendsNothingElse payloads (Finished talk faults idles) = SendsFront talk.pieces payloads
+
+-- so of each finished link
+abbrev pub SendOnly : List (List ℕ) → List Outcome → Type 0
+SendOnly payloads outcomes = AllByRecursion (SendsNothingElse payloads) outcomes
+
+-- a connection that failed, or a link that counted a fault or whose talk has a fault of the peer
+abbrev pub IsFailed : Outcome → Type 0
+IsFailed Refused = Unit {0}
+IsFailed (Finished talk faults idles) = Rose 0 faults ⊎ HasPeerFault talk.pieces
+
+pub record EndsFailed (outcomes : List Outcome) : Type 0 where
+  pub earlier : List Outcome
+  pub last : Outcome
+  pub are : outcomes ≡ earlier ++ last ∷ []
+  pub failed : IsFailed last
+
+-- the last outcome is a failure, or the wire's count of faults stands at its end, from where on failures are not listed
+abbrev pub IsFailure : ℕ → Option (List Outcome) → Type 0
+IsFailure faults outcomes = IfSome outcomes (λ list. EndsFailed list ⊎ IsAtEnd faults)
 
 -- it is the cause of the one status that blames the peer
-abbrev pub FailsFor : ℕ → ℕ → Option (List Outcome) → Status → Type 0
-FailsFor before now outcomes (Unreachable worker failures) = IsFailure before now outcomes
-FailsFor before now outcomes status = Unit {0}
+abbrev pub FailsFor : ℕ → Option (List Outcome) → Status → Type 0
+FailsFor faults outcomes (Unreachable worker failures) = IsFailure faults outcomes
+FailsFor faults outcomes status = Unit {0}

@@ -4,7 +4,7 @@ use Rattle.std.specs.List.{AllByRecursion}
 use Rattle.wire_base.specs.declared.parcel.TheConstants.{MAX_PAYLOAD}
 use Rattle.lumber_frame.specs.Window.{numbered}
 use Rattle.beat_run.specs.declared.batch.Batch.{Batch}
-use Rattle.beat_run.specs.Events.{Event, AreLineEvents, lines_bytes, payloads_of, waiting_of}
+use Rattle.beat_run.specs.Events.{Event, lines_bytes, payloads_of, waiting_of}
 
 -- the batch is the frames of these payloads
 pub record HoldsPayloads (batch : Batch) (payloads : List (List ℕ)) : Type 0 where

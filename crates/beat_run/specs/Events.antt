@@ -1,7 +1,6 @@
 -- The lines of a file as events, one each (Filebeat reference, filestream input; this project's profile).
-use Rattle.std.specs.Prelude.{◌≡◌, ℕ, ◌+◌, ◌≤◌, List, [], ◌∷◌, ◌++◌, length, map, All, Contains, Option, Some, None, IfSome}
+use Rattle.std.specs.Prelude.{ℕ, ◌+◌, ◌≤◌, List, [], ◌∷◌, ◌++◌, length, map, All, Contains, Option, Some, None, IfSome}
 use Rattle.std.specs.List.{AllByRecursion, flat_map}
-use Rattle.wire_base.specs.Extent.{Extent}
 use Rattle.wire_base.specs.Ranges.{IsMoment}
 use Rattle.wire_base.specs.declared.note.Cause.{Cause}
 use Rattle.wire_base.specs.declared.note.Cause.TheVariants.{Acked, Dropped}

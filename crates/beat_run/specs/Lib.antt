@@ -25,4 +25,5 @@ pub mod Standing
 pub mod Stored
 pub mod Talking
 pub mod Unbuilt
+pub mod Untouched
 pub mod Writing

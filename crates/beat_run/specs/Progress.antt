@@ -1,6 +1,6 @@
 -- How far the one file is done, by the notes that were made of it (this project's profile): it began at its first byte,
 -- and these of its lines are settled.
-use Rattle.std.specs.Prelude.{◌≡◌, ℕ, ◌++◌, List, []}
+use Rattle.std.specs.Prelude.{◌≡◌, ℕ, ◌++◌, List}
 use Rattle.ship_core.specs.OneLife.{life_notes}
 use Rattle.beat_run.specs.declared.progress.Progress.{Progress}
 use Rattle.beat_run.specs.declared.progress.TheConstants.{SLOT, EPOCH}

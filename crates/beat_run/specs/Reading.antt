@@ -42,6 +42,21 @@ AreInOrder file place [] = Unit {0}
 AreInOrder file place (look ∷ looks) =
     IsReadAt file place look.question look.sight × AreInOrder file (place + count_of look.question) looks
 
+-- a length that was asked is not below the place that was read up to
+abbrev pub Reaches : ℕ → Question → Sight → Type 0
+Reaches place Length sight = place ≤ sight.length
+Reaches place (ReadAt at count) sight = Unit {0}
+
+abbrev pub NoneShorter : ℕ → List Look → Type 0
+NoneShorter place [] = Unit {0}
+NoneShorter place (look ∷ looks) = Reaches place look.question look.sight × NoneShorter (place + count_of look.question) looks
+
+-- there are more looks, and so of each of them
+pub record GoesOnReaching (place : ℕ) (before now : List Look) : Type 0 where
+  pub more : List Look
+  pub are : now ≡ before ++ more
+  pub none : NoneShorter place more
+
 -- the tail looked on from this place, and its reads gave these bytes
 pub record AddsBytes (told : TailHistory) (place : ℕ) (bytes : List ℕ) (after : Option TailHistory) : Type 0 where
   pub history : TailHistory

@@ -61,9 +61,9 @@ pub record HoldsFront (written : List ℕ) (after : Option (List ℕ)) : Type 0 
   pub count : ℕ
   pub held : after ≡ Some (written ++ take count text)
 
--- the last line stands behind what the sink held, or a front of what was to be printed where the sink failed; what a run
--- that is done prints is its report
+-- the last line stands behind what the sink held, or a front of what was to be printed where the sink failed; a run that is
+-- done prints a report
 abbrev pub IsPrinted : List ℕ → Option (List ℕ) → Status → Type 0
-IsPrinted written after Done = Unit {0}
+IsPrinted written after Done = (ending : Ending) × (after ≡ Some (written ++ report_bytes ending))
 IsPrinted written after OutFault = HoldsFront written after
 IsPrinted written after status = after ≡ Some (written ++ status_bytes status)

@@ -7,6 +7,7 @@ use Rattle.outside.specs.Talks.{Talk}
 use Rattle.lumber_frame.specs.PeerFault.{HasPeerFault}
 use Rattle.lumber_frame.specs.Settled.{IsSettled}
 use Rattle.lumber_frame.specs.Window.{IsWindow, numbered}
+use Rattle.beat_run.specs.Acknowledged.{SendsFront}
 
 -- the talk is whole windows of these payloads, each acknowledged in full
 pub record Settles (talk : List Piece) (payloads : List (List ℕ)) : Type 0 where
@@ -14,22 +15,24 @@ pub record Settles (talk : List Piece) (payloads : List (List ℕ)) : Type 0 whe
   pub settled : IsSettled talk windows
   pub are : payloads ≡ flat_map (λ window. window) windows
 
--- the talk begins with whole windows, each acknowledged in full, of which these payloads are the first
-pub record Serves (talk : List Piece) (payloads : List (List ℕ)) : Type 0 where
+-- the talk begins with whole windows, each acknowledged in full, of which these payloads are the first, and what was sent
+-- is a front of windows of all these
+pub record Serves (talk : List Piece) (payloads all : List (List ℕ)) : Type 0 where
   pub front : List Piece
   pub more : List Piece
   pub begins : talk ≡ front ++ more
   pub later : List (List ℕ)
   pub settles : Settles front (payloads ++ later)
+  pub sent : SendsFront talk all
 
 -- a worker that has not connected has no payload acknowledged
 abbrev pub HasSettled : {L : Type 0} → (L → Option Talk) → Option L → List (List ℕ) → Type 0
 HasSettled told None payloads = payloads ≡ []
 HasSettled told (Some link) payloads = IfSome (told link) (λ talk. Settles talk.pieces payloads)
 
-abbrev pub HasServed : {L : Type 0} → (L → Option Talk) → Option L → List (List ℕ) → Type 0
-HasServed told None payloads = payloads ≡ []
-HasServed told (Some link) payloads = IfSome (told link) (λ talk. Serves talk.pieces payloads)
+abbrev pub HasServed : {L : Type 0} → (L → Option Talk) → Option L → List (List ℕ) → List (List ℕ) → Type 0
+HasServed told None payloads all = payloads ≡ []
+HasServed told (Some link) payloads all = IfSome (told link) (λ talk. Serves talk.pieces payloads all)
 
 -- the bytes are the JSON frames of a window of these payloads, and this is its count
 pub record IsWindowOf (payloads : List (List ℕ)) (frames : List ℕ) (count : ℕ) : Type 0 where

@@ -1,6 +1,6 @@
 -- How far a file is shipped: which of the bytes that were read are settled, which wait for their window, and which end
 -- no line yet (Filebeat reference, filestream input; this project's profile).
-use Rattle.std.specs.Prelude.{◌≡◌, ℕ, ◌+◌, ◌≤◌, List, [], ◌∷◌, ◌++◌, length, vec_len, All, Option, Some}
+use Rattle.std.specs.Prelude.{◌≡◌, ℕ, ◌+◌, ◌≤◌, List, [], ◌++◌, length, vec_len, All, Option, Some}
 use Rattle.wire_base.specs.declared.numbers.TheConstants.{MAX_PLACE}
 use Rattle.outside.specs.declared.history.Look.{Look}
 use Rattle.outside.specs.Files.{File}
@@ -17,7 +17,7 @@ use Rattle.beat_run.specs.Followed.{HasEndLook}
 use Rattle.beat_run.specs.Lines.{IsPlainByte}
 use Rattle.beat_run.specs.Lives.{IsFrontOfLife}
 use Rattle.beat_run.specs.Progress.{IsDoneBy}
-use Rattle.beat_run.specs.Reading.{bytes_read}
+use Rattle.beat_run.specs.Reading.{NoneShorter, bytes_read}
 use Rattle.beat_run.specs.Unbuilt.{IsSendable, StopsFor}
 use Rattle.beat_run.specs.Serving.{HasSettled, HasServed}
 
@@ -53,18 +53,21 @@ pub record IsShipped {L : Type 0} (told : L → Option Talk) (moments : Option (
   pub plain : All IsPlainByte shipment.rest.items
   pub spelled : bytes ≡ lines_bytes settled ++ (lines_bytes waiting ++ shipment.rest.items)
 
--- some first lines of the bytes are those that are settled, and their payloads are acknowledged
+-- some first lines of the bytes are those that are settled, and their payloads are acknowledged; only they and some lines
+-- behind them were sent
 pub record IsCovered {L : Type 0} (told : L → Option Talk) (moments : Option (List ℕ)) (key path : List ℕ) (link : Option L) (progress : Progress) (bytes : List ℕ) : Type 0 where
   pub settled : List Event
+  pub sent : List Event
   pub rest : List ℕ
-  pub each : AreLineEvents moments settled
+  pub each : AreLineEvents moments (settled ++ sent)
   pub done : IsDoneBy key path progress (waiting_of path 0 settled)
-  pub acknowledged : HasServed told link (payloads_of path 0 settled)
-  pub spelled : bytes ≡ lines_bytes settled ++ rest
+  pub acknowledged : HasServed told link (payloads_of path 0 settled) (payloads_of path 0 (settled ++ sent))
+  pub spelled : bytes ≡ lines_bytes (settled ++ sent) ++ rest
 
 -- all lines of the bytes are those that are settled, and the peer has acknowledged nothing else
 pub record IsWhole {L : Type 0} (told : L → Option Talk) (moments : Option (List ℕ)) (key path : List ℕ) (link : Option L) (progress : Progress) (bytes : List ℕ) : Type 0 where
   pub covered : IsCovered told moments key path link progress bytes
+  pub all : covered.sent ≡ []
   pub complete : All IsPlainByte covered.rest
   pub acknowledged : HasSettled told link (payloads_of path 0 covered.settled)
 
@@ -86,8 +89,9 @@ pub record IsFileStopped {L : Type 0} (told : L → Option Talk) (moments : Opti
   pub covered : IsFileCovered told moments key path link progress file looks
   pub stops : StopsFor status file looks
 
--- it was read to its end, every byte can be sent, and all its lines are settled
+-- it was read to its end, every byte can be sent, no length was below what was read, and all its lines are settled
 pub record IsFileWhole {L : Type 0} (told : L → Option Talk) (moments : Option (List ℕ)) (key path : List ℕ) (link : Option L) (progress : Progress) (file : File) (looks : List Look) : Type 0 where
   pub whole : IsWhole told moments key path link progress (bytes_read file looks)
   pub sendable : IsSendable (bytes_read file looks)
+  pub none_shorter : NoneShorter 0 looks
   pub ended : HasEndLook (length (bytes_read file looks)) looks

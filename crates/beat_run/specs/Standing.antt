@@ -2,9 +2,10 @@
 -- (this project's profile).
 use Rattle.std.specs.Prelude.{◌≡◌, ◌⊎◌, ℕ, ◌≤◌, List, [], ◌∷◌, ◌++◌, drop, length, slice_get, Option, Some, None, IfSome, IsSome, Vec}
 use Rattle.std.specs.declared.alloc.Global.{Global}
-use Rattle.outside.specs.Counts.{Rose, next_count}
+use Rattle.std.specs.List.{AllByRecursion}
+use Rattle.outside.specs.Counts.{IsAtEnd, next_count}
 use Rattle.outside.specs.Talks.{Talk}
-use Rattle.outside.specs.Wires.{Outcome}
+use Rattle.outside.specs.Wires.{Outcome, Refused, Finished}
 use Rattle.beat_run.specs.declared.status.Status.{Status}
 use Rattle.beat_run.specs.declared.status.Status.TheVariants.{Unreachable}
 use Rattle.beat_run.specs.Serving.{HasFailed, HasSettled}
@@ -13,6 +14,15 @@ use Rattle.beat_run.specs.Serving.{HasFailed, HasSettled}
 abbrev pub GoesOn : Option (List Outcome) → Option (List Outcome) → Type 0
 GoesOn None after = after ≡ None
 GoesOn (Some outcomes) after = (more : List Outcome) × (after ≡ Some (outcomes ++ more))
+
+-- only connections that failed came to the list
+abbrev pub IsRefusal : Outcome → Type 0
+IsRefusal Refused = Unit {0}
+IsRefusal (Finished talk faults idles) = ⊥
+
+abbrev pub GoesOnRefused : Option (List Outcome) → Option (List Outcome) → Type 0
+GoesOnRefused None after = after ≡ None
+GoesOnRefused (Some outcomes) after = (more : List Outcome) × (AllByRecursion IsRefusal more × (after ≡ Some (outcomes ++ more)))
 
 -- what came to the list since then
 abbrev pub outcomes_since : Option (List Outcome) → Option (List Outcome) → Option (List Outcome)
@@ -43,18 +53,28 @@ pub record IsStanding {L : Type 0} (told : L → Option Talk) (start : Option (L
   pub counted : first ≤ faults
   pub settled : IsSettledLink told link
 
--- the wire has counted a fault since, or the worker's link has failed; only the one status says so
-abbrev pub Blames : {L : Type 0} → (L → Option Talk) → (L → ℕ) → ℕ → ℕ → Option L → Status → Type 0
-Blames told link_faults first faults link (Unreachable worker failures) = Rose first faults ⊎ HasFailed told link_faults link
-Blames told link_faults first faults link status = Unit {0}
+-- the connection failed: that came to the list, or the count of faults stands at its end
+abbrev pub WasRefused : Option (List Outcome) → Option (List Outcome) → ℕ → Type 0
+WasRefused None outcomes faults = Unit {0}
+WasRefused (Some list) outcomes faults = (outcomes ≡ Some (list ++ Refused ∷ [])) ⊎ IsAtEnd faults
 
--- the same of a worker that gave up with this status: the list may have gone on
+-- the worker's link has failed, or it has none, and the connection failed
+abbrev pub HasParted : {L : Type 0} → (L → Option Talk) → (L → ℕ) → Option (List Outcome) → Option (List Outcome) → ℕ → Option L → Type 0
+HasParted told link_faults start outcomes faults None = WasRefused start outcomes faults
+HasParted told link_faults start outcomes faults (Some link) = HasFailed told link_faults (Some link)
+
+-- only the one status says so
+abbrev pub Blames : {L : Type 0} → (L → Option Talk) → (L → ℕ) → Option (List Outcome) → Option (List Outcome) → ℕ → Option L → Status → Type 0
+Blames told link_faults start outcomes faults link (Unreachable worker failures) = HasParted told link_faults start outcomes faults link
+Blames told link_faults start outcomes faults link status = Unit {0}
+
+-- the same of a worker that gave up with this status: connections that failed may have come to the list
 pub record IsParted {L : Type 0} (told : L → Option Talk) (link_faults : L → ℕ) (start : Option (List Outcome)) (count first : ℕ) (outcomes : Option (List Outcome)) (open_links faults : ℕ) (link : Option L) (status : Status) : Type 0 where
-  pub goes_on : GoesOn start outcomes
+  pub refused : GoesOnRefused start outcomes
   pub tells : Tells told outcomes link
   pub opened : open_links ≡ with_link count link
   pub counted : first ≤ faults
-  pub blamed : Blames told link_faults first faults link status
+  pub blamed : Blames told link_faults start outcomes faults link status
 
 -- what a member tells of the first wire, before and after
 abbrev pub OnFirst : {W A : Type 0} → (W → A) → Vec W Global → Vec W Global → (A → A → Type 0) → Type 0

@@ -8,14 +8,16 @@ use Rattle.lumber_frame.specs.Settled.{ack_bytes}
 use Rattle.lumber_frame.specs.Talk.{out_bytes, in_bytes}
 use Rattle.beat_run.specs.declared.status.Status.{Status}
 
--- pieces were sent behind the talk, and all of the bytes where the sending succeeded
+-- pieces were sent behind the talk: a front of the bytes, and all of them where the sending succeeded
 pub record SendsPieces (talk : Talk) (bytes : List ℕ) (result : Result (Unit {0}) Status) (after : Option Talk) : Type 0 where
   pub now : Talk
   pub told : after ≡ Some now
   pub pieces : List Piece
   pub added : now.pieces ≡ talk.pieces ++ pieces
   pub none_heard : in_bytes pieces ≡ []
-  pub all_sent : OnOk result (out_bytes pieces ≡ bytes)
+  pub left : List ℕ
+  pub sent : out_bytes pieces ++ left ≡ bytes
+  pub all_sent : OnOk result (left ≡ [])
 
 abbrev pub SendsAll : Option Talk → List ℕ → Result (Unit {0}) Status → Option Talk → Type 0
 SendsAll None bytes result after = after ≡ None

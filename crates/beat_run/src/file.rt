@@ -1,12 +1,13 @@
 ghost use Rattle.std.specs.Prelude.{◌≡◌, ◌+◌, ◌<◌, ◌≤◌, ℕ, List, [], length, take, Option, IfErr, IfOk, IfSome, MatchResult};
 ghost use Rattle.wire_base.specs.Ranges.{IsPlace};
 ghost use Rattle.beat_run.specs.Ends.{IsReadingEnd, IsShippingEnd};
+ghost use Rattle.beat_run.specs.Evidence.{moments_since};
 ghost use Rattle.beat_run.specs.Serving.{HasSettled};
 ghost use Rattle.outside.specs.Wires.{Outcome};
 ghost use Rattle.beat_run.specs.Standing.{IsParted, IsStanding};
 ghost use Rattle.beat_run.specs.Shipping.{IsFileStopped, IsFileWhole, IsSeen, IsSound, IsUnused};
 ghost use Rattle.beat_run.specs.Unbuilt.{StopsBy};
-ghost use Rattle.beat_run.specs.Reading.{AddsBytes, ReadsPiece};
+ghost use Rattle.beat_run.specs.Reading.{AddsBytes, GoesOnReaching, ReadsPiece};
 
 use crate::form::Form;
 use crate::peer::Worker;
@@ -26,7 +27,7 @@ pub fn read_piece<T: Tail>(tail: &mut T, position: u64, piece: &mut [u8]) -> Res
     ensures in_range { IfOk result (λ count. 0 < count → IsPlace (position + count)) }
     ensures read { IfOk result (λ count. ReadsPiece (T.told tail.old) position piece.new count (T.told tail.new)) }
     ensures bytes { IfSome (T.told tail.old) (λ told. MatchResult result (λ count. AddsBytes told position (take count piece.new) (T.told tail.new)) (λ _. AddsBytes told position [] (T.told tail.new))) }
-    ensures stops { IfErr result (StopsBy position (T.told tail.new)) }
+    ensures looks { IfSome (T.told tail.old) (λ before. IfSome (T.told tail.new) (λ now. MatchResult result (λ _. GoesOnReaching position before.looks now.looks) (StopsBy position before.looks now.looks))) }
     ensures ends { IfErr result (IsReadingEnd (T.faults tail.old) (T.faults tail.new)) }
     ensures faults_never_fall { T.faults tail.old ≤ T.faults tail.new }
 {
@@ -56,8 +57,8 @@ pub fn ship_file<X: Wait, T: Tail, W: Wire, K: Clock>(
     requires { IsSound shipment.old }
     ensures seen { (key : List ℕ) → IsUnused key form.now.path shipment.old →
         IfSome (T.told tail.old) (λ start. start.looks ≡ [] → HasSettled W.Link.told worker.old.link [] →
-        MatchResult result (λ _. IsSeen start (IsFileWhole W.Link.told (K.moments clock.new) key form.now.path worker.new.link shipment.new.progress) (T.told tail.new))
-        (λ status. IsSeen start (IsFileStopped W.Link.told (K.moments clock.new) key form.now.path worker.new.link shipment.new.progress status) (T.told tail.new))) }
+        MatchResult result (λ _. IsSeen start (IsFileWhole W.Link.told (moments_since (K.moments clock.old) (K.moments clock.new)) key form.now.path worker.new.link shipment.new.progress) (T.told tail.new))
+        (λ status. IsSeen start (IsFileStopped W.Link.told (moments_since (K.moments clock.old) (K.moments clock.new)) key form.now.path worker.new.link shipment.new.progress status) (T.told tail.new))) }
     ensures standing { (start : Option (List Outcome)) (count first : ℕ) → IsStanding W.Link.told start count first (W.outcomes wire.old) (W.open_links wire.old) (W.faults wire.old) worker.old.link →
         MatchResult result (λ _. IsStanding W.Link.told start count first (W.outcomes wire.new) (W.open_links wire.new) (W.faults wire.new) worker.new.link)
         (IsParted W.Link.told W.Link.faults start count first (W.outcomes wire.new) (W.open_links wire.new) (W.faults wire.new) worker.new.link) }

@@ -1,12 +1,12 @@
-ghost use Rattle.std.specs.Prelude.{◌≡◌, ◌⊎◌, ℕ, ◌++◌, ◌<◌, ◌≤◌, List, [], length, take, Option, Some, None, Err, IsSome, IfSome, IfOk, IfErr, OnOk, OnErr, MatchResult};
+ghost use Rattle.std.specs.Prelude.{◌≡◌, ℕ, ◌++◌, ◌<◌, ◌≤◌, List, [], length, take, Option, Some, None, Err, IsSome, IfSome, IfOk, IfErr, OnOk, OnErr, MatchResult};
 ghost use Rattle.outside.specs.Counts.{IsAtEnd, Rose};
 ghost use Rattle.outside.specs.Talks.{Talk};
 ghost use Rattle.outside.specs.Wires.{Outcome};
-ghost use Rattle.beat_run.specs.Acknowledged.{AcknowledgeInAll, AreAcknowledged, IsFailure};
+ghost use Rattle.beat_run.specs.Acknowledged.{AcknowledgeInAll, AreAcknowledged, IsFailure, SendOnly};
 ghost use Rattle.beat_run.specs.Ends.{IsSendingEnd};
 ghost use Rattle.beat_run.specs.Hearing.{IsHeardAs};
 ghost use Rattle.beat_run.specs.Serving.{HasFailed, HasServed, HasSettled, IsSomeWindow, IsWindowOf};
-ghost use Rattle.beat_run.specs.Standing.{GoesOn, IsParted, IsStanding, Tells, outcomes_since, with_link};
+ghost use Rattle.beat_run.specs.Standing.{GoesOn, GoesOnRefused, HasParted, IsParted, IsStanding, Tells, outcomes_since, with_link};
 ghost use Rattle.beat_run.specs.Talking.{HearsAll, IsFrontHeard, SendsAll};
 
 use crate::status::Status;
@@ -47,14 +47,14 @@ impl<L: Link> Worker<L> {
 
     /// Gives the link back.
     pub fn end<W: Wire<Link = L>>(self, wire: &mut W)
-        ensures goes_on { (start : Option (List Outcome)) → GoesOn start (W.outcomes wire.old) → GoesOn start (W.outcomes wire.new) }
+        ensures goes_on { (start : Option (List Outcome)) → GoesOnRefused start (W.outcomes wire.old) → GoesOn start (W.outcomes wire.new) }
         ensures closed { (count : ℕ) → W.open_links wire.old ≡ with_link count self.link → ¬ (IsAtEnd count) → W.open_links wire.new ≡ count }
-        ensures acknowledged { (start : Option (List Outcome)) (payloads : List (List ℕ)) → GoesOn start (W.outcomes wire.old) → Tells L.told (W.outcomes wire.old) self.link →
-            HasServed L.told self.link payloads → IfSome (outcomes_since start (W.outcomes wire.new)) (λ outcomes. AreAcknowledged outcomes payloads) }
+        ensures acknowledged { (start : Option (List Outcome)) (payloads all : List (List ℕ)) → GoesOnRefused start (W.outcomes wire.old) → Tells L.told (W.outcomes wire.old) self.link →
+            HasServed L.told self.link payloads all → IfSome (outcomes_since start (W.outcomes wire.new)) (λ outcomes. AreAcknowledged outcomes payloads × SendOnly all outcomes) }
         ensures counted { (payloads : List (List ℕ)) → Tells L.told (W.outcomes wire.old) self.link → HasSettled L.told self.link payloads →
             IfSome (outcomes_since (W.outcomes wire.old) (W.outcomes wire.new)) (λ outcomes. AcknowledgeInAll outcomes (length payloads)) }
-        ensures failed { (start : Option (List Outcome)) (first : ℕ) → GoesOn start (W.outcomes wire.old) → Tells L.told (W.outcomes wire.old) self.link → first ≤ W.faults wire.old →
-            Rose first (W.faults wire.old) ⊎ HasFailed L.told L.faults self.link → IsFailure first (W.faults wire.new) (outcomes_since start (W.outcomes wire.new)) }
+        ensures failed { (start : Option (List Outcome)) → GoesOnRefused start (W.outcomes wire.old) → Tells L.told (W.outcomes wire.old) self.link →
+            HasParted L.told L.faults start (W.outcomes wire.old) (W.faults wire.old) self.link → IsFailure (W.faults wire.new) (outcomes_since start (W.outcomes wire.new)) }
     {
         let Worker { link } = self;
         match link {
@@ -79,7 +79,7 @@ impl<L: Link> Worker<L> {
     ) -> Result<(), Status>
         requires window { IsSomeWindow frames.now count }
         ensures told { (earlier payloads : List (List ℕ)) → HasSettled L.told self.old.link earlier → IsWindowOf payloads frames.now count →
-            MatchResult result (λ _. HasSettled L.told self.new.link (earlier ++ payloads)) (λ _. HasServed L.told self.new.link earlier) }
+            MatchResult result (λ _. HasSettled L.told self.new.link (earlier ++ payloads)) (λ _. HasServed L.told self.new.link earlier (earlier ++ payloads)) }
         ensures standing { (start : Option (List Outcome)) (count first : ℕ) → IsStanding L.told start count first (W.outcomes wire.old) (W.open_links wire.old) (W.faults wire.old) self.old.link →
             MatchResult result (λ _. IsStanding L.told start count first (W.outcomes wire.new) (W.open_links wire.new) (W.faults wire.new) self.new.link)
             (IsParted L.told L.faults start count first (W.outcomes wire.new) (W.open_links wire.new) (W.faults wire.new) self.new.link) }
@@ -97,7 +97,7 @@ impl<L: Link> Worker<L> {
     fn connect<W: Wire<Link = L>>(&mut self, wire: &mut W, host: &Host) -> Result<(), Status>
         ensures there { OnOk result (IsSome self.new.link) }
         ensures told { (payloads : List (List ℕ)) → HasSettled L.told self.old.link payloads →
-            MatchResult result (λ _. HasSettled L.told self.new.link payloads) (λ _. HasServed L.told self.new.link payloads) }
+            MatchResult result (λ _. HasSettled L.told self.new.link payloads) (λ _. (all : List (List ℕ)) → HasServed L.told self.new.link payloads all) }
         ensures standing { (start : Option (List Outcome)) (count first : ℕ) → IsStanding L.told start count first (W.outcomes wire.old) (W.open_links wire.old) (W.faults wire.old) self.old.link →
             MatchResult result (λ _. IsStanding L.told start count first (W.outcomes wire.new) (W.open_links wire.new) (W.faults wire.new) self.new.link)
             (IsParted L.told L.faults start count first (W.outcomes wire.new) (W.open_links wire.new) (W.faults wire.new) self.new.link) }
@@ -136,7 +136,7 @@ fn serve<X: Wait, L: Link, K: Clock>(
     count: u32,
 ) -> Result<(), Status>
     ensures told { (earlier payloads : List (List ℕ)) → HasSettled L.told (Some link.old) earlier → IsWindowOf payloads frames.now count →
-        MatchResult result (λ _. HasSettled L.told (Some link.new) (earlier ++ payloads)) (λ _. HasServed L.told (Some link.new) earlier) }
+        MatchResult result (λ _. HasSettled L.told (Some link.new) (earlier ++ payloads)) (λ _. HasServed L.told (Some link.new) earlier (earlier ++ payloads)) }
     ensures failed { (earlier payloads : List (List ℕ)) → HasSettled L.told (Some link.old) earlier → IsWindowOf payloads frames.now count →
         OnErr result (HasFailed L.told L.faults (Some link.new)) }
     ensures tells { IsSome (L.told link.old) → IsSome (L.told link.new) }

@@ -9,6 +9,7 @@ ghost use Rattle.beat_run.specs.Standing.{GoesOn, outcomes_since};
 ghost use Rattle.beat_run.specs.Acknowledged.{FailsFor};
 ghost use Rattle.beat_run.specs.Stored.{HoldsNoRow, IsEnded, IsStored, IsStoredBy};
 ghost use Rattle.beat_run.specs.Form.{IsNoForm, IsPlainPath};
+ghost use Rattle.beat_run.specs.Untouched.{IsUntouched};
 ghost use Rattle.beat_run.specs.Evidence.{evidence_of};
 ghost use Rattle.beat_run.specs.Keys.{path_key};
 ghost use Rattle.beat_run.specs.declared.settings.TheConstants.{LIMIT};
@@ -44,23 +45,26 @@ pub fn run<X: Wait, F: Folder, W: Wire, D: Disk, K: Clock, R: Source>(
     ensures usage { IsErrOf result Status.Usage ↔ IsNoCommand words.now }
     ensures other_form_only { IsErrOf result (Status.Unbuilt Lack.Settings) → IfSome (R.left settings.old) (λ bytes. IsNoForm (take LIMIT bytes)) }
     ensures other_form_refused { IfSome (R.left settings.old) (λ bytes. IsNoForm (take LIMIT bytes) → MatchResult result (λ _. ⊥) RefusesForm) }
-    ensures done { IfOk result (λ ending. IfSome (F.told folder.old) (λ told. IsEnded (R.left settings.old) told (evidence_of (K.moments clock.new) (W.outcomes wire.old) (W.outcomes wire.new)) (F.told folder.new) (D.contents area.old) (D.contents area.new) ending)) }
+    ensures done { IfOk result (λ ending. IfSome (F.told folder.old) (λ told. IsEnded (R.left settings.old) told (evidence_of (K.moments clock.old) (K.moments clock.new) (W.outcomes wire.old) (W.outcomes wire.new)) (F.told folder.new) (D.contents area.old) (D.contents area.new) ending)) }
     ensures registry_bad { (area' : Which) (at : ℕ) → IsErrOf result (Status.RegistryBad area' at) → (area' ≡ Which.A) × (at ≡ 0) × IfSome (D.contents area.old) (λ bytes. 1 < length bytes) }
     ensures area_refused { IfSome (D.contents area.old) (λ bytes. 1 < length bytes → MatchResult result (λ _. ⊥) RefusesArea) }
     ensures row { IfSome (F.told folder.old) (λ told. MatchResult result
-        (λ _. IsStored (R.left settings.old) told (evidence_of (K.moments clock.new) (W.outcomes wire.old) (W.outcomes wire.new)) (F.told folder.new) (D.contents area.old) (D.contents area.new) ⊥ (HoldsNoRow (D.faults area.old) (D.faults area.new) (D.contents area.old) (D.contents area.new)) (λ file looks. Unit {0}))
-        (IsStoredBy (R.left settings.old) told (evidence_of (K.moments clock.new) (W.outcomes wire.old) (W.outcomes wire.new)) (F.told folder.new) (D.faults area.old) (D.faults area.new) (D.contents area.old) (D.contents area.new))) }
+        (λ _. IsStored (R.left settings.old) told (evidence_of (K.moments clock.old) (K.moments clock.new) (W.outcomes wire.old) (W.outcomes wire.new)) (F.told folder.new) (D.contents area.old) (D.contents area.new) ⊥ (HoldsNoRow (D.faults area.old) (D.faults area.new) (D.contents area.old) (D.contents area.new) Status.Done) (λ file looks. Unit {0}))
+        (IsStoredBy (R.left settings.old) told (evidence_of (K.moments clock.old) (K.moments clock.new) (W.outcomes wire.old) (W.outcomes wire.new)) (F.told folder.new) (D.faults area.old) (D.faults area.new) (D.contents area.old) (D.contents area.new))) }
     ensures stored { IfOk result (λ ending. IfSome (D.contents area.old) (λ _. D.contents area.new ≡ Some (area_bytes ending.row))) }
     ensures durable { IfOk result (λ _. Only (D.contents area.new) (D.images area.new)) }
     ensures area_kept { IfErr result (λ status. IsRefusal status → D.contents area.new ≡ D.contents area.old) }
     ensures folder_kept { IfErr result (λ status. IsRefusal status → folder.new ≡ folder.old) }
     ensures wire_kept { IfErr result (λ status. IsRefusal status → wire.new ≡ wire.old) }
+    ensures untouched_for_other_words { IsNoCommand words.now → IsUntouched (D.contents area.old) (D.contents area.new) folder.old folder.new wire.old wire.new }
+    ensures untouched_for_another_form { IfSome (R.left settings.old) (λ bytes. IsNoForm (take LIMIT bytes) → IsUntouched (D.contents area.old) (D.contents area.new) folder.old folder.new wire.old wire.new) }
+    ensures untouched_where_the_area_has_bytes { IfSome (D.contents area.old) (λ bytes. 1 < length bytes → IsUntouched (D.contents area.old) (D.contents area.new) folder.old folder.new wire.old wire.new) }
     ensures wire_goes_on { GoesOn (W.outcomes wire.old) (W.outcomes wire.new) }
     ensures links_finished { ¬ (IsAtEnd (W.open_links wire.old)) → W.open_links wire.new ≡ W.open_links wire.old }
     ensures tails_closed { ¬ (IsAtEnd (F.open_tails folder.old)) → F.open_tails folder.new ≡ F.open_tails folder.old }
     ensures disk_fault { IsErrOf result Status.DiskFault → Rose (D.faults area.old) (D.faults area.new) }
     ensures folder_fault { IsErrOf result Status.FolderFault → Rose (F.faults folder.old) (F.faults folder.new) }
-    ensures unreachable { IfErr result (FailsFor (W.faults wire.old) (W.faults wire.new) (outcomes_since (W.outcomes wire.old) (W.outcomes wire.new))) }
+    ensures unreachable { IfErr result (FailsFor (W.faults wire.new) (outcomes_since (W.outcomes wire.old) (W.outcomes wire.new))) }
     ensures source_fault { IsErrOf result Status.SourceFault → Rose (R.faults settings.old) (R.faults settings.new) }
     ensures ends { IfErr result IsRunEnd }
 {
@@ -105,12 +109,12 @@ fn follow<X: Wait, F: Folder, W: Wire, K: Clock>(
     requires path { IsPlainPath form.now.path }
     requires id { length form.now.id ≤ MAX_ID }
     requires unnoted { IsEmptyEnding ending.old }
-    ensures drained { OnOk result (IfSome (F.told folder.old) (λ told. IsDrained form.now told (evidence_of (K.moments clock.new) (W.outcomes wire.old) (W.outcomes wire.new)) ending.new (F.told folder.new))) }
-    ensures noted { IfSome (F.told folder.old) (λ told. IsNotedBy form.now told (evidence_of (K.moments clock.new) (W.outcomes wire.old) (W.outcomes wire.new)) ending.new.row (F.told folder.new) result) }
+    ensures drained { OnOk result (IfSome (F.told folder.old) (λ told. IsDrained form.now told (evidence_of (K.moments clock.old) (K.moments clock.new) (W.outcomes wire.old) (W.outcomes wire.new)) ending.new (F.told folder.new))) }
+    ensures noted { IfSome (F.told folder.old) (λ told. IsNotedBy form.now told (evidence_of (K.moments clock.old) (K.moments clock.new) (W.outcomes wire.old) (W.outcomes wire.new)) ending.new.row (F.told folder.new) result) }
     ensures wire_goes_on { GoesOn (W.outcomes wire.old) (W.outcomes wire.new) }
     ensures links_finished { ¬ (IsAtEnd (W.open_links wire.old)) → W.open_links wire.new ≡ W.open_links wire.old }
     ensures tails_closed { ¬ (IsAtEnd (F.open_tails folder.old)) → F.open_tails folder.new ≡ F.open_tails folder.old }
-    ensures unreachable { IfErr result (FailsFor (W.faults wire.old) (W.faults wire.new) (outcomes_since (W.outcomes wire.old) (W.outcomes wire.new))) }
+    ensures unreachable { IfErr result (FailsFor (W.faults wire.new) (outcomes_since (W.outcomes wire.old) (W.outcomes wire.new))) }
     ensures ends { IfErr result (IsShippingEnd (F.faults folder.old) (F.faults folder.new)) }
     ensures faults_never_fall { F.faults folder.old ≤ F.faults folder.new }
 {

@@ -3,6 +3,7 @@ ghost use Rattle.wire_base.specs.Ranges.{IsMoment};
 ghost use Rattle.beat_run.specs.Ends.{IsLineEnd, IsPieceEnd, IsSendingEnd};
 ghost use Rattle.beat_run.specs.Batches.{HoldsLines, HoldsPayloads};
 ghost use Rattle.beat_run.specs.Events.{IsGiven};
+ghost use Rattle.beat_run.specs.Evidence.{MomentsGoOn, moments_since};
 ghost use Rattle.beat_run.specs.Lines.{IsPlainByte};
 ghost use Rattle.beat_run.specs.Progress.{IsDoneBy, SettlesFirst};
 ghost use Rattle.beat_run.specs.declared.waiting.Waiting.{Waiting};
@@ -99,7 +100,7 @@ impl Shipment {
     ) -> Result<(), Status>
         requires { IsSound self.now }
         ensures told { (payloads waiting : List (List ℕ)) → HasSettled W.Link.told worker.old.link payloads → HoldsPayloads self.now.batch waiting →
-            MatchResult result (λ _. HasSettled W.Link.told worker.new.link (payloads ++ waiting)) (λ _. HasServed W.Link.told worker.new.link payloads) }
+            MatchResult result (λ _. HasSettled W.Link.told worker.new.link (payloads ++ waiting)) (λ _. HasServed W.Link.told worker.new.link payloads (payloads ++ waiting)) }
         ensures standing { (start : Option (List Outcome)) (count first : ℕ) → IsStanding W.Link.told start count first (W.outcomes wire.old) (W.open_links wire.old) (W.faults wire.old) worker.old.link →
             MatchResult result (λ _. IsStanding W.Link.told start count first (W.outcomes wire.new) (W.open_links wire.new) (W.faults wire.new) worker.new.link)
             (IsParted W.Link.told W.Link.faults start count first (W.outcomes wire.new) (W.open_links wire.new) (W.faults wire.new) worker.new.link) }
@@ -148,15 +149,16 @@ impl Shipment {
     ) -> Result<(), Status>
         requires sound { IsSound self.old }
         requires in_range { self.old.offset + self.old.batch.size + vec_len self.old.rest + length piece.now ≤ MAX_PLACE }
-        ensures told { (key bytes : List ℕ) → IsShipped W.Link.told (K.moments clock.old) key form.now.path worker.old.link self.old bytes →
-            MatchResult result (λ _. IsShipped W.Link.told (K.moments clock.new) key form.now.path worker.new.link self.new (bytes ++ piece.now))
-            (λ _. IsCovered W.Link.told (K.moments clock.new) key form.now.path worker.new.link self.new.progress (bytes ++ piece.now)) }
+        ensures told { (begun : Option (List ℕ)) (key bytes : List ℕ) → MomentsGoOn begun (K.moments clock.old) → IsShipped W.Link.told (moments_since begun (K.moments clock.old)) key form.now.path worker.old.link self.old bytes →
+            MatchResult result (λ _. IsShipped W.Link.told (moments_since begun (K.moments clock.new)) key form.now.path worker.new.link self.new (bytes ++ piece.now))
+            (λ _. IsCovered W.Link.told (moments_since begun (K.moments clock.new)) key form.now.path worker.new.link self.new.progress (bytes ++ piece.now)) }
+        ensures moments_go_on { (begun : Option (List ℕ)) → MomentsGoOn begun (K.moments clock.old) → MomentsGoOn begun (K.moments clock.new) }
         ensures sound { OnOk result (IsSound self.new) }
         ensures placed { OnOk result (self.new.offset + self.new.batch.size + vec_len self.new.rest ≡ self.old.offset + self.old.batch.size + vec_len self.old.rest + length piece.now) }
         ensures standing { (start : Option (List Outcome)) (count first : ℕ) → IsStanding W.Link.told start count first (W.outcomes wire.old) (W.open_links wire.old) (W.faults wire.old) worker.old.link →
             MatchResult result (λ _. IsStanding W.Link.told start count first (W.outcomes wire.new) (W.open_links wire.new) (W.faults wire.new) worker.new.link)
             (IsParted W.Link.told W.Link.faults start count first (W.outcomes wire.new) (W.open_links wire.new) (W.faults wire.new) worker.new.link) }
-        ensures stops { (key bytes : List ℕ) → IsShipped W.Link.told (K.moments clock.old) key form.now.path worker.old.link self.old bytes → IfErr result (StopsAt (bytes ++ piece.now)) }
+        ensures stops { (begun : Option (List ℕ)) (key bytes : List ℕ) → MomentsGoOn begun (K.moments clock.old) → IsShipped W.Link.told (moments_since begun (K.moments clock.old)) key form.now.path worker.old.link self.old bytes → IfErr result (StopsAt (bytes ++ piece.now)) }
         ensures ends { IfErr result IsPieceEnd }
     {
         let now = clock.now();

@@ -5,9 +5,10 @@ ghost use Rattle.beat_run.specs.Area.{area_bytes};
 ghost use Rattle.wire_base.specs.declared.row.Row.{Row};
 ghost use Rattle.outside.specs.DiskImages.{Only};
 ghost use Rattle.beat_run.specs.Command.{IsNoCommand};
-ghost use Rattle.beat_run.specs.Ends.{IsPrintingEnd, IsRefusal, RefusesArea, RefusesForm};
+ghost use Rattle.beat_run.specs.Ends.{IsPrintingEnd, IsRefusal, IsRunEnd, RefusesArea, RefusesForm};
 ghost use Rattle.beat_run.specs.Report.{IsPrinted, report_bytes};
 ghost use Rattle.beat_run.specs.Acknowledged.{FailsFor};
+ghost use Rattle.beat_run.specs.Untouched.{IsUntouched};
 ghost use Rattle.beat_run.specs.Evidence.{evidence_of};
 ghost use Rattle.beat_run.specs.Standing.{GoesOn, OnFirst, outcomes_since};
 ghost use Rattle.beat_run.specs.Stored.{IsDone, IsStoredBy};
@@ -56,17 +57,20 @@ where
     ensures unbuilt_settings_only_of_another_form { result ≡ Status.Unbuilt Lack.Settings → IfSome (R.left settings.old) (λ bytes. IsNoForm (take LIMIT bytes)) }
     ensures another_form_is_unbuilt { IfSome (R.left settings.old) (λ bytes. IsNoForm (take LIMIT bytes) → RefusesForm result) }
     ensures done_only_where_the_file_was_drained { result ≡ Status.Done → IfSome (F.told folder.old) (λ told. OnFirst W.outcomes wires.old wires.new (λ before outcomes.
-        IsDone (R.left settings.old) told (evidence_of (K.moments clock.new) before outcomes) (F.told folder.new) (D.contents area_a.old) (D.contents area_a.new) (S.written out.old) (S.written out.new))) }
+        IsDone (R.left settings.old) told (evidence_of (K.moments clock.old) (K.moments clock.new) before outcomes) (F.told folder.new) (D.contents area_a.old) (D.contents area_a.new) (S.written out.old) (S.written out.new))) }
     ensures registry_bad_only_where_the_area_has_bytes { (area : Which) (at : ℕ) → result ≡ Status.RegistryBad area at → (area ≡ Which.A) × (at ≡ 0) × IfSome (D.contents area_a.old) (λ bytes. 1 < length bytes) }
     ensures area_with_bytes_is_refused { IfSome (D.contents area_a.old) (λ bytes. 1 < length bytes → RefusesArea result) }
     ensures stored_row_is_kept { IfSome (F.told folder.old) (λ told. OnFirst W.outcomes wires.old wires.new (λ before outcomes.
-        IsStoredBy (R.left settings.old) told (evidence_of (K.moments clock.new) before outcomes) (F.told folder.new) (D.faults area_a.old) (D.faults area_a.new) (D.contents area_a.old) (D.contents area_a.new) result)) }
+        IsStoredBy (R.left settings.old) told (evidence_of (K.moments clock.old) (K.moments clock.new) before outcomes) (F.told folder.new) (D.faults area_a.old) (D.faults area_a.new) (D.contents area_a.old) (D.contents area_a.new) result)) }
     ensures row_is_durable { result ≡ Status.Done → Only (D.contents area_a.new) (D.images area_a.new) }
     ensures area_kept_on_refusal { IsRefusal result → D.contents area_a.new ≡ D.contents area_a.old }
     ensures folder_kept_on_refusal { IsRefusal result → folder.new ≡ folder.old }
     ensures wires_kept_on_refusal { IsRefusal result → wires.new.items ≡ wires.old.items }
+    ensures other_words_change_nothing { IsNoCommand words.now → IsUntouched (D.contents area_a.old) (D.contents area_a.new) folder.old folder.new wires.old.items wires.new.items }
+    ensures another_form_changes_nothing { IfSome (R.left settings.old) (λ bytes. IsNoForm (take LIMIT bytes) → IsUntouched (D.contents area_a.old) (D.contents area_a.new) folder.old folder.new wires.old.items wires.new.items) }
+    ensures area_with_bytes_is_left_alone { IfSome (D.contents area_a.old) (λ bytes. 1 < length bytes → IsUntouched (D.contents area_a.old) (D.contents area_a.new) folder.old folder.new wires.old.items wires.new.items) }
     ensures first_failure_of_the_only_worker { (worker failures : ℕ) → result ≡ Status.Unreachable worker failures → (worker ≡ 0) × (failures ≡ 1) }
-    ensures unreachable_only_where_the_wire_or_a_peer_failed { OnFirst {A = ℕ × Option (List Outcome)} (λ wire. (W.faults wire, W.outcomes wire)) wires.old wires.new (λ before now. FailsFor before.0 now.0 (outcomes_since before.1 now.1) result) }
+    ensures unreachable_only_where_the_wire_or_a_peer_failed { OnFirst {A = ℕ × Option (List Outcome)} (λ wire. (W.faults wire, W.outcomes wire)) wires.old wires.new (λ before now. FailsFor now.0 (outcomes_since before.1 now.1) result) }
     ensures wire_goes_on { OnFirst W.outcomes wires.old wires.new GoesOn }
     ensures links_finished { OnFirst W.open_links wires.old wires.new (λ old new. ¬ (IsAtEnd old) → new ≡ old) }
     ensures as_many_wires { vec_len wires.new ≡ vec_len wires.old }
@@ -110,6 +114,7 @@ fn print_report<S: Sink>(alloc: Global, ending: &Ending, out: &mut S) -> Status
 }
 
 fn print_status<S: Sink>(status: Status, out: &mut S) -> Status
+    requires without_report { IsRunEnd status }
     ensures printed { (result ≡ status) ⊎ ((result ≡ Status.OutFault) × Rose (S.faults out.old) (S.faults out.new)) }
     ensures told { IfSome (S.written out.old) (λ written. IsPrinted written (S.written out.new) result) }
     ensures faults_never_fall { S.faults out.old ≤ S.faults out.new }

@@ -1,5 +1,6 @@
 use Rattle.std.proofs.Common.{◌≤◌, ℕ, List, Option}
 use Rattle.outside.specs.Wires.{Outcome}
+use Rattle.beat_run.specs.Evidence.{MomentsGoOn, moments_since}
 use Rattle.beat_run.specs.Shipping.{IsSound, IsUnused}
 use Rattle.beat_run.specs.Standing.{IsStanding}
 use Rattle.beat_run.proofs.FileShipments.{IsReadWhereTold}
@@ -11,8 +12,9 @@ invariant-loop g l = record {
   ends : (goal.iterator-loop g).is_finite l.iterator';
   sound : IsSound l.shipment;
   faults : g.T.Tail.faults l.initial.tail ≤ g.T.Tail.faults l.tail;
+  going : MomentsGoOn (g.K.Clock.moments l.initial.clock) (g.K.Clock.moments l.clock);
   told : (key : List ℕ) → IsUnused key l.form.path l.initial.shipment →
-      IsReadWhereTold g.W.Link.Link.told (g.K.Clock.moments l.clock) key l.form.path l.initial.worker.link l.worker.link l.shipment (g.T.Tail.told l.initial.tail) (g.T.Tail.told l.tail);
+      IsReadWhereTold g.W.Link.Link.told (moments_since (g.K.Clock.moments l.initial.clock) (g.K.Clock.moments l.clock)) key l.form.path l.initial.worker.link l.worker.link l.shipment (g.T.Tail.told l.initial.tail) (g.T.Tail.told l.tail);
   standing : (start : Option (List Outcome)) (count first : ℕ) →
       IsStanding g.W.Link.Link.told start count first (g.W.Wire.outcomes l.initial.wire) (g.W.Wire.open_links l.initial.wire) (g.W.Wire.faults l.initial.wire) l.initial.worker.link →
       IsStanding g.W.Link.Link.told start count first (g.W.Wire.outcomes l.wire) (g.W.Wire.open_links l.wire) (g.W.Wire.faults l.wire) l.worker.link;

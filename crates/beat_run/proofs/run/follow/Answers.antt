@@ -1,28 +1,27 @@
-use Rattle.std.proofs.Common.{◌∙◌, ap, refl, rules, Some, []}
-use Rattle.wire_base.specs.declared.row.Row.{Row}
+use Rattle.std.proofs.Common.{◌∙◌, refl, rules, []}
 use Rattle.beat_run.proofs.Notings.{first_seen, gone_drained, gone_noted, none_noted, not_listed_drained, not_listed_noted, noted_row, tail_drained, tail_noted, unopened_where_told}
-use Rattle.beat_run.proofs.Standings.{left_counts, left_fails, left_goes_on, left_opened, left_tells, none_counted, standing_first}
+use Rattle.beat_run.proofs.Standings.{left_counts, left_fails, left_refused, left_opened, left_tells, none_counted, nothing_sent, standing_first}
 use Rattle.beat_run.proofs.Storings.{finding_stops}
 use Rattle.beat_run.proofs.run.follow.Goals as goal
 
 pub returns-in_default-clause-noted : goal.returns-in_default-clause-noted
-returns-in_default-clause-noted g c = none_noted _ _ _ _ _ _ _ c.requires.unnoted.row tt (unopened_where_told _)
+returns-in_default-clause-noted g c = none_noted _ _ _ _ _ _ _ c.requires.unnoted.row (nothing_sent (g.W.Wire.outcomes c.args.wire.now)) tt (unopened_where_told _)
 
 pub returns-in_default-copy-clause-noted : goal.returns-in_default-copy-clause-noted
-returns-in_default-copy-clause-noted g c = none_noted _ _ _ _ _ _ _ c.requires.unnoted.row tt (unopened_where_told _)
+returns-in_default-copy-clause-noted g c = none_noted _ _ _ _ _ _ _ c.requires.unnoted.row (nothing_sent (g.W.Wire.outcomes c.args.wire.now)) tt (unopened_where_told _)
 
 pub returns-in_default-begin-clause-noted : goal.returns-in_default-begin-clause-noted
-returns-in_default-begin-clause-noted g c = none_noted _ _ _ _ _ _ _ c.requires.unnoted.row tt (unopened_where_told _)
+returns-in_default-begin-clause-noted g c = none_noted _ _ _ _ _ _ _ c.requires.unnoted.row (nothing_sent (g.W.Wire.outcomes c.args.wire.now)) tt (unopened_where_told _)
 
 pub returns-in-Err-clause-noted : goal.returns-in-Err-clause-noted
 returns-in-Err-clause-noted g c =
-    none_noted _ _ _ _ _ _ _ c.requires.unnoted.row (finding_stops _ _ c.in-Err.status (rw c.in-Err.is at c.find.ensures.ends)) (rw c.in-Err.is at c.find.ensures.unopened)
+    none_noted _ _ _ _ _ _ _ c.requires.unnoted.row (nothing_sent (g.W.Wire.outcomes c.args.wire.now)) (finding_stops _ _ c.in-Err.status (rw c.in-Err.is at c.find.ensures.ends)) (rw c.in-Err.is at c.find.ensures.unopened)
 
 pub returns-in-Ok-Gone-clause-noted : goal.returns-in-Ok-Gone-clause-noted
-returns-in-Ok-Gone-clause-noted g c = gone_noted _ _ _ _ _ _ _ _ c.requires.unnoted.row tt (rw (c.in-Ok-Gone.is, c.in-Ok-Gone.field-0-is) at c.find.ensures.told)
+returns-in-Ok-Gone-clause-noted g c = gone_noted _ _ _ _ _ _ _ _ c.requires.unnoted.row (nothing_sent (g.W.Wire.outcomes c.args.wire.now)) tt (rw (c.in-Ok-Gone.is, c.in-Ok-Gone.field-0-is) at c.find.ensures.told)
 
 pub returns-in-Ok-NotListed-clause-noted : goal.returns-in-Ok-NotListed-clause-noted
-returns-in-Ok-NotListed-clause-noted g c = not_listed_noted _ _ _ _ _ _ _ _ c.requires.unnoted.row tt (rw (c.in-Ok-NotListed.is, c.in-Ok-NotListed.field-0-is) at c.find.ensures.told)
+returns-in-Ok-NotListed-clause-noted g c = not_listed_noted _ _ _ _ _ _ _ _ c.requires.unnoted.row (nothing_sent (g.W.Wire.outcomes c.args.wire.now)) tt (rw (c.in-Ok-NotListed.is, c.in-Ok-NotListed.field-0-is) at c.find.ensures.told)
 
 pub returns-in-Ok-NotListed-clause-drained : goal.returns-in-Ok-NotListed-clause-drained
 returns-in-Ok-NotListed-clause-drained g c = not_listed_drained _ _ _ _ _ _ (none_counted (g.W.Wire.outcomes c.args.wire.now) [] refl) c.requires.unnoted (rw (c.in-Ok-NotListed.is, c.in-Ok-NotListed.field-0-is) at c.find.ensures.told)
@@ -45,7 +44,7 @@ returns-in-Ok-Tail-clause-noted g c =
     (rw (c.in-Ok-Tail.is, c.in-Ok-Tail.field-0-is) at c.find.ensures.told)
     (first_seen _ _ _ _ _ _ _ _ _ c.ship_file-met.result (c.ship_file-met.ensures.seen c.in-Ok.key (c.new-shipment.ensures c.in-Ok.key c.args.form.now.path (rw (rw c.in-Ok-copy.is at c.copy.ensures) at (rw c.in-Ok-begin.is at c.begin.ensures)))) c.new-worker.ensures.settled)
     c.close.ensures.told
-    (λ payloads served. c.end.ensures.acknowledged _ payloads (left_goes_on g.W.Link.Link.told g.W.Link.Link.faults (g.W.Wire.outcomes c.args.wire.now) (g.W.Wire.open_links c.args.wire.now) (g.W.Wire.faults c.args.wire.now)
+    (λ payloads all served. c.end.ensures.acknowledged _ payloads all (left_refused g.W.Link.Link.told g.W.Link.Link.faults (g.W.Wire.outcomes c.args.wire.now) (g.W.Wire.open_links c.args.wire.now) (g.W.Wire.faults c.args.wire.now)
     (g.W.Wire.outcomes c.ship_file-met.new.wire) (g.W.Wire.open_links c.ship_file-met.new.wire) (g.W.Wire.faults c.ship_file-met.new.wire) c.ship_file-met.new.worker.link c.ship_file-met.result left) (left_tells g.W.Link.Link.told g.W.Link.Link.faults (g.W.Wire.outcomes c.args.wire.now) (g.W.Wire.open_links c.args.wire.now) (g.W.Wire.faults c.args.wire.now)
     (g.W.Wire.outcomes c.ship_file-met.new.wire) (g.W.Wire.open_links c.ship_file-met.new.wire) (g.W.Wire.faults c.ship_file-met.new.wire) c.ship_file-met.new.worker.link c.ship_file-met.result left) served)
     (record {
@@ -65,7 +64,7 @@ returns-in-Ok-Tail-clause-drained g c =
     (rw (c.in-Ok-Tail.is, c.in-Ok-Tail.field-0-is) at c.find.ensures.told)
     (first_seen _ _ _ _ _ _ _ _ _ c.ship_file-met.result (c.ship_file-met.ensures.seen c.in-Ok.key (c.new-shipment.ensures c.in-Ok.key c.args.form.now.path (rw (rw c.in-Ok-copy.is at c.copy.ensures) at (rw c.in-Ok-begin.is at c.begin.ensures)))) c.new-worker.ensures.settled)
     c.close.ensures.told
-    (λ payloads served. c.end.ensures.acknowledged _ payloads (left_goes_on g.W.Link.Link.told g.W.Link.Link.faults (g.W.Wire.outcomes c.args.wire.now) (g.W.Wire.open_links c.args.wire.now) (g.W.Wire.faults c.args.wire.now)
+    (λ payloads all served. c.end.ensures.acknowledged _ payloads all (left_refused g.W.Link.Link.told g.W.Link.Link.faults (g.W.Wire.outcomes c.args.wire.now) (g.W.Wire.open_links c.args.wire.now) (g.W.Wire.faults c.args.wire.now)
     (g.W.Wire.outcomes c.ship_file-met.new.wire) (g.W.Wire.open_links c.ship_file-met.new.wire) (g.W.Wire.faults c.ship_file-met.new.wire) c.ship_file-met.new.worker.link c.ship_file-met.result left) (left_tells g.W.Link.Link.told g.W.Link.Link.faults (g.W.Wire.outcomes c.args.wire.now) (g.W.Wire.open_links c.args.wire.now) (g.W.Wire.faults c.args.wire.now)
     (g.W.Wire.outcomes c.ship_file-met.new.wire) (g.W.Wire.open_links c.ship_file-met.new.wire) (g.W.Wire.faults c.ship_file-met.new.wire) c.ship_file-met.new.worker.link c.ship_file-met.result left) served)
     (left_counts g.W.Link.Link.told g.W.Link.Link.faults (g.W.Wire.outcomes c.args.wire.now) (g.W.Wire.open_links c.args.wire.now) (g.W.Wire.faults c.args.wire.now)
@@ -82,7 +81,7 @@ pub returns-in-Ok-Tail-clause-wire_goes_on : goal.returns-in-Ok-Tail-clause-wire
 returns-in-Ok-Tail-clause-wire_goes_on g c =
     let left = c.ship_file-met.ensures.standing (g.W.Wire.outcomes c.args.wire.now) (g.W.Wire.open_links c.args.wire.now) (g.W.Wire.faults c.args.wire.now)
     (standing_first g.W.Link.Link.told (g.W.Wire.outcomes c.args.wire.now) (g.W.Wire.open_links c.args.wire.now) (g.W.Wire.faults c.args.wire.now) c.new-worker.result.link c.new-worker.ensures.unlinked c.new-worker.ensures.settled) in
-    c.end.ensures.goes_on _ (left_goes_on g.W.Link.Link.told g.W.Link.Link.faults (g.W.Wire.outcomes c.args.wire.now) (g.W.Wire.open_links c.args.wire.now) (g.W.Wire.faults c.args.wire.now)
+    c.end.ensures.goes_on _ (left_refused g.W.Link.Link.told g.W.Link.Link.faults (g.W.Wire.outcomes c.args.wire.now) (g.W.Wire.open_links c.args.wire.now) (g.W.Wire.faults c.args.wire.now)
     (g.W.Wire.outcomes c.ship_file-met.new.wire) (g.W.Wire.open_links c.ship_file-met.new.wire) (g.W.Wire.faults c.ship_file-met.new.wire) c.ship_file-met.new.worker.link c.ship_file-met.result left)
 
 pub returns-in-Ok-Tail-clause-links_finished : goal.returns-in-Ok-Tail-clause-links_finished
@@ -97,4 +96,4 @@ returns-in-Ok-Tail-clause-unreachable g c =
     let left = c.ship_file-met.ensures.standing (g.W.Wire.outcomes c.args.wire.now) (g.W.Wire.open_links c.args.wire.now) (g.W.Wire.faults c.args.wire.now)
     (standing_first g.W.Link.Link.told (g.W.Wire.outcomes c.args.wire.now) (g.W.Wire.open_links c.args.wire.now) (g.W.Wire.faults c.args.wire.now) c.new-worker.result.link c.new-worker.ensures.unlinked c.new-worker.ensures.settled) in
     left_fails g.W.Link.Link.told g.W.Link.Link.faults (g.W.Wire.outcomes c.args.wire.now) (g.W.Wire.open_links c.args.wire.now) (g.W.Wire.faults c.args.wire.now)
-    (g.W.Wire.outcomes c.ship_file-met.new.wire) (g.W.Wire.outcomes c.end.new.wire) (g.W.Wire.open_links c.ship_file-met.new.wire) (g.W.Wire.faults c.ship_file-met.new.wire) (g.W.Wire.faults c.end.new.wire) c.ship_file-met.new.worker.link c.ship_file-met.result left (c.end.ensures.failed _ _)
+    (g.W.Wire.outcomes c.ship_file-met.new.wire) (g.W.Wire.outcomes c.end.new.wire) (g.W.Wire.open_links c.ship_file-met.new.wire) (g.W.Wire.faults c.ship_file-met.new.wire) (g.W.Wire.faults c.end.new.wire) c.ship_file-met.new.worker.link c.ship_file-met.result left (c.end.ensures.failed _)

@@ -9,7 +9,8 @@ use Rattle.beat_run.specs.Evidence.{Evidence, evidence_of}
 use Rattle.beat_run.specs.Report.{report_bytes}
 use Rattle.beat_run.specs.Standing.{OnFirst}
 use Rattle.beat_run.specs.Stored.{IsDone, IsEnded, IsStoredBy}
-use Rattle.beat_run.proofs.Standings.{first_is, first_set, on_first}
+use Rattle.beat_run.specs.Untouched.{IsUntouched}
+use Rattle.beat_run.proofs.Standings.{first_is, first_set, on_first, wires_stay}
 use Rattle.beat_run.proofs.Storings.{done_stored, printed_stored}
 use Rattle.beat_run.specs.declared.settings.TheConstants.{LIMIT}
 use Rattle.beat_run.specs.declared.status.Status.{Status}
@@ -46,13 +47,13 @@ first_told member old new first last (Some told) P was is holds = on_first membe
 
 pub returns-in-Ok-clause-stored_row_is_kept : goal.returns-in-Ok-clause-stored_row_is_kept
 returns-in-Ok-clause-stored_row_is_kept g c =
-    first_told g.W.Wire.outcomes c.args.wires.now (with_item c.args.wires.now 0 c.run.new.wire) c.index_mut.result.now c.run.new.wire _ (λ history before outcomes. IsStoredBy (g.R.Source.left c.args.settings.now) history (evidence_of (g.K.Clock.moments c.run.new.clock) before outcomes) (g.F.Folder.told c.run.new.folder) (g.D.Disk.faults c.args.area_a.now) (g.D.Disk.faults c.run.new.area)
+    first_told g.W.Wire.outcomes c.args.wires.now (with_item c.args.wires.now 0 c.run.new.wire) c.index_mut.result.now c.run.new.wire _ (λ history before outcomes. IsStoredBy (g.R.Source.left c.args.settings.now) history (evidence_of (g.K.Clock.moments c.args.clock.now) (g.K.Clock.moments c.run.new.clock) before outcomes) (g.F.Folder.told c.run.new.folder) (g.D.Disk.faults c.args.area_a.now) (g.D.Disk.faults c.run.new.area)
     (g.D.Disk.contents c.args.area_a.now) (g.D.Disk.contents c.run.new.area) c.print_report.result) (first_is c.args.wires.now.items _ (omega (arith, c.requires)) c.index_mut.ensures.value) (first_set c.args.wires.now c.run.new.wire (omega (arith, c.requires)))
     (done_stored _ _ _ _ _ _ _ _ _ _ c.print_report.result c.print_report.ensures.ends (rw c.in-Ok.is at c.run.ensures.row))
 
 pub returns-in-Err-clause-stored_row_is_kept : goal.returns-in-Err-clause-stored_row_is_kept
 returns-in-Err-clause-stored_row_is_kept g c =
-    first_told g.W.Wire.outcomes c.args.wires.now (with_item c.args.wires.now 0 c.run.new.wire) c.index_mut.result.now c.run.new.wire _ (λ history before outcomes. IsStoredBy (g.R.Source.left c.args.settings.now) history (evidence_of (g.K.Clock.moments c.run.new.clock) before outcomes) (g.F.Folder.told c.run.new.folder) (g.D.Disk.faults c.args.area_a.now) (g.D.Disk.faults c.run.new.area)
+    first_told g.W.Wire.outcomes c.args.wires.now (with_item c.args.wires.now 0 c.run.new.wire) c.index_mut.result.now c.run.new.wire _ (λ history before outcomes. IsStoredBy (g.R.Source.left c.args.settings.now) history (evidence_of (g.K.Clock.moments c.args.clock.now) (g.K.Clock.moments c.run.new.clock) before outcomes) (g.F.Folder.told c.run.new.folder) (g.D.Disk.faults c.args.area_a.now) (g.D.Disk.faults c.run.new.area)
     (g.D.Disk.contents c.args.area_a.now) (g.D.Disk.contents c.run.new.area) c.print_status.result) (first_is c.args.wires.now.items _ (omega (arith, c.requires)) c.index_mut.ensures.value) (first_set c.args.wires.now c.run.new.wire (omega (arith, c.requires)))
     (printed_stored _ _ _ _ _ _ _ _ _ c.in-Err.status c.print_status.result c.print_status.ensures.printed (rw c.in-Err.is at c.run.ensures.row))
 
@@ -74,7 +75,25 @@ done_so settings (Some told) evidence after old new ending written printed ended
 pub returns-in-Ok-clause-done_only_where_the_file_was_drained : goal.returns-in-Ok-clause-done_only_where_the_file_was_drained
 returns-in-Ok-clause-done_only_where_the_file_was_drained g c = λ done.
     first_told g.W.Wire.outcomes c.args.wires.now (with_item c.args.wires.now 0 c.run.new.wire) c.index_mut.result.now c.run.new.wire _
-    (λ history before outcomes. IsDone (g.R.Source.left c.args.settings.now) history (evidence_of (g.K.Clock.moments c.run.new.clock) before outcomes) (g.F.Folder.told c.run.new.folder) (g.D.Disk.contents c.args.area_a.now) (g.D.Disk.contents c.run.new.area)
+    (λ history before outcomes. IsDone (g.R.Source.left c.args.settings.now) history (evidence_of (g.K.Clock.moments c.args.clock.now) (g.K.Clock.moments c.run.new.clock) before outcomes) (g.F.Folder.told c.run.new.folder) (g.D.Disk.contents c.args.area_a.now) (g.D.Disk.contents c.run.new.area)
     (g.S.Sink.written c.args.out.now) (g.S.Sink.written c.print_report.new.out))
     (first_is c.args.wires.now.items _ (omega (arith, c.requires)) c.index_mut.ensures.value) (first_set c.args.wires.now c.run.new.wire (omega (arith, c.requires)))
     (done_so _ _ _ _ _ _ c.in-Ok.ending _ _ (rw c.in-Ok.is at c.run.ensures.done) (c.print_report.ensures.printed done))
+
+-- what is so of settings of another form, in other words
+another_so : (left : Option (List ℕ)) (Was Is : Type 0) → (Was → Is) →
+    IfSome left (λ bytes. IsNoForm (take LIMIT bytes) → Was) → IfSome left (λ bytes. IsNoForm (take LIMIT bytes) → Is)
+another_so None Was Is so was = tt
+another_so (Some bytes) Was Is so was = λ none. so (was none)
+
+pub returns-in-Ok-clause-another_form_changes_nothing : goal.returns-in-Ok-clause-another_form_changes_nothing
+returns-in-Ok-clause-another_form_changes_nothing g c =
+    another_so _ (IsUntouched (g.D.Disk.contents c.args.area_a.now) (g.D.Disk.contents c.run.new.area) c.args.folder.now c.run.new.folder c.index_mut.result.now c.run.new.wire) _
+    (λ untouched. (untouched.0, (untouched.1.0, wires_stay c.args.wires.now c.index_mut.result.now c.run.new.wire (omega (arith, c.requires)) c.index_mut.ensures.value untouched.1.1)))
+    c.run.ensures.untouched_for_another_form
+
+pub returns-in-Err-clause-another_form_changes_nothing : goal.returns-in-Err-clause-another_form_changes_nothing
+returns-in-Err-clause-another_form_changes_nothing g c =
+    another_so _ (IsUntouched (g.D.Disk.contents c.args.area_a.now) (g.D.Disk.contents c.run.new.area) c.args.folder.now c.run.new.folder c.index_mut.result.now c.run.new.wire) _
+    (λ untouched. (untouched.0, (untouched.1.0, wires_stay c.args.wires.now c.index_mut.result.now c.run.new.wire (omega (arith, c.requires)) c.index_mut.ensures.value untouched.1.1)))
+    c.run.ensures.untouched_for_another_form

@@ -1,4 +1,4 @@
-use Rattle.std.proofs.Common.{rules, arith, ◌+◌, ap, refl, sym, ◌∙◌}
+use Rattle.std.proofs.Common.{rules, arith, ◌+◌, refl, ◌∙◌}
 use Rattle.beat_run.proofs.EventLines.{add-line, waiting_is}
 use Rattle.beat_run.proofs.Payloads.{payload-bounded-where-there}
 use Rattle.beat_run.proofs.batch.Batch.add.Goals as goal

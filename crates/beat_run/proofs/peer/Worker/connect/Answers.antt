@@ -1,5 +1,4 @@
-use Rattle.std.proofs.Common.{rules}
-use Rattle.std.proofs.Common.{◌≡◌, Option, Some, None, Bool, false, true, sym, ◌∙◌}
+use Rattle.std.proofs.Common.{sym, ◌∙◌}
 use Rattle.beat_run.proofs.Standings.{none_there, parted_refused, standing_connected}
 use Rattle.beat_run.proofs.peer.Worker.connect.Goals as goal
 
@@ -13,5 +12,4 @@ pub returns-in-Err-clause-standing : goal.returns-in-Err-clause-standing
 returns-in-Err-clause-standing g c = λ start count first is.
     parted_refused g.L.Link.told g.L.Link.faults start count first _ _ _ c.args.self.now.link c.in-Err.field-0 _ _ _ _
     (none_there c.args.self.now.link (sym c.is_some.ensures ∙ c.if-is_some.false))
-    (rw c.in-Err.is at c.connect.ensures.told) (rw c.in-Err.is at c.connect.ensures.counts_open_links) c.connect.ensures.faults_never_fall
-    (rw c.in-Err.is at c.connect.ensures.failed_only_where_faults_rose) is
+    (rw c.in-Err.is at c.connect.ensures.told) (rw c.in-Err.is at c.connect.ensures.counts_open_links) c.connect.ensures.faults_never_fall is

@@ -1,4 +1,4 @@
-use Rattle.std.proofs.Common.{rules, ap, ◌∙◌, sym, ◌+◌, ℕ, arith}
+use Rattle.std.proofs.Common.{ap, arith}
 use Rattle.beat_run.specs.Events.{acked_by, dropped_by}
 use Rattle.beat_run.proofs.Progresses.{one_settled}
 use Rattle.beat_run.proofs.progress.Progress.note.Goals as goal

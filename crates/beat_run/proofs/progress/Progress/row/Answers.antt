@@ -1,7 +1,6 @@
-use Rattle.std.proofs.Common.{ap, ◌≡◌, ◌∙◌, sym, subst, List, Option, Some, ℕ}
+use Rattle.std.proofs.Common.{ap, ◌∙◌, sym, subst, List, Some, ℕ}
 use Rattle.std.proofs.lemmas.List.Elements.{All-contains_itself}
 use Rattle.wire_base.specs.Extent.{Extent}
-use Rattle.wire_base.specs.declared.numbers.Epoch.{Epoch}
 use Rattle.wire_base.specs.declared.note.Note.{Note}
 use Rattle.ship_core.specs.CoveredEnd.{last_end}
 use Rattle.ship_core.specs.OneLife.{spans_of}

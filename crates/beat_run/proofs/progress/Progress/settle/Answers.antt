@@ -1,4 +1,4 @@
-use Rattle.std.proofs.Common.{rules, arith, refl, ◌∙◌, sym}
+use Rattle.std.proofs.Common.{arith, refl}
 use Rattle.beat_run.proofs.Progresses.{all_settled, first_settled, next_settled, none_settled}
 use Rattle.beat_run.proofs.progress.Progress.settle.Goals as goal
 

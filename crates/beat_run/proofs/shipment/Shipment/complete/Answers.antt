@@ -1,4 +1,4 @@
-use Rattle.std.proofs.Common.{rules, arith}
+use Rattle.std.proofs.Common.{rules}
 use Rattle.beat_run.proofs.Shipments.{covers_now, line_waits}
 use Rattle.beat_run.proofs.Standings.{parts_well}
 use Rattle.beat_run.proofs.shipment.Shipment.complete.Goals as goal

@@ -1,4 +1,4 @@
-use Rattle.beat_run.proofs.Shipments.{covers_here, settled_so}
+use Rattle.beat_run.proofs.Shipments.{covers_sent, settled_so}
 use Rattle.beat_run.proofs.Standings.{standing_so}
 use Rattle.beat_run.proofs.shipment.Shipment.flush.Goals as goal
 
@@ -10,7 +10,7 @@ returns-clause-told g c = λ moments key path bytes is.
 
 pub returns-in-Err-clause-told : goal.returns-in-Err-clause-told
 returns-in-Err-clause-told g c = λ moments key path bytes is.
-    covers_here _ moments key path _ _ c.args.self.now bytes is (rw c.in-Err.is at (c.send.ensures.told _ _ is.acknowledged is.holds.holds))
+    covers_sent _ moments key path _ _ c.args.self.now bytes is (rw c.in-Err.is at (c.send.ensures.told _ _ is.acknowledged is.holds.holds))
 
 pub returns-clause-standing : goal.returns-clause-standing
 returns-clause-standing g c = λ start count first is.
