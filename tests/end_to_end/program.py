@@ -52,13 +52,13 @@ def settings_text(path, host, input_id="w"):
     )
 
 
-def start(program, words, folder):
+def start(program, words, folder, output=subprocess.PIPE):
     """Starts a program in a folder; `finish` waits for its end."""
     return subprocess.Popen(
         [os.fspath(program), *words],
         cwd=folder,
         stdin=subprocess.DEVNULL,
-        stdout=subprocess.PIPE,
+        stdout=output,
         stderr=subprocess.PIPE,
     )
 

@@ -10,6 +10,7 @@ import argparse
 import contextlib
 import datetime
 import json
+import os
 import random
 import re
 import signal
@@ -24,7 +25,7 @@ from pathlib import Path
 
 import program
 from area import area, key_of, row, rows_of, text
-from peer import CUT_OFF, Behaviour, Peer, Window
+from peer import CUT_OFF, GLANCE, Behaviour, Peer, Window
 
 USAGE = "status 2 usage: beat_main -c FILE [--once] [--data DIR] [--generate N]"
 UNREACHABLE = "status 7 unreachable worker 0 failures 1"
@@ -75,6 +76,18 @@ def end_of(events):
     return max((offset + len(message) + 1 for offset, message in events), default=0)
 
 
+@contextlib.contextmanager
+def full_pipe():
+    """A pipe that takes nothing more: its reading and its writing end."""
+    with contextlib.ExitStack() as ends:
+        reader, writer = (ends.enter_context(open(end, mode, buffering=0)) for end, mode in zip(os.pipe(), ("rb", "wb")))
+        os.set_blocking(writer.fileno(), False)
+        while writer.write(bytes(4096)) is not None:
+            pass
+        os.set_blocking(writer.fileno(), True)
+        yield reader, writer
+
+
 class EndToEnd(unittest.TestCase):
     tested = None
     seed = 0
@@ -102,12 +115,12 @@ class EndToEnd(unittest.TestCase):
         self.write_settings(settings)
         return self.run_words(*ONCE)
 
-    def start(self, content, peer):
+    def start(self, content, peer, output=subprocess.PIPE):
         """Starts a run over a file with this content; without content there is no file."""
         if content is not None:
             Path(self.path).write_bytes(content)
         self.write_settings(program.settings_text(self.path, peer.host))
-        return program.start(self.tested, ONCE, self.folder)
+        return program.start(self.tested, ONCE, self.folder, output)
 
     def ship(self, content, peer):
         """One run over a file with this content; without content there is no file."""
@@ -144,6 +157,13 @@ class EndToEnd(unittest.TestCase):
                 peer.fall_silent()
                 started.kill()
         return started.returncode == -signal.SIGKILL
+
+    def wait_for_row(self):
+        """Until the area is opened; a run prints only then."""
+        last = time.monotonic() + program.LIMIT
+        while not (self.area.exists() and self.area.read_bytes().startswith(b"{")):
+            self.assertLess(time.monotonic(), last, "no area was opened")
+            time.sleep(GLANCE)
 
     # what it compares
 
@@ -299,6 +319,16 @@ class EndToEnd(unittest.TestCase):
     def test_no_peer_keeps_the_row(self):
         self.ship_to_nobody()
         self.assertEqual(self.area.read_bytes(), area(row(self.path, 0)))
+
+    def test_full_output_pipe_is_closed(self):
+        """The report cannot be printed, and the row is stored all the same."""
+        with Peer() as peer, full_pipe() as (reader, writer), self.start(b"a\nb\n", peer, writer) as started:
+            self.wait_for_row()
+            reader.close()
+            ran = program.finish(started)
+        self.assertEqual(ran.stderr, b"")
+        self.assertEqual(ran.returncode, 8)
+        self.assertEqual(self.area.read_bytes(), area(row(self.path, 4)))
 
     def test_acknowledgement_in_single_bytes(self):
         since = now()
