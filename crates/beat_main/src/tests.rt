@@ -37,6 +37,15 @@ enum Object {
     Sink,
 }
 
+/// What becomes of the file, once it is there.
+#[derive(Clone, Copy, Debug)]
+enum Later {
+    /// It loses its bytes, once calls on its tail were made.
+    CutAfter(u64),
+    /// It is removed, once it was listed.
+    RemovedOnceListed,
+}
+
 /// What a run begins with. The file `/w/a.log` is there where its bytes are. A failing call is counted
 /// from 0 over the object's calls. The first wire's peer acknowledges all, or gives these bytes once it
 /// has a window.
@@ -47,6 +56,7 @@ struct Start {
     words: &'static [&'static str],
     settings: &'static [u8],
     file: Option<&'static [u8]>,
+    later: Option<Later>,
     area: &'static [u8],
 }
 
@@ -92,7 +102,7 @@ fn run<X: Threads + Wait + Sync + AllocGlobal>(rt: &X, start: Start) -> Result<R
     let alloc = rt.alloc();
     let words = words_of(alloc, start.words)?;
     let mut settings = MemSource::new(alloc, start.settings)?;
-    let mut folder = folder_of(alloc, start.file)?;
+    let mut folder = folder_of(alloc, start.file, start.later)?;
     let mut wires = wires_of(alloc, start.answer)?;
     let mut area = MemDisk::new(alloc, start.area)?;
     let mut other_area = MemDisk::new(alloc, b"")?;
@@ -141,21 +151,36 @@ fn words_of(alloc: Global, words: &[&str]) -> Result<Vec<Text>, Fail> {
     Ok(texts)
 }
 
-fn folder_of(alloc: Global, file: Option<&[u8]>) -> Result<MemFolder, Fail> {
+fn folder_of(alloc: Global, file: Option<&[u8]>, later: Option<Later>) -> Result<MemFolder, Fail> {
     let mut files = Vec::new(alloc);
     if let Some(bytes) = file {
-        let mut steps = Vec::new(alloc);
-        steps.push(MemStep {
-            due: Due::Listings(0),
-            change: MemChange::Append(Blob::from_bytes(alloc, bytes)?),
-        })?;
         files.push(MemFile {
             path: Text::from_bytes(alloc, b"/w/a.log")?,
             native: None,
-            steps,
+            steps: steps_of(alloc, bytes, later)?,
         })?;
     }
     Ok(MemFolder::new(alloc, files)?)
+}
+
+fn steps_of(alloc: Global, bytes: &[u8], later: Option<Later>) -> Result<Vec<MemStep>, NoMemory> {
+    let mut steps = Vec::new(alloc);
+    steps.push(MemStep {
+        due: Due::Listings(0),
+        change: MemChange::Append(Blob::from_bytes(alloc, bytes)?),
+    })?;
+    match later {
+        Some(Later::CutAfter(calls)) => steps.push(MemStep {
+            due: Due::TailCalls(calls),
+            change: MemChange::Truncate(0),
+        })?,
+        Some(Later::RemovedOnceListed) => steps.push(MemStep {
+            due: Due::Listings(1),
+            change: MemChange::Remove,
+        })?,
+        None => {}
+    }
+    Ok(steps)
 }
 
 fn wires_of(alloc: Global, answer: Option<&[u8]>) -> Result<Vec<MemWire>, NoMemory>
@@ -191,6 +216,7 @@ const PLAIN: Start = Start {
     words: &["-c", "f", "--once"],
     settings: SETTINGS,
     file: Some(b"a\nb\n"),
+    later: None,
     area: b"",
 };
 
@@ -384,6 +410,36 @@ const UNREACHABLE: Status = Status::Unreachable {
 };
 
 const UNREACHABLE_LINE: &[u8] = b"status 7 unreachable worker 0 failures 1\n";
+
+#[test]
+fn file_that_is_cut_or_removed_is_told(rt: HostRuntime) -> Result<(), Fail> {
+    let shortened = Status::Unbuilt { what: Lack::Life };
+    let gone: &[u8] = b"passed \"/w/a.log\" gone\nshipped 0 dropped 0\nstatus 0 done\n";
+    let cases: [(Later, Status, &[u8], &[u8], &[u8]); 2] = [
+        (
+            Later::CutAfter(2),
+            shortened,
+            b"status 13 unbuilt life\n",
+            ROW_AT_4,
+            WINDOW_OF_BOTH,
+        ),
+        (Later::RemovedOnceListed, Status::Done, gone, NO_ROW, b""),
+    ];
+    for (later, status, printed, area, sent) in cases {
+        let ran = run(
+            &rt,
+            Start {
+                later: Some(later),
+                ..PLAIN
+            },
+        )?;
+        assert_eq!(rt; ran.status, status, "of {later:?}");
+        assert_eq!(rt; ran.printed.bytes(), printed);
+        assert_eq!(rt; ran.area.bytes(), area, "of {later:?}");
+        assert_eq!(rt; ran.sent(rt.alloc())?.as_slice(), sent);
+    }
+    Ok(())
+}
 
 #[test]
 fn peer_fault_settles_nothing(rt: HostRuntime) -> Result<(), Fail> {
