@@ -6,9 +6,11 @@ mod Finds
 mod Folders
 mod Hearings
 mod Keeping
+mod Leavings
 mod Living
 mod Marks
 mod Notings
+mod PartWritten
 mod Parts
 mod PathParts
 mod Payloads

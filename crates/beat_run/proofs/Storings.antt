@@ -28,7 +28,7 @@ stores_blank row given (Some bytes) between new same blank kept stores =
     subst P kept (subst R same stores) blank
 
 -- a file that was read so
-read_so : (path : List ℕ) (listed : FolderHistory) (shown : List Shown) (after : Option FolderHistory) (Was Is : File → List Look → Type 0) → ((file : File) (looks : List Look) → Was file looks → Is file looks) →
+pub read_so : (path : List ℕ) (listed : FolderHistory) (shown : List Shown) (after : Option FolderHistory) (Was Is : File → List Look → Type 0) → ((file : File) (looks : List Look) → Was file looks → Is file looks) →
     IsRead path listed shown Was after → IsRead path listed shown Is after
 read_so path listed shown after Was Is so read = record {
   listed_then = read.listed_then;

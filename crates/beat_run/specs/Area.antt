@@ -1,5 +1,5 @@
 -- A registry area with at most one row: a header and a record behind gates (this project's profile).
-use Rattle.std.specs.Prelude.{◌≡◌, ℕ, ◌-◌, ◌≤◌, List, [], ◌++◌, length, replicate, codes, decimal, Option, Some, None, IfSome}
+use Rattle.std.specs.Prelude.{◌≡◌, ◌≢◌, ◌⊎◌, ℕ, ◌-◌, ◌≤◌, List, [], ◌∷◌, ◌++◌, length, replicate, take, codes, decimal, Option, Some, None, IfSome}
 use Rattle.wire_base.specs.declared.row.Row.{Row}
 
 -- seven decimal digits with leading zeros; no body is so long that it has more
@@ -31,3 +31,12 @@ area_bytes row = codes "{beat 1 00000000000000000001\n" ++ records_bytes row ++ 
 -- an area that tells, and was blank, holds the row afterwards
 abbrev pub Stores : Option Row → Option (List ℕ) → Option (List ℕ) → Type 0
 Stores row before after = IfSome before (λ bytes. length bytes ≤ 1 → after ≡ Some (area_bytes row))
+
+-- a blank area that is partly written with these bytes behind its gate: it is blank still, or its gate is not open, or all is
+-- there
+abbrev pub IsPartWritten : List ℕ → List ℕ → Type 0
+IsPartWritten bytes area = (length area ≤ 1) ⊎ ((take 1 area ≢ 123 ∷ []) ⊎ (area ≡ 123 ∷ bytes))
+
+-- the same of an area that is to hold the row: where it is opened, it holds that row
+abbrev pub IsPartStarted : Option Row → List ℕ → Type 0
+IsPartStarted row area = (length area ≤ 1) ⊎ ((take 1 area ≢ 123 ∷ []) ⊎ (area ≡ area_bytes row))

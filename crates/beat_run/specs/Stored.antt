@@ -12,7 +12,7 @@ use Rattle.beat_run.specs.declared.report.Ending.{Ending}
 use Rattle.beat_run.specs.declared.settings.TheConstants.{LIMIT}
 use Rattle.beat_run.specs.declared.status.Status.{Status}
 use Rattle.beat_run.specs.declared.status.Status.TheVariants.{DiskFault, OutFault, NoMemory}
-use Rattle.beat_run.specs.Area.{area_bytes}
+use Rattle.beat_run.specs.Area.{IsPartStarted, area_bytes}
 use Rattle.beat_run.specs.Evidence.{Evidence}
 use Rattle.beat_run.specs.Form.{IsForm}
 use Rattle.beat_run.specs.Followed.{IsFolderOf, IsRead, IsUnopened}
@@ -58,6 +58,24 @@ IsStored settings told evidence after old new Missing Unopened Stops =
 abbrev pub IsStoredBy : Option (List ℕ) → FolderHistory → Evidence → Option FolderHistory → ℕ → ℕ → Option (List ℕ) → Option (List ℕ) → Status → Type 0
 IsStoredBy settings told evidence after before now old new status =
     IsStored settings told evidence after old new (MissesRow before now old new status) (StopsUnopened status × HoldsNoRow before now old new status) (StopsFor status)
+
+-- the row of the file that was opened is right, and the area has no other: it is blank still, or its gate is not open, or it
+-- holds that row
+pub record LeavesKept (settings : Option (List ℕ)) (told : FolderHistory) (evidence : Evidence) (after : Option FolderHistory) (old new : Option (List ℕ)) : Type 0 where
+  pub form : Form
+  pub named : IsNamed settings form
+  pub root : List ℕ
+  pub folder : IsFolderOf form.path root
+  pub shown : List Shown
+  pub row : Option Row
+  pub read : IsRead form.path (with_event told (Listed root 1 shown)) shown (NotesKept form evidence row) after
+  pub left : IfSome old (λ _. IfSome new (IsPartStarted row))
+
+-- no file was opened, and the area is as it was, or has no row; or one was, and the area has no row but the right one
+abbrev pub HasNoOtherRow : Option (List ℕ) → FolderHistory → Evidence → Option FolderHistory → Option (List ℕ) → Option (List ℕ) → Type 0
+HasNoOtherRow settings told evidence after old new =
+    (IsUnopened told after × IfSome old (λ held. IfSome new (λ holds. (holds ≡ held) ⊎ IsPartStarted None holds)))
+    ⊎ LeavesKept settings told evidence after old new
 
 -- the path that the settings name was followed to its end, and the area holds the row of what was found
 pub record IsEnded (settings : Option (List ℕ)) (told : FolderHistory) (evidence : Evidence) (after : Option FolderHistory) (old new : Option (List ℕ)) (ending : Ending) : Type 0 where

@@ -1,7 +1,7 @@
-ghost use Rattle.std.specs.Prelude.{◌≡◌, ◌≢◌, ◌<◌, ◌≤◌, [], ◌∷◌, ℕ, length, option_map, string_bytes, IfErr, IfOk, IfSome, IsErrOf, OnErr, OnOk};
+ghost use Rattle.std.specs.Prelude.{◌≡◌, ◌≢◌, ◌<◌, ◌≤◌, [], ◌∷◌, ℕ, List, length, option_map, string_bytes, IfErr, IfOk, IfSome, IsErrOf, OnErr, OnOk};
 ghost use Rattle.outside.specs.Counts.{Rose};
 ghost use Rattle.outside.specs.DiskImages.{Only};
-ghost use Rattle.beat_run.specs.Area.{area_bytes, record_bytes, records_bytes, row_body, Stores};
+ghost use Rattle.beat_run.specs.Area.{IsPartStarted, IsPartWritten, area_bytes, record_bytes, records_bytes, row_body, Stores};
 ghost use Rattle.beat_run.specs.Ends.{IsOpeningEnd, IsStoringEnd};
 
 use crate::status::Status;
@@ -18,6 +18,7 @@ pub fn check_blank<D: Disk>(area: &mut D) -> Result<(), Status>
     ensures blank { OnOk result (IfSome (D.contents area.old) (λ bytes. length bytes ≤ 1)) }
     ensures refused { IsErrOf result (Status.RegistryBad Which.A 0) → IfSome (D.contents area.old) (λ bytes. 1 < length bytes) }
     ensures contents_kept { D.contents area.new ≡ D.contents area.old }
+    ensures images_kept { (image : List ℕ) → D.images area.new image → D.images area.old image }
     ensures ends { IfErr result (IsOpeningEnd (D.faults area.old) (D.faults area.new)) }
     ensures faults_never_fall { D.faults area.old ≤ D.faults area.new }
 {
@@ -36,6 +37,7 @@ pub fn start_area<D: Disk>(alloc: Global, area: &mut D, row: Option<&Row>) -> Re
     ensures stores_the_row { OnOk result (Stores (option_map (λ row. row.now) row.entry) (D.contents area.old) (D.contents area.new)) }
     ensures kept_without_memory { IsErrOf result Status.NoMemory → D.contents area.new ≡ D.contents area.old }
     ensures stores_durably { OnOk result (Only (D.contents area.new) (D.images area.new)) }
+    ensures left { OnErr result (Only (D.contents area.old) (D.images area.old) → IfSome (D.contents area.old) (λ old. length old ≤ 1 → IfSome (D.contents area.new) (IsPartStarted (option_map (λ row. row.now) row.entry)))) }
     ensures ends { IfErr result (IsStoringEnd (D.faults area.old) (D.faults area.new)) }
     ensures faults_never_fall { D.faults area.old ≤ D.faults area.new }
 {
@@ -52,6 +54,7 @@ pub fn start_area<D: Disk>(alloc: Global, area: &mut D, row: Option<&Row>) -> Re
 fn write_area<D: Disk>(area: &mut D, bytes: &[u8]) -> Result<(), Failed>
     ensures written { OnOk result (IfSome (D.contents area.old) (λ old. length old ≤ 1 → D.contents area.new ≡ Some (123 ∷ bytes.now))) }
     ensures durable { OnOk result (Only (D.contents area.new) (D.images area.new)) }
+    ensures left { OnErr result (Only (D.contents area.old) (D.images area.old) → IfSome (D.contents area.old) (λ old. length old ≤ 1 → IfSome (D.contents area.new) (IsPartWritten bytes.now))) }
     ensures faults_never_fall { D.faults area.old ≤ D.faults area.new }
     ensures failed_only_where_faults_rose { OnErr result (Rose (D.faults area.old) (D.faults area.new)) }
 {
@@ -65,6 +68,8 @@ fn write_area<D: Disk>(area: &mut D, bytes: &[u8]) -> Result<(), Failed>
 // Leaves the area with a gate that is closed and synced, or holds another byte than an open one.
 fn close_gate<D: Disk>(area: &mut D) -> Result<(), Failed>
     ensures closed { OnOk result (IfSome (D.contents area.old) (λ old. length old ≤ 1 → (gate : ℕ) × (gate ≢ 123) × (D.contents area.new ≡ Some (gate ∷ [])))) }
+    ensures settled { OnOk result (Only (D.contents area.old) (D.images area.old) → Only (D.contents area.new) (D.images area.new)) }
+    ensures left { OnErr result (Only (D.contents area.old) (D.images area.old) → IfSome (D.contents area.old) (λ old. length old ≤ 1 → IfSome (D.contents area.new) (λ new. length new ≤ 1))) }
     ensures faults_never_fall { D.faults area.old ≤ D.faults area.new }
     ensures failed_only_where_faults_rose { OnErr result (Rose (D.faults area.old) (D.faults area.new)) }
 {

@@ -7,7 +7,7 @@ ghost use Rattle.beat_run.specs.Ends.{IsRefusal, RefusesArea, IsRunEnd, IsShippi
 ghost use Rattle.beat_run.specs.Noted.{IsDrained, IsEmptyEnding, IsNotedBy};
 ghost use Rattle.beat_run.specs.Standing.{GoesOn, outcomes_since};
 ghost use Rattle.beat_run.specs.Acknowledged.{FailsFor};
-ghost use Rattle.beat_run.specs.Stored.{HoldsNoRow, IsEnded, IsStored, IsStoredBy};
+ghost use Rattle.beat_run.specs.Stored.{HasNoOtherRow, HoldsNoRow, IsEnded, IsStored, IsStoredBy};
 ghost use Rattle.beat_run.specs.Form.{IsNoForm, IsPlainPath};
 ghost use Rattle.beat_run.specs.Untouched.{IsUntouched};
 ghost use Rattle.beat_run.specs.Evidence.{evidence_of};
@@ -51,6 +51,7 @@ pub fn run<X: Wait, F: Folder, W: Wire, D: Disk, K: Clock, R: Source>(
     ensures row { IfSome (F.told folder.old) (λ told. MatchResult result
         (λ _. IsStored (R.left settings.old) told (evidence_of (K.moments clock.old) (K.moments clock.new) (W.outcomes wire.old) (W.outcomes wire.new)) (F.told folder.new) (D.contents area.old) (D.contents area.new) ⊥ (HoldsNoRow (D.faults area.old) (D.faults area.new) (D.contents area.old) (D.contents area.new) Status.Done) (λ file looks. Unit {0}))
         (IsStoredBy (R.left settings.old) told (evidence_of (K.moments clock.old) (K.moments clock.new) (W.outcomes wire.old) (W.outcomes wire.new)) (F.told folder.new) (D.faults area.old) (D.faults area.new) (D.contents area.old) (D.contents area.new))) }
+    ensures no_other_row { Only (D.contents area.old) (D.images area.old) → IfSome (F.told folder.old) (λ told. HasNoOtherRow (R.left settings.old) told (evidence_of (K.moments clock.old) (K.moments clock.new) (W.outcomes wire.old) (W.outcomes wire.new)) (F.told folder.new) (D.contents area.old) (D.contents area.new)) }
     ensures stored { IfOk result (λ ending. IfSome (D.contents area.old) (λ _. D.contents area.new ≡ Some (area_bytes ending.row))) }
     ensures durable { IfOk result (λ _. Only (D.contents area.new) (D.images area.new)) }
     ensures area_kept { IfErr result (λ status. IsRefusal status → D.contents area.new ≡ D.contents area.old) }

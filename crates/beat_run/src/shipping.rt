@@ -11,7 +11,7 @@ ghost use Rattle.beat_run.specs.Acknowledged.{FailsFor};
 ghost use Rattle.beat_run.specs.Untouched.{IsUntouched};
 ghost use Rattle.beat_run.specs.Evidence.{evidence_of};
 ghost use Rattle.beat_run.specs.Standing.{GoesOn, OnFirst, outcomes_since};
-ghost use Rattle.beat_run.specs.Stored.{IsDone, IsStoredBy};
+ghost use Rattle.beat_run.specs.Stored.{HasNoOtherRow, IsDone, IsStoredBy};
 ghost use Rattle.beat_run.specs.Form.{IsNoForm};
 ghost use Rattle.beat_run.specs.declared.settings.TheConstants.{LIMIT};
 
@@ -62,6 +62,8 @@ where
     ensures area_with_bytes_is_refused { IfSome (D.contents area_a.old) (λ bytes. 1 < length bytes → RefusesArea result) }
     ensures stored_row_is_kept { IfSome (F.told folder.old) (λ told. OnFirst W.outcomes wires.old wires.new (λ before outcomes.
         IsStoredBy (R.left settings.old) told (evidence_of (K.moments clock.old) (K.moments clock.new) before outcomes) (F.told folder.new) (D.faults area_a.old) (D.faults area_a.new) (D.contents area_a.old) (D.contents area_a.new) result)) }
+    ensures no_other_row_is_stored { Only (D.contents area_a.old) (D.images area_a.old) → IfSome (F.told folder.old) (λ told. OnFirst W.outcomes wires.old wires.new (λ before outcomes.
+        HasNoOtherRow (R.left settings.old) told (evidence_of (K.moments clock.old) (K.moments clock.new) before outcomes) (F.told folder.new) (D.contents area_a.old) (D.contents area_a.new))) }
     ensures row_is_durable { result ≡ Status.Done → Only (D.contents area_a.new) (D.images area_a.new) }
     ensures area_kept_on_refusal { IsRefusal result → D.contents area_a.new ≡ D.contents area_a.old }
     ensures folder_kept_on_refusal { IsRefusal result → folder.new ≡ folder.old }

@@ -1,5 +1,6 @@
 use Rattle.std.proofs.Common.{rules, ◌∙◌, ap, Err}
 use Rattle.beat_run.specs.declared.status.Status.{Status}
+use Rattle.beat_run.proofs.Leavings.{left_alone, left_where_failed, left_where_stored, noted_left}
 use Rattle.beat_run.proofs.Storings.{all_missing, done_noted, misses, stopped_noted, stores_blank}
 use Rattle.beat_run.proofs.run.run.Goals as goal
 
@@ -20,3 +21,23 @@ returns-in-Err-start_area-clause-row g c =
     all_missing _ c.in-Ok.form _ _ _ _ _ _ _ _ c.follow-met.result c.in-Err-start_area.status (rw c.in-Ok.is at c.read_settings.ensures.form) c.follow-met.ensures.noted
     (misses _ _ _ _ _ _ c.in-Err-start_area.status c.check_blank.ensures.faults_never_fall c.check_blank.ensures.contents_kept (rw c.in-Err-start_area.is at c.start_area.ensures.ends)
     (λ same. c.start_area.ensures.kept_without_memory (c.in-Err-start_area.is ∙ ap (λ (status : Status). Err status) same)))
+
+pub returns-in-Ok-met-clause-no_other_row : goal.returns-in-Ok-met-clause-no_other_row
+returns-in-Ok-met-clause-no_other_row g c = λ only.
+    noted_left _ c.in-Ok.form _ _ _ _ _ _ c.follow-met.result (rw c.in-Ok.is at c.read_settings.ensures.form) c.follow-met.ensures.noted
+    (left_where_stored _ _ _
+    (stores_blank _ _ _ _ _ (search rules) (rw c.in-Ok-check_blank.is at c.check_blank.ensures.blank) c.check_blank.ensures.contents_kept
+    (rw c.in-Ok-start_area.is at c.start_area.ensures.stores_the_row)))
+
+pub returns-clause-no_other_row : goal.returns-clause-no_other_row
+returns-clause-no_other_row g c = λ only.
+    noted_left _ c.in-Ok.form _ _ _ _ _ _ c.follow-met.result (rw c.in-Ok.is at c.read_settings.ensures.form) c.follow-met.ensures.noted
+    (left_where_stored _ _ _
+    (stores_blank _ _ _ _ _ (search rules) (rw c.in-Ok-check_blank.is at c.check_blank.ensures.blank) c.check_blank.ensures.contents_kept
+    (rw c.in-Ok-start_area.is at c.start_area.ensures.stores_the_row)))
+
+pub returns-in-Err-start_area-clause-no_other_row : goal.returns-in-Err-start_area-clause-no_other_row
+returns-in-Err-start_area-clause-no_other_row g c = λ only.
+    noted_left _ c.in-Ok.form _ _ _ _ _ _ c.follow-met.result (rw c.in-Ok.is at c.read_settings.ensures.form) c.follow-met.ensures.noted
+    (left_where_failed _ _ _ _ _ _ _ (search rules) (rw c.in-Ok-check_blank.is at c.check_blank.ensures.blank) c.check_blank.ensures.contents_kept c.check_blank.ensures.images_kept only
+    (rw c.in-Err-start_area.is at c.start_area.ensures.left))

@@ -8,7 +8,7 @@ use Rattle.beat_run.specs.declared.report.Ending.{Ending}
 use Rattle.beat_run.specs.Evidence.{Evidence, evidence_of}
 use Rattle.beat_run.specs.Report.{report_bytes}
 use Rattle.beat_run.specs.Standing.{OnFirst}
-use Rattle.beat_run.specs.Stored.{IsDone, IsEnded, IsStoredBy}
+use Rattle.beat_run.specs.Stored.{HasNoOtherRow, IsDone, IsEnded, IsStoredBy}
 use Rattle.beat_run.specs.Untouched.{IsUntouched}
 use Rattle.beat_run.proofs.Standings.{first_is, first_set, on_first, wires_stay}
 use Rattle.beat_run.proofs.Storings.{done_stored, printed_stored}
@@ -97,3 +97,17 @@ returns-in-Err-clause-another_form_changes_nothing g c =
     another_so _ (IsUntouched (g.D.Disk.contents c.args.area_a.now) (g.D.Disk.contents c.run.new.area) c.args.folder.now c.run.new.folder c.index_mut.result.now c.run.new.wire) _
     (λ untouched. (untouched.0, (untouched.1.0, wires_stay c.args.wires.now c.index_mut.result.now c.run.new.wire (omega (arith, c.requires)) c.index_mut.ensures.value untouched.1.1)))
     c.run.ensures.untouched_for_another_form
+
+pub returns-in-Ok-clause-no_other_row_is_stored : goal.returns-in-Ok-clause-no_other_row_is_stored
+returns-in-Ok-clause-no_other_row_is_stored g c = λ only.
+    first_told g.W.Wire.outcomes c.args.wires.now (with_item c.args.wires.now 0 c.run.new.wire) c.index_mut.result.now c.run.new.wire _
+    (λ history before outcomes. HasNoOtherRow (g.R.Source.left c.args.settings.now) history (evidence_of (g.K.Clock.moments c.args.clock.now) (g.K.Clock.moments c.run.new.clock) before outcomes) (g.F.Folder.told c.run.new.folder)
+    (g.D.Disk.contents c.args.area_a.now) (g.D.Disk.contents c.run.new.area))
+    (first_is c.args.wires.now.items _ (omega (arith, c.requires)) c.index_mut.ensures.value) (first_set c.args.wires.now c.run.new.wire (omega (arith, c.requires))) (c.run.ensures.no_other_row only)
+
+pub returns-in-Err-clause-no_other_row_is_stored : goal.returns-in-Err-clause-no_other_row_is_stored
+returns-in-Err-clause-no_other_row_is_stored g c = λ only.
+    first_told g.W.Wire.outcomes c.args.wires.now (with_item c.args.wires.now 0 c.run.new.wire) c.index_mut.result.now c.run.new.wire _
+    (λ history before outcomes. HasNoOtherRow (g.R.Source.left c.args.settings.now) history (evidence_of (g.K.Clock.moments c.args.clock.now) (g.K.Clock.moments c.run.new.clock) before outcomes) (g.F.Folder.told c.run.new.folder)
+    (g.D.Disk.contents c.args.area_a.now) (g.D.Disk.contents c.run.new.area))
+    (first_is c.args.wires.now.items _ (omega (arith, c.requires)) c.index_mut.ensures.value) (first_set c.args.wires.now c.run.new.wire (omega (arith, c.requires))) (c.run.ensures.no_other_row only)
