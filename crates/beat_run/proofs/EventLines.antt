@@ -13,7 +13,7 @@ use Rattle.ship_core.specs.OneLife.{spans_of}
 use Rattle.beat_run.specs.declared.batch.Batch.{Batch}
 use Rattle.beat_run.specs.declared.waiting.Waiting.{Waiting}
 use Rattle.beat_run.specs.Batches.{HoldsPayloads, HoldsLines, behind_payload}
-use Rattle.beat_run.specs.Events.{Event, AreLineEvents, line_bytes, lines_bytes, end_of, fate_of_line, with_payload, payloads_of, waiting_of, settlements_in, acked_by, dropped_by, acked_in, dropped_in}
+use Rattle.beat_run.specs.Events.{Event, AreLineEvents, line_bytes, lines_bytes, end_of, fate_of_line, with_payload, payloads_of, waiting_of, settlements_in, acknowledged_by, dropped_by, acknowledged_in, dropped_in}
 use Rattle.beat_run.specs.Fate.{Fate, DroppedBy, ShippedAs, payload_of_fate, cause_of_fate}
 
 -- one frame more
@@ -121,28 +121,28 @@ front_of_lines path start (event ∷ events) (waiting ∷ front) left is =
 
 -- ---- counts
 
-acked_one : (fate : Fate) (count : ℕ) (payloads : List (List ℕ)) → count ≡ length payloads → acked_by (cause_of_fate fate) + count ≡ length (with_payload (payload_of_fate fate) payloads)
+acked_one : (fate : Fate) (count : ℕ) (payloads : List (List ℕ)) → count ≡ length payloads → acknowledged_by (cause_of_fate fate) + count ≡ length (with_payload (payload_of_fate fate) payloads)
 acked_one (DroppedBy rule) count payloads is = omega (arith, is)
 acked_one (ShippedAs payload) count payloads is = omega (arith, is)
 
 -- those that are acknowledged are those with a payload
-pub acked_are : (path : List ℕ) (start : ℕ) (events : List Event) → acked_in (waiting_of path start events) ≡ length (payloads_of path start events)
-acked_are path start [] = refl
-acked_are path start (event ∷ events) =
-    acked_one (fate_of_line path start event) (acked_in (waiting_of path (end_of start event) events)) (payloads_of path (end_of start event) events) (acked_are path (end_of start event) events)
+pub acknowledged_are : (path : List ℕ) (start : ℕ) (events : List Event) → acknowledged_in (waiting_of path start events) ≡ length (payloads_of path start events)
+acknowledged_are path start [] = refl
+acknowledged_are path start (event ∷ events) =
+    acked_one (fate_of_line path start event) (acknowledged_in (waiting_of path (end_of start event) events)) (payloads_of path (end_of start event) events) (acknowledged_are path (end_of start event) events)
 
-one_of_both : (fate : Fate) (acked dropped count : ℕ) → acked + dropped ≡ count → (acked_by (cause_of_fate fate) + acked) + (dropped_by (cause_of_fate fate) + dropped) ≡ suc count
+one_of_both : (fate : Fate) (acked dropped count : ℕ) → acked + dropped ≡ count → (acknowledged_by (cause_of_fate fate) + acked) + (dropped_by (cause_of_fate fate) + dropped) ≡ suc count
 one_of_both (DroppedBy rule) acked dropped count is = omega (arith, is)
 one_of_both (ShippedAs payload) acked dropped count is = omega (arith, is)
 
 -- each is settled in one of the two ways
-pub both_are : (path : List ℕ) (start : ℕ) (events : List Event) → acked_in (waiting_of path start events) + dropped_in (waiting_of path start events) ≡ length events
+pub both_are : (path : List ℕ) (start : ℕ) (events : List Event) → acknowledged_in (waiting_of path start events) + dropped_in (waiting_of path start events) ≡ length events
 both_are path start [] = refl
 both_are path start (event ∷ events) =
     let later = waiting_of path (end_of start event) events in
-    one_of_both (fate_of_line path start event) (acked_in later) (dropped_in later) (length events) (both_are path (end_of start event) events)
+    one_of_both (fate_of_line path start event) (acknowledged_in later) (dropped_in later) (length events) (both_are path (end_of start event) events)
 
-pub acked-append : (first second : List Waiting) → acked_in (first ++ second) ≡ acked_in first + acked_in second
+pub acked-append : (first second : List Waiting) → acknowledged_in (first ++ second) ≡ acknowledged_in first + acknowledged_in second
 acked-append [] second = omega arith
 acked-append (waiting ∷ first) second = omega (arith, acked-append first second)
 

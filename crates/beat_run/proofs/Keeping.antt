@@ -32,7 +32,7 @@ use Rattle.beat_run.specs.Lines.{IsPlainByte}
 use Rattle.beat_run.specs.Lives.{IsFrontOfLife, SeesTruncations, last_read}
 use Rattle.beat_run.specs.Progress.{IsDoneBy}
 use Rattle.beat_run.specs.Reading.{bytes_read}
-use Rattle.beat_run.proofs.EventLines.{acked_are, both_are, place_behind}
+use Rattle.beat_run.proofs.EventLines.{acknowledged_are, both_are, place_behind}
 
 -- ---- lines of plain bytes
 
@@ -352,7 +352,7 @@ whole_row partition law evidence form row key progress settled sent bytes left l
           ∙ ap (λ (l : List Line). lines_of 0 (settled ++ sent) ++ l) (none_behind (0 + length (lines_bytes (settled ++ sent))) left plain)
           ∙ append-nil (lines_of 0 (settled ++ sent))));
       none_behind = ap (λ (l : List Event). told_of form.path (0 + length (lines_bytes settled)) l) none;
-      shipped_are = done.shipped ∙ acked_are form.path 0 settled ∙ sym (places_length some.outcome 0 (length (payloads_of form.path 0 settled)));
+      shipped_are = done.shipped ∙ acknowledged_are form.path 0 settled ∙ sym (places_length some.outcome 0 (length (payloads_of form.path 0 settled)));
       together = omega (arith, done.shipped, done.dropped, both_are form.path 0 settled, told_length form.path 0 (settled ++ sent), ap (λ (l : List Event). length l) all);
     }
 

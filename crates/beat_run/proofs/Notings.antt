@@ -34,7 +34,7 @@ use Rattle.beat_run.specs.Reading.{bytes_read}
 use Rattle.beat_run.specs.Serving.{HasServed, HasSettled}
 use Rattle.beat_run.specs.Shipping.{IsFileCovered, IsFileStopped, IsFileWhole, IsSeen}
 use Rattle.beat_run.specs.Unbuilt.{StopsFor}
-use Rattle.beat_run.proofs.EventLines.{acked_are, spans_adjoin}
+use Rattle.beat_run.proofs.EventLines.{acknowledged_are, spans_adjoin}
 use Rattle.beat_run.proofs.Keeping.{ArePartition, IsHeadMessage, in_life, kept_row, whole_row}
 
 -- nothing was done
@@ -241,7 +241,7 @@ counted_whole : {L : Type 0} (told : L → Option Talk) (form : Form) (key : Lis
 counted_whole told form key link progress evidence ending start after counts shipped seen =
     let settled = seen.seen.whole.covered.settled in
     let P : ℕ → Type 0 = λ n. IfSome evidence.outcomes (λ list. AcknowledgeInAll list n) in
-    subst P (sym (acked_are form.path 0 settled) ∙ sym seen.seen.whole.covered.done.shipped ∙ sym shipped) (counts (payloads_of form.path 0 settled) seen.seen.whole.acknowledged)
+    subst P (sym (acknowledged_are form.path 0 settled) ∙ sym seen.seen.whole.covered.done.shipped ∙ sym shipped) (counts (payloads_of form.path 0 settled) seen.seen.whole.acknowledged)
 
 seen_drained : {L T : Type 0} (laws : EventLaws) (told : L → Option Talk) (tail_told : T → Option TailHistory) (form : Form) (key : List ℕ) (link : Option L) (progress : Progress) (evidence : Evidence) (ending : Ending)
     (history : FolderHistory) (tail : T) (between after : Option FolderHistory) (tail_after : Option TailHistory) (faults : ℕ) (result : Result (Unit {0}) Status)

@@ -11,7 +11,7 @@ use Rattle.ship_core.specs.OneLife.{settles}
 use Rattle.beat_run.specs.declared.progress.Progress.{Progress}
 use Rattle.beat_run.specs.declared.progress.TheConstants.{SLOT, EPOCH}
 use Rattle.beat_run.specs.declared.waiting.Waiting.{Waiting}
-use Rattle.beat_run.specs.Events.{acked_by, dropped_by, settlements_in}
+use Rattle.beat_run.specs.Events.{acknowledged_by, dropped_by, settlements_in}
 use Rattle.beat_run.specs.Progress.{IsDoneBy, SettlesFirst}
 use Rattle.beat_run.proofs.EventLines.{acked-append, dropped-append}
 
@@ -23,7 +23,7 @@ settles-snoc (first ∷ settled) line = ap (λ (l : List Note). Settle SLOT EPOC
 -- one line more is settled
 pub one_settled : (key path : List ℕ) (old new : Progress) (settled : List Waiting) (line : Waiting) →
     new.tracker.notes ≡ old.tracker.notes ++ Settle SLOT EPOCH line.span line.cause ∷ [] →
-    new.shipped ≡ old.shipped + acked_by line.cause → new.dropped ≡ old.dropped + dropped_by line.cause →
+    new.shipped ≡ old.shipped + acknowledged_by line.cause → new.dropped ≡ old.dropped + dropped_by line.cause →
     IsDoneBy key path old settled → IsDoneBy key path new (settled ++ line ∷ [])
 one_settled key path old new settled line notes shipped dropped done = record {
   notes = notes

@@ -18,7 +18,7 @@ use Rattle.beat_run.specs.declared.status.Status.TheVariants.{Done, Usage, Regis
 use Rattle.beat_run.specs.Acknowledged.{AcknowledgeInAll, AreAcknowledged, FailsFor, IsFailure, SendOnly, SendsFront, SendsNothingElse}
 use Rattle.beat_run.specs.Ends.{IsReadingEnd}
 use Rattle.beat_run.specs.Serving.{HasFailed, HasServed, HasSettled, IsSomeWindow, IsWindowOf, Serves, Settles}
-use Rattle.beat_run.specs.Standing.{Blames, GoesOn, GoesOnRefused, HasParted, IsParted, IsRefusal, IsStanding, OnFirst, Tells, WasRefused, outcomes_since, with_link}
+use Rattle.beat_run.specs.Standing.{Blames, GoesOn, GoesOnRefused, HasParted, IsParted, IsFailedConnection, IsStanding, OnFirst, Tells, WasRefused, outcomes_since, with_link}
 
 -- ---- lists that go on
 
@@ -256,7 +256,7 @@ finished_goes_on (Some list) before after (Some talk) faults idles goes finishes
 -- the list since then: connections that failed, and the link's talk at its end
 pub record EndsWith (start after : Option (List Outcome)) (talk : Talk) (faults idles : ℕ) : Type 0 where
   pub more : List Outcome
-  pub refusals : AllByRecursion IsRefusal more
+  pub refusals : AllByRecursion IsFailedConnection more
   pub are : outcomes_since start after ≡ Some (more ++ Finished talk faults idles ∷ [])
 
 ends_with : (list : List Outcome) (before after : Option (List Outcome)) (talk : Talk) (faults idles : ℕ) → GoesOnRefused (Some list) before → TellsFinishing before (Some talk) faults idles after →
@@ -277,15 +277,15 @@ told_talk list before talk goes tells =
     subst P goes.1.1 tells
 
 -- connections that failed sent nothing
-refusal_sends : (all : List (List ℕ)) (outcome : Outcome) → IsRefusal outcome → SendsNothingElse all outcome
+refusal_sends : (all : List (List ℕ)) (outcome : Outcome) → IsFailedConnection outcome → SendsNothingElse all outcome
 refusal_sends all Refused is = tt
 refusal_sends all (Finished talk faults idles) is = absurd is
 
-refusals_send : (all : List (List ℕ)) (more : List Outcome) → AllByRecursion IsRefusal more → SendOnly all more
+refusals_send : (all : List (List ℕ)) (more : List Outcome) → AllByRecursion IsFailedConnection more → SendOnly all more
 refusals_send all [] refusals = tt
 refusals_send all (outcome ∷ more) refusals = (refusal_sends all outcome refusals.0, refusals_send all more refusals.1)
 
-talk_sends : (all : List (List ℕ)) (more : List Outcome) (talk : Talk) (faults idles : ℕ) → AllByRecursion IsRefusal more → SendsFront talk.pieces all → SendOnly all (more ++ Finished talk faults idles ∷ [])
+talk_sends : (all : List (List ℕ)) (more : List Outcome) (talk : Talk) (faults idles : ℕ) → AllByRecursion IsFailedConnection more → SendsFront talk.pieces all → SendOnly all (more ++ Finished talk faults idles ∷ [])
 talk_sends all [] talk faults idles refusals sends = (sends, tt)
 talk_sends all (outcome ∷ more) talk faults idles refusals sends = (refusal_sends all outcome refusals.0, talk_sends all more talk faults idles refusals.1 sends)
 

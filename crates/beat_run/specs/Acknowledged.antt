@@ -1,4 +1,5 @@
--- Which payloads the talks of a run send, and where payloads stand among what they acknowledge (Lumberjack v2; this project's profile).
+-- Which payloads the talks of a run send, and where payloads stand among what they acknowledge (Lumberjack v2; this
+-- project's profile).
 use Rattle.std.specs.Prelude.{◌≡◌, ◌⊎◌, ℕ, ◌+◌, List, [], ◌∷◌, ◌++◌, length, slice_get, Option, Some, IfSome}
 use Rattle.std.specs.List.{AllByRecursion, flat_map}
 use Rattle.wire_base.specs.declared.talk.Piece.{Piece}
@@ -40,7 +41,7 @@ pub record IsAcknowledgedInOne (outcomes : List Outcome) (payloads : List (List 
 abbrev pub AreAcknowledged : List Outcome → List (List ℕ) → Type 0
 AreAcknowledged outcomes payloads = (payloads ≡ []) ⊎ IsAcknowledgedInOne outcomes payloads
 
--- so many payloads are acknowledged by the talks of all finished links together
+-- this talk acknowledges some of so many payloads, and the others the rest
 pub record AcknowledgesSome (talk : Talk) (Others : ℕ → Type 0) (number : ℕ) : Type 0 where
   pub acknowledged : List (List ℕ)
   pub acknowledges : Acknowledges talk.pieces acknowledged
@@ -48,6 +49,7 @@ pub record AcknowledgesSome (talk : Talk) (Others : ℕ → Type 0) (number : �
   pub together : number ≡ length acknowledged + others
   pub by_others : Others others
 
+-- so many payloads are acknowledged by the talks of all finished links together
 abbrev pub AcknowledgeInAll : List Outcome → ℕ → Type 0
 AcknowledgeInAll [] number = number ≡ 0
 AcknowledgeInAll (Refused ∷ outcomes) number = AcknowledgeInAll outcomes number

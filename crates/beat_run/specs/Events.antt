@@ -67,17 +67,17 @@ abbrev pub settlements_in : List Waiting → List Settlement
 settlements_in waiting = map settlement_of waiting
 
 -- how many of them are settled by an acknowledgement, and how many by a rule
-abbrev pub acked_by : Cause → ℕ
-acked_by Acked = 1
-acked_by (Dropped rule) = 0
+abbrev pub acknowledged_by : Cause → ℕ
+acknowledged_by Acked = 1
+acknowledged_by (Dropped rule) = 0
 
 abbrev pub dropped_by : Cause → ℕ
 dropped_by Acked = 0
 dropped_by (Dropped rule) = 1
 
-abbrev pub acked_in : List Waiting → ℕ
-acked_in [] = 0
-acked_in (waiting ∷ others) = acked_by waiting.cause + acked_in others
+abbrev pub acknowledged_in : List Waiting → ℕ
+acknowledged_in [] = 0
+acknowledged_in (waiting ∷ others) = acknowledged_by waiting.cause + acknowledged_in others
 
 abbrev pub dropped_in : List Waiting → ℕ
 dropped_in [] = 0

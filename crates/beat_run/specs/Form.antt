@@ -78,7 +78,7 @@ pub record IsForm (bytes : List ℕ) (form : Form) : Type 0 where
   pub host_is : IsHostText form.host.name form.host.port host
   pub spelled : bytes ≡ form_bytes form.id form.path host
 
--- the bytes are the six lines with no settings
+-- for no settings are the bytes the six lines
 abbrev pub IsNoForm : List ℕ → Type 0
 IsNoForm bytes = (form : Form) → ¬ (IsForm bytes form)
 

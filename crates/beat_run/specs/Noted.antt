@@ -23,8 +23,8 @@ pub record NotesKept (form : Form) (evidence : Evidence) (row : Option Row) (fil
   pub kept : IsKeptRow evidence form (bytes_read file looks) one
   pub kept_in_life : SeesTruncations 0 0 looks → IsKeptRow evidence form (life_of file (last_read 0 looks)) one
 
--- the looks end at the file's end, every byte that they read can be sent, no length was below what was read, and no line before the end is behind the row's
--- offset; so many lines were shipped and dropped
+-- the looks end at the file's end, every byte that they read can be sent, no length was below what was read, and every
+-- whole line ends at or before the row's offset; so many lines were shipped and dropped
 pub record NotesWhole (form : Form) (evidence : Evidence) (ending : Ending) (file : File) (looks : List Look) : Type 0 where
   pub one : Row
   pub noted : ending.row ≡ Some one

@@ -16,13 +16,13 @@ GoesOn None after = after ≡ None
 GoesOn (Some outcomes) after = (more : List Outcome) × (after ≡ Some (outcomes ++ more))
 
 -- only connections that failed came to the list
-abbrev pub IsRefusal : Outcome → Type 0
-IsRefusal Refused = Unit {0}
-IsRefusal (Finished talk faults idles) = ⊥
+abbrev pub IsFailedConnection : Outcome → Type 0
+IsFailedConnection Refused = Unit {0}
+IsFailedConnection (Finished talk faults idles) = ⊥
 
 abbrev pub GoesOnRefused : Option (List Outcome) → Option (List Outcome) → Type 0
 GoesOnRefused None after = after ≡ None
-GoesOnRefused (Some outcomes) after = (more : List Outcome) × (AllByRecursion IsRefusal more × (after ≡ Some (outcomes ++ more)))
+GoesOnRefused (Some outcomes) after = (more : List Outcome) × (AllByRecursion IsFailedConnection more × (after ≡ Some (outcomes ++ more)))
 
 -- what came to the list since then
 abbrev pub outcomes_since : Option (List Outcome) → Option (List Outcome) → Option (List Outcome)

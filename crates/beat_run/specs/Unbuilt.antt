@@ -17,7 +17,7 @@ use Rattle.beat_run.specs.Reading.{GoesOnReaching, NoneShorter, bytes_read}
 abbrev pub whole_lines : List (List ℕ) → List ℕ
 whole_lines contents = flat_map (λ content. content ++ 10 ∷ []) contents
 
--- behind these bytes of its line: one byte too many, or a byte that needs an escape
+-- behind these bytes of its line: one byte too many, or a byte that cannot be sent yet
 abbrev pub CannotBeSent : List ℕ → ℕ → Type 0
 CannotBeSent line byte = (byte ≢ 10) × ((length line ≡ LINE) ⊎ (¬ (IsPlainByte byte)))
 

@@ -1,4 +1,4 @@
-ghost use Rattle.std.specs.Prelude.{◌≡◌, ℕ, ◌+◌, ◌++◌, ◌∷◌, ◌<◌, ◌≤◌, [], false, List, length, vec_len, All, Option, IfOk, IfSome, OnOk, option_map};
+ghost use Rattle.std.specs.Prelude.{◌≡◌, ◌⊎◌, ℕ, ◌+◌, ◌++◌, ◌∷◌, ◌<◌, ◌≤◌, [], false, true, List, length, vec_len, All, Option, IfOk, IfSome, OnOk, option_map};
 ghost use Rattle.wire_base.specs.Ranges.{IsMoment, IsPlace};
 ghost use Rattle.beat_run.specs.Batches.{HoldsLines, HoldsPayloads, IsBatch, behind_payload};
 ghost use Rattle.beat_run.specs.Events.{Event};
@@ -51,7 +51,8 @@ impl Batch {
 
     /// Whether it is to be sent before it takes another line.
     pub fn is_full(&self) -> bool
-        ensures { result ≡ false → vec_len self.now.waiting < EVENTS }
+        ensures room { result ≡ false → vec_len self.now.waiting < EVENTS }
+        ensures full { result ≡ true → (EVENTS ≤ vec_len self.now.waiting) ⊎ (FRAMES ≤ vec_len self.now.frames) }
     {
         self.waiting.len() >= EVENTS as usize || self.frames.len() >= FRAMES
     }

@@ -50,7 +50,7 @@ fn excluded(before: usize, content: &[u8]) -> Option<usize>
     }
 }
 
-// A byte that stands for itself in a JSON text.
+// A printable ASCII byte that stands for itself in a JSON text.
 fn is_plain(byte: u8) -> bool
     ensures { IsTrue result ↔ IsPlainByte byte }
 {

@@ -119,7 +119,7 @@ fn follow<X: Wait, F: Folder, W: Wire, K: Clock>(
     ensures ends { IfErr result (IsShippingEnd (F.faults folder.old) (F.faults folder.new)) }
     ensures faults_never_fall { F.faults folder.old ≤ F.faults folder.new }
 {
-    // Made first, so that none of its memory is wanted once lines were acknowledged.
+    // Made first, so that no memory for the row's key and path is wanted once lines were acknowledged.
     let Ok(key) = key_of(alloc, form) else {
         return Err(Status::NoMemory);
     };

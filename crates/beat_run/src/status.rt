@@ -18,7 +18,8 @@ pub enum Lack {
 /// How a run ended.
 #[derive(Clone, Copy, Debug, PartialEq, Eq)]
 pub enum Status {
-    /// The file was read to its end and its lines were acknowledged, or there was no file.
+    /// The file was read to its end and each of its lines was acknowledged or dropped by a rule, or it
+    /// was not listed, or was gone.
     Done,
     /// The words are not the command's.
     Usage,

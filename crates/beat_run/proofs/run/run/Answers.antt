@@ -1,6 +1,6 @@
 use Rattle.std.proofs.Common.{rules, ◌∙◌, ap, Err}
 use Rattle.beat_run.specs.declared.status.Status.{Status}
-use Rattle.beat_run.proofs.Leavings.{left_alone, left_where_failed, left_where_stored, noted_left}
+use Rattle.beat_run.proofs.Leavings.{left_where_failed, left_where_stored, noted_left}
 use Rattle.beat_run.proofs.Storings.{all_missing, done_noted, misses, stopped_noted, stores_blank}
 use Rattle.beat_run.proofs.run.run.Goals as goal
 
