@@ -1,3 +1,4 @@
+mod Endings
 mod EventLines
 mod Fields
 mod FileShipments

@@ -118,3 +118,12 @@ IsRefusal SourceFault = Unit {0}
 IsRefusal (RegistryBad area at) = Unit {0}
 IsRefusal (Unbuilt Settings) = Unit {0}
 IsRefusal _ = ⊥
+
+-- the statuses of a run that has stored what it noted
+abbrev pub HasStored : Status → Type 0
+HasStored Done = Unit {0}
+HasStored FolderFault = Unit {0}
+HasStored (Unreachable worker failures) = Unit {0}
+HasStored (Unbuilt (Byte at)) = Unit {0}
+HasStored (Unbuilt Life) = Unit {0}
+HasStored _ = ⊥

@@ -3,7 +3,7 @@ ghost use Rattle.outside.specs.Counts.{IsAtEnd, Rose};
 ghost use Rattle.outside.specs.DiskImages.{Only};
 ghost use Rattle.beat_run.specs.Area.{area_bytes};
 ghost use Rattle.beat_run.specs.Command.{IsNoCommand};
-ghost use Rattle.beat_run.specs.Ends.{IsRefusal, RefusesArea, IsRunEnd, IsShippingEnd, RefusesForm};
+ghost use Rattle.beat_run.specs.Ends.{HasStored, IsRefusal, RefusesArea, IsRunEnd, IsShippingEnd, RefusesForm};
 ghost use Rattle.beat_run.specs.Noted.{IsDrained, IsEmptyEnding, IsNotedBy};
 ghost use Rattle.beat_run.specs.Standing.{GoesOn, outcomes_since};
 ghost use Rattle.beat_run.specs.Acknowledged.{FailsFor};
@@ -54,6 +54,7 @@ pub fn run<X: Wait, F: Folder, W: Wire, D: Disk, K: Clock, R: Source>(
     ensures no_other_row { Only (D.contents area.old) (D.images area.old) → IfSome (F.told folder.old) (λ told. HasNoOtherRow (R.left settings.old) told (evidence_of (K.moments clock.old) (K.moments clock.new) (W.outcomes wire.old) (W.outcomes wire.new)) (F.told folder.new) (D.contents area.old) (D.contents area.new)) }
     ensures stored { IfOk result (λ ending. IfSome (D.contents area.old) (λ _. D.contents area.new ≡ Some (area_bytes ending.row))) }
     ensures durable { IfOk result (λ _. Only (D.contents area.new) (D.images area.new)) }
+    ensures durable_where_stored { IfErr result (λ status. HasStored status → Only (D.contents area.new) (D.images area.new)) }
     ensures area_kept { IfErr result (λ status. IsRefusal status → D.contents area.new ≡ D.contents area.old) }
     ensures folder_kept { IfErr result (λ status. IsRefusal status → folder.new ≡ folder.old) }
     ensures wire_kept { IfErr result (λ status. IsRefusal status → wire.new ≡ wire.old) }

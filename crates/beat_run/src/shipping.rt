@@ -5,7 +5,7 @@ ghost use Rattle.beat_run.specs.Area.{area_bytes};
 ghost use Rattle.wire_base.specs.declared.row.Row.{Row};
 ghost use Rattle.outside.specs.DiskImages.{Only};
 ghost use Rattle.beat_run.specs.Command.{IsNoCommand};
-ghost use Rattle.beat_run.specs.Ends.{IsPrintingEnd, IsRefusal, IsRunEnd, RefusesArea, RefusesForm};
+ghost use Rattle.beat_run.specs.Ends.{HasStored, IsPrintingEnd, IsRefusal, IsRunEnd, RefusesArea, RefusesForm};
 ghost use Rattle.beat_run.specs.Report.{IsPrinted, report_bytes};
 ghost use Rattle.beat_run.specs.Acknowledged.{FailsFor};
 ghost use Rattle.beat_run.specs.Untouched.{IsUntouched};
@@ -64,7 +64,7 @@ where
         IsStoredBy (R.left settings.old) told (evidence_of (K.moments clock.old) (K.moments clock.new) before outcomes) (F.told folder.new) (D.faults area_a.old) (D.faults area_a.new) (D.contents area_a.old) (D.contents area_a.new) result)) }
     ensures no_other_row_is_stored { Only (D.contents area_a.old) (D.images area_a.old) → IfSome (F.told folder.old) (λ told. OnFirst W.outcomes wires.old wires.new (λ before outcomes.
         HasNoOtherRow (R.left settings.old) told (evidence_of (K.moments clock.old) (K.moments clock.new) before outcomes) (F.told folder.new) (D.contents area_a.old) (D.contents area_a.new))) }
-    ensures row_is_durable { result ≡ Status.Done → Only (D.contents area_a.new) (D.images area_a.new) }
+    ensures stored_row_is_durable { HasStored result → Only (D.contents area_a.new) (D.images area_a.new) }
     ensures area_kept_on_refusal { IsRefusal result → D.contents area_a.new ≡ D.contents area_a.old }
     ensures folder_kept_on_refusal { IsRefusal result → folder.new ≡ folder.old }
     ensures wires_kept_on_refusal { IsRefusal result → wires.new.items ≡ wires.old.items }

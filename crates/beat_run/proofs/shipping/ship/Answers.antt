@@ -10,6 +10,7 @@ use Rattle.beat_run.specs.Report.{report_bytes}
 use Rattle.beat_run.specs.Standing.{OnFirst}
 use Rattle.beat_run.specs.Stored.{HasNoOtherRow, IsDone, IsEnded, IsStoredBy}
 use Rattle.beat_run.specs.Untouched.{IsUntouched}
+use Rattle.beat_run.proofs.Endings.{stored_still}
 use Rattle.beat_run.proofs.Standings.{first_is, first_set, on_first, wires_stay}
 use Rattle.beat_run.proofs.Storings.{done_stored, printed_stored}
 use Rattle.beat_run.specs.declared.settings.TheConstants.{LIMIT}
@@ -111,3 +112,7 @@ returns-in-Err-clause-no_other_row_is_stored g c = λ only.
     (λ history before outcomes. HasNoOtherRow (g.R.Source.left c.args.settings.now) history (evidence_of (g.K.Clock.moments c.args.clock.now) (g.K.Clock.moments c.run.new.clock) before outcomes) (g.F.Folder.told c.run.new.folder)
     (g.D.Disk.contents c.args.area_a.now) (g.D.Disk.contents c.run.new.area))
     (first_is c.args.wires.now.items _ (omega (arith, c.requires)) c.index_mut.ensures.value) (first_set c.args.wires.now c.run.new.wire (omega (arith, c.requires))) (c.run.ensures.no_other_row only)
+
+pub returns-in-Err-clause-stored_row_is_durable : goal.returns-in-Err-clause-stored_row_is_durable
+returns-in-Err-clause-stored_row_is_durable g c =
+    stored_still _ c.in-Err.status c.print_status.result _ c.print_status.ensures.printed (rw c.in-Err.is at c.run.ensures.durable_where_stored)
