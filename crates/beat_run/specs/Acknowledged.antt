@@ -12,6 +12,7 @@ use Rattle.lumber_frame.specs.Talk.{out_bytes}
 use Rattle.lumber_frame.specs.Window.{IsWindow, window_bytes}
 use Rattle.beat_run.specs.declared.status.Status.{Status}
 use Rattle.beat_run.specs.declared.status.Status.TheVariants.{Unreachable}
+use Rattle.beat_run.specs.TimedOut.{IsTimedOut}
 
 -- the number of a connection in its wire's list, and the number of a payload among what its talk acknowledges
 pub record Place : Type 0 where
@@ -71,22 +72,23 @@ SendsNothingElse payloads (Finished talk faults idles) = SendsFront talk.pieces 
 abbrev pub SendOnly : List (List ℕ) → List Outcome → Type 0
 SendOnly payloads outcomes = AllByRecursion (SendsNothingElse payloads) outcomes
 
--- a connection that failed, or a link that counted a fault or whose talk has a fault of the peer
-abbrev pub IsFailed : Outcome → Type 0
-IsFailed Refused = Unit {0}
-IsFailed (Finished talk faults idles) = Rose 0 faults ⊎ HasPeerFault talk.pieces
+-- a connection that failed, or a link that counted a fault, whose talk has a fault of the peer, or that timed out by the
+-- moments that the clock gave
+abbrev pub IsFailed : ℕ → Option (List ℕ) → Outcome → Type 0
+IsFailed timeout moments Refused = Unit {0}
+IsFailed timeout moments (Finished talk faults idles) = Rose 0 faults ⊎ (HasPeerFault talk.pieces ⊎ IsTimedOut timeout moments talk)
 
-pub record EndsFailed (outcomes : List Outcome) : Type 0 where
+pub record EndsFailed (timeout : ℕ) (moments : Option (List ℕ)) (outcomes : List Outcome) : Type 0 where
   pub earlier : List Outcome
   pub last : Outcome
   pub are : outcomes ≡ earlier ++ last ∷ []
-  pub failed : IsFailed last
+  pub failed : IsFailed timeout moments last
 
 -- the last outcome is a failure, or the wire's count of faults stands at its end, from where on failures are not listed
-abbrev pub IsFailure : ℕ → Option (List Outcome) → Type 0
-IsFailure faults outcomes = IfSome outcomes (λ list. EndsFailed list ⊎ IsAtEnd faults)
+abbrev pub IsFailure : ℕ → Option (List ℕ) → ℕ → Option (List Outcome) → Type 0
+IsFailure timeout moments faults outcomes = IfSome outcomes (λ list. EndsFailed timeout moments list ⊎ IsAtEnd faults)
 
 -- it is the cause of the one status that blames the peer
-abbrev pub FailsFor : ℕ → Option (List Outcome) → Status → Type 0
-FailsFor faults outcomes (Unreachable worker failures) = IsFailure faults outcomes
-FailsFor faults outcomes status = Unit {0}
+abbrev pub FailsFor : ℕ → Option (List ℕ) → ℕ → Option (List Outcome) → Status → Type 0
+FailsFor timeout moments faults outcomes (Unreachable worker failures) = IsFailure timeout moments faults outcomes
+FailsFor timeout moments faults outcomes status = Unit {0}

@@ -16,6 +16,7 @@ pub mod Keys
 pub mod Lines
 pub mod Lives
 pub mod Noted
+pub mod Output
 pub mod Progress
 pub mod Reading
 pub mod Report
@@ -24,6 +25,7 @@ pub mod Shipping
 pub mod Standing
 pub mod Stored
 pub mod Talking
+pub mod TimedOut
 pub mod Unbuilt
 pub mod Untouched
 pub mod Writing

@@ -8,6 +8,7 @@ use Rattle.lumber_frame.specs.PeerFault.{HasPeerFault}
 use Rattle.lumber_frame.specs.Settled.{IsSettled}
 use Rattle.lumber_frame.specs.Window.{IsWindow, numbered}
 use Rattle.beat_run.specs.Acknowledged.{SendsFront}
+use Rattle.beat_run.specs.TimedOut.{IsTimedOut}
 
 -- the talk is whole windows of these payloads, each acknowledged in full
 pub record Settles (talk : List Piece) (payloads : List (List ℕ)) : Type 0 where
@@ -44,7 +45,8 @@ pub record IsSomeWindow (frames : List ℕ) (count : ℕ) : Type 0 where
   pub payloads : List (List ℕ)
   pub window : IsWindowOf payloads frames count
 
--- the link has counted a fault, or its talk has a fault of the peer
-abbrev pub HasFailed : {L : Type 0} → (L → Option Talk) → (L → ℕ) → Option L → Type 0
-HasFailed told faults None = ⊥
-HasFailed told faults (Some link) = Rose 0 (faults link) ⊎ IfSome (told link) (λ talk. HasPeerFault talk.pieces)
+-- the link has counted a fault, its talk has a fault of the peer, or it timed out by the moments that the clock gave
+abbrev pub HasFailed : {L : Type 0} → (L → Option Talk) → (L → ℕ) → ℕ → Option (List ℕ) → Option L → Type 0
+HasFailed told faults timeout moments None = ⊥
+HasFailed told faults timeout moments (Some link) =
+    Rose 0 (faults link) ⊎ IfSome (told link) (λ talk. HasPeerFault talk.pieces ⊎ IsTimedOut timeout moments talk)

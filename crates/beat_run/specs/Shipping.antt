@@ -6,7 +6,6 @@ use Rattle.outside.specs.declared.history.Look.{Look}
 use Rattle.outside.specs.Files.{File}
 use Rattle.outside.specs.Tails.{TailHistory}
 use Rattle.outside.specs.Talks.{Talk}
-use Rattle.beat_run.specs.declared.batch.TheConstants.{EVENTS}
 use Rattle.beat_run.specs.declared.lines.TheConstants.{LINE}
 use Rattle.beat_run.specs.declared.progress.Progress.{Progress}
 use Rattle.beat_run.specs.declared.shipment.Shipment.{Shipment}
@@ -21,31 +20,32 @@ use Rattle.beat_run.specs.Reading.{NoneShorter, bytes_read}
 use Rattle.beat_run.specs.Unbuilt.{IsSendable, StopsFor}
 use Rattle.beat_run.specs.Serving.{HasSettled, HasServed}
 
--- within the ranges: the places, the longest line, and the counts of lines, each of which has at least one byte; what
--- waits is frames of some payloads
-pub record IsSound (shipment : Shipment) : Type 0 where
+-- within the ranges: the places, the longest line, the events of a window, and the counts of lines, each of which has at
+-- least one byte; what waits is frames of some payloads
+pub record IsSound (most : ℕ) (shipment : Shipment) : Type 0 where
   pub in_range : shipment.offset + shipment.batch.size + vec_len shipment.rest ≤ MAX_PLACE
   pub short : vec_len shipment.rest ≤ LINE
   pub plain : All IsPlainByte shipment.rest.items
-  pub few : vec_len shipment.batch.waiting ≤ EVENTS
+  pub few : vec_len shipment.batch.waiting ≤ most
   pub places : All (λ waiting. waiting.span.end ≤ MAX_PLACE) shipment.batch.waiting.items
   pub batch : IsBatch shipment.batch
   pub counted : shipment.progress.shipped + shipment.progress.dropped + vec_len shipment.batch.waiting ≤ shipment.offset + shipment.batch.size
 
 -- nothing was read yet
 pub record IsUnused (key path : List ℕ) (shipment : Shipment) : Type 0 where
-  pub sound : IsSound shipment
+  pub sound : (most : ℕ) → IsSound most shipment
   pub done : IsDoneBy key path shipment.progress []
   pub offset : shipment.offset ≡ 0
   pub waiting : (start : ℕ) → HoldsLines path start shipment.batch []
   pub rest : shipment.rest.items ≡ []
 
--- the bytes read so far are lines whose payloads the peer has acknowledged, lines that wait, and a rest without a line feed
-pub record IsShipped {L : Type 0} (told : L → Option Talk) (moments : Option (List ℕ)) (key path : List ℕ) (link : Option L) (shipment : Shipment) (bytes : List ℕ) : Type 0 where
+-- the bytes read so far are lines whose payloads the peer has acknowledged behind earlier ones of other files, lines that
+-- wait, and a rest without a line feed
+pub record IsShipped {L : Type 0} (told : L → Option Talk) (moments : Option (List ℕ)) (key path : List ℕ) (earlier : List (List ℕ)) (link : Option L) (shipment : Shipment) (bytes : List ℕ) : Type 0 where
   pub settled : List Event
   pub each : AreLineEvents moments settled
   pub done : IsDoneBy key path shipment.progress (waiting_of path 0 settled)
-  pub acknowledged : HasSettled told link (payloads_of path 0 settled)
+  pub acknowledged : HasSettled told link (earlier ++ payloads_of path 0 settled)
   pub offset : shipment.offset ≡ length (lines_bytes settled)
   pub waiting : List Event
   pub waiting_each : AreLineEvents moments waiting
@@ -55,21 +55,21 @@ pub record IsShipped {L : Type 0} (told : L → Option Talk) (moments : Option (
 
 -- some first lines of the bytes are those that are settled, and their payloads are acknowledged; only they and some lines
 -- behind them were sent
-pub record IsCovered {L : Type 0} (told : L → Option Talk) (moments : Option (List ℕ)) (key path : List ℕ) (link : Option L) (progress : Progress) (bytes : List ℕ) : Type 0 where
+pub record IsCovered {L : Type 0} (told : L → Option Talk) (moments : Option (List ℕ)) (key path : List ℕ) (earlier : List (List ℕ)) (link : Option L) (progress : Progress) (bytes : List ℕ) : Type 0 where
   pub settled : List Event
   pub sent : List Event
   pub rest : List ℕ
   pub each : AreLineEvents moments (settled ++ sent)
   pub done : IsDoneBy key path progress (waiting_of path 0 settled)
-  pub acknowledged : HasServed told link (payloads_of path 0 settled) (payloads_of path 0 (settled ++ sent))
+  pub acknowledged : HasServed told link (earlier ++ payloads_of path 0 settled) (earlier ++ payloads_of path 0 (settled ++ sent))
   pub spelled : bytes ≡ lines_bytes (settled ++ sent) ++ rest
 
 -- all lines of the bytes are those that are settled, and the peer has acknowledged nothing else
-pub record IsWhole {L : Type 0} (told : L → Option Talk) (moments : Option (List ℕ)) (key path : List ℕ) (link : Option L) (progress : Progress) (bytes : List ℕ) : Type 0 where
-  pub covered : IsCovered told moments key path link progress bytes
+pub record IsWhole {L : Type 0} (told : L → Option Talk) (moments : Option (List ℕ)) (key path : List ℕ) (earlier : List (List ℕ)) (link : Option L) (progress : Progress) (bytes : List ℕ) : Type 0 where
+  pub covered : IsCovered told moments key path earlier link progress bytes
   pub all : covered.sent ≡ []
   pub complete : All IsPlainByte covered.rest
-  pub acknowledged : HasSettled told link (payloads_of path 0 covered.settled)
+  pub acknowledged : HasSettled told link (earlier ++ payloads_of path 0 covered.settled)
 
 -- the tail that was opened so was looked at so
 pub record IsSeen (start : TailHistory) (Seen : File → List Look → Type 0) (after : Option TailHistory) : Type 0 where
@@ -81,17 +81,17 @@ pub record IsSeen (start : TailHistory) (Seen : File → List Look → Type 0) (
   pub seen : Seen history.file history.looks
 
 -- what was read of the file is covered up to what is settled
-abbrev pub IsFileCovered : {L : Type 0} → (L → Option Talk) → Option (List ℕ) → List ℕ → List ℕ → Option L → Progress → File → List Look → Type 0
-IsFileCovered told moments key path link progress file looks = IsCovered told moments key path link progress (bytes_read file looks)
+abbrev pub IsFileCovered : {L : Type 0} → (L → Option Talk) → Option (List ℕ) → List ℕ → List ℕ → List (List ℕ) → Option L → Progress → File → List Look → Type 0
+IsFileCovered told moments key path earlier link progress file looks = IsCovered told moments key path earlier link progress (bytes_read file looks)
 
 -- and the reading stopped for the cause of its status
-pub record IsFileStopped {L : Type 0} (told : L → Option Talk) (moments : Option (List ℕ)) (key path : List ℕ) (link : Option L) (progress : Progress) (status : Status) (file : File) (looks : List Look) : Type 0 where
-  pub covered : IsFileCovered told moments key path link progress file looks
+pub record IsFileStopped {L : Type 0} (told : L → Option Talk) (moments : Option (List ℕ)) (key path : List ℕ) (earlier : List (List ℕ)) (link : Option L) (progress : Progress) (status : Status) (file : File) (looks : List Look) : Type 0 where
+  pub covered : IsFileCovered told moments key path earlier link progress file looks
   pub stops : StopsFor status file looks
 
 -- it was read to its end, every byte can be sent, no length was below what was read, and all its lines are settled
-pub record IsFileWhole {L : Type 0} (told : L → Option Talk) (moments : Option (List ℕ)) (key path : List ℕ) (link : Option L) (progress : Progress) (file : File) (looks : List Look) : Type 0 where
-  pub whole : IsWhole told moments key path link progress (bytes_read file looks)
+pub record IsFileWhole {L : Type 0} (told : L → Option Talk) (moments : Option (List ℕ)) (key path : List ℕ) (earlier : List (List ℕ)) (link : Option L) (progress : Progress) (file : File) (looks : List Look) : Type 0 where
+  pub whole : IsWhole told moments key path earlier link progress (bytes_read file looks)
   pub sendable : IsSendable (bytes_read file looks)
   pub none_shorter : NoneShorter 0 looks
   pub ended : HasEndLook (length (bytes_read file looks)) looks

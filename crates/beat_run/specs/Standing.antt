@@ -59,22 +59,23 @@ WasRefused None outcomes faults = Unit {0}
 WasRefused (Some list) outcomes faults = (outcomes ≡ Some (list ++ Refused ∷ [])) ⊎ IsAtEnd faults
 
 -- the worker's link has failed, or it has none, and the connection failed
-abbrev pub HasParted : {L : Type 0} → (L → Option Talk) → (L → ℕ) → Option (List Outcome) → Option (List Outcome) → ℕ → Option L → Type 0
-HasParted told link_faults start outcomes faults None = WasRefused start outcomes faults
-HasParted told link_faults start outcomes faults (Some link) = HasFailed told link_faults (Some link)
+abbrev pub HasParted : {L : Type 0} → (L → Option Talk) → (L → ℕ) → ℕ → Option (List ℕ) → Option (List Outcome) → Option (List Outcome) → ℕ → Option L → Type 0
+HasParted told link_faults timeout moments start outcomes faults None = WasRefused start outcomes faults
+HasParted told link_faults timeout moments start outcomes faults (Some link) = HasFailed told link_faults timeout moments (Some link)
 
 -- only the one status says so
-abbrev pub Blames : {L : Type 0} → (L → Option Talk) → (L → ℕ) → Option (List Outcome) → Option (List Outcome) → ℕ → Option L → Status → Type 0
-Blames told link_faults start outcomes faults link (Unreachable worker failures) = HasParted told link_faults start outcomes faults link
-Blames told link_faults start outcomes faults link status = Unit {0}
+abbrev pub Blames : {L : Type 0} → (L → Option Talk) → (L → ℕ) → ℕ → Option (List ℕ) → Option (List Outcome) → Option (List Outcome) → ℕ → Option L → Status → Type 0
+Blames told link_faults timeout moments start outcomes faults link (Unreachable worker failures) =
+    HasParted told link_faults timeout moments start outcomes faults link
+Blames told link_faults timeout moments start outcomes faults link status = Unit {0}
 
 -- the same of a worker that gave up with this status: connections that failed may have come to the list
-pub record IsParted {L : Type 0} (told : L → Option Talk) (link_faults : L → ℕ) (start : Option (List Outcome)) (count first : ℕ) (outcomes : Option (List Outcome)) (open_links faults : ℕ) (link : Option L) (status : Status) : Type 0 where
+pub record IsParted {L : Type 0} (told : L → Option Talk) (link_faults : L → ℕ) (timeout : ℕ) (moments : Option (List ℕ)) (start : Option (List Outcome)) (count first : ℕ) (outcomes : Option (List Outcome)) (open_links faults : ℕ) (link : Option L) (status : Status) : Type 0 where
   pub refused : GoesOnRefused start outcomes
   pub tells : Tells told outcomes link
   pub opened : open_links ≡ with_link count link
   pub counted : first ≤ faults
-  pub blamed : Blames told link_faults start outcomes faults link status
+  pub blamed : Blames told link_faults timeout moments start outcomes faults link status
 
 -- what a member tells of the first wire, before and after
 abbrev pub OnFirst : {W A : Type 0} → (W → A) → Vec W Global → Vec W Global → (A → A → Type 0) → Type 0

@@ -1,4 +1,4 @@
-ghost use Rattle.std.specs.Prelude.{◌≡◌, ◌⊎◌, ℕ, ◌+◌, ◌++◌, ◌∷◌, ◌<◌, ◌≤◌, [], false, true, List, length, vec_len, All, Option, IfOk, IfSome, OnOk, option_map};
+ghost use Rattle.std.specs.Prelude.{◌≡◌, ◌⊎◌, ℕ, ◌+◌, ◌^◌, ◌++◌, ◌∷◌, ◌<◌, ◌≤◌, [], false, true, List, length, vec_len, All, Option, IfOk, IfSome, OnOk, option_map};
 ghost use Rattle.wire_base.specs.Ranges.{IsMoment, IsPlace};
 ghost use Rattle.beat_run.specs.Batches.{HoldsLines, HoldsPayloads, IsBatch, behind_payload};
 ghost use Rattle.beat_run.specs.Events.{Event};
@@ -15,9 +15,6 @@ const EMPTY: RuleNo = RuleNo(0);
 
 /// A payload of more than `MAX_PAYLOAD` bytes is dropped by this rule.
 const TOO_LONG: RuleNo = RuleNo(3);
-
-/// A window has so many events at most.
-pub const EVENTS: u32 = 2_048;
 
 /// A window is sent once its frames have so many bytes.
 pub const FRAMES: usize = 1_048_576;
@@ -49,12 +46,12 @@ impl Batch {
         }
     }
 
-    /// Whether it is to be sent before it takes another line.
-    pub fn is_full(&self) -> bool
-        ensures room { result ≡ false → vec_len self.now.waiting < EVENTS }
-        ensures full { result ≡ true → (EVENTS ≤ vec_len self.now.waiting) ⊎ (FRAMES ≤ vec_len self.now.frames) }
+    /// Whether it is to be sent before it takes another line; a window has so many events at most.
+    pub fn is_full(&self, most: u32) -> bool
+        ensures room { result ≡ false → vec_len self.now.waiting < most }
+        ensures full { result ≡ true → (most ≤ vec_len self.now.waiting) ⊎ (FRAMES ≤ vec_len self.now.frames) }
     {
-        self.waiting.len() >= EVENTS as usize || self.frames.len() >= FRAMES
+        self.waiting.len() >= most as usize || self.frames.len() >= FRAMES
     }
 
     /// No line waits any more.
@@ -81,7 +78,7 @@ impl Batch {
     ) -> Result<(), NoMemory>
         requires moment { IsMoment now }
         requires in_range { start + self.old.size + length content.now + 1 ≤ MAX_PLACE }
-        requires room { vec_len self.old.waiting < EVENTS }
+        requires room { vec_len self.old.waiting < 2 ^ 31 }
         requires places { All (λ line. line.span.end ≤ MAX_PLACE) self.old.waiting.items }
         requires payloads { IsBatch self.old }
         ensures added { (events : List Event) → HoldsLines path.now start self.old events →
@@ -108,7 +105,7 @@ impl Batch {
     // Puts the JSON frame of the payload behind the others, where there is one.
     fn put(&mut self, payload: Option<Blob>) -> Result<(), NoMemory>
         requires small { IfSome payload (λ payload. length payload ≤ MAX_PAYLOAD) }
-        requires room { self.old.count < EVENTS }
+        requires room { self.old.count < 2 ^ 31 }
         ensures added { (payloads : List (List ℕ)) → HoldsPayloads self.old payloads → OnOk result (HoldsPayloads self.new (behind_payload payloads payload)) }
         ensures size { OnOk result (self.new.size ≡ self.old.size) }
         ensures waiting { OnOk result (self.new.waiting ≡ self.old.waiting) }
@@ -123,7 +120,7 @@ impl Batch {
     // Puts the next JSON frame behind the others.
     fn frame(&mut self, payload: &[u8]) -> Result<(), NoMemory>
         requires small { length payload.now ≤ MAX_PAYLOAD }
-        requires room { self.old.count < EVENTS }
+        requires room { self.old.count < 2 ^ 31 }
         ensures added { (payloads : List (List ℕ)) → HoldsPayloads self.old payloads → OnOk result (HoldsPayloads self.new (payloads ++ payload.now ∷ [])) }
         ensures size { OnOk result (self.new.size ≡ self.old.size) }
         ensures waiting { OnOk result (self.new.waiting ≡ self.old.waiting) }

@@ -4,7 +4,9 @@ ghost use Rattle.outside.specs.Talks.{Talk};
 ghost use Rattle.outside.specs.Wires.{Outcome};
 ghost use Rattle.beat_run.specs.Acknowledged.{AcknowledgeInAll, AreAcknowledged, IsFailure, SendOnly};
 ghost use Rattle.beat_run.specs.Ends.{IsSendingEnd};
+ghost use Rattle.beat_run.specs.Evidence.{MomentsGoOn, moments_since};
 ghost use Rattle.beat_run.specs.Hearing.{IsHeardAs};
+ghost use Rattle.beat_run.specs.Output.{IsOutput};
 ghost use Rattle.beat_run.specs.Serving.{HasFailed, HasServed, HasSettled, IsSomeWindow, IsWindowOf};
 ghost use Rattle.beat_run.specs.Standing.{GoesOn, GoesOnRefused, HasParted, IsParted, IsStanding, Tells, outcomes_since, with_link};
 ghost use Rattle.beat_run.specs.Talking.{HearsAll, IsFrontHeard, SendsAll};
@@ -15,6 +17,7 @@ use lumber_frame::{
     nothing_is_settled, read_frame, settled_is_acknowledged, settled_stays_acknowledged,
     window_head,
 };
+use event_tree::OutputRule;
 use outside::{Clock, Link, Recv, Wire};
 use std::mem;
 use std::sync::Wait;
@@ -53,8 +56,8 @@ impl<L: Link> Worker<L> {
             HasServed L.told self.link payloads all → IfSome (outcomes_since start (W.outcomes wire.new)) (λ outcomes. AreAcknowledged outcomes payloads × SendOnly all outcomes) }
         ensures counted { (payloads : List (List ℕ)) → Tells L.told (W.outcomes wire.old) self.link → HasSettled L.told self.link payloads →
             IfSome (outcomes_since (W.outcomes wire.old) (W.outcomes wire.new)) (λ outcomes. AcknowledgeInAll outcomes (length payloads)) }
-        ensures failed { (start : Option (List Outcome)) → GoesOnRefused start (W.outcomes wire.old) → Tells L.told (W.outcomes wire.old) self.link →
-            HasParted L.told L.faults start (W.outcomes wire.old) (W.faults wire.old) self.link → IsFailure (W.faults wire.new) (outcomes_since start (W.outcomes wire.new)) }
+        ensures failed { (timeout : ℕ) (moments : Option (List ℕ)) (start : Option (List Outcome)) → GoesOnRefused start (W.outcomes wire.old) → Tells L.told (W.outcomes wire.old) self.link →
+            HasParted L.told L.faults timeout moments start (W.outcomes wire.old) (W.faults wire.old) self.link → IsFailure timeout moments (W.faults wire.new) (outcomes_since start (W.outcomes wire.new)) }
     {
         let Worker { link } = self;
         match link {
@@ -72,23 +75,24 @@ impl<L: Link> Worker<L> {
         &mut self,
         rt: &X,
         wire: &mut W,
-        host: &Host,
+        output: &OutputRule,
         clock: &mut K,
         frames: &[u8],
         count: u32,
     ) -> Result<(), Status>
+        requires output { IsOutput output.now }
         requires window { IsSomeWindow frames.now count }
         ensures told { (earlier payloads : List (List ℕ)) → HasSettled L.told self.old.link earlier → IsWindowOf payloads frames.now count →
             MatchResult result (λ _. HasSettled L.told self.new.link (earlier ++ payloads)) (λ _. HasServed L.told self.new.link earlier (earlier ++ payloads)) }
-        ensures standing { (start : Option (List Outcome)) (count first : ℕ) → IsStanding L.told start count first (W.outcomes wire.old) (W.open_links wire.old) (W.faults wire.old) self.old.link →
+        ensures standing { (begun : Option (List ℕ)) (start : Option (List Outcome)) (count first : ℕ) → MomentsGoOn begun (K.moments clock.old) → IsStanding L.told start count first (W.outcomes wire.old) (W.open_links wire.old) (W.faults wire.old) self.old.link →
             MatchResult result (λ _. IsStanding L.told start count first (W.outcomes wire.new) (W.open_links wire.new) (W.faults wire.new) self.new.link)
-            (IsParted L.told L.faults start count first (W.outcomes wire.new) (W.open_links wire.new) (W.faults wire.new) self.new.link) }
-        ensures moments_kept { K.moments clock.new ≡ K.moments clock.old }
+            (IsParted L.told L.faults output.now.timeout (moments_since begun (K.moments clock.new)) start count first (W.outcomes wire.new) (W.open_links wire.new) (W.faults wire.new) self.new.link) }
+        ensures moments_go_on { (begun : Option (List ℕ)) → MomentsGoOn begun (K.moments clock.old) → MomentsGoOn begun (K.moments clock.new) }
         ensures ends { IfErr result IsSendingEnd }
     {
-        self.connect(wire, host)?;
+        self.connect(wire, &output.hosts.as_slice()[0])?;
         match &mut self.link {
-            Some(link) => serve(rt, link, clock, frames, count),
+            Some(link) => serve(rt, link, clock, output.timeout, frames, count),
             None => unreachable!(),
         }
     }
@@ -132,6 +136,7 @@ fn serve<X: Wait, L: Link, K: Clock>(
     rt: &X,
     link: &mut L,
     clock: &mut K,
+    timeout: u64,
     frames: &[u8],
     count: u32,
 ) -> Result<(), Status>

@@ -26,10 +26,11 @@ use crate::settings::read_settings;
 use crate::shipment::Shipment;
 use crate::status::{Lack, Status};
 use multiline_core::each_line_is_an_event;
+use event_tree::{ListOf, OutputRule};
 use outside::{Clock, Disk, Folder, Source, Wire};
 use std::alloc::Global;
 use std::sync::Wait;
-use wire_base::{NoMemory, Row, Text, Which};
+use wire_base::{Host, NoMemory, Row, Text, Which};
 
 /// Everything but the printing.
 pub fn run<X: Wait, F: Folder, W: Wire, D: Disk, K: Clock, R: Source>(
@@ -66,7 +67,7 @@ pub fn run<X: Wait, F: Folder, W: Wire, D: Disk, K: Clock, R: Source>(
     ensures tails_closed { ¬ (IsAtEnd (F.open_tails folder.old)) → F.open_tails folder.new ≡ F.open_tails folder.old }
     ensures disk_fault { IsErrOf result Status.DiskFault → Rose (D.faults area.old) (D.faults area.new) }
     ensures folder_fault { IsErrOf result Status.FolderFault → Rose (F.faults folder.old) (F.faults folder.new) }
-    ensures unreachable { IfErr result (FailsFor (W.faults wire.new) (outcomes_since (W.outcomes wire.old) (W.outcomes wire.new))) }
+    ensures unreachable { IfErr result (FailsFor 30000 (K.moments clock.new) (W.faults wire.new) (outcomes_since (W.outcomes wire.old) (W.outcomes wire.new))) }
     ensures source_fault { IsErrOf result Status.SourceFault → Rose (R.faults settings.old) (R.faults settings.new) }
     ensures ends { IfErr result IsRunEnd }
 {
@@ -116,7 +117,7 @@ fn follow<X: Wait, F: Folder, W: Wire, K: Clock>(
     ensures wire_goes_on { GoesOn (W.outcomes wire.old) (W.outcomes wire.new) }
     ensures links_finished { ¬ (IsAtEnd (W.open_links wire.old)) → W.open_links wire.new ≡ W.open_links wire.old }
     ensures tails_closed { ¬ (IsAtEnd (F.open_tails folder.old)) → F.open_tails folder.new ≡ F.open_tails folder.old }
-    ensures unreachable { IfErr result (FailsFor (W.faults wire.new) (outcomes_since (W.outcomes wire.old) (W.outcomes wire.new))) }
+    ensures unreachable { IfErr result (FailsFor 30000 (K.moments clock.new) (W.faults wire.new) (outcomes_since (W.outcomes wire.old) (W.outcomes wire.new))) }
     ensures ends { IfErr result (IsShippingEnd (F.faults folder.old) (F.faults folder.new)) }
     ensures faults_never_fall { F.faults folder.old ≤ F.faults folder.new }
 {
@@ -138,12 +139,17 @@ fn follow<X: Wait, F: Folder, W: Wire, K: Clock>(
             Ok(())
         }
         Ok(Found::Tail(mut tail)) => {
+            let Ok(output) = output_of(alloc, form) else {
+                folder.close(tail);
+                return Err(Status::NoMemory);
+            };
             let mut worker = Worker::new();
             let mut shipment = Shipment::new(alloc, progress);
             let met = ship_file(
                 rt,
                 alloc,
-                form,
+                &form.path,
+                &output,
                 &mut tail,
                 &mut worker,
                 wire,
@@ -177,4 +183,19 @@ fn key_of(alloc: Global, form: &Form) -> Result<Text, NoMemory>
     let id = form.id.as_str();
     let path = form.path.as_str();
     Ok(Text::from_string(format!(in alloc; "filestream::{id}::path::{path}")?))
+}
+
+fn output_of(alloc: Global, form: &Form) -> Result<OutputRule, NoMemory> {
+    let mut hosts = Vec::new(alloc);
+    hosts.push(Host {
+        name: form.host.name.copy(alloc)?,
+        port: form.host.port,
+    })?;
+    Ok(OutputRule {
+        hosts: ListOf::from_vec(hosts),
+        workers: 1,
+        bulk_max_size: 2048,
+        timeout: 30_000,
+        attempts: 1,
+    })
 }

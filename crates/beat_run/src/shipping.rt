@@ -72,7 +72,7 @@ where
     ensures another_form_changes_nothing { IfSome (R.left settings.old) (λ bytes. IsNoForm (take LIMIT bytes) → IsUntouched (D.contents area_a.old) (D.contents area_a.new) folder.old folder.new wires.old.items wires.new.items) }
     ensures area_with_bytes_is_left_alone { IfSome (D.contents area_a.old) (λ bytes. 1 < length bytes → IsUntouched (D.contents area_a.old) (D.contents area_a.new) folder.old folder.new wires.old.items wires.new.items) }
     ensures first_failure_of_the_only_worker { (worker failures : ℕ) → result ≡ Status.Unreachable worker failures → (worker ≡ 0) × (failures ≡ 1) }
-    ensures unreachable_only_where_the_wire_or_a_peer_failed { OnFirst {A = ℕ × Option (List Outcome)} (λ wire. (W.faults wire, W.outcomes wire)) wires.old wires.new (λ before now. FailsFor now.0 (outcomes_since before.1 now.1) result) }
+    ensures unreachable_only_where_the_wire_or_a_peer_failed { OnFirst {A = ℕ × Option (List Outcome)} (λ wire. (W.faults wire, W.outcomes wire)) wires.old wires.new (λ before now. FailsFor 30000 (K.moments clock.new) now.0 (outcomes_since before.1 now.1) result) }
     ensures wire_goes_on { OnFirst W.outcomes wires.old wires.new GoesOn }
     ensures links_finished { OnFirst W.open_links wires.old wires.new (λ old new. ¬ (IsAtEnd old) → new ≡ old) }
     ensures as_many_wires { vec_len wires.new ≡ vec_len wires.old }
