@@ -8,7 +8,7 @@ use Rattle.outside.specs.Talks.{Talk}
 use Rattle.outside.specs.Tails.{TailHistory}
 use Rattle.beat_run.specs.declared.lines.TheConstants.{LINE}
 use Rattle.beat_run.specs.declared.progress.Progress.{Progress}
-use Rattle.beat_run.specs.declared.status.Status.{Status}
+use Rattle.report.specs.declared.status.Status.{Status}
 use Rattle.beat_run.specs.declared.shipment.Shipment.{Shipment}
 use Rattle.beat_run.specs.Ends.{IsLineEnd}
 use Rattle.beat_run.specs.Events.{AreLineEvents, Event, lines_bytes, payloads_of}

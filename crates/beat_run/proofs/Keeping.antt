@@ -1,11 +1,10 @@
--- A row is right where the lines that are settled are the first of a life, and their payloads are acknowledged.
+-- Lines that are settled are told events of a life, and their payloads have places where they are acknowledged.
 use Rattle.std.proofs.Common.{◌≡◌, inl, inr, ℕ, zero, suc, ◌+◌, ◌-◌, ◌<◌, ◌≤◌, Bool, true, false, eqb, List, [], ◌∷◌, ◌++◌, length, map, take, drop, get_or, All, Option, Some, None, IfSome, slice_get, refl, sym, ◌∙◌, ap, subst, append_assoc, append-nil, arith, length-append}
 use Rattle.std.proofs.Math.Seq.{drop-append_seam}
 use Rattle.std.proofs.lemmas.Bool.{ne_eqb}
 use Rattle.std.proofs.lemmas.List.{map-append, take_all, take-append-drop}
 use Rattle.std.proofs.lemmas.List.Elements.{All-head, All-tail}
 use Rattle.wire_base.specs.Extent.{Extent}
-use Rattle.wire_base.specs.declared.row.Row.{Row}
 use Rattle.event_tree.specs.declared.line_rule.LineRule.{LineRule}
 use Rattle.event_tree.specs.declared.group_rule.GroupRule.TheVariants.{Single}
 use Rattle.line_cutter.specs.declared.line.Line.{Line}
@@ -16,23 +15,17 @@ use Rattle.multiline_core.specs.Partition.{IsPartition, lines_from}
 use Rattle.outside.specs.Files.{File, life_of}
 use Rattle.outside.specs.declared.history.Look.{Look}
 use Rattle.outside.specs.Wires.{Outcome}
-use Rattle.ship_core.specs.CoveredEnd.{last_end}
 use Rattle.std.specs.List.{AllByRecursion}
 use Rattle.ship_core.specs.OneLife.{spans_of as settled_spans}
-use Rattle.beat_run.specs.declared.form.Form.{Form}
 use Rattle.beat_run.specs.declared.lines.TheConstants.{LINE}
-use Rattle.beat_run.specs.declared.progress.Progress.{Progress}
-use Rattle.beat_run.specs.Acknowledged.{AreAcknowledged, IsAcknowledgedAt, Place, SendOnly}
+use Rattle.beat_run.specs.Acknowledged.{AreAcknowledged, IsAcknowledgedAt, Place}
 use Rattle.beat_run.specs.Events.{AreLineEvents, Event, end_of, fate_of_line, line_bytes, lines_bytes, payloads_of, settlements_in, waiting_of, with_payload}
-use Rattle.beat_run.specs.Evidence.{Evidence}
 use Rattle.beat_run.specs.Fate.{DroppedBy, Fate, ShippedAs, fate_of, payload_of_fate}
-use Rattle.beat_run.specs.Keys.{path_row}
-use Rattle.beat_run.specs.Kept.{AreApart, AreSettled, AreTold, HasFate, IsKeptRow, IsWholeRow, NothingIsFlushed, SettlesAs, ToldEvent, event_rule, line_rule, payloads_in, spans_of}
+use Rattle.beat_run.specs.Kept.{AreApart, AreSettled, AreTold, HasFate, NothingIsFlushed, SettlesAs, ToldEvent, event_rule, line_rule, payloads_in, spans_of}
 use Rattle.beat_run.specs.Lines.{IsPlainByte}
 use Rattle.beat_run.specs.Lives.{IsFrontOfLife, SeesTruncations, last_read}
-use Rattle.beat_run.specs.Progress.{IsDoneBy}
 use Rattle.beat_run.specs.Reading.{bytes_read}
-use Rattle.beat_run.proofs.EventLines.{acknowledged_are, both_are, place_behind}
+use Rattle.beat_run.proofs.EventLines.{place_behind}
 
 -- ---- lines of plain bytes
 
@@ -59,7 +52,7 @@ lines_of start [] = []
 lines_of start (event ∷ events) = line_of start event ∷ lines_of (end_of start event) events
 
 -- the lines of these bytes are those of the events, and then those of what follows
-lines_are : (moments : Option (List ℕ)) (start : ℕ) (events : List Event) (behind : List ℕ) → AreLineEvents moments events →
+pub lines_are : (moments : Option (List ℕ)) (start : ℕ) (events : List Event) (behind : List ℕ) → AreLineEvents moments events →
     complete_lines line_rule start (lines_bytes events ++ behind) ≡ lines_of start events ++ complete_lines line_rule (start + length (lines_bytes events)) behind
 lines_are moments start [] behind each =
     let here : start ≡ start + 0 = omega arith in
@@ -72,7 +65,7 @@ lines_are moments start (event ∷ events) behind each =
     (lines_are moments (end_of start event) events behind each.1
     ∙ ap (λ (n : ℕ). lines_of (end_of start event) events ++ complete_lines line_rule n behind) (place_behind start event events))
 
-none_behind : (start : ℕ) (content : List ℕ) → All IsPlainByte content → complete_lines line_rule start content ≡ []
+pub none_behind : (start : ℕ) (content : List ℕ) → All IsPlainByte content → complete_lines line_rule start content ≡ []
 none_behind start content plain = ap (λ (c : Cut). lines_in line_rule start c) (cut_rest content plain)
 
 -- ---- the message of a line
@@ -123,7 +116,7 @@ at_least outcome index (suc count) (suc k) default within =
     let later = at_least outcome (suc index) count k default (omega (arith, within)) in
     omega (arith, later)
 
-apart : (outcome index count : ℕ) → AreApart (places_from outcome index count)
+pub apart : (outcome index count : ℕ) → AreApart (places_from outcome index count)
 apart outcome index zero = tt
 apart outcome index (suc count) =
     let first : Place = record { outcome = outcome; index = index } in (
@@ -155,7 +148,7 @@ pub record AreSomewhere (outcomes : Option (List Outcome)) (payloads : List (Lis
   pub outcome : ℕ
   pub stand : StandAt outcomes outcome 0 payloads
 
-somewhere : (outcomes : Option (List Outcome)) (payloads : List (List ℕ)) → IfSome outcomes (λ list. AreAcknowledged list payloads) → AreSomewhere outcomes payloads
+pub somewhere : (outcomes : Option (List Outcome)) (payloads : List (List ℕ)) → IfSome outcomes (λ list. AreAcknowledged list payloads) → AreSomewhere outcomes payloads
 somewhere None payloads acknowledged = record { outcome = 0; stand = λ k payload is. tt }
 somewhere (Some list) [] acknowledged = record { outcome = 0; stand = λ k payload is. absurd cc }
 somewhere (Some list) (first ∷ payloads) (inl none) = absurd cc
@@ -183,7 +176,7 @@ told_of path start [] = []
 told_of path start (event ∷ events) =
     record { span = record { start = start; end = end_of start event }; fate = fate_of_line path start event } ∷ told_of path (end_of start event) events
 
-told-append : (path : List ℕ) (start : ℕ) (events more : List Event) → told_of path start (events ++ more) ≡ told_of path start events ++ told_of path (start + length (lines_bytes events)) more
+pub told-append : (path : List ℕ) (start : ℕ) (events more : List Event) → told_of path start (events ++ more) ≡ told_of path start events ++ told_of path (start + length (lines_bytes events)) more
 told-append path start [] more =
     let here : start ≡ start + 0 = omega arith in
     ap (λ (n : ℕ). told_of path n more) here
@@ -193,11 +186,11 @@ told-append path start (event ∷ events) more =
     (told-append path (end_of start event) events more
     ∙ ap (λ (n : ℕ). told_of path (end_of start event) events ++ told_of path n more) (place_behind start event events))
 
-told_payloads : (path : List ℕ) (start : ℕ) (events : List Event) → payloads_in (told_of path start events) ≡ payloads_of path start events
+pub told_payloads : (path : List ℕ) (start : ℕ) (events : List Event) → payloads_in (told_of path start events) ≡ payloads_of path start events
 told_payloads path start [] = refl
 told_payloads path start (event ∷ events) = ap (with_payload (payload_of_fate (fate_of_line path start event))) (told_payloads path (end_of start event) events)
 
-told_spans : (path : List ℕ) (start : ℕ) (events : List Event) → spans_of (told_of path start events) ≡ map (λ one. one.span) (lines_of start events)
+pub told_spans : (path : List ℕ) (start : ℕ) (events : List Event) → spans_of (told_of path start events) ≡ map (λ one. one.span) (lines_of start events)
 told_spans path start [] = refl
 told_spans path start (event ∷ events) =
     ap (λ (l : List Extent). record { start = start; end = end_of start event } ∷ l) (told_spans path (end_of start event) events)
@@ -206,7 +199,7 @@ told_length : (path : List ℕ) (start : ℕ) (events : List Event) → length (
 told_length path start [] = refl
 told_length path start (event ∷ events) = ap suc (told_length path (end_of start event) events)
 
-waiting_spans : (path : List ℕ) (start : ℕ) (events : List Event) → settled_spans (settlements_in (waiting_of path start events)) ≡ spans_of (told_of path start events)
+pub waiting_spans : (path : List ℕ) (start : ℕ) (events : List Event) → settled_spans (settlements_in (waiting_of path start events)) ≡ spans_of (told_of path start events)
 waiting_spans path start [] = refl
 waiting_spans path start (event ∷ events) =
     ap (λ (l : List Extent). record { start = start; end = end_of start event } ∷ l) (waiting_spans path (end_of start event) events)
@@ -214,11 +207,11 @@ waiting_spans path start (event ∷ events) =
 behind_line : (start : ℕ) (front : List ℕ) (event : Event) → start ≡ length front → end_of start event ≡ length (front ++ line_bytes event)
 behind_line start front event is = omega (arith, is, length-append front (line_bytes event), length-append event.content (10 ∷ []))
 
-fates_from : IsHeadMessage → (evidence : Evidence) (path life front : List ℕ) (events : List Event) (more : List ℕ) (start : ℕ) →
-    AreLineEvents evidence.moments events → start ≡ length front → life ≡ front ++ (lines_bytes events ++ more) →
-    AllByRecursion (λ one. HasFate evidence path life one.span one.fate) (told_of path start events)
-fates_from law evidence path life front [] more start each place is = tt
-fates_from law evidence path life front (event ∷ events) more start each place is =
+fates_from : IsHeadMessage → (moments : Option (List ℕ)) (path life front : List ℕ) (events : List Event) (more : List ℕ) (start : ℕ) →
+    AreLineEvents moments events → start ≡ length front → life ≡ front ++ (lines_bytes events ++ more) →
+    AllByRecursion (λ one. HasFate moments path life one.span one.fate) (told_of path start events)
+fates_from law moments path life front [] more start each place is = tt
+fates_from law moments path life front (event ∷ events) more start each place is =
     let message = message_is law start event each.0.plain each.0.short in
     let here : drop start life ≡ lines_bytes (event ∷ events) ++ more =
     ap (λ (l : List ℕ). drop start l) is ∙ ap (λ (n : ℕ). drop n (front ++ (lines_bytes (event ∷ events) ++ more))) place ∙ drop-append_seam front (lines_bytes (event ∷ events) ++ more) in
@@ -227,14 +220,14 @@ fates_from law evidence path life front (event ∷ events) more start each place
       record {
         row = line_of start event ∷ [];
         behind = lines_of (end_of start event) events ++ complete_lines line_rule (start + length (lines_bytes (event ∷ events))) more;
-        lines = ap (λ (l : List ℕ). complete_lines line_rule start l) here ∙ lines_are evidence.moments start (event ∷ events) more each;
+        lines = ap (λ (l : List ℕ). complete_lines line_rule start l) here ∙ lines_are moments start (event ∷ events) more each;
         ends = refl;
         now = event.now;
         in_range = each.0.in_range;
         given = each.0.given;
         is = ap (λ (m : List ℕ). fate_of path start m event.now) (sym message);
       },
-      fates_from law evidence path life (front ++ line_bytes event) events more (end_of start event) each.1 (behind_line start front event place) next,
+      fates_from law moments path life (front ++ line_bytes event) events more (end_of start event) each.1 (behind_line start front event place) next,
     )
 
 -- each line is an event by rule, by the law of events
@@ -246,19 +239,19 @@ partition_front : (life : List ℕ) (start : ℕ) (spans more : List Extent) →
 partition_front life start [] more is = tt
 partition_front life start (span ∷ spans) more is = (is.0, is.1, partition_front life span.end spans more is.2)
 
-told_events : ArePartition → IsHeadMessage → (evidence : Evidence) (path life : List ℕ) (events : List Event) (more : List ℕ) →
-    life ≡ lines_bytes events ++ more → AreLineEvents evidence.moments events → AreTold evidence path life (told_of path 0 events)
-told_events partition law evidence path life events more is each =
+pub told_events : ArePartition → IsHeadMessage → (moments : Option (List ℕ)) (path life : List ℕ) (events : List Event) (more : List ℕ) →
+    life ≡ lines_bytes events ++ more → AreLineEvents moments events → AreTold moments path life (told_of path 0 events)
+told_events partition law moments path life events more is each =
     let P : List Extent → Type 0 = λ l. IsPartition line_rule event_rule NothingIsFlushed life 0 l in
     let behind : List Extent = map (λ one. one.span) (complete_lines line_rule (0 + length (lines_bytes events)) more) in
     let all : map (λ one. one.span) (lines_from line_rule life 0) ≡ map (λ one. one.span) (lines_of 0 events) ++ behind =
     ap (λ (l : List ℕ). map (λ one. one.span) (complete_lines line_rule 0 l)) is
-    ∙ ap (λ (l : List Line). map (λ one. one.span) l) (lines_are evidence.moments 0 events more each)
+    ∙ ap (λ (l : List Line). map (λ one. one.span) l) (lines_are moments 0 events more each)
     ∙ map-append (λ one. one.span) (lines_of 0 events) (complete_lines line_rule (0 + length (lines_bytes events)) more) in
     record {
       partition = subst P (sym (told_spans path 0 events))
           (partition_front life 0 (map (λ one. one.span) (lines_of 0 events)) behind (subst P all (partition line_rule 10485760 (λ place. false) life 0)));
-      fates = fates_from law evidence path life [] events more 0 each refl is;
+      fates = fates_from law moments path life [] events more 0 each refl is;
     }
 
 -- ---- events that are settled
@@ -279,82 +272,13 @@ settles_as outcomes outcome index (ShippedAs payload) payloads Behind stand behi
       behind = behind (suc index) (stand_behind outcomes outcome index payload payloads stand);
     }
 
-settled_from : (outcomes : Option (List Outcome)) (path : List ℕ) (events : List Event) (start outcome index : ℕ) →
-    StandAt outcomes outcome index (payloads_of path start events) →
-    AreSettled outcomes (told_of path start events) (places_from outcome index (length (payloads_of path start events)))
-settled_from outcomes path [] start outcome index stand = refl
-settled_from outcomes path (event ∷ events) start outcome index stand =
-    settles_as outcomes outcome index (fate_of_line path start event) (payloads_of path (end_of start event) events)
-    (AreSettled outcomes (told_of path (end_of start event) events)) stand
-    (λ later stands. settled_from outcomes path events (end_of start event) outcome later stands)
-
--- ---- the row
-
--- the row that the notes of the settled lines give
-abbrev pub HasOffset : Form → List Event → Row → Type 0
-HasOffset form settled row = row ≡ path_row form (last_end 0 (settled_spans (settlements_in (waiting_of form.path 0 settled))))
-
--- the payloads of the settled lines are acknowledged, and those of all these were sent
-abbrev pub AreServed : Evidence → List ℕ → List Event → List Event → Type 0
-AreServed evidence path settled sent = IfSome evidence.outcomes (λ list. AreAcknowledged list (payloads_of path 0 settled) × SendOnly (payloads_of path 0 (settled ++ sent)) list)
-
-first_of : (outcomes : Option (List Outcome)) (P Q : List Outcome → Type 0) → IfSome outcomes (λ list. P list × Q list) → IfSome outcomes P
-first_of None P Q both = tt
-first_of (Some list) P Q both = both.0
-
-second_of : (outcomes : Option (List Outcome)) (P Q : List Outcome → Type 0) → IfSome outcomes (λ list. P list × Q list) → IfSome outcomes Q
-second_of None P Q both = tt
-second_of (Some list) P Q both = both.1
-
-acknowledged_of : (evidence : Evidence) (path : List ℕ) (settled sent : List Event) → AreServed evidence path settled sent → IfSome evidence.outcomes (λ list. AreAcknowledged list (payloads_of path 0 settled))
-acknowledged_of evidence path settled sent served =
-    first_of evidence.outcomes (λ list. AreAcknowledged list (payloads_of path 0 settled)) (SendOnly (payloads_of path 0 (settled ++ sent))) served
-
-sent_of : (evidence : Evidence) (path : List ℕ) (settled sent : List Event) → AreServed evidence path settled sent → IfSome evidence.outcomes (SendOnly (payloads_of path 0 (settled ++ sent)))
-sent_of evidence path settled sent served =
-    second_of evidence.outcomes (λ list. AreAcknowledged list (payloads_of path 0 settled)) (SendOnly (payloads_of path 0 (settled ++ sent))) served
-
-pub kept_row : ArePartition → IsHeadMessage → (evidence : Evidence) (form : Form) (row : Row) (settled sent : List Event) (life more : List ℕ) →
-    life ≡ lines_bytes (settled ++ sent) ++ more → AreLineEvents evidence.moments (settled ++ sent) → AreServed evidence form.path settled sent →
-    HasOffset form settled row → IsKeptRow evidence form life row
-kept_row partition law evidence form row settled sent life more is each served row_is =
-    let some = somewhere evidence.outcomes (payloads_of form.path 0 settled) (acknowledged_of evidence form.path settled sent served) in
-    let offset : row.offset ≡ last_end 0 (settled_spans (settlements_in (waiting_of form.path 0 settled))) = ap (λ (r : Row). r.offset) row_is in
-    let S : List (List ℕ) → Type 0 = λ l. IfSome evidence.outcomes (SendOnly l) in
-    record {
-      named = row_is ∙ ap (λ (n : ℕ). path_row form n) (sym offset);
-      told = told_of form.path 0 (settled ++ sent);
-      are_told = told_events partition law evidence form.path life (settled ++ sent) more is each;
-      front = told_of form.path 0 settled;
-      behind = told_of form.path (0 + length (lines_bytes settled)) sent;
-      parts = told-append form.path 0 settled sent;
-      offset = offset ∙ ap (λ (l : List Extent). last_end 0 l) (waiting_spans form.path 0 settled);
-      places = places_from some.outcome 0 (length (payloads_of form.path 0 settled));
-      settled = settled_from evidence.outcomes form.path settled 0 some.outcome 0 some.stand;
-      apart = apart some.outcome 0 (length (payloads_of form.path 0 settled));
-      sent = subst S (sym (told_payloads form.path 0 (settled ++ sent))) (sent_of evidence form.path settled sent served);
-    }
-
-pub whole_row : ArePartition → IsHeadMessage → (evidence : Evidence) (form : Form) (row : Row) (key : List ℕ) (progress : Progress) (settled sent : List Event) (bytes left life more : List ℕ) →
-    sent ≡ [] → bytes ≡ lines_bytes (settled ++ sent) ++ left → All IsPlainByte left → life ≡ bytes ++ more → AreLineEvents evidence.moments (settled ++ sent) → AreServed evidence form.path settled sent →
-    HasOffset form settled row → IsDoneBy key form.path progress (waiting_of form.path 0 settled) → IsWholeRow evidence form bytes life row progress.shipped progress.dropped
-unfolding kept_row
-whole_row partition law evidence form row key progress settled sent bytes left life more none is plain life_is each served row_is done =
-    let some = somewhere evidence.outcomes (payloads_of form.path 0 settled) (acknowledged_of evidence form.path settled sent served) in
-    let all : settled ++ sent ≡ settled = ap (λ (l : List Event). settled ++ l) none ∙ append-nil settled in
-    record {
-      kept = kept_row partition law evidence form row settled sent life (left ++ more)
-          (life_is ∙ ap (λ (l : List ℕ). l ++ more) is ∙ append_assoc (lines_bytes (settled ++ sent)) left more) each served row_is;
-      all = told_spans form.path 0 (settled ++ sent)
-          ∙ sym (ap (λ (l : List ℕ). map (λ one. one.span) (complete_lines line_rule 0 l)) is
-          ∙ ap (λ (l : List Line). map (λ one. one.span) l)
-          (lines_are evidence.moments 0 (settled ++ sent) left each
-          ∙ ap (λ (l : List Line). lines_of 0 (settled ++ sent) ++ l) (none_behind (0 + length (lines_bytes (settled ++ sent))) left plain)
-          ∙ append-nil (lines_of 0 (settled ++ sent))));
-      none_behind = ap (λ (l : List Event). told_of form.path (0 + length (lines_bytes settled)) l) none;
-      shipped_are = done.shipped ∙ acknowledged_are form.path 0 settled ∙ sym (places_length some.outcome 0 (length (payloads_of form.path 0 settled)));
-      together = omega (arith, done.shipped, done.dropped, both_are form.path 0 settled, told_length form.path 0 (settled ++ sent), ap (λ (l : List Event). length l) all);
-    }
+pub settled_at : (outcomes : Option (List Outcome)) (outcome : ℕ) (told : List ToldEvent) (index : ℕ) →
+    StandAt outcomes outcome index (payloads_in told) →
+    AreSettled outcomes told (places_from outcome index (length (payloads_in told)))
+settled_at outcomes outcome [] index stand = refl
+settled_at outcomes outcome (one ∷ told) index stand =
+    settles_as outcomes outcome index one.fate (payloads_in told) (AreSettled outcomes told) stand
+    (λ later stands. settled_at outcomes outcome told later stands)
 
 -- ---- the life of a file
 

@@ -7,7 +7,7 @@ use Rattle.outside.specs.declared.failed.Failed.{Failed}
 use Rattle.outside.specs.declared.link.Recv.TheVariants.{Got, Closed, NotYet, Failed as RecvFailed}
 use Rattle.outside.specs.Talks.{Talk, with_sent, TellsSending, TellsReceiving}
 use Rattle.lumber_frame.specs.Talk.{out_bytes, in_bytes}
-use Rattle.beat_run.specs.declared.status.Status.{Status}
+use Rattle.report.specs.declared.status.Status.{Status}
 use Rattle.lumber_frame.specs.declared.frame.Frame.TheVariants.{Ack}
 use Rattle.lumber_frame.specs.Frame.{frame_bytes}
 use Rattle.beat_run.specs.Talking.{SendsAll, HearsAll, HearsFront, IsFrontHeard}

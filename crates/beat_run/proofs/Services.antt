@@ -11,7 +11,7 @@ use Rattle.lumber_frame.specs.PeerFault.{BeginsNoAcknowledgement, HasPeerFault}
 use Rattle.lumber_frame.specs.Settled.{IsSettled, ack_bytes}
 use Rattle.lumber_frame.specs.Talk.{out_bytes, in_bytes}
 use Rattle.lumber_frame.specs.Window.{IsWindow, window_bytes}
-use Rattle.beat_run.specs.declared.status.Status.{Status}
+use Rattle.report.specs.declared.status.Status.{Status}
 use Rattle.beat_run.specs.Acknowledged.{SendsFront}
 use Rattle.beat_run.specs.Serving.{Settles, Serves, HasSettled, HasServed, IsWindowOf}
 use Rattle.beat_run.specs.Talking.{AcknowledgesAll, MeetsFault, SendsAll, SendsPieces, HearsAll, HearsPieces}

@@ -2,9 +2,9 @@
 use Rattle.std.proofs.Common.{◌≡◌, ℕ, ◌+◌, List, length, subst}
 use Rattle.outside.specs.declared.history.Look.{Look}
 use Rattle.outside.specs.Files.{File}
-use Rattle.beat_run.specs.declared.status.Lack.TheVariants.{Settings, Byte, Life}
-use Rattle.beat_run.specs.declared.status.Status.{Status}
-use Rattle.beat_run.specs.declared.status.Status.TheVariants.{Done, Usage, RegistryBad, DiskFault, FolderFault, Unreachable, OutFault, SourceFault, NoMemory, Unbuilt}
+use Rattle.report.specs.declared.status.Lack.TheVariants.{Settings, Byte, Life}
+use Rattle.report.specs.declared.status.Status.{Status}
+use Rattle.report.specs.declared.status.Status.TheVariants.{Done, Usage, RegistryBad, DiskFault, FolderFault, Unreachable, OutFault, SourceFault, NoMemory, Unbuilt}
 use Rattle.beat_run.specs.Ends.{IsLineEnd, IsPieceEnd, IsReadingEnd}
 use Rattle.beat_run.specs.Reading.{NoneShorter, bytes_read}
 use Rattle.beat_run.specs.Unbuilt.{IsSendable, IsShortened, StopsAt, StopsBy, StopsFor}

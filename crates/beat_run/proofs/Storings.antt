@@ -1,93 +1,163 @@
--- The row that area A holds as a run ends.
-use Rattle.std.proofs.Common.{◌≡◌, ◌⊎◌, inl, inr, ℕ, ◌≤◌, List, length, Option, Some, None, Result, Ok, Err, IfSome, refl, subst, sym, ◌∙◌, arith}
-use Rattle.outside.specs.declared.history.Look.{Look}
+-- The rows that area A holds as a run ends.
+use Rattle.std.proofs.Common.{◌≡◌, ◌⊎◌, inl, inr, ℕ, ◌≤◌, List, [], ◌∷◌, ◌++◌, length, Option, Some, None, Result, Ok, Err, IfSome, refl, subst, sym, ◌∙◌, ap, arith, append-nil}
+use Rattle.event_tree.specs.declared.settings.Settings.{Settings}
 use Rattle.outside.specs.Files.{File}
-use Rattle.outside.specs.declared.history.Shown.{Shown}
-use Rattle.outside.specs.Folders.{FolderHistory, Listed, with_event}
+use Rattle.outside.specs.Folders.{FolderHistory}
+use Rattle.outside.specs.declared.history.Look.{Look}
+use Rattle.prospect.specs.declared.member.Member.{Member}
+use Rattle.registry_log.specs.Area.{area_bytes}
+use Rattle.registry_log.specs.Starting.{Holds, IsPartStarted}
+use Rattle.report.specs.declared.status.Lack.TheVariants.{Byte, Life, Key, Follow, Generate}
+use Rattle.report.specs.declared.status.Status.{Status}
+use Rattle.report.specs.declared.status.Status.TheVariants.{Done, Usage, Settings as SettingsFault, RegistryBad, DiskFault, FolderFault, Unreachable, OutFault, SourceFault, TooMany, NoMemory, Unbuilt}
 use Rattle.wire_base.specs.declared.row.Row.{Row}
-use Rattle.beat_run.specs.declared.form.Form.{Form}
-use Rattle.beat_run.specs.declared.status.Lack.TheVariants.{Settings, Byte, Life}
-use Rattle.beat_run.specs.declared.status.Status.{Status}
-use Rattle.beat_run.specs.declared.status.Status.TheVariants.{Done, Usage, RegistryBad, DiskFault, FolderFault, Unreachable, OutFault, SourceFault, NoMemory, Unbuilt}
-use Rattle.beat_run.specs.Area.{area_bytes, Stores}
-use Rattle.beat_run.specs.Ends.{IsFindingEnd, IsOpeningEnd, IsPrintingEnd, IsSettingsEnd, IsStoringEnd}
+use Rattle.beat_run.specs.declared.noted.Noted.{Noted}
+use Rattle.beat_run.specs.Ends.{IsPreparingEnd, IsPrintingEnd, IsStoringEnd}
 use Rattle.beat_run.specs.Evidence.{Evidence}
-use Rattle.beat_run.specs.Followed.{IsRead}
-use Rattle.beat_run.specs.Noted.{IsNoted, IsNotedBy, NotesKept, SendsNothing}
-use Rattle.beat_run.specs.Stored.{HoldsNoRow, IsNamed, IsStored, IsStoredBy, MissesRow}
+use Rattle.beat_run.specs.Followed.{IsUnopened}
+use Rattle.beat_run.specs.Harvest.{AreWhole, Harvest, Missed, Read, rows_in}
+use Rattle.beat_run.specs.Named.{IsNamed}
+use Rattle.beat_run.specs.Run.{Drains, Follows, IsFollowedBy, NotesNothing, NotesRows, SendsNothing, StopsHarvest, StopsIn, StopsLast}
+use Rattle.beat_run.specs.Stored.{HasNoOtherRow, HoldsNoRow, IsStored, IsStoredBy, LeavesKept, MissesRows, StoresKept}
 use Rattle.beat_run.specs.Unbuilt.{StopsFor, StopsUnopened}
-use Rattle.beat_run.proofs.Notings.{unopened_where_told}
 
--- the area was blank, and then started with the row
-pub stores_blank : (row given : Option Row) (old between new : Option (List ℕ)) → given ≡ row → IfSome old (λ bytes. length bytes ≤ 1) → between ≡ old →
-    Stores given between new → IfSome old (λ _. new ≡ Some (area_bytes row))
-stores_blank row given None between new same blank kept stores = tt
-stores_blank row given (Some bytes) between new same blank kept stores =
-    let R : Option Row → Type 0 = λ r. Stores r between new in
-    let P : Option (List ℕ) → Type 0 = λ o. Stores row o new in
-    subst P kept (subst R same stores) blank
+-- ---- statuses that no file has to explain
 
--- a file that was read so
-pub read_so : (path : List ℕ) (listed : FolderHistory) (shown : List Shown) (after : Option FolderHistory) (Was Is : File → List Look → Type 0) → ((file : File) (looks : List Look) → Was file looks → Is file looks) →
-    IsRead path listed shown Was after → IsRead path listed shown Is after
-read_so path listed shown after Was Is so read = record {
-  listed_then = read.listed_then;
-  number = read.number;
-  begun = read.begun;
-  file = read.file;
-  file_is = read.file_is;
-  looks = read.looks;
-  faults = read.faults;
-  front = read.front;
-  looked = so read.file read.looks read.looked;
-  kept = read.kept;
+pub record IsFree (status : Status) : Type 0 where
+  pub unopened : StopsUnopened status
+  pub read : (file : File) (looks : List Look) → StopsFor status file looks
+
+free_harvest : (status : Status) (harvest : Harvest) → IsFree status → StopsHarvest status harvest
+free_harvest status (Missed member) free = free.unopened
+free_harvest status (Read member reading) free = free.read reading.file reading.looks
+
+free_last : (met status : Status) (last : List Harvest) → IsFree status → StopsLast met last → StopsLast status last
+free_last met status [] free stops = free.unopened
+free_last met status (harvest ∷ []) free stops = free_harvest status harvest free
+free_last met status (harvest ∷ other ∷ last) free stops = stops
+
+-- in the place of another status
+pub free_stops : (met status : Status) (harvests : List Harvest) → IsFree status → StopsIn met harvests → StopsIn status harvests
+free_stops met status harvests free is = record { whole = is.whole; last = is.last; are = is.are; each = is.each; stops = free_last met status is.last free is.stops }
+
+-- where all files were read to their ends
+pub whole_stops : (status : Status) (harvests : List Harvest) → StopsUnopened status → AreWhole harvests → StopsIn status harvests
+whole_stops status harvests stops whole = record { whole = harvests; last = []; are = sym (append-nil harvests); each = whole; stops = stops }
+
+out_is_free : IsFree OutFault
+out_is_free = record { unopened = tt; read = λ file looks. tt }
+
+missing_is_free : (before now : ℕ) (old new : Option (List ℕ)) (status : Status) → MissesRows before now old new status → IsFree status
+missing_is_free before now old new Done is = absurd is
+missing_is_free before now old new Usage is = absurd is
+missing_is_free before now old new (SettingsFault fault) is = absurd is
+missing_is_free before now old new (RegistryBad area at) is = absurd is
+missing_is_free before now old new DiskFault is = record { unopened = tt; read = λ file looks. tt }
+missing_is_free before now old new FolderFault is = absurd is
+missing_is_free before now old new (Unreachable worker failures) is = absurd is
+missing_is_free before now old new OutFault is = out_is_free
+missing_is_free before now old new SourceFault is = absurd is
+missing_is_free before now old new (TooMany what path) is = absurd is
+missing_is_free before now old new NoMemory is = record { unopened = tt; read = λ file looks. tt }
+missing_is_free before now old new (Unbuilt what) is = absurd is
+
+printing_is_free : (before now : ℕ) (status : Status) → IsPrintingEnd before now status → StopsUnopened status
+printing_is_free before now Done ends = tt
+printing_is_free before now Usage ends = tt
+printing_is_free before now (SettingsFault fault) ends = tt
+printing_is_free before now (RegistryBad area at) ends = tt
+printing_is_free before now DiskFault ends = tt
+printing_is_free before now FolderFault ends = tt
+printing_is_free before now (Unreachable worker failures) ends = tt
+printing_is_free before now OutFault ends = tt
+printing_is_free before now SourceFault ends = tt
+printing_is_free before now (TooMany what path) ends = tt
+printing_is_free before now NoMemory ends = tt
+printing_is_free before now (Unbuilt what) ends = absurd ends
+
+pub preparing_stops : (source source_now area area_now : ℕ) (status : Status) → IsPreparingEnd source source_now area area_now status → StopsUnopened status
+preparing_stops source source_now area area_now Done ends = tt
+preparing_stops source source_now area area_now Usage ends = tt
+preparing_stops source source_now area area_now (SettingsFault fault) ends = tt
+preparing_stops source source_now area area_now (RegistryBad which at) ends = tt
+preparing_stops source source_now area area_now DiskFault ends = tt
+preparing_stops source source_now area area_now FolderFault ends = tt
+preparing_stops source source_now area area_now (Unreachable worker failures) ends = tt
+preparing_stops source source_now area area_now OutFault ends = tt
+preparing_stops source source_now area area_now SourceFault ends = tt
+preparing_stops source source_now area area_now (TooMany what path) ends = tt
+preparing_stops source source_now area area_now NoMemory ends = tt
+preparing_stops source source_now area area_now (Unbuilt (Byte at)) ends = ends
+preparing_stops source source_now area area_now (Unbuilt Life) ends = ends
+preparing_stops source source_now area area_now (Unbuilt (Key key)) ends = tt
+preparing_stops source source_now area area_now (Unbuilt Follow) ends = tt
+preparing_stops source source_now area area_now (Unbuilt Generate) ends = tt
+
+-- ---- files that were followed so
+
+pub follows_so : (settings : Settings) (told : FolderHistory) (evidence : Evidence) (Was Is : List Member → List Harvest → Type 0) (after : Option FolderHistory) →
+    (follows : Follows settings told evidence Was after) → Is follows.left follows.harvests → Follows settings told evidence Is after
+follows_so settings told evidence Was Is after follows so = record {
+  listings = follows.listings;
+  listed = follows.listed;
+  scanned = follows.scanned;
+  members = follows.members;
+  are_members = follows.are_members;
+  harvests = follows.harvests;
+  left = follows.left;
+  in_order = follows.in_order;
+  each = follows.each;
+  kept = follows.kept;
+  end = follows.end;
+  none_opened = follows.none_opened;
+  trace = follows.trace;
+  so = so;
 }
 
-noted_stored : (settings : Option (List ℕ)) (form : Form) (told : FolderHistory) (evidence : Evidence) (row : Option Row) (Unopened : Type 0) (Stops Looked : File → List Look → Type 0) (after : Option FolderHistory) (old new : Option (List ℕ)) (Missing So : Type 0) →
-    (row ≡ None → Unopened → So) → ((file : File) (looks : List Look) → Stops file looks → Looked file looks) →
-    IsNamed settings form → (noted : IsNoted form told evidence row Unopened Stops after) → IfSome old (λ _. new ≡ Some (area_bytes row)) ⊎ Missing →
-    IsStored settings told evidence after old new Missing So Looked
-noted_stored settings form told evidence row Unopened Stops Looked after old new Missing So so looked named noted stored =
-    elim noted.cases [
-      | inl unopened ↦ inl (unopened.0, (unopened.2.0, so unopened.1 unopened.2.1))
-      | inr read ↦ inr (record {
-        form = form;
-        named = named;
-        root = noted.root;
-        folder = read.0;
-        shown = noted.shown;
-        row = row;
-        read = read_so form.path (with_event told (Listed noted.root 1 noted.shown)) noted.shown after
-            (λ file looks. NotesKept form evidence row file looks × Stops file looks) (λ file looks. NotesKept form evidence row file looks × Looked file looks)
-            (λ file looks both. (both.0, looked file looks both.1)) read.1;
-        stored = stored;
-      })
-    ]
+-- the area holds the rows that are noted
+pub record HoldsRows (rows : List Row) (old new : Option (List ℕ)) : Type 0 where
+  pub held : IfSome old (λ _. new ≡ Some (area_bytes 1 rows))
 
--- no row is stored where there is none
-none_held : (row : Option Row) (old new : Option (List ℕ)) → row ≡ None → IfSome old (λ _. new ≡ Some (area_bytes row)) → IfSome old (λ _. new ≡ Some (area_bytes None))
-none_held row old new none stored =
-    let P : Option Row → Type 0 = λ r. IfSome old (λ _. new ≡ Some (area_bytes r)) in
-    subst P none stored
+rows_held : (rows others : List Row) (old new : Option (List ℕ)) → rows ≡ others → HoldsRows rows old new → IfSome old (λ _. new ≡ Some (area_bytes 1 others))
+rows_held rows others old new same holds =
+    let P : List Row → Type 0 = λ l. IfSome old (λ _. new ≡ Some (area_bytes 1 l)) in
+    subst P same holds.held
 
-pub done_noted : (settings : Option (List ℕ)) (form : Form) (told : Option FolderHistory) (evidence : Evidence) (row : Option Row) (after : Option FolderHistory) (before now : ℕ) (old new : Option (List ℕ)) →
-    IsNamed settings form → IfSome told (λ history. IsNotedBy form history evidence row after (Ok tt)) → IfSome old (λ _. new ≡ Some (area_bytes row)) →
-    IfSome told (λ history. IsStored settings history evidence after old new ⊥ (HoldsNoRow before now old new Done) (λ file looks. Unit {0}))
-done_noted settings form None evidence row after before now old new named noted stored = tt
-done_noted settings form (Some told) evidence row after before now old new named noted stored =
-    noted_stored settings form told evidence row (Unit {0}) (λ file looks. Unit {0}) (λ file looks. Unit {0}) after old new ⊥ (HoldsNoRow before now old new Done)
-    (λ none unopened. inr (none_held row old new none stored)) (λ file looks so. tt) named noted (inl stored)
+notes_stored : (source : Option (List ℕ)) (settings : Settings) (told : FolderHistory) (evidence : Evidence) (noted : Noted) (Was Is : List Member → List Harvest → Type 0) (after : Option FolderHistory) (old new : Option (List ℕ)) (Missing : Type 0) →
+    IsNamed source settings → (notes : NotesRows settings told evidence noted Was after) → Is notes.follows.left notes.follows.harvests → HoldsRows noted.rows.items old new ⊎ Missing →
+    StoresKept source told evidence Is after old new Missing
+notes_stored source settings told evidence noted Was Is after old new Missing named notes so (inl holds) = record {
+  settings = settings;
+  named = named;
+  follows = follows_so settings told evidence Was Is after notes.follows so;
+  stored = inl (rows_held noted.rows.items (rows_in notes.follows.harvests) old new notes.rows holds);
+}
+notes_stored source settings told evidence noted Was Is after old new Missing named notes so (inr missing) = record {
+  settings = settings;
+  named = named;
+  follows = follows_so settings told evidence Was Is after notes.follows so;
+  stored = inr missing;
+}
+
+pub done_noted : (source : Option (List ℕ)) (settings : Settings) (told : Option FolderHistory) (evidence : Evidence) (noted : Noted) (after : Option FolderHistory) (before now : ℕ) (old new : Option (List ℕ)) →
+    IsNamed source settings → IfSome told (λ history. IsFollowedBy settings history evidence noted after (Ok tt)) → HoldsRows noted.rows.items old new →
+    IfSome told (λ history. IsStored source history evidence after old new ⊥ (HoldsNoRow before now old new Done) (λ left harvests. AreWhole harvests))
+done_noted source settings None evidence noted after before now old new named follows holds = tt
+done_noted source settings (Some told) evidence noted after before now old new named follows holds =
+    inr (notes_stored source settings told evidence noted (Drains evidence noted.shipped noted.dropped) (λ left harvests. AreWhole harvests) after old new ⊥ named follows follows.follows.so.whole (inl holds))
 
 -- an area that was started without a row
-started_so : (before now : ℕ) (old new : Option (List ℕ)) (status : Status) → IfSome old (λ _. new ≡ Some (area_bytes None)) → HoldsNoRow before now old new status
+started_so : (before now : ℕ) (old new : Option (List ℕ)) (status : Status) → IfSome old (λ _. new ≡ Some (area_bytes 1 [])) → HoldsNoRow before now old new status
 started_so before now old new Done started = inr started
 started_so before now old new Usage started = inr started
+started_so before now old new (SettingsFault fault) started = inr started
 started_so before now old new (RegistryBad area at) started = inr started
 started_so before now old new DiskFault started = inr (inl started)
 started_so before now old new FolderFault started = inr started
 started_so before now old new (Unreachable worker failures) started = inr started
 started_so before now old new OutFault started = inr (inl started)
 started_so before now old new SourceFault started = inr started
+started_so before now old new (TooMany what path) started = inr started
 started_so before now old new NoMemory started = inr started
 started_so before now old new (Unbuilt what) started = inr started
 
@@ -95,77 +165,47 @@ started_so before now old new (Unbuilt what) started = inr started
 kept_so : (before now : ℕ) (old new : Option (List ℕ)) (status : Status) → new ≡ old → HoldsNoRow before now old new status
 kept_so before now old new Done kept = inl kept
 kept_so before now old new Usage kept = inl kept
+kept_so before now old new (SettingsFault fault) kept = inl kept
 kept_so before now old new (RegistryBad area at) kept = inl kept
 kept_so before now old new DiskFault kept = inl kept
 kept_so before now old new FolderFault kept = inl kept
 kept_so before now old new (Unreachable worker failures) kept = inl kept
 kept_so before now old new OutFault kept = inl kept
 kept_so before now old new SourceFault kept = inl kept
+kept_so before now old new (TooMany what path) kept = inl kept
 kept_so before now old new NoMemory kept = inl kept
 kept_so before now old new (Unbuilt what) kept = inl kept
 
-pub stopped_noted : (settings : Option (List ℕ)) (form : Form) (told : Option FolderHistory) (evidence : Evidence) (row : Option Row) (after : Option FolderHistory) (before now : ℕ) (old new : Option (List ℕ)) (status : Status) →
-    IsNamed settings form → IfSome told (λ history. IsNotedBy form history evidence row after (Err status)) → IfSome old (λ _. new ≡ Some (area_bytes row)) →
-    IfSome told (λ history. IsStoredBy settings history evidence after before now old new status)
-stopped_noted settings form None evidence row after before now old new status named noted stored = tt
-stopped_noted settings form (Some told) evidence row after before now old new status named noted stored =
-    noted_stored settings form told evidence row (StopsUnopened status) (StopsFor status) (StopsFor status) after old new (MissesRow before now old new status) (StopsUnopened status × HoldsNoRow before now old new status)
-    (λ none unopened. (unopened, started_so before now old new status (none_held row old new none stored))) (λ file looks so. so) named noted (inl stored)
+stopped_by : (source : Option (List ℕ)) (settings : Settings) (told : FolderHistory) (evidence : Evidence) (noted : Noted) (after : Option FolderHistory) (before now : ℕ) (old new : Option (List ℕ)) (status : Status) →
+    IsNamed source settings → IsFollowedBy settings told evidence noted after (Err status) → HoldsRows noted.rows.items old new →
+    IsStoredBy source told evidence after before now old new status
+stopped_by source settings told evidence noted after before now old new status named (inl nothing) holds =
+    inl (nothing.unopened, (nothing.sent, (nothing.stops, started_so before now old new status (rows_held noted.rows.items [] old new nothing.unnoted.rows holds))))
+stopped_by source settings told evidence noted after before now old new status named (inr notes) holds =
+    inr (notes_stored source settings told evidence noted (λ left harvests. StopsIn status harvests) (λ left harvests. StopsIn status harvests) after old new (MissesRows before now old new status) named notes notes.follows.so (inl holds))
+
+pub stopped_noted : (source : Option (List ℕ)) (settings : Settings) (told : Option FolderHistory) (evidence : Evidence) (noted : Noted) (after : Option FolderHistory) (before now : ℕ) (old new : Option (List ℕ)) (status : Status) →
+    IsNamed source settings → IfSome told (λ history. IsFollowedBy settings history evidence noted after (Err status)) → HoldsRows noted.rows.items old new →
+    IfSome told (λ history. IsStoredBy source history evidence after before now old new status)
+stopped_noted source settings None evidence noted after before now old new status named follows holds = tt
+stopped_noted source settings (Some told) evidence noted after before now old new status named follows holds = stopped_by source settings told evidence noted after before now old new status named follows holds
 
 -- nothing was opened yet
-pub early_stored : (settings : Option (List ℕ)) (told : Option FolderHistory) (evidence : Evidence) (before now : ℕ) (old new : Option (List ℕ)) (status : Status) →
-    SendsNothing evidence → StopsUnopened status → new ≡ old → IfSome told (λ history. IsStoredBy settings history evidence told before now old new status)
-early_stored settings None evidence before now old new status sends stops kept = tt
-early_stored settings (Some told) evidence before now old new status sends stops kept =
-    inl (unopened_where_told (Some told), (sends, (stops, kept_so before now old new status kept)))
+unopened_itself : (told : FolderHistory) → IsUnopened told (Some told)
+unopened_itself told = record { more = []; none = tt; kept = ap (λ (l : List Rattle.outside.specs.Folders.Event). Some (record told { events = l })) (sym (append-nil told.events)) }
 
-pub settings_stop : (before now : ℕ) (status : Status) → IsSettingsEnd before now status → StopsUnopened status
-settings_stop before now Done ends = tt
-settings_stop before now Usage ends = tt
-settings_stop before now (RegistryBad area at) ends = tt
-settings_stop before now DiskFault ends = tt
-settings_stop before now FolderFault ends = tt
-settings_stop before now (Unreachable worker failures) ends = tt
-settings_stop before now OutFault ends = tt
-settings_stop before now SourceFault ends = tt
-settings_stop before now NoMemory ends = tt
-settings_stop before now (Unbuilt Settings) ends = tt
-settings_stop before now (Unbuilt (Byte at)) ends = ends
-settings_stop before now (Unbuilt Life) ends = ends
+pub early_stored : (source : Option (List ℕ)) (told : Option FolderHistory) (evidence : Evidence) (before now : ℕ) (old new : Option (List ℕ)) (status : Status) →
+    SendsNothing evidence → StopsUnopened status → new ≡ old → IfSome told (λ history. IsStoredBy source history evidence told before now old new status)
+early_stored source None evidence before now old new status sends stops kept = tt
+early_stored source (Some told) evidence before now old new status sends stops kept = inl (unopened_itself told, (sends, (stops, kept_so before now old new status kept)))
 
-pub opening_stops : (before now : ℕ) (status : Status) → IsOpeningEnd before now status → StopsUnopened status
-opening_stops before now Done ends = tt
-opening_stops before now Usage ends = tt
-opening_stops before now (RegistryBad area at) ends = tt
-opening_stops before now DiskFault ends = tt
-opening_stops before now FolderFault ends = tt
-opening_stops before now (Unreachable worker failures) ends = tt
-opening_stops before now OutFault ends = tt
-opening_stops before now SourceFault ends = tt
-opening_stops before now NoMemory ends = tt
-opening_stops before now (Unbuilt Settings) ends = tt
-opening_stops before now (Unbuilt (Byte at)) ends = ends
-opening_stops before now (Unbuilt Life) ends = ends
+-- ---- the area could not be started
 
-pub finding_stops : (before now : ℕ) (status : Status) → IsFindingEnd before now status → StopsUnopened status
-finding_stops before now Done ends = tt
-finding_stops before now Usage ends = tt
-finding_stops before now (RegistryBad area at) ends = tt
-finding_stops before now DiskFault ends = tt
-finding_stops before now FolderFault ends = tt
-finding_stops before now (Unreachable worker failures) ends = tt
-finding_stops before now OutFault ends = tt
-finding_stops before now SourceFault ends = tt
-finding_stops before now NoMemory ends = tt
-finding_stops before now (Unbuilt Settings) ends = tt
-finding_stops before now (Unbuilt (Byte at)) ends = ends
-finding_stops before now (Unbuilt Life) ends = ends
-
--- the area could not be started
 pub misses : (before between now : ℕ) (old kept new : Option (List ℕ)) (status : Status) → before ≤ between → kept ≡ old →
-    IsStoringEnd between now status → (status ≡ NoMemory → new ≡ kept) → MissesRow before now old new status
+    IsStoringEnd between now status → (status ≡ NoMemory → new ≡ kept) → MissesRows before now old new status
 misses before between now old kept new Done later same ends memory = absurd ends
 misses before between now old kept new Usage later same ends memory = absurd ends
+misses before between now old kept new (SettingsFault fault) later same ends memory = absurd ends
 misses before between now old kept new (RegistryBad area at) later same ends memory = absurd ends
 misses before between now old kept new DiskFault later same (inl rose) memory = inl (omega arith)
 misses before between now old kept new DiskFault later same (inr end) memory = inr end
@@ -173,79 +213,69 @@ misses before between now old kept new FolderFault later same ends memory = absu
 misses before between now old kept new (Unreachable worker failures) later same ends memory = absurd ends
 misses before between now old kept new OutFault later same ends memory = absurd ends
 misses before between now old kept new SourceFault later same ends memory = absurd ends
+misses before between now old kept new (TooMany what path) later same ends memory = absurd ends
 misses before between now old kept new NoMemory later same ends memory = memory refl ∙ same
 misses before between now old kept new (Unbuilt what) later same ends memory = absurd ends
 
 -- a fault of the sink stands in the place of any status
-misses_out : (before now : ℕ) (old new : Option (List ℕ)) (status : Status) → MissesRow before now old new status → MissesRow before now old new OutFault
+misses_out : (before now : ℕ) (old new : Option (List ℕ)) (status : Status) → MissesRows before now old new status → MissesRows before now old new OutFault
 misses_out before now old new Done is = absurd is
 misses_out before now old new Usage is = absurd is
+misses_out before now old new (SettingsFault fault) is = absurd is
 misses_out before now old new (RegistryBad area at) is = absurd is
 misses_out before now old new DiskFault is = inl is
 misses_out before now old new FolderFault is = absurd is
 misses_out before now old new (Unreachable worker failures) is = absurd is
 misses_out before now old new OutFault is = is
 misses_out before now old new SourceFault is = absurd is
+misses_out before now old new (TooMany what path) is = absurd is
 misses_out before now old new NoMemory is = inr is
 misses_out before now old new (Unbuilt what) is = absurd is
 
--- where it could not, there are other causes for a run that opened no file, and none for one that did
-missed_unopened : (before now : ℕ) (old new : Option (List ℕ)) (status : Status) → MissesRow before now old new status → StopsUnopened status × HoldsNoRow before now old new status
+-- where it could not, there are other causes for a run that opened no file
+missed_unopened : (before now : ℕ) (old new : Option (List ℕ)) (status : Status) → MissesRows before now old new status → HoldsNoRow before now old new status
 missed_unopened before now old new Done is = absurd is
 missed_unopened before now old new Usage is = absurd is
+missed_unopened before now old new (SettingsFault fault) is = absurd is
 missed_unopened before now old new (RegistryBad area at) is = absurd is
-missed_unopened before now old new DiskFault is = (tt, inr (inr is))
+missed_unopened before now old new DiskFault is = inr (inr is)
 missed_unopened before now old new FolderFault is = absurd is
 missed_unopened before now old new (Unreachable worker failures) is = absurd is
-missed_unopened before now old new OutFault (inl rose) = (tt, inr (inr rose))
-missed_unopened before now old new OutFault (inr kept) = (tt, inl kept)
+missed_unopened before now old new OutFault (inl rose) = inr (inr rose)
+missed_unopened before now old new OutFault (inr kept) = inl kept
 missed_unopened before now old new SourceFault is = absurd is
-missed_unopened before now old new NoMemory is = (tt, inl is)
+missed_unopened before now old new (TooMany what path) is = absurd is
+missed_unopened before now old new NoMemory is = inl is
 missed_unopened before now old new (Unbuilt what) is = absurd is
 
-missed_looks : (before now : ℕ) (old new : Option (List ℕ)) (status : Status) (file : File) (looks : List Look) → MissesRow before now old new status → StopsFor status file looks
-missed_looks before now old new Done file looks is = absurd is
-missed_looks before now old new Usage file looks is = absurd is
-missed_looks before now old new (RegistryBad area at) file looks is = absurd is
-missed_looks before now old new DiskFault file looks is = tt
-missed_looks before now old new FolderFault file looks is = absurd is
-missed_looks before now old new (Unreachable worker failures) file looks is = absurd is
-missed_looks before now old new OutFault file looks is = tt
-missed_looks before now old new SourceFault file looks is = absurd is
-missed_looks before now old new NoMemory file looks is = tt
-missed_looks before now old new (Unbuilt what) file looks is = absurd is
+missed_by : (source : Option (List ℕ)) (settings : Settings) (told : FolderHistory) (evidence : Evidence) (noted : Noted) (after : Option FolderHistory) (before now : ℕ) (old new : Option (List ℕ)) (result : Result (Unit {0}) Status) (status : Status) →
+    IsNamed source settings → IsFollowedBy settings told evidence noted after result → MissesRows before now old new status → IsStoredBy source told evidence after before now old new status
+missed_by source settings told evidence noted after before now old new (Ok done) status named notes is =
+    inr (notes_stored source settings told evidence noted (Drains evidence noted.shipped noted.dropped) (λ left harvests. StopsIn status harvests) after old new (MissesRows before now old new status) named notes
+    (whole_stops status notes.follows.harvests (missing_is_free before now old new status is).unopened notes.follows.so.whole) (inr is))
+missed_by source settings told evidence noted after before now old new (Err met) status named (inl nothing) is =
+    inl (nothing.unopened, (nothing.sent, ((missing_is_free before now old new status is).unopened, missed_unopened before now old new status is)))
+missed_by source settings told evidence noted after before now old new (Err met) status named (inr notes) is =
+    inr (notes_stored source settings told evidence noted (λ left harvests. StopsIn met harvests) (λ left harvests. StopsIn status harvests) after old new (MissesRows before now old new status) named notes
+    (free_stops met status notes.follows.harvests (missing_is_free before now old new status is) notes.follows.so) (inr is))
 
-missed_by : (settings : Option (List ℕ)) (form : Form) (told : FolderHistory) (evidence : Evidence) (row : Option Row) (after : Option FolderHistory) (before now : ℕ) (old new : Option (List ℕ)) (result : Result (Unit {0}) Status) (status : Status) →
-    IsNamed settings form → IsNotedBy form told evidence row after result → MissesRow before now old new status → IsStoredBy settings told evidence after before now old new status
-missed_by settings form told evidence row after before now old new (Ok done) status named noted missing =
-    noted_stored settings form told evidence row (Unit {0}) (λ file looks. Unit {0}) (StopsFor status) after old new (MissesRow before now old new status) (StopsUnopened status × HoldsNoRow before now old new status)
-    (λ none unopened. missed_unopened before now old new status missing) (λ file looks so. missed_looks before now old new status file looks missing) named noted (inr missing)
-missed_by settings form told evidence row after before now old new (Err met) status named noted missing =
-    noted_stored settings form told evidence row (StopsUnopened met) (StopsFor met) (StopsFor status) after old new (MissesRow before now old new status) (StopsUnopened status × HoldsNoRow before now old new status)
-    (λ none unopened. missed_unopened before now old new status missing) (λ file looks so. missed_looks before now old new status file looks missing) named noted (inr missing)
+pub all_missing : (source : Option (List ℕ)) (settings : Settings) (told : Option FolderHistory) (evidence : Evidence) (noted : Noted) (after : Option FolderHistory) (before now : ℕ) (old new : Option (List ℕ)) (result : Result (Unit {0}) Status) (status : Status) →
+    IsNamed source settings → IfSome told (λ history. IsFollowedBy settings history evidence noted after result) → MissesRows before now old new status →
+    IfSome told (λ history. IsStoredBy source history evidence after before now old new status)
+all_missing source settings None evidence noted after before now old new result status named follows is = tt
+all_missing source settings (Some told) evidence noted after before now old new result status named follows is = missed_by source settings told evidence noted after before now old new result status named follows is
 
-pub all_missing : (settings : Option (List ℕ)) (form : Form) (told : Option FolderHistory) (evidence : Evidence) (row : Option Row) (after : Option FolderHistory) (before now : ℕ) (old new : Option (List ℕ)) (result : Result (Unit {0}) Status) (status : Status) →
-    IsNamed settings form → IfSome told (λ history. IsNotedBy form history evidence row after result) → MissesRow before now old new status →
-    IfSome told (λ history. IsStoredBy settings history evidence after before now old new status)
-all_missing settings form None evidence row after before now old new result status named noted is = tt
-all_missing settings form (Some told) evidence row after before now old new result status named noted is = missed_by settings form told evidence row after before now old new result status named noted is
+-- ---- what was printed in the place of a status
 
--- what was printed in the place of a status
-stored_so : (settings : Option (List ℕ)) (told : FolderHistory) (evidence : Evidence) (after : Option FolderHistory) (old new : Option (List ℕ))
-    (Missing Other : Type 0) (Unopened So : Type 0) (Stops Looked : File → List Look → Type 0) →
-    (Missing → Other) → (Unopened → So) → ((file : File) (looks : List Look) → Stops file looks → Looked file looks) →
-    IsStored settings told evidence after old new Missing Unopened Stops → IsStored settings told evidence after old new Other So Looked
-stored_so settings told evidence after old new Missing Other Unopened So Stops Looked other so looks (inl unopened) = inl (unopened.0, (unopened.1.0, so unopened.1.1))
-stored_so settings told evidence after old new Missing Other Unopened So Stops Looked other so looks (inr stores) = inr (record {
-  form = stores.form;
+stored_so : (source : Option (List ℕ)) (told : FolderHistory) (evidence : Evidence) (after : Option FolderHistory) (old new : Option (List ℕ))
+    (Missing Other : Type 0) (Unopened So : Type 0) (Was Is : List Member → List Harvest → Type 0) →
+    (Missing → Other) → (Unopened → So) → ((left : List Member) (harvests : List Harvest) → Was left harvests → Is left harvests) →
+    IsStored source told evidence after old new Missing Unopened Was → IsStored source told evidence after old new Other So Is
+stored_so source told evidence after old new Missing Other Unopened So Was Is other so then (inl unopened) = inl (unopened.0, (unopened.1.0, so unopened.1.1))
+stored_so source told evidence after old new Missing Other Unopened So Was Is other so then (inr stores) = inr (record {
+  settings = stores.settings;
   named = stores.named;
-  root = stores.root;
-  folder = stores.folder;
-  shown = stores.shown;
-  row = stores.row;
-  read = read_so stores.form.path (with_event told (Listed stores.root 1 stores.shown)) stores.shown after
-      (λ file looks. NotesKept stores.form evidence stores.row file looks × Stops file looks) (λ file looks. NotesKept stores.form evidence stores.row file looks × Looked file looks)
-      (λ file look both. (both.0, looks file look both.1)) stores.read;
+  follows = follows_so stores.settings told evidence Was Is after stores.follows (then stores.follows.left stores.follows.harvests stores.follows.so);
   stored = either stores.stored;
 })
   where
@@ -253,38 +283,11 @@ stored_so settings told evidence after old new Missing Other Unopened So Stops L
     either (inl held) = inl held
     either (inr missing) = inr (other missing)
 
-printing_unopened : (before now : ℕ) (status : Status) → IsPrintingEnd before now status → StopsUnopened status
-printing_unopened before now Done ends = tt
-printing_unopened before now Usage ends = tt
-printing_unopened before now (RegistryBad area at) ends = tt
-printing_unopened before now DiskFault ends = tt
-printing_unopened before now FolderFault ends = tt
-printing_unopened before now (Unreachable worker failures) ends = tt
-printing_unopened before now OutFault ends = tt
-printing_unopened before now SourceFault ends = tt
-printing_unopened before now NoMemory ends = tt
-printing_unopened before now (Unbuilt Settings) ends = tt
-printing_unopened before now (Unbuilt (Byte at)) ends = ends
-printing_unopened before now (Unbuilt Life) ends = ends
-
-printing_stops : (before now : ℕ) (status : Status) → IsPrintingEnd before now status → (file : File) (looks : List Look) → StopsFor status file looks
-printing_stops before now Done ends file looks = tt
-printing_stops before now Usage ends file looks = tt
-printing_stops before now (RegistryBad area at) ends file looks = tt
-printing_stops before now DiskFault ends file looks = tt
-printing_stops before now FolderFault ends file looks = absurd ends
-printing_stops before now (Unreachable worker failures) ends file looks = tt
-printing_stops before now OutFault ends file looks = tt
-printing_stops before now SourceFault ends file looks = tt
-printing_stops before now NoMemory ends file looks = tt
-printing_stops before now (Unbuilt Settings) ends file looks = tt
-printing_stops before now (Unbuilt (Byte at)) ends file looks = absurd ends
-printing_stops before now (Unbuilt Life) ends file looks = absurd ends
-
 -- what is so of the area where the run was done is so where its report could not be printed
 held_then : (before now : ℕ) (old new : Option (List ℕ)) (first last : ℕ) (status : Status) → IsPrintingEnd first last status → HoldsNoRow before now old new Done → HoldsNoRow before now old new status
 held_then before now old new first last Done ends held = held
 held_then before now old new first last Usage ends held = absurd ends
+held_then before now old new first last (SettingsFault fault) ends held = absurd ends
 held_then before now old new first last (RegistryBad area at) ends held = absurd ends
 held_then before now old new first last DiskFault ends held = absurd ends
 held_then before now old new first last FolderFault ends held = absurd ends
@@ -292,6 +295,7 @@ held_then before now old new first last (Unreachable worker failures) ends held 
 held_then before now old new first last OutFault ends (inl kept) = inl kept
 held_then before now old new first last OutFault ends (inr started) = inr (inl started)
 held_then before now old new first last SourceFault ends held = absurd ends
+held_then before now old new first last (TooMany what path) ends held = absurd ends
 held_then before now old new first last NoMemory ends held = held
 held_then before now old new first last (Unbuilt what) ends held = absurd ends
 
@@ -301,6 +305,8 @@ held_out before now old new Done (inl kept) = inl kept
 held_out before now old new Done (inr started) = inr (inl started)
 held_out before now old new Usage (inl kept) = inl kept
 held_out before now old new Usage (inr started) = inr (inl started)
+held_out before now old new (SettingsFault fault) (inl kept) = inl kept
+held_out before now old new (SettingsFault fault) (inr started) = inr (inl started)
 held_out before now old new (RegistryBad area at) (inl kept) = inl kept
 held_out before now old new (RegistryBad area at) (inr started) = inr (inl started)
 held_out before now old new DiskFault held = held
@@ -311,36 +317,88 @@ held_out before now old new (Unreachable worker failures) (inr started) = inr (i
 held_out before now old new OutFault held = held
 held_out before now old new SourceFault (inl kept) = inl kept
 held_out before now old new SourceFault (inr started) = inr (inl started)
+held_out before now old new (TooMany what path) (inl kept) = inl kept
+held_out before now old new (TooMany what path) (inr started) = inr (inl started)
 held_out before now old new NoMemory (inl kept) = inl kept
 held_out before now old new NoMemory (inr started) = inr (inl started)
 held_out before now old new (Unbuilt what) (inl kept) = inl kept
 held_out before now old new (Unbuilt what) (inr started) = inr (inl started)
 
 -- the run was done, and the report was printed
-pub done_stored : (settings : Option (List ℕ)) (told : Option FolderHistory) (evidence : Evidence) (after : Option FolderHistory) (before now : ℕ) (old new : Option (List ℕ)) (first last : ℕ) (status : Status) →
-    IsPrintingEnd first last status → IfSome told (λ history. IsStored settings history evidence after old new ⊥ (HoldsNoRow before now old new Done) (λ file looks. Unit {0})) →
-    IfSome told (λ history. IsStoredBy settings history evidence after before now old new status)
-done_stored settings None evidence after before now old new first last status ends stored = tt
-done_stored settings (Some told) evidence after before now old new first last status ends stored =
-    stored_so settings told evidence after old new ⊥ (MissesRow before now old new status) (HoldsNoRow before now old new Done) (StopsUnopened status × HoldsNoRow before now old new status) (λ file looks. Unit {0}) (StopsFor status)
-    (λ none. absurd none) (λ so. (printing_unopened first last status ends, held_then before now old new first last status ends so)) (λ file looks so. printing_stops first last status ends file looks) stored
+pub done_stored : (source : Option (List ℕ)) (told : Option FolderHistory) (evidence : Evidence) (after : Option FolderHistory) (before now : ℕ) (old new : Option (List ℕ)) (first last : ℕ) (status : Status) →
+    IsPrintingEnd first last status → IfSome told (λ history. IsStored source history evidence after old new ⊥ (HoldsNoRow before now old new Done) (λ left harvests. AreWhole harvests)) →
+    IfSome told (λ history. IsStoredBy source history evidence after before now old new status)
+done_stored source None evidence after before now old new first last status ends stored = tt
+done_stored source (Some told) evidence after before now old new first last status ends stored =
+    stored_so source told evidence after old new ⊥ (MissesRows before now old new status) (HoldsNoRow before now old new Done) (StopsUnopened status × HoldsNoRow before now old new status) (λ left harvests. AreWhole harvests) (λ left harvests. StopsIn status harvests)
+    (λ none. absurd none) (λ so. (printing_is_free first last status ends, held_then before now old new first last status ends so)) (λ left harvests whole. whole_stops status harvests (printing_is_free first last status ends) whole) stored
 
-printed_so : (faulted : Type 0) (settings : Option (List ℕ)) (told : FolderHistory) (evidence : Evidence) (after : Option FolderHistory) (before now : ℕ) (old new : Option (List ℕ)) (status printed : Status) →
+printed_so : (faulted : Type 0) (source : Option (List ℕ)) (told : FolderHistory) (evidence : Evidence) (after : Option FolderHistory) (before now : ℕ) (old new : Option (List ℕ)) (status printed : Status) →
     ((printed ≡ status) ⊎ ((printed ≡ OutFault) × faulted)) →
-    IsStoredBy settings told evidence after before now old new status → IsStoredBy settings told evidence after before now old new printed
-printed_so faulted settings told evidence after before now old new status printed (inl same) is =
-    let P : Status → Type 0 = λ s. IsStoredBy settings told evidence after before now old new s in
+    IsStoredBy source told evidence after before now old new status → IsStoredBy source told evidence after before now old new printed
+printed_so faulted source told evidence after before now old new status printed (inl same) is =
+    let P : Status → Type 0 = λ s. IsStoredBy source told evidence after before now old new s in
     subst P (sym same) is
-printed_so faulted settings told evidence after before now old new status printed (inr out) is =
-    let P : Status → Type 0 = λ s. IsStoredBy settings told evidence after before now old new s in
+printed_so faulted source told evidence after before now old new status printed (inr out) is =
+    let P : Status → Type 0 = λ s. IsStoredBy source told evidence after before now old new s in
     subst P (sym out.0)
-    (stored_so settings told evidence after old new (MissesRow before now old new status) (MissesRow before now old new OutFault) (StopsUnopened status × HoldsNoRow before now old new status) (Unit {0} × HoldsNoRow before now old new OutFault) (StopsFor status) (λ file looks. Unit {0})
-    (misses_out before now old new status) (λ so. (tt, held_out before now old new status so.1)) (λ file looks so. tt) is)
+    (stored_so source told evidence after old new (MissesRows before now old new status) (MissesRows before now old new OutFault) (StopsUnopened status × HoldsNoRow before now old new status) (Unit {0} × HoldsNoRow before now old new OutFault) (λ left harvests. StopsIn status harvests) (λ left harvests. StopsIn OutFault harvests)
+    (misses_out before now old new status) (λ so. (tt, held_out before now old new status so.1)) (λ left harvests stops. free_stops status OutFault harvests out_is_free stops) is)
 
-pub printed_stored : (faulted : Type 0) (settings : Option (List ℕ)) (told : Option FolderHistory) (evidence : Evidence) (after : Option FolderHistory) (before now : ℕ) (old new : Option (List ℕ)) (status printed : Status) →
+pub printed_stored : (faulted : Type 0) (source : Option (List ℕ)) (told : Option FolderHistory) (evidence : Evidence) (after : Option FolderHistory) (before now : ℕ) (old new : Option (List ℕ)) (status printed : Status) →
     ((printed ≡ status) ⊎ ((printed ≡ OutFault) × faulted)) →
-    IfSome told (λ history. IsStoredBy settings history evidence after before now old new status) →
-    IfSome told (λ history. IsStoredBy settings history evidence after before now old new printed)
-printed_stored faulted settings None evidence after before now old new status printed prints stored = tt
-printed_stored faulted settings (Some told) evidence after before now old new status printed prints stored =
-    printed_so faulted settings told evidence after before now old new status printed prints stored
+    IfSome told (λ history. IsStoredBy source history evidence after before now old new status) →
+    IfSome told (λ history. IsStoredBy source history evidence after before now old new printed)
+printed_stored faulted source None evidence after before now old new status printed prints stored = tt
+printed_stored faulted source (Some told) evidence after before now old new status printed prints stored =
+    printed_so faulted source told evidence after before now old new status printed prints stored
+
+-- ---- the area as a run leaves it, whatever became of its writing
+
+abbrev pub Leaves : List Row → Option (List ℕ) → Option (List ℕ) → Type 0
+Leaves rows old new = IfSome old (λ held. IfSome new (IsPartStarted 1 rows held))
+
+none_left : (rows : List Row) (old new : Option (List ℕ)) → rows ≡ [] → Leaves rows old new → IfSome old (λ held. IfSome new (λ holds. (holds ≡ held) ⊎ IsPartStarted 1 [] held holds))
+none_left rows None new none left = tt
+none_left rows (Some old) None none left = tt
+none_left rows (Some old) (Some new) none left =
+    let P : List Row → Type 0 = λ r. IsPartStarted 1 r old new in
+    inr (subst P none left)
+
+rows_left : (source : Option (List ℕ)) (settings : Settings) (told : FolderHistory) (evidence : Evidence) (noted : Noted) (So : List Member → List Harvest → Type 0) (after : Option FolderHistory) (old new : Option (List ℕ)) →
+    IsNamed source settings → NotesRows settings told evidence noted So after → Leaves noted.rows.items old new → LeavesKept source told evidence after old new
+rows_left source settings told evidence noted So after old new named notes left =
+    let P : List Row → Type 0 = λ l. Leaves l old new in
+    record {
+      settings = settings;
+      named = named;
+      follows = follows_so settings told evidence So (λ left harvests. Unit {0}) after notes.follows tt;
+      area_left = subst P notes.rows left;
+    }
+
+left_by : (source : Option (List ℕ)) (settings : Settings) (told : FolderHistory) (evidence : Evidence) (noted : Noted) (after : Option FolderHistory) (old new : Option (List ℕ)) (result : Result (Unit {0}) Status) →
+    IsNamed source settings → IsFollowedBy settings told evidence noted after result → Leaves noted.rows.items old new → HasNoOtherRow source told evidence after old new
+left_by source settings told evidence noted after old new (Ok done) named notes left = inr (rows_left source settings told evidence noted (Drains evidence noted.shipped noted.dropped) after old new named notes left)
+left_by source settings told evidence noted after old new (Err status) named (inl nothing) left = inl (nothing.unopened, none_left noted.rows.items old new nothing.unnoted.rows left)
+left_by source settings told evidence noted after old new (Err status) named (inr notes) left = inr (rows_left source settings told evidence noted (λ left harvests. StopsIn status harvests) after old new named notes left)
+
+pub noted_left : (source : Option (List ℕ)) (settings : Settings) (told : Option FolderHistory) (evidence : Evidence) (noted : Noted) (after : Option FolderHistory) (old new : Option (List ℕ)) (result : Result (Unit {0}) Status) →
+    IsNamed source settings → IfSome told (λ history. IsFollowedBy settings history evidence noted after result) → Leaves noted.rows.items old new →
+    IfSome told (λ history. HasNoOtherRow source history evidence after old new)
+noted_left source settings None evidence noted after old new result named follows left = tt
+noted_left source settings (Some told) evidence noted after old new result named follows left = left_by source settings told evidence noted after old new result named follows left
+
+pub left_where_stored : (rows : List Row) (old new : Option (List ℕ)) → HoldsRows rows old new → Leaves rows old new
+left_where_stored rows None new holds = tt
+left_where_stored rows (Some old) new holds =
+    let P : Option (List ℕ) → Type 0 = λ o. IfSome o (IsPartStarted 1 rows old) in
+    subst P (sym holds.held) (inr refl)
+
+-- nothing was opened, and nothing written
+pub left_alone : (source : Option (List ℕ)) (told : Option FolderHistory) (evidence : Evidence) (old new : Option (List ℕ)) → new ≡ old →
+    IfSome told (λ history. HasNoOtherRow source history evidence told old new)
+left_alone source None evidence old new kept = tt
+left_alone source (Some told) evidence None new kept = inl (unopened_itself told, tt)
+left_alone source (Some told) evidence (Some old) new kept =
+    let P : Option (List ℕ) → Type 0 = λ o. IfSome o (λ holds. (holds ≡ old) ⊎ IsPartStarted 1 [] old holds) in
+    inl (unopened_itself told, subst P (sym kept) (inl refl))

@@ -10,8 +10,8 @@ use Rattle.lumber_frame.specs.Acknowledged.{Acknowledges}
 use Rattle.lumber_frame.specs.PeerFault.{HasPeerFault}
 use Rattle.lumber_frame.specs.Talk.{out_bytes}
 use Rattle.lumber_frame.specs.Window.{IsWindow, window_bytes}
-use Rattle.beat_run.specs.declared.status.Status.{Status}
-use Rattle.beat_run.specs.declared.status.Status.TheVariants.{Unreachable}
+use Rattle.report.specs.declared.status.Status.{Status}
+use Rattle.report.specs.declared.status.Status.TheVariants.{Unreachable}
 use Rattle.beat_run.specs.TimedOut.{IsTimedOut}
 
 -- the number of a connection in its wire's list, and the number of a payload among what its talk acknowledges

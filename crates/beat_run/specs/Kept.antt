@@ -1,11 +1,10 @@
--- Which row of a file's events is right (this project's profile of Filebeat's registry): its offset is the start or ends a
--- prefix of the file's events, each of which was dropped by its written rule, or has its payload at a place of its own
--- among what the peers acknowledged in this run.
-use Rattle.std.specs.Prelude.{◌≡◌, ℕ, ◌+◌, true, false, List, [], ◌∷◌, ◌++◌, length, map, Contains, Option, IfSome}
+-- What a run tells of the events of its files (this project's profile of Filebeat's registry): each event has a span and a
+-- fate, and those that are settled were dropped by their written rule, or have their payload at a place of its own among
+-- what the peers acknowledged in this run.
+use Rattle.std.specs.Prelude.{◌≡◌, ℕ, ◌+◌, true, false, List, [], ◌∷◌, ◌++◌, map, Contains, Option, IfSome}
 use Rattle.std.specs.List.{AllByRecursion}
 use Rattle.wire_base.specs.Extent.{Extent}
 use Rattle.wire_base.specs.Ranges.{IsMoment}
-use Rattle.wire_base.specs.declared.row.Row.{Row}
 use Rattle.event_tree.specs.declared.line_rule.LineRule.{LineRule}
 use Rattle.event_tree.specs.declared.line_rule.Terminator.TheVariants.{Auto}
 use Rattle.event_tree.specs.declared.group_rule.GroupRule.{GroupRule}
@@ -14,13 +13,9 @@ use Rattle.line_cutter.specs.declared.line.Line.{Line}
 use Rattle.multiline_core.specs.Message.{message_of, row_end}
 use Rattle.multiline_core.specs.Partition.{IsPartition, lines_from}
 use Rattle.outside.specs.Wires.{Outcome}
-use Rattle.ship_core.specs.CoveredEnd.{last_end}
-use Rattle.beat_run.specs.declared.form.Form.{Form}
-use Rattle.beat_run.specs.Acknowledged.{Place, IsAcknowledgedAt, SendOnly}
+use Rattle.beat_run.specs.Acknowledged.{Place, IsAcknowledgedAt}
 use Rattle.beat_run.specs.Events.{IsGiven, with_payload}
-use Rattle.beat_run.specs.Evidence.{Evidence}
 use Rattle.beat_run.specs.Fate.{Fate, DroppedBy, ShippedAs, fate_of, payload_of_fate}
-use Rattle.beat_run.specs.Keys.{path_row}
 
 -- the rules of settings that name none
 abbrev pub line_rule : LineRule
@@ -34,14 +29,14 @@ abbrev pub NothingIsFlushed : ℕ → Type 0
 NothingIsFlushed place = false ≡ true
 
 -- the span's event, closed at a moment that the clock gave, has this fate
-pub record HasFate (evidence : Evidence) (path life : List ℕ) (span : Extent) (fate : Fate) : Type 0 where
+pub record HasFate (moments : Option (List ℕ)) (path life : List ℕ) (span : Extent) (fate : Fate) : Type 0 where
   pub row : List Line
   pub behind : List Line
   pub lines : lines_from line_rule life span.start ≡ row ++ behind
   pub ends : row_end span.start row ≡ span.end
   pub now : ℕ
   pub in_range : IsMoment (record { 0 = now })
-  pub given : IsGiven evidence.moments now
+  pub given : IsGiven moments now
   pub is : fate ≡ fate_of path span.start (message_of event_rule row) now
 
 -- an event that the run told: its span and what became of it
@@ -57,10 +52,19 @@ abbrev pub payloads_in : List ToldEvent → List (List ℕ)
 payloads_in [] = []
 payloads_in (one ∷ told) = with_payload (payload_of_fate one.fate) (payloads_in told)
 
+-- how many of them are dropped
+abbrev pub drop_of : Fate → ℕ
+drop_of (DroppedBy rule) = 1
+drop_of (ShippedAs payload) = 0
+
+abbrev pub dropped_among : List ToldEvent → ℕ
+dropped_among [] = 0
+dropped_among (one ∷ told) = drop_of one.fate + dropped_among told
+
 -- the events adjoin from the file's first byte on, and each has its fate
-pub record AreTold (evidence : Evidence) (path life : List ℕ) (told : List ToldEvent) : Type 0 where
+pub record AreTold (moments : Option (List ℕ)) (path life : List ℕ) (told : List ToldEvent) : Type 0 where
   pub partition : IsPartition line_rule event_rule NothingIsFlushed life 0 (spans_of told)
-  pub fates : AllByRecursion (λ one. HasFate evidence path life one.span one.fate) told
+  pub fates : AllByRecursion (λ one. HasFate moments path life one.span one.fate) told
 
 -- a shipped payload takes the first of the places
 pub record TakesPlace (outcomes : Option (List Outcome)) (payload : List ℕ) (Behind : List Place → Type 0) (places : List Place) : Type 0 where
@@ -83,27 +87,3 @@ AreSettled outcomes (one ∷ told) places = SettlesAs outcomes one.fate (AreSett
 abbrev pub AreApart : List Place → Type 0
 AreApart [] = Unit {0}
 AreApart (place ∷ places) = (¬ (Contains places place)) × AreApart places
-
--- the told events are events of the life; the row's offset ends a prefix of them, each settled; and only their payloads
--- were sent, in their order
-pub record IsKeptRow (evidence : Evidence) (form : Form) (life : List ℕ) (row : Row) : Type 0 where
-  pub named : row ≡ path_row form row.offset
-  pub told : List ToldEvent
-  pub are_told : AreTold evidence form.path life told
-  pub front : List ToldEvent
-  pub behind : List ToldEvent
-  pub parts : told ≡ front ++ behind
-  pub offset : row.offset ≡ last_end 0 (spans_of front)
-  pub places : List Place
-  pub settled : AreSettled evidence.outcomes front places
-  pub apart : AreApart places
-  pub sent : IfSome evidence.outcomes (SendOnly (payloads_in told))
-
--- the row is right, its events are all lines of these bytes of the life, and all are settled; so many were shipped and
--- dropped
-pub record IsWholeRow (evidence : Evidence) (form : Form) (bytes life : List ℕ) (row : Row) (shipped dropped : ℕ) : Type 0 where
-  pub kept : IsKeptRow evidence form life row
-  pub all : spans_of kept.told ≡ map (λ line. line.span) (lines_from line_rule bytes 0)
-  pub none_behind : kept.behind ≡ []
-  pub shipped_are : shipped ≡ length kept.places
-  pub together : shipped + dropped ≡ length kept.told

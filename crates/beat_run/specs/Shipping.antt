@@ -9,7 +9,7 @@ use Rattle.outside.specs.Talks.{Talk}
 use Rattle.beat_run.specs.declared.lines.TheConstants.{LINE}
 use Rattle.beat_run.specs.declared.progress.Progress.{Progress}
 use Rattle.beat_run.specs.declared.shipment.Shipment.{Shipment}
-use Rattle.beat_run.specs.declared.status.Status.{Status}
+use Rattle.report.specs.declared.status.Status.{Status}
 use Rattle.beat_run.specs.Batches.{HoldsLines, IsBatch}
 use Rattle.beat_run.specs.Events.{Event, AreLineEvents, lines_bytes, payloads_of, waiting_of}
 use Rattle.beat_run.specs.Followed.{HasEndLook}

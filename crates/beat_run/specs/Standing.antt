@@ -6,8 +6,8 @@ use Rattle.std.specs.List.{AllByRecursion}
 use Rattle.outside.specs.Counts.{IsAtEnd, next_count}
 use Rattle.outside.specs.Talks.{Talk}
 use Rattle.outside.specs.Wires.{Outcome, Refused, Finished}
-use Rattle.beat_run.specs.declared.status.Status.{Status}
-use Rattle.beat_run.specs.declared.status.Status.TheVariants.{Unreachable}
+use Rattle.report.specs.declared.status.Status.{Status}
+use Rattle.report.specs.declared.status.Status.TheVariants.{Unreachable}
 use Rattle.beat_run.specs.Serving.{HasFailed, HasSettled}
 
 -- a wire that tells goes on telling, and its list goes on

@@ -6,7 +6,7 @@ use Rattle.outside.specs.Talks.{Talk}
 use Rattle.lumber_frame.specs.PeerFault.{BeginsNoAcknowledgement}
 use Rattle.lumber_frame.specs.Settled.{ack_bytes}
 use Rattle.lumber_frame.specs.Talk.{out_bytes, in_bytes}
-use Rattle.beat_run.specs.declared.status.Status.{Status}
+use Rattle.report.specs.declared.status.Status.{Status}
 
 -- pieces were sent behind the talk: a front of the bytes, and all of them where the sending succeeded
 pub record SendsPieces (talk : Talk) (bytes : List ℕ) (result : Result (Unit {0}) Status) (after : Option Talk) : Type 0 where

@@ -7,9 +7,9 @@ use Rattle.outside.specs.declared.history.Question.TheVariants.{Length}
 use Rattle.outside.specs.declared.history.Sight.{Sight}
 use Rattle.outside.specs.Files.{File}
 use Rattle.beat_run.specs.declared.lines.TheConstants.{LINE}
-use Rattle.beat_run.specs.declared.status.Lack.TheVariants.{Byte, Life}
-use Rattle.beat_run.specs.declared.status.Status.{Status}
-use Rattle.beat_run.specs.declared.status.Status.TheVariants.{FolderFault, Unbuilt}
+use Rattle.report.specs.declared.status.Lack.TheVariants.{Byte, Life}
+use Rattle.report.specs.declared.status.Status.{Status}
+use Rattle.report.specs.declared.status.Status.TheVariants.{FolderFault, Unbuilt}
 use Rattle.beat_run.specs.Lines.{IsPlainByte}
 use Rattle.beat_run.specs.Reading.{GoesOnReaching, NoneShorter, bytes_read}
 

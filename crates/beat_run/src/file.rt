@@ -12,7 +12,7 @@ ghost use Rattle.beat_run.specs.Reading.{AddsBytes, GoesOnReaching, ReadsPiece};
 
 use crate::peer::Worker;
 use crate::shipment::Shipment;
-use crate::status::{Lack, Status};
+use report::{Lack, Status};
 use event_tree::OutputRule;
 use outside::{Clock, Tail, Wire};
 use std::alloc::Global;

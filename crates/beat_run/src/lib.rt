@@ -1,32 +1,27 @@
-//! The run: one call, `ship`, that reads a file, sends its lines and stores how far they were
-//! acknowledged.
+//! The run: one call, `ship`, that reads files, sends their lines and stores how far they were acknowledged.
 //!
-//! Today it takes one named file and one worker. Everything outside is an object of a trait that the
-//! caller hands in; no thread, lock or atomic is used. What is not built yet is refused by a status of
-//! its own.
+//! It takes the files that the globs of the settings cover, one after the other, and one worker. Everything
+//! outside is an object of a trait that the caller hands in; no thread, lock or atomic is used. What is not
+//! built yet is refused by a status of its own.
 #![tactic(auto)]
 
-mod area;
-mod arguments;
 mod batch;
+mod ending;
 mod file;
-mod find;
-mod form;
+mod follow;
 mod lines;
-mod locations;
+mod noted;
+mod open;
+mod passings;
 mod peer;
+mod prepare;
 mod progress;
-mod report;
 mod run;
 mod settings;
 mod shipment;
 mod shipping;
-mod status;
 mod waiting;
-mod write;
 
-pub use arguments::places;
-pub use locations::Places;
-pub use report::status_line;
+pub use command_line::{Places, places};
+pub use report::{Lack, Status, status_line};
 pub use shipping::ship;
-pub use status::{Lack, Status};

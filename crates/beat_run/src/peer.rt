@@ -11,7 +11,7 @@ ghost use Rattle.beat_run.specs.Serving.{HasFailed, HasServed, HasSettled, IsSom
 ghost use Rattle.beat_run.specs.Standing.{GoesOn, GoesOnRefused, HasParted, IsParted, IsStanding, Tells, outcomes_since, with_link};
 ghost use Rattle.beat_run.specs.Talking.{HearsAll, IsFrontHeard, SendsAll};
 
-use crate::status::Status;
+use report::Status;
 use lumber_frame::{
     FrameRead, FrameView, a_fault_is_met, a_window_is_settled, no_acknowledgement_begins,
     nothing_is_settled, read_frame, settled_is_acknowledged, settled_stays_acknowledged,

@@ -1,5 +1,5 @@
 ghost use Rattle.std.specs.Prelude.{◌≡◌, ◌+◌, ◌≤◌, ◌^◌, ◌<◌, ℕ, List, [], ◌∷◌, ◌++◌, length, All, Some, IfOk, OnOk, OnErr};
-ghost use Rattle.wire_base.specs.Ranges.{IsKey, IsPath};
+ghost use Rattle.wire_base.specs.Ranges.{IsKey, IsPath, IsPlace};
 ghost use Rattle.wire_base.specs.declared.numbers.TheConstants.{MAX_PLACE};
 ghost use Rattle.ship_core.specs.CoveredEnd.{Adjoin, last_end};
 ghost use Rattle.ship_core.specs.OneLife.{spans_of};
@@ -11,7 +11,7 @@ use crate::waiting::Waiting;
 use ack_tracker::Tracker;
 use ship_core::{Rows, covered_end_closes_a_prefix, one_life};
 use std::alloc::Global;
-use wire_base::{Cause, Epoch, NoMemory, Note, Row, Slot, Text};
+use wire_base::{Cause, Epoch, NoMemory, Note, Slot, Text};
 
 /// The number of the one file in its run.
 pub const SLOT: Slot = Slot(0);
@@ -92,21 +92,17 @@ impl Progress {
         Ok(())
     }
 
-    /// The row of the file by these notes.
-    pub fn row(&self, key: Text, path: Text) -> Option<Row>
-        ensures { (named found : List ℕ) (settled : List Waiting) → IsDoneBy named found self.now settled → Adjoin 0 (spans_of (settlements_in settled)) →
-            result ≡ Some (record { key = key; path = path; epoch = EPOCH; offset = last_end 0 (spans_of (settlements_in settled)) }) }
+    /// How far the file is done by these notes, in bytes.
+    pub fn offset(&self) -> u64
+        ensures covered { (key path : List ℕ) (settled : List Waiting) → IsDoneBy key path self.now settled → Adjoin 0 (spans_of (settlements_in settled)) →
+            result ≡ last_end 0 (spans_of (settlements_in settled)) }
+        ensures in_range { IsPlace result }
     {
         one_life();
         covered_end_closes_a_prefix();
         match self.tracker.offset(SLOT) {
-            Some((epoch, offset)) => Some(Row {
-                key,
-                path,
-                epoch,
-                offset,
-            }),
-            None => None,
+            Some((_, offset)) => offset,
+            None => 0,
         }
     }
 }

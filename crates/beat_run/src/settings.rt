@@ -1,56 +1,58 @@
-ghost use Rattle.std.specs.Prelude.{◌≡◌, ◌≤◌, length, take, IfOk, IfErr, IfSome, IsErrOf, OnErr};
-ghost use Rattle.outside.specs.Counts.{Rose};
-ghost use Rattle.beat_run.specs.Ends.{IsSettingsEnd};
-ghost use Rattle.beat_run.specs.Form.{IsForm, IsNoForm, IsPlainPath, IsReadAs};
+ghost use Rattle.std.specs.Prelude.{◌≡◌, take, IfOk, IfErr, IfSome, IsErrOf, MatchResult};
+ghost use Rattle.beat_config.specs.Document.{IsFirstFault};
+ghost use Rattle.beat_config.specs.InRange.{AreInRange};
+ghost use Rattle.beat_run.specs.Ends.{IsReadEnd, IsSettingsEnd, RefusesSettings};
+ghost use Rattle.beat_run.specs.Named.{IsNamed};
 
-use crate::form::{Form, MAX_ID, read_form};
-use crate::status::{Lack, Status};
-use outside::{Failed, Source};
+use beat_config::{MAX_SETTINGS, SettingsError, read_settings};
+use event_tree::Settings;
+use outside::Source;
+use report::Status;
 use std::alloc::Global;
 
-/// So many bytes of the settings are read at most; the form has fewer.
-pub const LIMIT: usize = 8_193;
+/// So many bytes of the settings are read at most: one more than they may have.
+pub const LIMIT: usize = MAX_SETTINGS + 1;
 
-/// The settings of the source's bytes.
-pub fn read_settings<R: Source>(alloc: Global, source: &mut R) -> Result<Form, Status>
-    ensures form { IfOk result (λ form. IfSome (R.left source.old) (λ bytes. IsForm (take LIMIT bytes) form)) }
-    ensures path { IfOk result (λ form. IsPlainPath form.path) }
-    ensures id { IfOk result (λ form. length form.id ≤ MAX_ID) }
-    ensures other_form_only { IsErrOf result (Status.Unbuilt Lack.Settings) → IfSome (R.left source.old) (λ bytes. IsNoForm (take LIMIT bytes)) }
+/// So many bytes are read at once at most.
+const PIECE: usize = 4_096;
+
+/// The settings of all the source's bytes.
+pub fn read_source<R: Source>(alloc: Global, source: &mut R) -> Result<Settings, Status>
+    ensures settings { IfOk result (IsNamed (R.left source.old)) }
+    ensures in_range { IfOk result AreInRange }
+    ensures fault_only { (fault : SettingsError) → IsErrOf result (Status.Settings fault) → IfSome (R.left source.old) (λ bytes. IsFirstFault (take LIMIT bytes) fault) }
+    ensures fault_refused { (fault : SettingsError) → IfSome (R.left source.old) (λ bytes. IsFirstFault (take LIMIT bytes) fault → MatchResult result (λ _. ⊥) (RefusesSettings fault)) }
     ensures ends { IfErr result (IsSettingsEnd (R.faults source.old) (R.faults source.new)) }
 {
-    let mut buffer = [0u8; LIMIT];
-    match fill(source, &mut buffer) {
-        Ok(count) => settings_of(alloc, &buffer[..count]),
-        Err(_) => Err(Status::SourceFault),
+    let bytes = match read_all(alloc, source) {
+        Ok(bytes) => bytes,
+        Err(status) => return Err(status),
+    };
+    match read_settings(alloc, &bytes) {
+        Ok(settings) => Ok(settings),
+        Err(SettingsError::NoMemory) => Err(Status::NoMemory),
+        Err(fault) => Err(Status::Settings(fault)),
     }
 }
 
-fn settings_of(alloc: Global, bytes: &[u8]) -> Result<Form, Status>
-    ensures { IsReadAs bytes.now result }
+// Reads until the source's end or until the limit.
+fn read_all<R: Source>(alloc: Global, source: &mut R) -> Result<Vec<u8>, Status>
+    ensures read { IfOk result (λ all. IfSome (R.left source.old) (λ bytes. all.items ≡ take LIMIT bytes)) }
+    ensures ends { IfErr result (IsReadEnd (R.faults source.old) (R.faults source.new)) }
 {
-    match read_form(alloc, bytes) {
-        Ok(Some(form)) => Ok(form),
-        Ok(None) => Err(Status::Unbuilt {
-            what: Lack::Settings,
-        }),
-        Err(_) => Err(Status::NoMemory),
-    }
-}
-
-// Reads until the source's end or until the buffer is full.
-fn fill<R: Source>(source: &mut R, buffer: &mut [u8]) -> Result<usize, Failed>
-    ensures within { IfOk result (λ count. count ≤ length buffer.old) }
-    ensures read { IfOk result (λ count. IfSome (R.left source.old) (λ bytes. take count buffer.new ≡ take (length buffer.old) bytes)) }
-    ensures failed_only_where_faults_rose { OnErr result (Rose (R.faults source.old) (R.faults source.new)) }
-{
-    let mut filled = 0;
-    while filled < buffer.len() {
-        match source.read(&mut buffer[filled..]) {
+    let mut all = Vec::new(alloc);
+    let mut piece = [0u8; PIECE];
+    while all.len() < LIMIT {
+        let room = PIECE.min(LIMIT - all.len());
+        match source.read(&mut piece[..room]) {
             Ok(0) => break,
-            Ok(count) => filled += count,
-            Err(_) => return Err(Failed),
+            Ok(count) => {
+                if all.extend_from_slice(&piece[..count]).is_err() {
+                    return Err(Status::NoMemory);
+                }
+            }
+            Err(_) => return Err(Status::SourceFault),
         }
     }
-    Ok(filled)
+    Ok(all)
 }

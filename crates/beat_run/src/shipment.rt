@@ -18,7 +18,7 @@ use crate::batch::Batch;
 use crate::lines::{LINE, Next, next_line};
 use crate::peer::Worker;
 use crate::progress::Progress;
-use crate::status::{Lack, Status};
+use report::{Lack, Status};
 use event_tree::OutputRule;
 use outside::{Clock, Wire};
 use std::alloc::Global;
