@@ -1,10 +1,12 @@
 mod EventLines
 mod FileShipments
 mod Filling
+mod GivenMoments
 mod Harvests
 mod Hearings
 mod Keeping
 mod Living
+mod Partings
 mod Payloads
 mod PieceReads
 mod Progresses
@@ -13,5 +15,5 @@ mod SentPieces
 mod Services
 mod Shipments
 mod Standings
-mod Storings
 mod Stoppings
+mod Storings

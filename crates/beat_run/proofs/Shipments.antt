@@ -1,16 +1,16 @@
 -- How far a file is shipped, step by step.
-use Rattle.std.proofs.Common.{◌≡◌, inl, inr, ℕ, zero, suc, ◌+◌, ◌-◌, take, drop, get_or, map, vec_len, ◌≤◌, ◌<◌, List, [], ◌∷◌, ◌++◌, length, All, Contains, Option, Some, None, Result, Ok, Err, OnOk, MatchResult, slice_get, unwrap_or, refl, sym, ◌∙◌, ap, subst, append_assoc, append-nil, arith, length-append}
+use Rattle.std.proofs.Common.{◌≡◌, inl, inr, ℕ, zero, suc, ◌+◌, ◌-◌, take, drop, get_or, map, vec_len, ◌≤◌, ◌<◌, List, [], ◌∷◌, ◌++◌, length, All, Option, Result, Ok, Err, OnOk, MatchResult, refl, sym, ◌∙◌, ap, subst, append_assoc, append-nil, arith, length-append}
 use Rattle.std.specs.List.{AllByRecursion}
-use Rattle.std.proofs.lemmas.List.{drop-append-le, take-append-drop, take_all, length-drop, length-take-le}
+use Rattle.std.proofs.lemmas.List.{take-append-drop, take_all, length-drop, length-take-le}
 use Rattle.std.proofs.Math.Seq.{take-suc}
-use Rattle.std.proofs.lemmas.List.Elements.{All-append, All-nil, Contains-push, Contains-append_left}
+use Rattle.std.proofs.lemmas.List.Elements.{All-append, All-nil}
 use Rattle.outside.specs.Talks.{Talk}
 use Rattle.outside.specs.Times.{GivesMoment}
 use Rattle.wire_base.specs.Ranges.{IsMoment}
 use Rattle.beat_run.specs.declared.lines.TheConstants.{LINE}
 use Rattle.beat_run.specs.declared.progress.Progress.{Progress}
 use Rattle.beat_run.specs.declared.shipment.Shipment.{Shipment}
-use Rattle.report.specs.declared.status.Status.{Status}
+use Rattle.beat_run.specs.declared.status.Status.{Status}
 use Rattle.beat_run.specs.declared.waiting.Waiting.{Waiting}
 use Rattle.beat_run.specs.Batches.{HoldsLines}
 use Rattle.beat_run.specs.Evidence.{MomentsGoOn, moments_since}
@@ -21,6 +21,7 @@ use Rattle.beat_run.specs.Unbuilt.{CannotBeSent, IsSendable, IsSendableLine, IsU
 use Rattle.beat_run.specs.Serving.{HasSettled, HasServed}
 use Rattle.beat_run.specs.Shipping.{IsShipped, IsCovered}
 use Rattle.beat_run.proofs.EventLines.{events-append, front_of_lines, lines_bytes-append, lines_bytes-snoc, payloads-append, waiting-append}
+use Rattle.beat_run.proofs.GivenMoments.{events_still, moments_go}
 use Rattle.beat_run.proofs.Services.{first_served, settled_serves}
 
 -- ---- when the clock is asked
@@ -54,26 +55,33 @@ with_waiting : (settled waiting : List Event) (rest : List ℕ) → lines_bytes 
 with_waiting settled waiting rest =
     sym (append_assoc (lines_bytes settled) (lines_bytes waiting) rest) ∙ ap (λ (l : List ℕ). l ++ rest) (sym (lines_bytes-append settled waiting))
 
+-- the payloads of earlier files, of the lines that are settled, and of those behind them
+payloads_behind : (path : List ℕ) (earlier : List (List ℕ)) (events more : List Event) (place : ℕ) → 0 + length (lines_bytes events) ≡ place →
+    (earlier ++ payloads_of path 0 events) ++ payloads_of path place more ≡ earlier ++ payloads_of path 0 (events ++ more)
+payloads_behind path earlier events more place here =
+    append_assoc earlier (payloads_of path 0 events) (payloads_of path place more)
+    ∙ ap (λ (l : List (List ℕ)). earlier ++ l)
+    (ap (λ (n : ℕ). payloads_of path 0 events ++ payloads_of path n more) (sym here) ∙ sym (payloads-append path 0 events more))
+
 -- the settled lines are covered, and those that wait may have been sent
 pub covers_sent : {L : Type 0} (told : L → Option Talk) (moments : Option (List ℕ)) (key path : List ℕ) (earlier : List (List ℕ)) (link after : Option L) (shipment : Shipment) (bytes : List ℕ) (is : IsShipped told moments key path earlier link shipment bytes) →
-    HasServed told after (payloads_of path 0 is.settled) (payloads_of path 0 is.settled ++ payloads_of path shipment.offset is.waiting) → IsCovered told moments key path earlier after shipment.progress bytes
+    HasServed told after (earlier ++ payloads_of path 0 is.settled) ((earlier ++ payloads_of path 0 is.settled) ++ payloads_of path shipment.offset is.waiting) → IsCovered told moments key path earlier after shipment.progress bytes
 covers_sent told moments key path earlier link after shipment bytes is served =
-    let H : List (List ℕ) → Type 0 = λ l. HasServed told after (payloads_of path 0 is.settled) l in
+    let H : List (List ℕ) → Type 0 = λ l. HasServed told after (earlier ++ payloads_of path 0 is.settled) l in
     record {
       settled = is.settled;
       sent = is.waiting;
       rest = shipment.rest.items;
       each = events-append moments is.settled is.waiting is.each is.waiting_each;
       done = is.done;
-      acknowledged = subst H
-          (ap (λ (n : ℕ). payloads_of path 0 is.settled ++ payloads_of path n is.waiting) (sym (place_is shipment.offset is.settled is.offset)) ∙ sym (payloads-append path 0 is.settled is.waiting)) served;
+      acknowledged = subst H (payloads_behind path earlier is.settled is.waiting shipment.offset (place_is shipment.offset is.settled is.offset)) served;
       spelled = is.spelled ∙ with_waiting is.settled is.waiting shipment.rest.items;
     }
 
 pub covers_now : {L : Type 0} (told : L → Option Talk) (moments : Option (List ℕ)) (key path : List ℕ) (earlier : List (List ℕ)) (link : Option L) (shipment : Shipment) (bytes : List ℕ) →
     IsShipped told moments key path earlier link shipment bytes → IsCovered told moments key path earlier link shipment.progress bytes
 covers_now told moments key path earlier link shipment bytes is =
-    let H : List Event → Type 0 = λ l. HasServed told link (payloads_of path 0 is.settled) (payloads_of path 0 l) in
+    let H : List Event → Type 0 = λ l. HasServed told link (earlier ++ payloads_of path 0 is.settled) (earlier ++ payloads_of path 0 l) in
     let E : List Event → Type 0 = λ l. AreLineEvents moments l in
     record {
       settled = is.settled;
@@ -81,7 +89,7 @@ covers_now told moments key path earlier link shipment bytes is =
       rest = lines_bytes is.waiting ++ shipment.rest.items;
       each = subst E (sym (append-nil is.settled)) is.each;
       done = is.done;
-      acknowledged = subst H (sym (append-nil is.settled)) (settled_serves told link (payloads_of path 0 is.settled) is.acknowledged);
+      acknowledged = subst H (sym (append-nil is.settled)) (settled_serves told link (earlier ++ payloads_of path 0 is.settled) is.acknowledged);
       spelled = is.spelled ∙ ap (λ (l : List Event). lines_bytes l ++ (lines_bytes is.waiting ++ shipment.rest.items)) (sym (append-nil is.settled));
     }
 
@@ -101,7 +109,7 @@ covers_more told moments key path earlier link progress bytes more covered = rec
 
 -- the first of the lines that waited are settled, and those behind them were sent
 pub partly : {L : Type 0} (told : L → Option Talk) (moments : Option (List ℕ)) (key path : List ℕ) (earlier : List (List ℕ)) (link after : Option L) (old : Shipment) (progress : Progress) (bytes : List ℕ) (Left : List Waiting → Type 0)
-    (is : IsShipped told moments key path earlier link old bytes) → HasSettled told after (payloads_of path 0 is.settled ++ payloads_of path old.offset is.waiting) →
+    (is : IsShipped told moments key path earlier link old bytes) → HasSettled told after ((earlier ++ payloads_of path 0 is.settled) ++ payloads_of path old.offset is.waiting) →
     SettlesFirst key path (waiting_of path 0 is.settled) old.batch.waiting.items Left progress → IsCovered told moments key path earlier after progress bytes
 partly told moments key path earlier link after old progress bytes Left is settled settles =
     let front = front_of_lines path old.offset is.waiting settles.front settles.left (sym is.holds.waits ∙ settles.parts) in
@@ -109,16 +117,16 @@ partly told moments key path earlier link after old progress bytes Left is settl
     let here : 0 + length (lines_bytes is.settled) ≡ old.offset = place_is old.offset is.settled is.offset in
     let D : List Waiting → Type 0 = λ l. IsDoneBy key path progress l in
     let S : List (List ℕ) → Type 0 = λ l. HasSettled told after l in
-    let H : List (List ℕ) → Type 0 = λ l. HasServed told after (payloads_of path 0 events) l in
+    let H : List (List ℕ) → Type 0 = λ l. HasServed told after (earlier ++ payloads_of path 0 events) l in
     let E : List Event → Type 0 = λ l. AreLineEvents moments l in
     let both : is.settled ++ is.waiting ≡ events ++ front.later =
     ap (λ (l : List Event). is.settled ++ l) front.parts ∙ sym (append_assoc is.settled front.first front.later) in
     let behind : List (List ℕ) = payloads_of path (0 + length (lines_bytes events)) front.later in
-    let payloads : payloads_of path 0 is.settled ++ payloads_of path old.offset is.waiting ≡ payloads_of path 0 events ++ behind =
-    ap (λ (n : ℕ). payloads_of path 0 is.settled ++ payloads_of path n is.waiting) (sym here)
-    ∙ sym (payloads-append path 0 is.settled is.waiting)
-    ∙ ap (λ (l : List Event). payloads_of path 0 l) both
-    ∙ payloads-append path 0 events front.later in
+    let split : (earlier ++ payloads_of path 0 events) ++ behind ≡ earlier ++ payloads_of path 0 (events ++ front.later) = payloads_behind path earlier events front.later (0 + length (lines_bytes events)) refl in
+    let payloads : (earlier ++ payloads_of path 0 is.settled) ++ payloads_of path old.offset is.waiting ≡ (earlier ++ payloads_of path 0 events) ++ behind =
+    payloads_behind path earlier is.settled is.waiting old.offset here
+    ∙ ap (λ (l : List Event). earlier ++ payloads_of path 0 l) both
+    ∙ sym split in
     record {
       settled = events;
       sent = front.later;
@@ -128,13 +136,13 @@ partly told moments key path earlier link after old progress bytes Left is settl
           (ap (λ (l : List Waiting). waiting_of path 0 is.settled ++ l) (front.are ∙ ap (λ (n : ℕ). waiting_of path n front.first) (sym here))
           ∙ sym (waiting-append path 0 is.settled front.first))
           settles.done;
-      acknowledged = subst H (sym (payloads-append path 0 events front.later)) (first_served told after (payloads_of path 0 events) behind (subst S payloads settled));
+      acknowledged = subst H split (first_served told after (earlier ++ payloads_of path 0 events) behind (subst S payloads settled));
       spelled = is.spelled ∙ with_waiting is.settled is.waiting old.rest.items ∙ ap (λ (l : List Event). lines_bytes l ++ old.rest.items) both;
     }
 
 -- all of them are
 pub flushed : {L : Type 0} (told : L → Option Talk) (moments : Option (List ℕ)) (key path : List ℕ) (earlier : List (List ℕ)) (link after : Option L) (old new : Shipment) (bytes : List ℕ) (is : IsShipped told moments key path earlier link old bytes) →
-    HasSettled told after (payloads_of path 0 is.settled ++ payloads_of path old.offset is.waiting) →
+    HasSettled told after ((earlier ++ payloads_of path 0 is.settled) ++ payloads_of path old.offset is.waiting) →
     SettlesFirst key path (waiting_of path 0 is.settled) old.batch.waiting.items (λ left. left ≡ []) new.progress →
     new.offset ≡ old.offset + old.batch.size → HoldsLines path new.offset new.batch [] → new.rest ≡ old.rest →
     IsShipped told moments key path earlier after new bytes
@@ -144,7 +152,7 @@ flushed told moments key path earlier link after old new bytes is settled settle
     sym (append-nil settles.front) ∙ ap (λ (l : List Waiting). settles.front ++ l) (sym settles.so) ∙ sym settles.parts ∙ is.holds.waits in
     let D : List Waiting → Type 0 = λ l. IsDoneBy key path new.progress l in
     let S : List (List ℕ) → Type 0 = λ l. HasSettled told after l in
-    let P : _ → Type 0 = λ r. All IsPlainByte r.items in
+    let R : List ℕ → Type 0 = λ l. All IsPlainByte l in
     record {
       settled = is.settled ++ is.waiting;
       each = events-append moments is.settled is.waiting is.each is.waiting_each;
@@ -152,12 +160,12 @@ flushed told moments key path earlier link after old new bytes is settled settle
           (ap (λ (l : List Waiting). waiting_of path 0 is.settled ++ l) (all ∙ ap (λ (n : ℕ). waiting_of path n is.waiting) (sym here))
           ∙ sym (waiting-append path 0 is.settled is.waiting))
           settles.done;
-      acknowledged = subst S (ap (λ (n : ℕ). payloads_of path 0 is.settled ++ payloads_of path n is.waiting) (sym here) ∙ sym (payloads-append path 0 is.settled is.waiting)) settled;
+      acknowledged = subst S (payloads_behind path earlier is.settled is.waiting old.offset here) settled;
       offset = omega (arith, offset, is.offset, is.holds.size, ap (λ (l : List ℕ). length l) (lines_bytes-append is.settled is.waiting), length-append (lines_bytes is.settled) (lines_bytes is.waiting));
       waiting = [];
       waiting_each = tt;
       holds = none;
-      plain = subst P (sym rest) is.plain;
+      plain = subst R (ap (λ r. r.items) (sym rest)) is.plain;
       spelled = is.spelled
           ∙ sym (append_assoc (lines_bytes is.settled) (lines_bytes is.waiting) old.rest.items)
           ∙ ap (λ (l : List ℕ). l ++ old.rest.items) (sym (lines_bytes-append is.settled is.waiting))
@@ -166,7 +174,7 @@ flushed told moments key path earlier link after old new bytes is settled settle
 
 -- by what became of the settling
 pub settled_so : {L : Type 0} (told : L → Option Talk) (moments : Option (List ℕ)) (key path : List ℕ) (earlier : List (List ℕ)) (link after : Option L) (old new : Shipment) (bytes : List ℕ) (result : Result (Unit {0}) Status) (is : IsShipped told moments key path earlier link old bytes) →
-    HasSettled told after (payloads_of path 0 is.settled ++ payloads_of path old.offset is.waiting) →
+    HasSettled told after ((earlier ++ payloads_of path 0 is.settled) ++ payloads_of path old.offset is.waiting) →
     SettlesFirst key path (waiting_of path 0 is.settled) old.batch.waiting.items (λ left. OnOk result (left ≡ [])) new.progress →
     OnOk result (new.offset ≡ old.offset + old.batch.size) → OnOk result (HoldsLines path new.offset new.batch []) → OnOk result (new.rest ≡ old.rest) →
     MatchResult result (λ _. IsShipped told moments key path earlier after new bytes) (λ _. IsCovered told moments key path earlier after new.progress bytes)
@@ -264,16 +272,16 @@ pub taking_starts : {L : Type 0} (told : L → Option Talk) (begun moments : Opt
     MomentsGoOn begun moments → GivesMoment moments now after → IsShipped told (moments_since begun moments) key path earlier link shipment bytes → IsTaken told (moments_since begun after) key path earlier link shipment bytes piece piece
 taking_starts told begun moments now after key path earlier link shipment bytes piece goes gives is =
     let P : List ℕ → Type 0 = λ l. IsShipped told (moments_since begun after) key path earlier link shipment l in
-    record { taken = []; parts = refl; shipped = subst P (sym (append-nil bytes)) (shipped_still told begun moments now after key path earlier link shipment bytes goes gives is) }
+    record { taken = []; parts = refl; shipped = subst P (sym (append-nil bytes)) (shipped_still told begun moments after key path earlier link shipment bytes goes (moments_go moments now after gives) is) }
 
 -- a whole line was taken
-pub taking_goes_on : {L : Type 0} (told : L → Option Talk) (moments : Option (List ℕ)) (key path : List ℕ) (earlier : List (List ℕ)) (link after : Option L) (old new : Shipment) (bytes piece left : List ℕ) (used most : ℕ) →
+pub taking_goes_on : {L : Type 0} (told : L → Option Talk) (moments later : Option (List ℕ)) (key path : List ℕ) (earlier : List (List ℕ)) (link after : Option L) (old new : Shipment) (bytes piece left : List ℕ) (used most : ℕ) →
     (is : IsTaken told moments key path earlier link old bytes piece left) → 1 ≤ used → used ≤ length left → length left ≤ used + most → get_or left (used - 1) 0 ≡ 10 →
-    IsShipped told moments key path earlier after new ((bytes ++ is.taken) ++ (take (used - 1) left ++ 10 ∷ [])) →
-    IsTaken told moments key path earlier after new bytes piece (take most (drop used left))
-taking_goes_on told moments key path earlier link after old new bytes piece left used most is some within all line shipped =
-    let P : List ℕ → Type 0 = λ l. IsShipped told moments key path earlier after new l in
-    let Q : List ℕ → Type 0 = λ l. IsTaken told moments key path earlier after new bytes piece l in
+    IsShipped told later key path earlier after new ((bytes ++ is.taken) ++ (take (used - 1) left ++ 10 ∷ [])) →
+    IsTaken told later key path earlier after new bytes piece (take most (drop used left))
+taking_goes_on told moments later key path earlier link after old new bytes piece left used most is some within all line shipped =
+    let P : List ℕ → Type 0 = λ l. IsShipped told later key path earlier after new l in
+    let Q : List ℕ → Type 0 = λ l. IsTaken told later key path earlier after new bytes piece l in
     subst Q (sym (take_all most (drop used left) (omega (arith, length-drop used left))))
     (record {
       taken = is.taken ++ (take (used - 1) left ++ 10 ∷ []);
@@ -292,13 +300,13 @@ taking_ends told moments key path earlier link old new bytes piece left is progr
     (rest_grows told moments key path earlier link old new (bytes ++ is.taken) left is.shipped progress offset batch rest plain)
 
 -- what was settled stays covered, whatever becomes of the piece
-pub taking_covers : {L : Type 0} (told : L → Option Talk) (moments : Option (List ℕ)) (key path : List ℕ) (earlier : List (List ℕ)) (link after : Option L) (progress : Progress) (shipment : Shipment) (bytes piece left : List ℕ) →
-    (is : IsTaken told moments key path earlier link shipment bytes piece left) → IsCovered told moments key path earlier after progress (bytes ++ is.taken) →
-    IsCovered told moments key path earlier after progress (bytes ++ piece)
-taking_covers told moments key path earlier link after progress shipment bytes piece left is covered =
-    let P : List ℕ → Type 0 = λ l. IsCovered told moments key path earlier after progress l in
+pub taking_covers : {L : Type 0} (told : L → Option Talk) (moments later : Option (List ℕ)) (key path : List ℕ) (earlier : List (List ℕ)) (link after : Option L) (progress : Progress) (shipment : Shipment) (bytes piece left : List ℕ) →
+    (is : IsTaken told moments key path earlier link shipment bytes piece left) → IsCovered told later key path earlier after progress (bytes ++ is.taken) →
+    IsCovered told later key path earlier after progress (bytes ++ piece)
+taking_covers told moments later key path earlier link after progress shipment bytes piece left is covered =
+    let P : List ℕ → Type 0 = λ l. IsCovered told later key path earlier after progress l in
     subst P (append_assoc bytes is.taken left ∙ ap (λ (l : List ℕ). bytes ++ l) (sym is.parts))
-    (covers_more told moments key path earlier after progress (bytes ++ is.taken) left covered)
+    (covers_more told later key path earlier after progress (bytes ++ is.taken) left covered)
 
 -- the place behind what was taken and what is left
 pub placed_still : (old new total used most : ℕ) (left : List ℕ) → 1 ≤ used → used ≤ length left → length left ≤ used + most →
