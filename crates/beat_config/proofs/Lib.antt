@@ -1,6 +1,7 @@
 pub mod Chain
 pub mod Conditions
 pub mod Each
+pub mod Faultless
 pub mod First
 pub mod Inputs
 pub mod Lists

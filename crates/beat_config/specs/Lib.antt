@@ -4,6 +4,7 @@ pub mod Duration
 pub mod Each
 pub mod Finding
 pub mod Host
+pub mod InRange
 pub mod Input
 pub mod Multiline
 pub mod Name
