@@ -1,5 +1,5 @@
 -- What a part of a document is where nothing is wrong with it.
-use Rattle.std.proofs.Common.{◌≡◌, ℕ, ℤ, suc, pos, negsuc, Bool, true, false, ◌&&◌, List, [], ◌∷◌, ◌++◌, length, All, Option, Some, None, refl, sym, ap, ◌∙◌, inl, inr, is_some, unwrap_or, option_and_then, nat_le}
+use Rattle.std.proofs.Common.{◌≡◌, ℕ, ℤ, suc, pos, negsuc, Bool, true, false, ◌&&◌, List, [], ◌∷◌, ◌++◌, length, All, Option, Some, None, refl, sym, ap, ◌∙◌, inl, inr, is_some, unwrap_or, option_and_then, nat_le, if◌then◌else◌, ◌+◌, ◌≤◌}
 use Rattle.std.specs.Int.{IsInRange}
 use Rattle.std.specs.List.{cons_option}
 use Rattle.std.specs.Option.{IfSome}
@@ -38,10 +38,13 @@ pub table_required : (path : List ℕ) (known keys : List (List ℕ)) (value : D
     → missing_findings path keys (members_of value) ≡ []
 table_required path known keys value h = as_table_required path known keys (as_table value) h
 
+pub tested : (low high number : ℕ) → (nat_le low number && nat_le number high) ≡ true → IsInRange low high number
+tested low high number h = let both = and_parts _ _ h in (leb-true low number both.0, leb-true number high both.1)
+
 -- a number within limits is in their range, and a default takes the place of each other
 pub number_within : (low high : ℕ) (number : ℤ) → IfSome (number_in (limits low high) number) (IsInRange low high)
 number_within low high (pos number) = elim (cases_Bool (nat_le low number && nat_le number high)) [
-  | inl within ↦ let both = and_parts _ _ within in rw within (leb-true low number both.0, leb-true number high both.1)
+  | inl within ↦ rw within (tested low high number within)
   | inr without ↦ rw without tt
 ]
 number_within low high (negsuc number) = tt
@@ -61,7 +64,7 @@ or_default P (Some number) default h there = h
 -- a count without a fault is in its range
 pub count_within : (low high : ℕ) (key : List ℕ) (count : ℕ) → range_findings (limits low high) key (pos count) ≡ [] → IsInRange low high count
 count_within low high key count h = elim (cases_Bool (nat_le low count && nat_le count high)) [
-  | inl within ↦ let both = and_parts _ _ within in (leb-true low count both.0, leb-true count high both.1)
+  | inl within ↦ tested low high count within
   | inr without ↦ absurd (let wrong = rw without at h in cc)
 ]
 

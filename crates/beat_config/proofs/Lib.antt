@@ -7,4 +7,8 @@ pub mod Inputs
 pub mod Lists
 pub mod Nests
 pub mod Numbers
+pub mod OneAnswer
 pub mod Patterns
+pub mod Ranges
+pub mod RangesOfDocuments
+pub mod RangesOfInputs
