@@ -1,9 +1,14 @@
 pub mod Chain
 pub mod Conditions
 pub mod Each
+pub mod Faultless
 pub mod First
 pub mod Inputs
 pub mod Lists
 pub mod Nests
 pub mod Numbers
+pub mod OneAnswer
 pub mod Patterns
+pub mod Ranges
+pub mod RangesOfDocuments
+pub mod RangesOfInputs

@@ -5,6 +5,7 @@ ghost use Rattle.toml.specs.Data.{no_members};
 ghost use Rattle.toml.specs.View.{table_view};
 ghost use Rattle.beat_config.specs.Document.{document_findings, AreSettings};
 ghost use Rattle.beat_config.specs.Finding.{seen_of, note_all, IsFirst};
+ghost use Rattle.beat_config.specs.InRange.{AreInRange};
 
 use crate::SettingsError;
 use crate::noted::Noted;
@@ -19,6 +20,7 @@ const DOCUMENT: [&str; 5] = ["inputs", "output", "processors", "queue", "harvest
 #[tactic(auto, using(crate::proofs::First::none_noted, crate::proofs::First::first_noted), unfolding(crate::specs::Finding::seen_of))]
 pub(crate) fn settings_of(alloc: Global, document: &Table) -> Result<Settings, SettingsError>
     ensures settings { IfOk result (AreSettings (table_view document.now)) }
+    ensures in_range { IfOk result AreInRange }
     ensures faultless { OnOk result (document_findings (table_view document.now) ≡ []) }
     ensures first_fault { IfErr result (λ fault. (fault ≡ SettingsError.NoMemory) ⊎ IsFirst (document_findings (table_view document.now)) fault) }
 {

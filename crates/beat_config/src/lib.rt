@@ -12,6 +12,7 @@ mod document;
 mod duration;
 mod host;
 mod input;
+mod laws;
 mod member;
 mod multiline;
 mod names;
@@ -30,5 +31,6 @@ mod table;
 mod text;
 mod tree;
 
+pub use laws::settings_or_one_first_fault;
 pub use read::{MAX_SETTINGS, read_settings};
 pub use settings_error::SettingsError;

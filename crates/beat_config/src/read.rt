@@ -1,5 +1,6 @@
 ghost use Rattle.std.specs.Prelude.{◌≡◌, ◌⊎◌, IfOk, IfErr};
 ghost use Rattle.beat_config.specs.Document.{AreSettingsOf, IsFirstFault};
+ghost use Rattle.beat_config.specs.InRange.{AreInRange};
 
 use crate::SettingsError;
 use crate::document::settings_of;
@@ -17,6 +18,7 @@ pub const MAX_SETTINGS: usize = 1_048_576;
 /// any answer; a pattern that is too large when it is compiled is told so, too.
 pub fn read_settings(alloc: Global, bytes: &[u8]) -> Result<Settings, SettingsError>
     ensures settings_of_the_document { IfOk result (AreSettingsOf bytes.now) }
+    ensures in_range { IfOk result AreInRange }
     ensures first_fault { IfErr result (λ fault. (fault ≡ SettingsError.NoMemory) ⊎ IsFirstFault bytes.now fault) }
 {
     if bytes.len() > MAX_SETTINGS {
