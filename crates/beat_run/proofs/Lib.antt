@@ -11,6 +11,7 @@ mod Payloads
 mod PieceReads
 mod Progresses
 mod Readings
+mod Runs
 mod SentPieces
 mod Services
 mod Shipments

@@ -10,7 +10,7 @@ use Rattle.wire_base.specs.Ranges.{IsMoment}
 use Rattle.beat_run.specs.declared.lines.TheConstants.{LINE}
 use Rattle.beat_run.specs.declared.progress.Progress.{Progress}
 use Rattle.beat_run.specs.declared.shipment.Shipment.{Shipment}
-use Rattle.beat_run.specs.declared.status.Status.{Status}
+use Rattle.report.specs.declared.status.Status.{Status}
 use Rattle.beat_run.specs.declared.waiting.Waiting.{Waiting}
 use Rattle.beat_run.specs.Batches.{HoldsLines}
 use Rattle.beat_run.specs.Evidence.{MomentsGoOn, moments_since}

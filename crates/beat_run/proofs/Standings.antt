@@ -14,7 +14,7 @@ use Rattle.lumber_frame.specs.Acknowledged.{Acknowledges}
 use Rattle.lumber_frame.specs.PeerFault.{HasPeerFault}
 use Rattle.lumber_frame.specs.Settled.{IsSettled}
 use Rattle.report.specs.declared.status.Status.{Status}
-use Rattle.report.specs.declared.status.Status.TheVariants.{Done, Usage, RegistryBad, DiskFault, FolderFault, Unreachable, OutFault, SourceFault, NoMemory, Unbuilt}
+use Rattle.report.specs.declared.status.Status.TheVariants.{Done, Usage, Settings as SettingsFault, RegistryBad, DiskFault, FolderFault, Unreachable, OutFault, SourceFault, TooMany, NoMemory, Unbuilt}
 use Rattle.beat_run.specs.Acknowledged.{AcknowledgeInAll, AreAcknowledged, FailsFor, IsFailure, SendOnly, SendsFront, SendsNothingElse}
 use Rattle.beat_run.specs.Ends.{IsReadingEnd}
 use Rattle.beat_run.specs.Serving.{HasFailed, HasServed, HasSettled, IsSomeWindow, IsWindowOf, Serves, Settles}
@@ -63,12 +63,14 @@ blames_any : {L : Type 0} (told : L → Option Talk) (link_faults : L → ℕ) (
     HasParted told link_faults start outcomes faults link → Blames told link_faults start outcomes faults link status
 blames_any told link_faults start outcomes faults link Done parted = tt
 blames_any told link_faults start outcomes faults link Usage parted = tt
+blames_any told link_faults start outcomes faults link (SettingsFault fault) parted = tt
 blames_any told link_faults start outcomes faults link (RegistryBad area at) parted = tt
 blames_any told link_faults start outcomes faults link DiskFault parted = tt
 blames_any told link_faults start outcomes faults link FolderFault parted = tt
 blames_any told link_faults start outcomes faults link (Unreachable worker failures) parted = parted
 blames_any told link_faults start outcomes faults link OutFault parted = tt
 blames_any told link_faults start outcomes faults link SourceFault parted = tt
+blames_any told link_faults start outcomes faults link (TooMany what path) parted = tt
 blames_any told link_faults start outcomes faults link NoMemory parted = tt
 blames_any told link_faults start outcomes faults link (Unbuilt what) parted = tt
 
@@ -77,12 +79,14 @@ pub reading_blames : {L : Type 0} (told : L → Option Talk) (link_faults : L �
     IsReadingEnd before now status → Blames told link_faults start outcomes faults link status
 reading_blames told link_faults start outcomes faults link before now Done ends = tt
 reading_blames told link_faults start outcomes faults link before now Usage ends = tt
+reading_blames told link_faults start outcomes faults link before now (SettingsFault fault) ends = tt
 reading_blames told link_faults start outcomes faults link before now (RegistryBad area at) ends = tt
 reading_blames told link_faults start outcomes faults link before now DiskFault ends = tt
 reading_blames told link_faults start outcomes faults link before now FolderFault ends = tt
 reading_blames told link_faults start outcomes faults link before now (Unreachable worker failures) ends = absurd ends
 reading_blames told link_faults start outcomes faults link before now OutFault ends = tt
 reading_blames told link_faults start outcomes faults link before now SourceFault ends = tt
+reading_blames told link_faults start outcomes faults link before now (TooMany what path) ends = tt
 reading_blames told link_faults start outcomes faults link before now NoMemory ends = tt
 reading_blames told link_faults start outcomes faults link before now (Unbuilt what) ends = tt
 
@@ -416,12 +420,14 @@ fails_for : {L : Type 0} (told : L → Option Talk) (link_faults : L → ℕ) (s
     (HasParted told link_faults start before faults link → IsFailure faults_after since_start) → Blames told link_faults start before faults link status → FailsFor faults_after since_start status
 fails_for told link_faults start before since_start faults faults_after link Done fails blamed = tt
 fails_for told link_faults start before since_start faults faults_after link Usage fails blamed = tt
+fails_for told link_faults start before since_start faults faults_after link (SettingsFault fault) fails blamed = tt
 fails_for told link_faults start before since_start faults faults_after link (RegistryBad area at) fails blamed = tt
 fails_for told link_faults start before since_start faults faults_after link DiskFault fails blamed = tt
 fails_for told link_faults start before since_start faults faults_after link FolderFault fails blamed = tt
 fails_for told link_faults start before since_start faults faults_after link (Unreachable worker failures) fails blamed = fails blamed
 fails_for told link_faults start before since_start faults faults_after link OutFault fails blamed = tt
 fails_for told link_faults start before since_start faults faults_after link SourceFault fails blamed = tt
+fails_for told link_faults start before since_start faults faults_after link (TooMany what path) fails blamed = tt
 fails_for told link_faults start before since_start faults faults_after link NoMemory fails blamed = tt
 fails_for told link_faults start before since_start faults faults_after link (Unbuilt what) fails blamed = tt
 

@@ -1,8 +1,9 @@
-ghost use Rattle.std.specs.Prelude.{◌≡◌, ◌∷◌, ◌≤◌, [], ℕ, List, All, Option, IfErr, IfOk, IfSome, MatchResult};
+ghost use Rattle.std.specs.Prelude.{◌≡◌, ◌∷◌, ◌≤◌, ◌+◌, [], ℕ, List, All, Option, length, vec_len, IfErr, MatchResult};
 ghost use Rattle.outside.specs.Counts.{IsAtEnd};
 ghost use Rattle.outside.specs.Folders.{FolderHistory};
 ghost use Rattle.outside.specs.Wires.{Outcome};
-ghost use Rattle.wire_base.specs.Ranges.{IsKey, IsPath};
+ghost use Rattle.prospect.specs.Members.{IsInRange};
+ghost use Rattle.wire_base.specs.Ranges.{IsRow};
 ghost use Rattle.beat_run.specs.Ends.{IsShippingEnd};
 ghost use Rattle.beat_run.specs.Evidence.{MomentsGoOn, moments_since};
 ghost use Rattle.beat_run.specs.Following.{FollowsAll, FollowsSome, HasFollowed};
@@ -37,11 +38,12 @@ pub fn follow_all<X: Wait, F: Folder, W: Wire, K: Clock>(
     noted: &mut Noted,
 ) -> Result<(), Status>
     requires output { IsOutput output.now }
-    requires keys { All (λ member. IsKey member.key) members.now }
-    requires paths { All (λ member. IsPath member.path) members.now }
+    requires in_range { All IsInRange members.now }
     ensures followed { (begun : Option (List ℕ)) (listed : FolderHistory) → MomentsGoOn begun (K.moments clock.old) → HasFollowed W.Link.told listed (moments_since begun (K.moments clock.old)) worker.old.link noted.old [] (F.told folder.old) →
         MatchResult result (λ _. FollowsAll W.Link.told listed (moments_since begun (K.moments clock.new)) worker.new.link noted.new [] members.now (F.told folder.new))
         (FollowsSome W.Link.told listed (moments_since begun (K.moments clock.new)) worker.new.link noted.new [] members.now (F.told folder.new)) }
+    ensures rows_in_range { All IsRow noted.old.rows.items → All IsRow noted.new.rows.items }
+    ensures few { vec_len noted.new.rows ≤ vec_len noted.old.rows + length members.now }
     ensures standing { (begun : Option (List ℕ)) (start : Option (List Outcome)) (count first : ℕ) → MomentsGoOn begun (K.moments clock.old) → IsStanding W.Link.told start count first (W.outcomes wire.old) (W.open_links wire.old) (W.faults wire.old) worker.old.link →
         MatchResult result (λ _. IsStanding W.Link.told start count first (W.outcomes wire.new) (W.open_links wire.new) (W.faults wire.new) worker.new.link)
         (IsParted W.Link.told W.Link.faults output.now.timeout (moments_since begun (K.moments clock.new)) start count first (W.outcomes wire.new) (W.open_links wire.new) (W.faults wire.new) worker.new.link) }
@@ -72,11 +74,12 @@ fn follow_file<X: Wait, F: Folder, W: Wire, K: Clock>(
     noted: &mut Noted,
 ) -> Result<(), Status>
     requires output { IsOutput output.now }
-    requires key { IsKey member.now.key }
-    requires path { IsPath member.now.path }
+    requires in_range { IsInRange member.now }
     ensures followed { (begun : Option (List ℕ)) (listed : FolderHistory) (before : List Harvest) → MomentsGoOn begun (K.moments clock.old) → HasFollowed W.Link.told listed (moments_since begun (K.moments clock.old)) worker.old.link noted.old before (F.told folder.old) →
         MatchResult result (λ _. FollowsAll W.Link.told listed (moments_since begun (K.moments clock.new)) worker.new.link noted.new before (member.now ∷ []) (F.told folder.new))
         (FollowsSome W.Link.told listed (moments_since begun (K.moments clock.new)) worker.new.link noted.new before (member.now ∷ []) (F.told folder.new)) }
+    ensures rows_in_range { All IsRow noted.old.rows.items → All IsRow noted.new.rows.items }
+    ensures few { vec_len noted.new.rows ≤ vec_len noted.old.rows + 1 }
     ensures standing { (begun : Option (List ℕ)) (start : Option (List Outcome)) (count first : ℕ) → MomentsGoOn begun (K.moments clock.old) → IsStanding W.Link.told start count first (W.outcomes wire.old) (W.open_links wire.old) (W.faults wire.old) worker.old.link →
         MatchResult result (λ _. IsStanding W.Link.told start count first (W.outcomes wire.new) (W.open_links wire.new) (W.faults wire.new) worker.new.link)
         (IsParted W.Link.told W.Link.faults output.now.timeout (moments_since begun (K.moments clock.new)) start count first (W.outcomes wire.new) (W.open_links wire.new) (W.faults wire.new) worker.new.link) }
@@ -108,10 +111,7 @@ fn follow_file<X: Wait, F: Folder, W: Wire, K: Clock>(
             );
             folder.close(tail);
             each_line_is_an_event();
-            let Progress {
-                shipped, dropped, ..
-            } = shipment.progress;
-            noted.settle(shipment.progress.offset(), shipped, dropped);
+            noted.settle(&shipment.progress);
             met
         }
     }

@@ -1,8 +1,14 @@
-ghost use Rattle.std.specs.Prelude.{◌≡◌, ◌≤◌, ◌++◌, ◌∷◌, [], ◌+◌, ◌-◌, ◌^◌, All, List, min, vec_len, OnOk, OnErr};
+ghost use Rattle.std.specs.Prelude.{◌≡◌, ◌++◌, ◌∷◌, [], ◌+◌, ◌-◌, ◌^◌, ◌≤◌, ℕ, All, List, min, vec_len, OnOk, OnErr};
 ghost use Rattle.wire_base.specs.declared.row.Row.{Row};
-ghost use Rattle.wire_base.specs.Ranges.{IsPlace, IsRow};
+ghost use Rattle.wire_base.specs.Ranges.{IsRow};
+ghost use Rattle.prospect.specs.Members.{IsInRange};
+ghost use Rattle.ship_core.specs.CoveredEnd.{Adjoin, last_end};
+ghost use Rattle.ship_core.specs.OneLife.{spans_of};
+ghost use Rattle.beat_run.specs.Events.{settlements_in};
+ghost use Rattle.beat_run.specs.Progress.{IsDoneBy};
+ghost use Rattle.beat_run.specs.declared.waiting.Waiting.{Waiting};
 
-use crate::progress::EPOCH;
+use crate::progress::{EPOCH, Progress};
 use prospect::Member;
 use std::alloc::Global;
 use wire_base::{NoMemory, Row, Text};
@@ -36,6 +42,9 @@ impl Noted {
     /// Puts a row for the file behind the others, at its first byte. It is made before the file is opened, so
     /// that no memory for it is wanted once lines were acknowledged.
     pub fn begin(&mut self, alloc: Global, member: &Member) -> Result<(), NoMemory>
+        requires in_range { IsInRange member.now }
+        ensures rows_in_range { All IsRow self.old.rows.items → All IsRow self.new.rows.items }
+        ensures one_more { vec_len self.new.rows ≤ vec_len self.old.rows + 1 }
         ensures begun { OnOk result (self.new.rows.items ≡ self.old.rows.items ++ record { key = member.now.key; path = member.now.path; epoch = EPOCH; offset = 0 } ∷ []) }
         ensures missed_kept { self.new.missed ≡ self.old.missed }
         ensures shipped_kept { self.new.shipped ≡ self.old.shipped }
@@ -54,6 +63,8 @@ impl Noted {
 
     /// Takes the last row away: its file was not opened.
     pub fn forget(&mut self)
+        ensures rows_in_range { All IsRow self.old.rows.items → All IsRow self.new.rows.items }
+        ensures no_more { vec_len self.new.rows ≤ vec_len self.old.rows }
         ensures forgotten { (rows : List Row) (row : Row) → self.old.rows.items ≡ rows ++ row ∷ [] → self.new.rows.items ≡ rows }
         ensures missed_kept { self.new.missed ≡ self.old.missed }
         ensures shipped_kept { self.new.shipped ≡ self.old.shipped }
@@ -64,6 +75,8 @@ impl Noted {
 
     /// Takes the last row away and notes that its path was not found.
     pub fn miss(&mut self) -> Result<(), NoMemory>
+        ensures rows_in_range { All IsRow self.old.rows.items → All IsRow self.new.rows.items }
+        ensures no_more { vec_len self.new.rows ≤ vec_len self.old.rows }
         ensures forgotten { (rows : List Row) (row : Row) → self.old.rows.items ≡ rows ++ row ∷ [] → self.new.rows.items ≡ rows }
         ensures noted { (rows : List Row) (row : Row) → self.old.rows.items ≡ rows ++ row ∷ [] → OnOk result (self.new.missed.items ≡ self.old.missed.items ++ row.path ∷ []) }
         ensures shipped_kept { self.new.shipped ≡ self.old.shipped }
@@ -78,20 +91,20 @@ impl Noted {
         }
     }
 
-    /// The file of the last row is done up to this offset, with so many events that were shipped and dropped.
-    pub fn settle(&mut self, offset: u64, shipped: u64, dropped: u64)
-        requires { IsPlace offset }
+    /// The file of the last row is done so far.
+    pub fn settle(&mut self, progress: &Progress)
         ensures rows_in_range { All IsRow self.old.rows.items → All IsRow self.new.rows.items }
         ensures as_many_rows { vec_len self.new.rows ≡ vec_len self.old.rows }
-        ensures settled { (rows : List Row) (row : Row) → self.old.rows.items ≡ rows ++ row ∷ [] → self.new.rows.items ≡ rows ++ record row { offset = offset } ∷ [] }
+        ensures settled { (rows : List Row) (row : Row) (key path : List ℕ) (settled : List Waiting) → self.old.rows.items ≡ rows ++ row ∷ [] → IsDoneBy key path progress.now settled → Adjoin 0 (spans_of (settlements_in settled)) →
+            self.new.rows.items ≡ rows ++ record row { offset = last_end 0 (spans_of (settlements_in settled)) } ∷ [] }
         ensures missed_kept { self.new.missed ≡ self.old.missed }
-        ensures shipped_counted { self.new.shipped ≡ min (self.old.shipped + shipped) (2 ^ 64 - 1) }
-        ensures dropped_counted { self.new.dropped ≡ min (self.old.dropped + dropped) (2 ^ 64 - 1) }
+        ensures shipped_counted { self.new.shipped ≡ min (self.old.shipped + progress.now.shipped) (2 ^ 64 - 1) }
+        ensures dropped_counted { self.new.dropped ≡ min (self.old.dropped + progress.now.dropped) (2 ^ 64 - 1) }
     {
         if let Some(row) = self.rows.last_mut() {
-            row.offset = offset;
+            row.offset = progress.offset();
         }
-        self.shipped = self.shipped.saturating_add(shipped);
-        self.dropped = self.dropped.saturating_add(dropped);
+        self.shipped = self.shipped.saturating_add(progress.shipped);
+        self.dropped = self.dropped.saturating_add(progress.dropped);
     }
 }

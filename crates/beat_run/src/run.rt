@@ -9,7 +9,7 @@ ghost use Rattle.prospect.specs.Scan.{FindsTooMany};
 ghost use Rattle.registry_log.specs.Area.{area_bytes};
 ghost use Rattle.registry_log.specs.Starting.{Holds, IsPartStarted};
 ghost use Rattle.wire_base.specs.Ranges.{IsRow};
-ghost use Rattle.beat_run.specs.Acknowledged.{IsFailure};
+ghost use Rattle.beat_run.specs.Acknowledged.{FailsFor};
 ghost use Rattle.beat_run.specs.Asked.{AskFor, IsAsked};
 ghost use Rattle.beat_run.specs.Ends.{HasStored, IsFollowingEnd, IsRefusal, IsRunEnd, IsStoringEnd, RefusesArea, RefusesKey, RefusesLack, RefusesSettings, RefusesWords, StandsForScan};
 ghost use Rattle.beat_run.specs.Evidence.{evidence_of, moments_since};
@@ -119,7 +119,7 @@ fn follow<X: Wait, F: Folder, W: Wire, K: Clock>(
     ensures wire_goes_on { GoesOn (W.outcomes wire.old) (W.outcomes wire.new) }
     ensures links_finished { ¬ (IsAtEnd (W.open_links wire.old)) → W.open_links wire.new ≡ W.open_links wire.old }
     ensures tails_closed { ¬ (IsAtEnd (F.open_tails folder.old)) → F.open_tails folder.new ≡ F.open_tails folder.old }
-    ensures unreachable { (worker failures : ℕ) → IsErrOf result (Status.Unreachable worker failures) → IsFailure settings.now.output.timeout (moments_since (K.moments clock.old) (K.moments clock.new)) (W.faults wire.new) (outcomes_since (W.outcomes wire.old) (W.outcomes wire.new)) }
+    ensures unreachable { IfErr result (FailsFor settings.now.output.timeout (moments_since (K.moments clock.old) (K.moments clock.new)) (W.faults wire.new) (outcomes_since (W.outcomes wire.old) (W.outcomes wire.new))) }
     ensures too_many { (what : Full) (path : List ℕ) → IsErrOf result (Status.TooMany what path) → (what ≡ Full.Files) × IfSome (F.told folder.old) (λ told. FindsTooMany settings.now.inputs told path (F.told folder.new)) }
     ensures ends { IfErr result (IsFollowingEnd (F.faults folder.old) (F.faults folder.new)) }
     ensures faults_never_fall { F.faults folder.old ≤ F.faults folder.new }

@@ -19,3 +19,6 @@ pub use words::Words;
 
 
 
+
+#[cfg(test)]
+mod tests;

@@ -1,6 +1,9 @@
 -- What a scan has found, with one path or one input more.
-use Rattle.std.proofs.Common.{◌≡◌, ◌⊎◌, inl, inr, ⊎_elim, ℕ, zero, suc, Bool, true, false, cond, List, [], ◌∷◌, ◌++◌, Option, Some, None, Contains, IsSome, IsTrue, refl, sym, ◌∙◌, subst, rules, arith, lit<}
+use Rattle.std.proofs.Common.{◌≡◌, ◌⊎◌, inl, inr, ⊎_elim, ℕ, zero, suc, ◌+◌, ◌<◌, Bool, true, false, cond, List, [], ◌∷◌, ◌++◌, length, map, take, get_or, Option, Some, None, IsSome, refl, sym, ap, ◌∙◌, subst, rules, arith, lit<}
+use Rattle.std.specs.Prelude.{Contains}
+use Rattle.outside.specs.declared.entry.Entry.{Entry}
 use Rattle.std.specs.BTreeMap.{get, is_at, Updates}
+use Rattle.std.proofs.lemmas.List.{map-append, take_more}
 use Rattle.std.proofs.lemmas.List.Elements.{Contains-append_left, Contains-append_right, Contains-append_cases}
 use Rattle.std.proofs.lemmas.Map.Lookups.{exact_bytes}
 use Rattle.std.proofs.lemmas.Map.Views.{tells_apart}
@@ -117,3 +120,21 @@ adds_uncovered input path found uncovered = record {
       let C : InputGlobs → List ℕ → Type 0 = λ i p. IsCovered i.globs.items p in
       absurd (uncovered (subst (λ (i : InputGlobs). C i path) (sym (only_one input other one_of)) (subst (λ (p : List ℕ). C other p) (sym (only_one path one among)) covered)));
 }
+
+-- ---- the next of a list
+
+pub adds_next_input : (inputs : List InputGlobs) (i : ℕ) (input : InputGlobs) (paths : List (List ℕ)) (old between new : Found) → i < length inputs → input ≡ get_or inputs i input →
+    Adds (take i inputs) paths old between → Adds (input ∷ []) paths between new → Adds (take (i + 1) inputs) paths old new
+adds_next_input inputs i input paths old between new within is before here =
+    subst (λ (l : List InputGlobs). Adds l paths old new) (ap (λ (x : InputGlobs). take i inputs ++ x ∷ []) is ∙ sym (take_more inputs i input within))
+    (adds_inputs (take i inputs) (input ∷ []) paths old between new before here)
+
+pub adds_next_entry : (inputs : List InputGlobs) (entries : List Entry) (i : ℕ) (entry : Entry) (old between new : Found) → i < length entries → entry ≡ get_or entries i entry →
+    Adds inputs (map (λ entry. entry.path) (take i entries)) old between → Adds inputs (entry.path ∷ []) between new → Adds inputs (map (λ entry. entry.path) (take (i + 1) entries)) old new
+adds_next_entry inputs entries i entry old between new within is before here =
+    subst (λ (l : List (List ℕ)). Adds inputs l old new)
+    (sym (map-append path_in (take i entries) (entry ∷ [])) ∙ ap (λ (x : Entry). map path_in (take i entries ++ x ∷ [])) is ∙ ap (λ (l : List Entry). map path_in l) (sym (take_more entries i entry within)))
+    (adds_paths inputs (map path_in (take i entries)) (entry.path ∷ []) old between new before here)
+  where
+    path_in : Entry → List ℕ
+    path_in entry = entry.path

@@ -1,8 +1,9 @@
 -- The listings of a scan, one after the other.
-use Rattle.std.proofs.Common.{◌≡◌, ◌⊎◌, inl, inr, ℕ, ◌≤◌, List, [], ◌∷◌, ◌++◌, map, flat_map, All, Option, Some, None, Result, Ok, Err, IfSome, Vec, refl, sym, ◌∙◌, ap, subst, append_assoc, append-nil, arith}
+use Rattle.std.proofs.Common.{◌≡◌, ◌⊎◌, inl, inr, ℕ, ◌+◌, ◌<◌, ◌≤◌, List, [], ◌∷◌, ◌++◌, length, map, take, get_or, All, Option, Some, None, Result, Ok, Err, IfSome, Vec, refl, sym, ◌∙◌, ap, subst, append_assoc, append-nil, arith}
 use Rattle.std.specs.List.{AllByRecursion}
 use Rattle.std.specs.declared.alloc.Global.{Global}
-use Rattle.std.proofs.lemmas.List.{map-append, map-map}
+use Rattle.std.proofs.lemmas.List.{map-append, take_more}
+use Rattle.std.proofs.lemmas.Simd.{map-map}
 use Rattle.std.proofs.lemmas.List.Concat.{flat_map-append}
 use Rattle.std.proofs.lemmas.List.Elements.{All-append, All-map, All-nil, All-weaker}
 use Rattle.glob_paths.specs.Root.{root_of, depth_of}
@@ -14,7 +15,7 @@ use Rattle.outside.specs.Counts.{Rose}
 use Rattle.outside.specs.Folders.{Event, FolderHistory, IsListable, Listed, ListingFailed, TellsListing, with_event}
 use Rattle.wire_base.specs.Ranges.{IsPath}
 use Rattle.prospect.specs.declared.input_globs.InputGlobs.{InputGlobs}
-use Rattle.prospect.specs.Collecting.{Adds, Found, Lists, ShowPaths}
+use Rattle.prospect.specs.Collecting.{Adds, Found, globs_in, Lists, ShowPaths}
 use Rattle.prospect.specs.Scan.{event_of, IsListing, Listing, OnlyListed, paths_of, with_events}
 use Rattle.prospect.proofs.Adding.{adds_of_no_path, adds_paths}
 
@@ -145,3 +146,22 @@ then_only_listed (Some told) between after first second =
       listings = append_listings first.more then.more first.listings then.listings;
       kept = then.kept ∙ ap (λ (l : List Event). Some (record told { events = l })) (append_assoc told.events first.more then.more);
     }
+
+-- the next glob was listed
+pub lists_next : (inputs : List InputGlobs) (globs : List (List ℕ)) (i : ℕ) (glob : List ℕ) (told between after : Option FolderHistory) (old found new : Found) → i < length globs → glob ≡ get_or globs i glob →
+    Lists inputs (take i globs) told old found between → Lists inputs (glob ∷ []) between found new after → Lists inputs (take (i + 1) globs) told old new after
+lists_next inputs globs i glob told between after old found new within is before here =
+    subst (λ (l : List (List ℕ)). Lists inputs l told old new after)
+    (ap (λ (x : List ℕ). take i globs ++ x ∷ []) is ∙ sym (take_more globs i glob within))
+    (lists_more inputs (take i globs) (glob ∷ []) told between after old found new before here)
+
+-- the globs of the next input were listed
+pub lists_next_input : (inputs all : List InputGlobs) (i : ℕ) (input : InputGlobs) (told between after : Option FolderHistory) (old found new : Found) → i < length inputs → input ≡ get_or inputs i input →
+    Lists all (globs_in (take i inputs)) told old found between → Lists all input.globs.items between found new after → Lists all (globs_in (take (i + 1) inputs)) told old new after
+lists_next_input inputs all i input told between after old found new within is before here =
+    subst (λ (l : List (List ℕ)). Lists all l told old new after)
+    (ap (λ (l : List (List ℕ)). globs_in (take i inputs) ++ l) (sym (append-nil input.globs.items))
+    ∙ sym (flat_map-append (λ (input : InputGlobs). input.globs.items) (take i inputs) (input ∷ []))
+    ∙ ap (λ (x : InputGlobs). globs_in (take i inputs ++ x ∷ [])) is
+    ∙ ap (λ (l : List InputGlobs). globs_in l) (sym (take_more inputs i input within)))
+    (lists_more all (globs_in (take i inputs)) input.globs.items told between after old found new before here)

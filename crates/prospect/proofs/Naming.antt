@@ -1,13 +1,15 @@
 -- What a scan hands out of what it has found.
-use Rattle.std.proofs.Common.{◌≡◌, ◌≢◌, ◌⊎◌, inl, inr, ⊎_elim, ℕ, zero, suc, ◌<◌, ◌≤◌, List, [], ◌∷◌, ◌++◌, length, map, flat_map, get_or, All, Any, Contains, Option, Some, None, IfSome, IsSome, slice_get, codes, refl, sym, ◌∙◌, ap, subst, arith, lit<, length-append}
-use Rattle.std.specs.BTreeMap.{get, keys, IsOrdered}
+use Rattle.std.proofs.Common.{◌≡◌, ◌≢◌, ◌⊎◌, inl, inr, ⊎_elim, ℕ, zero, suc, ◌+◌, ◌<◌, ◌≤◌, List, [], ◌∷◌, ◌++◌, length, map, take, get_or, All, Any, Contains, Option, Some, None, IfSome, IsSome, slice_get, codes, refl, sym, ◌∙◌, ap, subst, arith, lit<, length-append}
+use Rattle.std.specs.BTreeMap.{get, is_at, IsOrdered}
 use Rattle.std.specs.Cmp.Lexicographic.{nat_list_cmp_total}
 use Rattle.std.specs.List.{AllByRecursion, AllZip}
 use Rattle.std.specs.List.Sorted.{IsStrictlySortedBy}
-use Rattle.std.specs.Map.{keys_of}
+use Rattle.std.specs.Map.{keys_of, lookup}
 use Rattle.std.specs.declared.cmp.Ordering.TheVariants.{Less}
-use Rattle.std.proofs.lemmas.List.{get_or-map}
+use Rattle.std.proofs.lemmas.List.{take_more}
+use Rattle.std.proofs.lemmas.Slice.Zip.{all_zipped_more}
 use Rattle.std.proofs.lemmas.List.Elements.{All-cons, All-contains, All-map, All-nil, All-weaker, Contains-get_or}
+use Rattle.std.proofs.lemmas.Option.{none-some}
 use Rattle.std.proofs.lemmas.Map.Lookups.{exact_bytes}
 use Rattle.std.proofs.lemmas.Map.Views.{All-found, Contains-keys_from_lookup, tells_apart}
 use Rattle.event_tree.specs.declared.input_rule.InputRule.{InputRule}
@@ -58,6 +60,15 @@ member_of_rule paths member input read same is = record {
   key = is.key ∙ ap (λ (id : List ℕ). path_key id member.path) same.id;
 }
 
+-- the next input was read
+pub reads_next : (inputs : List InputRule) (i : ℕ) (input : InputRule) (reads after : List InputGlobs) (read : InputGlobs) → i < length inputs → input ≡ get_or inputs i input →
+    AllZip IsReadOf (take i inputs) reads → read.id ≡ input.id → read.globs.items ≡ input.paths → after ≡ reads ++ read ∷ [] → AllZip IsReadOf (take (i + 1) inputs) after
+reads_next inputs i input reads after read within is zip id_is globs_are after_is =
+    subst (λ (l : List InputGlobs). AllZip IsReadOf (take (i + 1) inputs) l) (sym after_is)
+    (subst (λ (l : List InputRule). AllZip IsReadOf l (reads ++ read ∷ []))
+    (ap (λ (x : InputRule). take i inputs ++ x ∷ []) is ∙ sym (take_more inputs i input within))
+    (all_zipped_more IsReadOf (take i inputs) reads input read zip (record { id = id_is; globs = globs_are })))
+
 -- ---- the order
 
 is_before : (key : List ℕ) (entries : List (List ℕ × List ℕ)) → AllByRecursion (λ other. compare key other ≡ Less) (keys_of entries) → IsBefore key (members_of entries)
@@ -91,7 +102,7 @@ are_members inputs read paths none found zip empty added ordered = record {
     EveryRead : InputGlobs → Type 0
     EveryRead one = (path : List ℕ) → Contains paths path → IsCovered one.globs.items path → IsSome (get compare found (path_key one.id path))
     nothing : (key path : List ℕ) → get compare none key ≡ Some path → ⊥
-    nothing key path is = ?
+    nothing key path is = none-some path (sym (ap (λ (entries : List (List ℕ × List ℕ)). lookup (is_at (compare key)) entries) empty) ∙ is)
     named : (e : List ℕ × List ℕ) → get compare found e.0 ≡ Some e.1 → Named (member_of e)
     named e is = ⊎_elim
         (λ before. absurd (nothing e.0 e.1 before))
@@ -108,13 +119,20 @@ are_members inputs read paths none found zip empty added ordered = record {
 -- ---- ranges
 
 pub are_paths : (inputs : List InputRule) (paths : List (List ℕ)) (members : List Member) → All IsPath paths → AreMembers inputs paths members → All (λ member. IsPath member.path) members
-are_paths inputs paths members short are = λ k d within. let named = are.only k d within in All-contains IsPath paths (get_or members k d).path short named.1.1.1.1.among
+are_paths inputs paths members short are = λ k d within. let named = are.only k d within in All-contains IsPath paths (get_or members k d).path short named.4.among
 
 key_length : (id path : List ℕ) → length id ≤ 64 → IsPath path → IsKey (path_key id path)
 key_length id path short in_range = simp length-append (omega arith)
 
 pub are_in_range : (inputs : List InputRule) (paths : List (List ℕ)) (members : List Member) → All IsPath paths → HaveShortIds inputs → AreMembers inputs paths members → All IsInRange members
-are_in_range inputs paths members short ids are = λ k d within. ?
+are_in_range inputs paths members short ids are = λ k d within.
+    let named = are.only k d within in
+    let short_path : IsPath (get_or members k d).path = All-contains IsPath paths (get_or members k d).path short named.4.among in
+    let short_id : length named.1.id ≤ 64 = All-contains (λ (input : InputRule). length input.id ≤ 64) inputs named.1 ids (named.0, named.2, named.3) in
+    record {
+      key = subst (λ (key : List ℕ). IsKey key) (sym named.4.key) (key_length named.1.id (get_or members k d).path short_id short_path);
+      path = short_path;
+    }
 
 -- ---- what was told
 

@@ -1,5 +1,5 @@
 ghost use Rattle.std.specs.Prelude.{◌≡◌, ◌++◌, [], IfOk, MatchOption, OnOk};
-ghost use Rattle.prospect.specs.Lacks.{IsFirstLack, input_key, is_auto, is_nil, is_path, is_single, lacks_of, lacks_of_input, lacks_of_inputs, unless_built};
+ghost use Rattle.prospect.specs.Lacks.{IsFirstLack, input_key, is_auto, is_path, is_single, lacks_of, lacks_of_input, lacks_of_inputs, unless_built};
 
 use event_tree::{GroupRule, IdentityRule, InputRule, Settings, Terminator};
 use std::alloc::Global;

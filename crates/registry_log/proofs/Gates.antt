@@ -1,6 +1,7 @@
 -- The first byte of an area, over a write that was cut short and over one that was not.
 use Rattle.std.proofs.Common.{◌≡◌, ◌≢◌, ◌⊎◌, inl, inr, ℕ, suc, ◌+◌, ◌≤◌, min, max, List, [], ◌∷◌, ◌++◌, length, get_or, take, drop, refl, sym, ◌∙◌, ap, subst, append-nil, arith}
 use Rattle.std.proofs.lemmas.Bool.Decides.{eqb_tells}
+use Rattle.std.proofs.lemmas.List.{take_min}
 use Rattle.outside.specs.DiskImages.{MayBeCut, Torn}
 use Rattle.outside.specs.DiskReads.{written}
 use Rattle.registry_log.specs.Starting.{IsBlank, IsClosed, IsPartWritten, IsShut}
@@ -14,10 +15,10 @@ open_or_not gate = elim (eqb_tells gate 123) [
 -- ---- an area whose gate is closed by a write
 
 pub not_closed : (area : List ℕ) → (IsClosed area → ⊥) → (area ≡ []) ⊎ ((rest : List ℕ) × (area ≡ 123 ∷ rest))
-not_closed [] open = inl refl
-not_closed (gate ∷ rest) open = elim (open_or_not gate) [
+not_closed [] unclosed = inl refl
+not_closed (gate ∷ rest) unclosed = elim (open_or_not gate) [
   | inl is ↦ inr (rest, ap (λ (g : ℕ). g ∷ rest) is)
-  | inr other ↦ absurd (open other)
+  | inr other ↦ absurd (unclosed other)
 ]
 
 closing_empty : (area : List ℕ) → Torn 0 1 [] area → IsShut [] area
@@ -31,13 +32,13 @@ closing_open rest (gate ∷ behind) torn = elim (open_or_not gate) [
 ]
 
 pub closing : (before area : List ℕ) → (IsClosed before → ⊥) → Torn 0 1 before area → IsShut before area
-closing before area open torn = elim (not_closed before open) [
+closing before area unclosed torn = elim (not_closed before unclosed) [
   | inl empty ↦ let S : List ℕ → Type 0 = λ l. IsShut l area in let T : List ℕ → Type 0 = λ l. Torn 0 1 l area in subst S (sym empty) (closing_empty area (subst T empty torn))
   | inr opened ↦ let S : List ℕ → Type 0 = λ l. IsShut l area in let T : List ℕ → Type 0 = λ l. Torn 0 1 l area in subst S (sym opened.1) (closing_open opened.0 area (subst T opened.1 torn))
 ]
 
 pub closed_by_a_write : (before : List ℕ) → IsClosed (written before 0 (46 ∷ []))
-closed_by_a_write before = λ same. absurd (omega (arith, same))
+closed_by_a_write before = λ same. cc same
 
 -- ---- an area with a closed gate alone
 
@@ -73,4 +74,9 @@ cut_closed [] area closed (inr cut) = absurd closed
 cut_closed (gate ∷ rest) area closed (inr cut) = subst IsClosed (sym cut) closed
 
 pub torn_by_nothing : (at n : ℕ) (area : List ℕ) → Torn at n area area
-torn_by_nothing at n area = record { front = ?; back = refl; no_shorter = omega arith; no_longer = ? }
+torn_by_nothing at n area = record {
+  front = take_min at area;
+  back = refl;
+  no_shorter = omega arith;
+  no_longer = omega arith;
+}
