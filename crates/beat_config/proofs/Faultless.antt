@@ -1,5 +1,5 @@
 -- What a part of a document is where nothing is wrong with it.
-use Rattle.std.proofs.Common.{◌≡◌, ℕ, ℤ, suc, pos, negsuc, Bool, true, false, ◌&&◌, List, [], ◌∷◌, ◌++◌, length, All, Option, Some, None, refl, sym, ap, ◌∙◌, inl, inr, is_some, unwrap_or, option_and_then, nat_le, if◌then◌else◌, ◌+◌, ◌≤◌}
+use Rattle.std.proofs.Common.{◌≡◌, ℕ, ℤ, suc, pos, negsuc, Bool, true, false, ◌&&◌, List, [], ◌∷◌, ◌++◌, length, All, Option, Some, None, refl, ap, inl, inr, is_some, unwrap_or, option_and_then, nat_le, if◌then◌else◌, ◌+◌}
 use Rattle.std.specs.Int.{IsInRange}
 use Rattle.std.specs.List.{cons_option}
 use Rattle.std.specs.Option.{IfSome}

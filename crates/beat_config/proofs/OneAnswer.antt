@@ -1,5 +1,5 @@
 -- Bytes have one first fault, or settings and no fault.
-use Rattle.std.proofs.Common.{◌≡◌, ◌⊎◌, ℕ, ◌<◌, ◌≤◌, true, false, List, [], ◌∷◌, ◌++◌, length, Some, None, refl, sym, ap, ◌∙◌, subst, inl, inr, arith}
+use Rattle.std.proofs.Common.{◌≡◌, ℕ, true, false, List, [], ◌∷◌, ◌++◌, sym, ◌∙◌, subst, inl, inr, arith}
 use Rattle.std.specs.List.{AllByRecursion}
 use Rattle.std.proofs.lemmas.Bool.{false≢true}
 use Rattle.std.proofs.lemmas.Option.{same_Some}
@@ -22,7 +22,7 @@ go [] (x ∷ others) later behind first second same before_first behind_first be
     let head : first ≡ x = cc in
     let tail : later ≡ others ++ second ∷ behind = cc in
     let below : AllByRecursion (λ other. comes_before other first ≡ false) (others ++ second ∷ behind) =
-        subst (AllByRecursion (λ other. comes_before other first ≡ false)) tail behind_first in
+    subst (AllByRecursion (λ other. comes_before other first ≡ false)) tail behind_first in
     let no = among (λ other. comes_before other first ≡ false) others behind second below in
     let yes : comes_before second first ≡ true = subst (λ fault. comes_before second fault ≡ true) (sym head) before_second.0 in
     absurd (false≢true (sym no ∙ yes))
@@ -30,7 +30,7 @@ go (x ∷ earlier) [] later behind first second same before_first behind_first b
     let head : second ≡ x = cc in
     let tail : behind ≡ earlier ++ first ∷ later = cc in
     let below : AllByRecursion (λ other. comes_before other second ≡ false) (earlier ++ first ∷ later) =
-        subst (AllByRecursion (λ other. comes_before other second ≡ false)) tail behind_second in
+    subst (AllByRecursion (λ other. comes_before other second ≡ false)) tail behind_second in
     let no = among (λ other. comes_before other second ≡ false) earlier later first below in
     let yes : comes_before first second ≡ true = subst (λ fault. comes_before first fault ≡ true) (sym head) before_first.0 in
     absurd (false≢true (sym no ∙ yes))

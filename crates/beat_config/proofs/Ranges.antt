@@ -1,26 +1,21 @@
 -- The settings of a document without a fault are within their ranges.
-use Rattle.std.proofs.Common.{◌≡◌, ◌≢◌, ℕ, ◌+◌, ◌≤◌, ◌==◌, suc, pos, Bool, true, false, ◌&&◌, ◌||◌, List, [], ◌∷◌, ◌++◌, length, All, AllPairs, Option, Some, None, refl, sym, ap, subst, ◌∙◌, inl, inr, is_some, unwrap_or, option_and_then, codes, take, drop, nat_le}
+use Rattle.std.proofs.Common.{◌≡◌, ℕ, ◌+◌, suc, pos, true, ◌&&◌, List, [], ◌∷◌, length, All, Option, Some, None, refl, sym, ap, subst, inl, inr, is_some, option_and_then, codes, take, drop, nat_le}
 use Rattle.std.specs.Int.{IsInRange}
-use Rattle.std.specs.List.{cons_option, list_any, list_all}
+use Rattle.std.specs.List.{cons_option}
 use Rattle.std.specs.Option.{IfSome}
-use Rattle.std.specs.Str.{bytes_eq}
-use Rattle.std.proofs.lemmas.Bool.{and_parts, or_parts, ltb-true, leb-true, cases_Bool}
+use Rattle.std.proofs.lemmas.Bool.{and_parts, ltb-true, leb-true, cases_Bool}
 use Rattle.std.proofs.lemmas.List.Elements.{All-nil, All-cons}
-use Rattle.std.proofs.lemmas.List.Folds.{list_any-append}
-use Rattle.std.proofs.lemmas.List.Kept.{AllPairs-cons}
 use Rattle.std.proofs.lemmas.List.Sums.{AllPass-from_list_all}
-use Rattle.event_tree.specs.declared.output_rule.OutputRule.{OutputRule}
-use Rattle.toml.specs.Data.{Data, Items, no_items, item, Members, get_member, as_str, as_array, as_integer, as_table}
+use Rattle.toml.specs.Data.{Data, Items, no_items, item, Members, get_member, as_str, as_array, as_integer}
 use Rattle.wire_base.specs.declared.host.Host.{Host}
-use Rattle.beat_config.specs.declared.settings_error.SettingsError.{SettingsError}
-use Rattle.beat_config.specs.Host.{port_within, port_of, port_behind, named_host, name_length, host_of, host_findings, hosts_in, host_member_findings, host_list_findings, hosts_of, list_hosts, hosts_findings}
+use Rattle.beat_config.specs.Host.{port_within, port_behind, named_host, name_length, host_of, host_findings, hosts_in, host_member_findings, host_list_findings, hosts_of, list_hosts, hosts_findings}
 use Rattle.beat_config.specs.InRange.{IsHostInRange, IsOutputInRange}
 use Rattle.beat_config.specs.Name.{is_name, is_name_byte, IsName}
 use Rattle.beat_config.specs.Number.{number_of}
 use Rattle.beat_config.specs.Output.{output_in, output_of, output_keys, output_value_findings, output_findings}
 use Rattle.beat_config.specs.Path.{key_path}
-use Rattle.beat_config.specs.Single.{limits, number_in, duration_in, whole_of, whole_findings, duration_of, duration_findings, range_findings}
-use Rattle.beat_config.specs.Table.{members_of, members_at, table_findings, table_at_findings}
+use Rattle.beat_config.specs.Single.{limits, number_in, duration_in, whole_of, duration_of}
+use Rattle.beat_config.specs.Table.{members_of, members_at, table_at_findings}
 use Rattle.beat_config.specs.Text.{item_count}
 use Rattle.beat_config.proofs.Faultless.{parts, passed, tested, required, table_required, number_within, if_then, duration_within, or_default, count_within}
 

@@ -1,5 +1,5 @@
 -- The settings of a document without a fault are in range.
-use Rattle.std.proofs.Common.{◌≡◌, ℕ, ◌≤◌, suc, pos, true, List, [], ◌∷◌, ◌++◌, length, Option, Some, None, refl, sym, ap, subst, ◌∙◌, is_some, codes}
+use Rattle.std.proofs.Common.{◌≡◌, ℕ, ◌≤◌, suc, List, [], ◌∷◌, length, Option, Some, None, refl, sym, ap, subst, codes}
 use Rattle.std.specs.Int.{IsInRange}
 use Rattle.std.proofs.lemmas.Bool.{leb-true}
 use Rattle.event_tree.specs.declared.processor_rule.ProcessorRule.{ProcessorRule}
@@ -9,7 +9,7 @@ use Rattle.beat_config.specs.Document.{document_keys, document_findings, AreSett
 use Rattle.beat_config.specs.Each.{each_findings, AreEach}
 use Rattle.beat_config.specs.InRange.{IsOutputInRange, AreInRange}
 use Rattle.beat_config.specs.Input.{inputs_findings}
-use Rattle.beat_config.specs.Output.{output_findings, queue_findings, harvest_findings}
+use Rattle.beat_config.specs.Output.{output_findings}
 use Rattle.beat_config.specs.Processors.{IsProcessor, AreListed, AreProcessorsOf, processor_findings, processor_list_findings, processors_findings}
 use Rattle.beat_config.specs.Table.{unknown_findings, missing_findings, members_at}
 use Rattle.beat_config.specs.Text.{item_count}
@@ -54,7 +54,7 @@ document_in_range document settings h said =
       output = subst IsOutputInRange (sym said.output) (output_within (codes "output") (get_member (codes "output") document) output_key.0 output.0);
       processor_count = processors_few (codes "processors") (get_member (codes "processors") document) settings.processors processors.0 said.processors;
       events = subst (IsInRange 32 65536) (sym said.events)
-        (whole_within 32 65536 3200 (codes "events") (members_at (get_member (codes "queue") document)) refl);
+          (whole_within 32 65536 3200 (codes "events") (members_at (get_member (codes "queue") document)) refl);
       lanes = subst (IsInRange 1 8) (sym said.lanes)
-        (whole_within 1 8 2 (codes "lanes") (members_at (get_member (codes "harvest") document)) refl);
+          (whole_within 1 8 2 (codes "lanes") (members_at (get_member (codes "harvest") document)) refl);
     }

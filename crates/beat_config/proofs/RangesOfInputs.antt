@@ -1,31 +1,27 @@
 -- The inputs of a document without a fault are within their ranges, and no two have the same id.
-use Rattle.std.proofs.Common.{◌≡◌, ◌≢◌, ℕ, ◌+◌, ◌≤◌, ◌==◌, suc, pos, Bool, true, false, ◌||◌, List, [], ◌∷◌, ◌++◌, length, All, AllPairs, Option, Some, None, IfSome, refl, sym, ap, subst, ◌∙◌, inl, inr, is_some, unwrap_or, codes, arith}
+use Rattle.std.proofs.Common.{◌≡◌, ◌≢◌, ℕ, ◌+◌, ◌≤◌, ◌==◌, suc, true, false, List, [], ◌∷◌, ◌++◌, length, All, AllPairs, Option, Some, None, IfSome, refl, sym, ap, subst, ◌∙◌, inl, inr, is_some, unwrap_or, codes, arith}
 use Rattle.std.specs.Int.{IsInRange}
 use Rattle.std.specs.List.{list_any}
 use Rattle.std.specs.Str.{bytes_eq}
 use Rattle.std.proofs.lemmas.Bool.{or_parts, cases_Bool, false≢true}
-use Rattle.std.proofs.lemmas.List.Elements.{All-nil, All-cons, All-from_recursion}
+use Rattle.std.proofs.lemmas.List.Elements.{All-nil, All-cons}
 use Rattle.std.proofs.lemmas.List.Folds.{list_any-append}
 use Rattle.std.proofs.lemmas.List.Kept.{AllPairs-cons}
 use Rattle.std.proofs.lemmas.Slice.Eq.{bytes_eq-Decides}
-use Rattle.event_tree.specs.declared.group_rule.GroupRule.{GroupRule}
-use Rattle.event_tree.specs.declared.input_rule.IdentityRule.{IdentityRule}
 use Rattle.event_tree.specs.declared.input_rule.InputRule.{InputRule}
 use Rattle.toml.specs.Data.{Data, Items, no_items, item, Members, get_member, as_str, as_array}
-use Rattle.beat_config.specs.declared.settings_error.SettingsError.{SettingsError}
-use Rattle.beat_config.specs.declared.settings_error.SettingsError.TheVariants.{BadText}
 use Rattle.beat_config.specs.declared.text.Form.{Form}
 use Rattle.beat_config.specs.declared.text.Form.TheVariants.{Id, Glob, LinePattern}
 use Rattle.glob_paths.specs.declared.error.GlobError.{GlobError}
 use Rattle.glob_paths.specs.Fault.{fault_of}
 use Rattle.beat_config.specs.InRange.{IsMessageLimit, IsGlob, IsLinePattern, IsIdentityInRange, IsGroupInRange, IsInputInRange}
 use Rattle.beat_config.specs.Input.{input_keys, identities, terminators, identity_at, identity_in, identity_of, identity_findings, id_in, message_max_bytes_in, input_in, repeated_findings, input_value_findings, input_findings, inputs_in, inputs_item_findings, inputs_list_findings, list_inputs, inputs_of, inputs_findings}
-use Rattle.beat_config.specs.Multiline.{types, sides, count_in, pattern_in, count_value_findings, pattern_value_findings, count_keys, pattern_keys, is_count, group_in, group_of, group_findings, group_value_findings, count_table_findings, pattern_table_findings}
-use Rattle.beat_config.specs.Name.{is_name, IsName}
+use Rattle.beat_config.specs.Multiline.{count_in, pattern_in, pattern_value_findings, pattern_keys, is_count, group_in, group_of, group_findings, group_value_findings, pattern_table_findings}
+use Rattle.beat_config.specs.Name.{IsName}
 use Rattle.beat_config.specs.Path.{key_path, member_path}
-use Rattle.beat_config.specs.Single.{limits, choice_of, choice_findings, flag_findings, whole_of, whole_findings, duration_findings, range_findings}
-use Rattle.beat_config.specs.Table.{members_of, members_at, table_findings}
-use Rattle.beat_config.specs.Text.{glob_findings, text_findings, text_of, found_findings, value_findings, key_findings, items_findings, texts_of, list_texts, texts_in, texts_findings, item_count, member_findings}
+use Rattle.beat_config.specs.Single.{limits, choice_of, choice_findings, flag_findings, whole_of, whole_findings, duration_findings}
+use Rattle.beat_config.specs.Table.{members_of, members_at}
+use Rattle.beat_config.specs.Text.{glob_findings, text_findings, text_of, found_findings, key_findings, items_findings, texts_of, list_texts, texts_findings, item_count, member_findings}
 use Rattle.beat_config.proofs.Faultless.{parts, passed, required, table_required, count_within, texts_within}
 use Rattle.beat_config.proofs.Ranges.{whole_within, time_within, name_of}
 
@@ -119,10 +115,13 @@ pattern_is limit path members h there findings =
     let pattern = parts _ _ behind_type in
     let negate = parts _ _ pattern.1 in
     let side = parts _ _ negate.1 in
-    let flush = parts _ _ side.1 in
-    (h, whole_within 1 1000000 500 (codes "max_lines") members refl, time_within 1 86400000 5000 (codes "timeout") members refl,
-    required_text IsLinePattern LinePattern is_line_pattern (key_path path (codes "pattern")) (get_member (codes "pattern") members) there pattern.0,
-    text_at IsLinePattern LinePattern is_line_pattern (key_path path (codes "flush_pattern")) (get_member (codes "flush_pattern") members) flush.0)
+    let flush = parts _ _ side.1 in (
+      h,
+      whole_within 1 1000000 500 (codes "max_lines") members refl,
+      time_within 1 86400000 5000 (codes "timeout") members refl,
+      required_text IsLinePattern LinePattern is_line_pattern (key_path path (codes "pattern")) (get_member (codes "pattern") members) there pattern.0,
+      text_at IsLinePattern LinePattern is_line_pattern (key_path path (codes "flush_pattern")) (get_member (codes "flush_pattern") members) flush.0,
+    )
 
 pattern_table_is : (limit : ℕ) (path : List ℕ) (value : Data) → IsMessageLimit limit → pattern_table_findings path value ≡ []
     → IsGroupInRange (pattern_in limit (members_of value))

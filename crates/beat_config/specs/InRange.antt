@@ -1,6 +1,6 @@
 -- Settings within the ranges of their table: counts, numbers, ids, hosts, globs and patterns (Filebeat reference,
 -- filestream input, multiline messages and Logstash output; the ranges are this project's profile).
-use Rattle.std.specs.Prelude.{◌≡◌, ◌≢◌, ℕ, ◌≤◌, List, length, All, IsTrue, IfSome, Option, None}
+use Rattle.std.specs.Prelude.{◌≡◌, ◌≢◌, ℕ, ◌≤◌, List, length, All, IsTrue, IfSome, None}
 use Rattle.std.specs.Int.{IsInRange}
 use Rattle.std.specs.List.{AllPairs}
 use Rattle.event_tree.specs.declared.group_rule.GroupRule.{GroupRule}

@@ -1,4 +1,4 @@
-use Rattle.std.proofs.Common.{◌≡◌, List, [], None, sym, ap, ◌∙◌}
+use Rattle.std.proofs.Common.{◌≡◌, None, sym, ap, ◌∙◌}
 use Rattle.toml.specs.View.{table_view}
 use Rattle.beat_config.specs.Document.{document_findings}
 use Rattle.beat_config.specs.Finding.{seen_of, note_all}
