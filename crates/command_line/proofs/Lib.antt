@@ -1,3 +1,3 @@
-mod Plain
+pub mod Plain
 mod Rows
 mod Taken

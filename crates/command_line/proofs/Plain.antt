@@ -113,8 +113,8 @@ apart_is_taken file plain = (apart_has_no_fault file plain (no_dashes file plain
     no_dashes (x ∷ rest) none = by_test (x == 45) none
       where
         by_test : (b : Bool) → cond b (Some rest) None ≡ None → (b && bytes_eq rest (codes "-")) ≡ false
-        by_test true no = cc
-        by_test false no = refl
+        by_test true h = cc
+        by_test false h = refl
 
 -- ---- words that are refused
 

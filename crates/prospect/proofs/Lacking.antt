@@ -18,7 +18,11 @@ of_next lacks before after inputs i input within is before_is after_is =
     after_is
     ∙ ap (λ (l : List (List ℕ)). l ++ lacks_of_input i input) before_is
     ∙ append_assoc lacks (lacks_of_inputs 0 (take i inputs)) (lacks_of_input i input)
-    ∙ ap (λ (n : ℕ). lacks ++ lacks_of_inputs 0 (take i inputs) ++ lacks_of_input n input) (sym number_is)
+    ∙ ap (λ (n : ℕ). lacks ++ (lacks_of_inputs 0 (take i inputs) ++ lacks_of_input n input)) (sym number_is)
     ∙ ap (λ (l : List (List ℕ)). lacks ++ l) (sym (of_one_more 0 (take i inputs) input))
     ∙ ap (λ (x : InputRule). lacks ++ lacks_of_inputs 0 (take i inputs ++ x ∷ [])) is
     ∙ ap (λ (l : List InputRule). lacks ++ lacks_of_inputs 0 l) (sym (take_more inputs i input within))
+
+pub six_more : (old first second third fourth fifth sixth a b c d e f : List (List ℕ)) → first ≡ old ++ a → second ≡ first ++ b → third ≡ second ++ c → fourth ≡ third ++ d → fifth ≡ fourth ++ e → sixth ≡ fifth ++ f →
+    sixth ≡ old ++ (a ++ b ++ c ++ d ++ e ++ f)
+six_more old first second third fourth fifth sixth a b c d e f one two three four five six = rw (six, five, four, three, two, one) (simp append_assoc)

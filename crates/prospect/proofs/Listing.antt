@@ -1,5 +1,5 @@
 -- The listings of a scan, one after the other.
-use Rattle.std.proofs.Common.{◌≡◌, ◌⊎◌, inl, inr, ℕ, ◌+◌, ◌<◌, ◌≤◌, List, [], ◌∷◌, ◌++◌, length, map, take, get_or, All, Option, Some, None, Result, Ok, Err, IfSome, Vec, refl, sym, ◌∙◌, ap, subst, append_assoc, append-nil, arith}
+use Rattle.std.proofs.Common.{◌≡◌, ◌⊎◌, inl, inr, ℕ, ◌+◌, ◌<◌, ◌≤◌, List, [], ◌∷◌, ◌++◌, length, map, take, get_or, All, Option, Some, None, Result, Ok, Err, IfSome, OnErr, Vec, refl, sym, ◌∙◌, ap, subst, append_assoc, append-nil, arith}
 use Rattle.std.specs.List.{AllByRecursion}
 use Rattle.std.specs.declared.alloc.Global.{Global}
 use Rattle.std.proofs.lemmas.List.{map-append, take_more}
@@ -165,3 +165,7 @@ lists_next_input inputs all i input told between after old found new within is b
     ∙ ap (λ (x : InputGlobs). globs_in (take i inputs ++ x ∷ [])) is
     ∙ ap (λ (l : List InputGlobs). globs_in l) (sym (take_more inputs i input within)))
     (lists_more all (globs_in (take i inputs)) input.globs.items told between after old found new before here)
+
+pub on_err : {T E : Type 0} (P : Type 0) (result : Result T E) → P → OnErr result P
+on_err P (Ok value) holds = tt
+on_err P (Err error) holds = holds

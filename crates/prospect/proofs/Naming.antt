@@ -9,7 +9,7 @@ use Rattle.std.specs.declared.cmp.Ordering.TheVariants.{Less}
 use Rattle.std.proofs.lemmas.List.{take_more}
 use Rattle.std.proofs.lemmas.Slice.Zip.{all_zipped_more}
 use Rattle.std.proofs.lemmas.List.Elements.{All-cons, All-contains, All-map, All-nil, All-weaker, Contains-get_or}
-use Rattle.std.proofs.lemmas.Option.{none-some}
+use Rattle.std.proofs.lemmas.Option.{get_or_from_slice_get, none-some, slice_get_within}
 use Rattle.std.proofs.lemmas.Map.Lookups.{exact_bytes}
 use Rattle.std.proofs.lemmas.Map.Views.{All-found, Contains-keys_from_lookup, tells_apart}
 use Rattle.event_tree.specs.declared.input_rule.InputRule.{InputRule}
@@ -17,10 +17,14 @@ use Rattle.outside.specs.Folders.{FolderHistory}
 use Rattle.wire_base.specs.Ranges.{IsKey, IsPath}
 use Rattle.prospect.specs.declared.input_globs.InputGlobs.{InputGlobs}
 use Rattle.prospect.specs.declared.member.Member.{Member}
-use Rattle.prospect.specs.Collecting.{Adds, Found, globs_in, IsFoundBy, IsReadOf, Lists, member_of, members_of}
+use Rattle.prospect.specs.declared.listings.TheConstants.{MAX_FILES}
+use Rattle.prospect.specs.declared.scan_error.ScanError.{ScanError}
+use Rattle.prospect.specs.declared.scan_error.ScanError.TheVariants.{Failed, NoMemory, TooMany}
+use Rattle.prospect.specs.Collecting.{Adds, FirstTooMany, Found, globs_in, IsFoundBy, IsReadOf, Lists, member_of, members_of, ShowPaths}
 use Rattle.prospect.specs.Members.{AreMembers, compare, globs_of, HasKey, HaveShortIds, IsBefore, IsCovered, IsInOrder, IsInRange, IsMember, path_key}
-use Rattle.prospect.specs.Scan.{AreListed, paths_of, Scans}
+use Rattle.prospect.specs.Scan.{AreListed, FindsTooMany, RefusedAs, Scans, TellsPath}
 use Rattle.prospect.proofs.Adding.{contains_none}
+use Rattle.prospect.proofs.Listing.{only_listed}
 
 -- ---- the inputs as they were read
 
@@ -134,13 +138,51 @@ are_in_range inputs paths members short ids are = λ k d within.
       path = short_path;
     }
 
--- ---- what was told
+-- ---- what a scan answers
 
-pub scans : (inputs : List InputRule) (read : List InputGlobs) (told after : Option FolderHistory) (none found : Found) → AllZip IsReadOf inputs read →
-    none.entries ≡ [] → IsOrdered compare found → Lists read (globs_in read) told none found after → IfSome told (λ history. Scans inputs history (members_of found.entries) after)
-scans inputs read None after none found zip empty ordered lists = tt
-scans inputs read (Some told) after none found zip empty ordered lists = record {
-  listings = lists.shown.listings;
-  listed = subst (λ (globs : List (List ℕ)). AreListed globs told lists.shown.listings after) (globs_read inputs read zip) lists.shown.listed;
-  members_are = subst (λ (paths : List (List ℕ)). AreMembers inputs paths (members_of found.entries)) lists.shown.paths_are (are_members inputs read lists.paths none found zip empty lists.added ordered);
-}
+module _ (inputs : List InputRule) (read : List InputGlobs) (told after : Option FolderHistory) (none found : Found) (zip : AllZip IsReadOf inputs read)
+    (empty : none.entries ≡ []) (ordered : IsOrdered compare found) (lists : Lists read (globs_in read) told none found after) where
+  members_are : AreMembers inputs lists.paths (members_of found.entries)
+  members_are = are_members inputs read lists.paths none found zip empty lists.added ordered
+
+  scans : (o : Option FolderHistory) → IfSome o (λ history. ShowPaths (globs_in read) lists.paths history after) → IfSome o (λ history. Scans inputs history (members_of found.entries) after)
+  scans None shown = tt
+  scans (Some history) shown = record {
+    listings = shown.listings;
+    listed = subst (λ (globs : List (List ℕ)). AreListed globs history shown.listings after) (globs_read inputs read zip) shown.listed;
+    members_are = subst (λ (paths : List (List ℕ)). AreMembers inputs paths (members_of found.entries)) shown.paths_are members_are;
+  }
+
+  pub scanned : (members : List Member) → members ≡ members_of found.entries → IfSome told (λ history. Scans inputs history members after)
+  scanned members are = subst (λ (l : List Member). IfSome told (λ history. Scans inputs history l after)) (sym are) (scans told lists.shown)
+
+  too_many : (o : Option FolderHistory) (path : List ℕ) → slice_get (map (λ member. member.path) (members_of found.entries)) MAX_FILES ≡ Some path →
+      IfSome o (λ history. Scans inputs history (members_of found.entries) after) → IfSome o (λ history. FindsTooMany inputs history path after)
+  too_many None path is scanned = tt
+  too_many (Some history) path is scanned = record {
+    listings = scanned.listings;
+    listed = scanned.listed;
+    members = members_of found.entries;
+    members_are = scanned.members_are;
+    path_is = is;
+  }
+
+  pub refused : (error : ScanError) → FirstTooMany (members_of found.entries) error → IfSome told (λ history. RefusedAs inputs history error after)
+  refused Failed first = absurd first
+  refused NoMemory first = only_listed read (globs_in read) told after none found lists
+  refused (TooMany path) first = too_many told path first (scans told lists.shown)
+
+  pub in_order : (members : List Member) → members ≡ members_of found.entries → IsInOrder members
+  in_order members are = subst IsInOrder (sym are) members_are.in_order
+
+  pub in_range : (members : List Member) → members ≡ members_of found.entries → HaveShortIds inputs → All IsInRange members
+  in_range members are ids = subst (λ (l : List Member). All IsInRange l) (sym are) (are_in_range inputs lists.paths (members_of found.entries) lists.in_range ids members_are)
+
+  pub tells_path : (error : ScanError) → FirstTooMany (members_of found.entries) error → TellsPath error
+  tells_path Failed first = tt
+  tells_path NoMemory first = tt
+  tells_path (TooMany path) first =
+      let paths : List (List ℕ) = map (λ (member : Member). member.path) (members_of found.entries) in
+      All-contains IsPath paths path
+      (All-map IsPath (λ (member : Member). member.path) (members_of found.entries) (are_paths inputs lists.paths (members_of found.entries) lists.in_range members_are))
+      (MAX_FILES, slice_get_within paths MAX_FILES path first, get_or_from_slice_get paths MAX_FILES path path first)

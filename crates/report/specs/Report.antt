@@ -49,9 +49,6 @@ settings_text (settings.BadGlob key fault) = codes "bad glob " ++ key
 settings_text (settings.BadPattern key) = codes "bad pattern " ++ key
 settings_text settings.NoMemory = codes "no memory"
 
-abbrev pub settings_line : List ℕ → List ℕ
-settings_line text = codes "status 3 settings " ++ (text ++ codes "\n")
-
 abbrev pub area_letter : Which → List ℕ
 area_letter A = codes "A"
 area_letter B = codes "B"
@@ -69,14 +66,11 @@ lack_text (Key key) = codes "key " ++ key
 lack_text Follow = codes "follow"
 lack_text Generate = codes "generate"
 
-abbrev pub unbuilt_line : List ℕ → List ℕ
-unbuilt_line text = codes "status 13 unbuilt " ++ (text ++ codes "\n")
-
 -- the last line of each end; of a sink that failed nothing is promised
 abbrev pub status_bytes : Status → List ℕ
 status_bytes Done = codes "status 0 done\n"
 status_bytes Usage = codes "status 2 usage: beat_main -c FILE [--once] [--data DIR] [--generate N]\n"
-status_bytes (Settings fault) = settings_line (settings_text fault)
+status_bytes (Settings fault) = codes "status 3 settings " ++ (settings_text fault ++ codes "\n")
 status_bytes (RegistryBad area at) =
     codes "status 4 registry bad area " ++ (area_letter area ++ (codes " at " ++ (decimal at ++ codes "\n")))
 status_bytes DiskFault = codes "status 5 disk fault\n"
@@ -87,7 +81,7 @@ status_bytes OutFault = []
 status_bytes SourceFault = codes "status 9 source fault\n"
 status_bytes (TooMany what path) = codes "status 10 too many " ++ (full_name what ++ (codes " " ++ (quoted path ++ codes "\n")))
 status_bytes NoMemory = codes "status 12 no memory\n"
-status_bytes (Unbuilt what) = unbuilt_line (lack_text what)
+status_bytes (Unbuilt what) = codes "status 13 unbuilt " ++ (lack_text what ++ codes "\n")
 
 -- the lines of the rows, of the paths that were passed over, of the counts and of the status, in this order
 abbrev pub report_bytes : List Row → List Passing → ℕ → ℕ → Status → List ℕ

@@ -10,15 +10,12 @@ mod last_line;
 mod page;
 mod part;
 mod passing;
+mod spelled;
 mod status;
-mod text;
 mod write;
 
 pub use last_line::status_line;
 pub use passing::{Passing, Why};
+pub use spelled::report_text;
 pub use status::{Lack, Status};
-pub use text::report_text;
 pub use write::write_all;
-
-#[cfg(test)]
-mod tests;
