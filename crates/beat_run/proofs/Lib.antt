@@ -1,3 +1,4 @@
+mod Endings
 mod EventLines
 mod FileShipments
 mod Filling
@@ -9,8 +10,10 @@ mod Living
 mod Partings
 mod Payloads
 mod PieceReads
+mod Printings
 mod Progresses
 mod Readings
+mod Refusals
 mod Runs
 mod SentPieces
 mod Services
