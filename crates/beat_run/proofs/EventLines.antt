@@ -1,5 +1,5 @@
 -- Lines that are events, lines behind lines, and one line more.
-use Rattle.std.proofs.Common.{◌≡◌, ℕ, suc, ◌+◌, ◌<◌, ◌≤◌, List, [], ◌∷◌, ◌++◌, length, drop, get_or, Option, Some, None, refl, sym, ◌∙◌, ap, subst, append_assoc, append-nil, arith, length-append}
+use Rattle.std.proofs.Common.{◌≡◌, ℕ, suc, ◌+◌, ◌^◌, ◌<◌, ◌≤◌, List, [], ◌∷◌, ◌++◌, length, drop, get_or, Option, Some, None, refl, sym, ◌∙◌, ap, subst, append_assoc, append-nil, arith, length-append}
 use Rattle.std.specs.List.{AllByRecursion}
 use Rattle.std.proofs.lemmas.Grind.{flat_map-append}
 use Rattle.wire_base.specs.Extent.{Extent}
@@ -34,7 +34,7 @@ each-snoc [] payload each small = (small, tt)
 each-snoc (first ∷ payloads) payload each small = (each.0, each-snoc payloads payload each.1 small)
 
 pub holds-snoc : (old new : Batch) (payloads : List (List ℕ)) (payload head between : List ℕ) →
-    HoldsPayloads old payloads → length payload ≤ MAX_PAYLOAD → old.count < 2048 →
+    HoldsPayloads old payloads → length payload ≤ MAX_PAYLOAD → old.count + 1 < 2 ^ 32 →
     head ≡ json_head_bytes (old.count + 1) (length payload) → between ≡ old.frames.items ++ head → new.frames.items ≡ between ++ payload →
     new.count ≡ old.count + 1 → HoldsPayloads new (payloads ++ payload ∷ [])
 holds-snoc old new payloads payload head between holds small room head_is first second count =

@@ -5,6 +5,7 @@ mod FileShipments
 mod Filling
 mod Finds
 mod Folders
+mod GivenMoments
 mod Hearings
 mod Keeping
 mod Leavings
@@ -12,6 +13,7 @@ mod Living
 mod Marks
 mod Notings
 mod PartWritten
+mod Partings
 mod Parts
 mod PathParts
 mod Payloads

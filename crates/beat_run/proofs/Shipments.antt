@@ -1,9 +1,9 @@
 -- How far a file is shipped, step by step.
-use Rattle.std.proofs.Common.{◌≡◌, inl, inr, ℕ, zero, suc, ◌+◌, ◌-◌, take, drop, get_or, map, vec_len, ◌≤◌, ◌<◌, List, [], ◌∷◌, ◌++◌, length, All, Contains, Option, Some, None, Result, Ok, Err, OnOk, MatchResult, slice_get, unwrap_or, refl, sym, ◌∙◌, ap, subst, append_assoc, append-nil, arith, length-append}
+use Rattle.std.proofs.Common.{◌≡◌, inl, inr, ℕ, zero, suc, ◌+◌, ◌-◌, take, drop, get_or, map, vec_len, ◌≤◌, ◌<◌, List, [], ◌∷◌, ◌++◌, length, All, Option, Result, Ok, Err, OnOk, MatchResult, refl, sym, ◌∙◌, ap, subst, append_assoc, append-nil, arith, length-append}
 use Rattle.std.specs.List.{AllByRecursion}
-use Rattle.std.proofs.lemmas.List.{drop-append-le, take-append-drop, take_all, length-drop, length-take-le}
+use Rattle.std.proofs.lemmas.List.{take-append-drop, take_all, length-drop, length-take-le}
 use Rattle.std.proofs.Math.Seq.{take-suc}
-use Rattle.std.proofs.lemmas.List.Elements.{All-append, All-nil, Contains-push, Contains-append_left}
+use Rattle.std.proofs.lemmas.List.Elements.{All-append, All-nil}
 use Rattle.outside.specs.Talks.{Talk}
 use Rattle.outside.specs.Times.{GivesMoment}
 use Rattle.wire_base.specs.Ranges.{IsMoment}
@@ -21,101 +21,22 @@ use Rattle.beat_run.specs.Unbuilt.{CannotBeSent, IsSendable, IsSendableLine, IsU
 use Rattle.beat_run.specs.Serving.{HasSettled, HasServed}
 use Rattle.beat_run.specs.Shipping.{IsShipped, IsCovered}
 use Rattle.beat_run.proofs.EventLines.{events-append, front_of_lines, lines_bytes-append, lines_bytes-snoc, payloads-append, waiting-append}
+use Rattle.beat_run.proofs.GivenMoments.{events_still, moments_go}
 use Rattle.beat_run.proofs.Services.{first_served, settled_serves}
 
--- ---- moments
+-- ---- when the clock is asked
 
-contained : (list : List ℕ) (i x : ℕ) → slice_get list i ≡ Some x → Contains list x
-contained [] i x is = absurd cc
-contained (y ∷ list) zero x is = (0, omega arith, ap (λ (o : Option ℕ). unwrap_or o x) is)
-contained (y ∷ list) (suc i) x is =
-    let later = contained list i x is in
-    (suc later.0, omega (arith, later.1), later.2)
-
-contained_behind : (list : List ℕ) (k i x : ℕ) → k ≤ i → slice_get list i ≡ Some x → Contains (drop k list) x
-contained_behind [] k i x later is = absurd cc
-contained_behind (y ∷ list) zero i x later is = contained (y ∷ list) i x is
-contained_behind (y ∷ list) (suc k) zero x later is = absurd (omega (arith, later))
-contained_behind (y ∷ list) (suc k) (suc i) x later is = contained_behind list k i x (omega (arith, later)) is
-
--- what came to the list since then, when a moment is put behind it
-behind_more : (before more : List ℕ) (now : ℕ) → drop (length before - 1) ((before ++ more) ++ now ∷ []) ≡ drop (length before - 1) (before ++ more) ++ now ∷ []
-behind_more before more now = drop-append-le (length before - 1) (before ++ more) (now ∷ []) (omega (arith, length-append before more))
-
--- the moment that was given is one of those since then
-pub given_now : (begun moments : Option (List ℕ)) (now : ℕ) (after : Option (List ℕ)) → MomentsGoOn begun moments → GivesMoment moments now after → IsGiven (moments_since begun after) now
-given_now None moments now after goes gives = tt
-given_now (Some before) moments now after goes gives = here (subst G goes.1 gives)
-  where
-    G : Option (List ℕ) → Type 0
-    G = λ o. GivesMoment o now after
-
-    here : GivesMoment (Some (before ++ goes.0)) now after → IsGiven (moments_since (Some before) after) now
-    here (inl ends) =
-        let P : Option (List ℕ) → Type 0 = λ o. IsGiven (moments_since (Some before) o) now in
-        subst P (sym ends.1) (contained_behind (before ++ goes.0) (length before - 1) (length (before ++ goes.0) - 1) now (omega (arith, length-append before goes.0)) ends.0)
-    here (inr grows) =
-        let P : Option (List ℕ) → Type 0 = λ o. IsGiven (moments_since (Some before) o) now in
-        let Q : List ℕ → Type 0 = λ l. Contains l now in
-        subst P (sym grows.1) (subst Q (sym (behind_more before goes.0 now)) (Contains-push (drop (length before - 1) (before ++ goes.0)) now))
-
--- and those before it are there still
-given_still : (begun moments : Option (List ℕ)) (now : ℕ) (after : Option (List ℕ)) (earlier : ℕ) → MomentsGoOn begun moments → GivesMoment moments now after →
-    IsGiven (moments_since begun moments) earlier → IsGiven (moments_since begun after) earlier
-given_still None moments now after earlier goes gives is = tt
-given_still (Some before) moments now after earlier goes gives is = here (subst G goes.1 gives) (subst H goes.1 is)
-  where
-    G : Option (List ℕ) → Type 0
-    G = λ o. GivesMoment o now after
-
-    H : Option (List ℕ) → Type 0
-    H = λ o. IsGiven (moments_since (Some before) o) earlier
-
-    here : GivesMoment (Some (before ++ goes.0)) now after → Contains (drop (length before - 1) (before ++ goes.0)) earlier → IsGiven (moments_since (Some before) after) earlier
-    here (inl ends) was =
-        let P : Option (List ℕ) → Type 0 = λ o. IsGiven (moments_since (Some before) o) earlier in
-        subst P (sym ends.1) was
-    here (inr grows) was =
-        let P : Option (List ℕ) → Type 0 = λ o. IsGiven (moments_since (Some before) o) earlier in
-        let Q : List ℕ → Type 0 = λ l. Contains l earlier in
-        subst P (sym grows.1) (subst Q (sym (behind_more before goes.0 now)) (Contains-append_left (drop (length before - 1) (before ++ goes.0)) (now ∷ []) earlier was))
-
-pub moments_go : (begun moments : Option (List ℕ)) (now : ℕ) (after : Option (List ℕ)) → MomentsGoOn begun moments → GivesMoment moments now after → MomentsGoOn begun after
-moments_go None moments now after goes gives =
-    let G : Option (List ℕ) → Type 0 = λ o. GivesMoment o now after in
-    subst G goes gives
-moments_go (Some before) moments now after goes gives = here (subst G goes.1 gives)
-  where
-    G : Option (List ℕ) → Type 0
-    G = λ o. GivesMoment o now after
-
-    here : GivesMoment (Some (before ++ goes.0)) now after → MomentsGoOn (Some before) after
-    here (inl ends) = (goes.0, ends.1)
-    here (inr grows) = (goes.0 ++ now ∷ [], grows.1 ∙ ap (λ (l : List ℕ). Some l) (append_assoc before goes.0 (now ∷ [])))
-
-pub moments_go_themselves : (moments : Option (List ℕ)) → MomentsGoOn moments moments
-moments_go_themselves None = refl
-moments_go_themselves (Some list) = ([], ap (λ (l : List ℕ). Some l) (sym (append-nil list)))
-
-events_still : (begun moments : Option (List ℕ)) (now : ℕ) (after : Option (List ℕ)) (events : List Event) → MomentsGoOn begun moments → GivesMoment moments now after →
-    AreLineEvents (moments_since begun moments) events → AreLineEvents (moments_since begun after) events
-events_still begun moments now after [] goes gives each = tt
-events_still begun moments now after (event ∷ events) goes gives each = (
-  record { plain = each.0.plain; short = each.0.short; in_range = each.0.in_range; given = given_still begun moments now after event.now goes gives each.0.given },
-  events_still begun moments now after events goes gives each.1,
-)
-
--- what is shipped stays so when the clock is asked
-pub shipped_still : {L : Type 0} (told : L → Option Talk) (begun moments : Option (List ℕ)) (now : ℕ) (after : Option (List ℕ)) (key path : List ℕ) (link : Option L) (shipment : Shipment) (bytes : List ℕ) →
-    MomentsGoOn begun moments → GivesMoment moments now after → IsShipped told (moments_since begun moments) key path link shipment bytes → IsShipped told (moments_since begun after) key path link shipment bytes
-shipped_still told begun moments now after key path link shipment bytes goes gives is = record {
+-- what is shipped stays so
+pub shipped_still : {L : Type 0} (told : L → Option Talk) (begun before after : Option (List ℕ)) (key path : List ℕ) (earlier : List (List ℕ)) (link : Option L) (shipment : Shipment) (bytes : List ℕ) →
+    MomentsGoOn begun before → MomentsGoOn before after → IsShipped told (moments_since begun before) key path earlier link shipment bytes → IsShipped told (moments_since begun after) key path earlier link shipment bytes
+shipped_still told begun before after key path earlier link shipment bytes goes on is = record {
   settled = is.settled;
-  each = events_still begun moments now after is.settled goes gives is.each;
+  each = events_still begun before after is.settled goes on is.each;
   done = is.done;
   acknowledged = is.acknowledged;
   offset = is.offset;
   waiting = is.waiting;
-  waiting_each = events_still begun moments now after is.waiting goes gives is.waiting_each;
+  waiting_each = events_still begun before after is.waiting goes on is.waiting_each;
   holds = is.holds;
   plain = is.plain;
   spelled = is.spelled;
@@ -134,26 +55,33 @@ with_waiting : (settled waiting : List Event) (rest : List ℕ) → lines_bytes 
 with_waiting settled waiting rest =
     sym (append_assoc (lines_bytes settled) (lines_bytes waiting) rest) ∙ ap (λ (l : List ℕ). l ++ rest) (sym (lines_bytes-append settled waiting))
 
+-- the payloads of earlier files, of the lines that are settled, and of those behind them
+payloads_behind : (path : List ℕ) (earlier : List (List ℕ)) (events more : List Event) (place : ℕ) → 0 + length (lines_bytes events) ≡ place →
+    (earlier ++ payloads_of path 0 events) ++ payloads_of path place more ≡ earlier ++ payloads_of path 0 (events ++ more)
+payloads_behind path earlier events more place here =
+    append_assoc earlier (payloads_of path 0 events) (payloads_of path place more)
+    ∙ ap (λ (l : List (List ℕ)). earlier ++ l)
+    (ap (λ (n : ℕ). payloads_of path 0 events ++ payloads_of path n more) (sym here) ∙ sym (payloads-append path 0 events more))
+
 -- the settled lines are covered, and those that wait may have been sent
-pub covers_sent : {L : Type 0} (told : L → Option Talk) (moments : Option (List ℕ)) (key path : List ℕ) (link after : Option L) (shipment : Shipment) (bytes : List ℕ) (is : IsShipped told moments key path link shipment bytes) →
-    HasServed told after (payloads_of path 0 is.settled) (payloads_of path 0 is.settled ++ payloads_of path shipment.offset is.waiting) → IsCovered told moments key path after shipment.progress bytes
-covers_sent told moments key path link after shipment bytes is served =
-    let H : List (List ℕ) → Type 0 = λ l. HasServed told after (payloads_of path 0 is.settled) l in
+pub covers_sent : {L : Type 0} (told : L → Option Talk) (moments : Option (List ℕ)) (key path : List ℕ) (earlier : List (List ℕ)) (link after : Option L) (shipment : Shipment) (bytes : List ℕ) (is : IsShipped told moments key path earlier link shipment bytes) →
+    HasServed told after (earlier ++ payloads_of path 0 is.settled) ((earlier ++ payloads_of path 0 is.settled) ++ payloads_of path shipment.offset is.waiting) → IsCovered told moments key path earlier after shipment.progress bytes
+covers_sent told moments key path earlier link after shipment bytes is served =
+    let H : List (List ℕ) → Type 0 = λ l. HasServed told after (earlier ++ payloads_of path 0 is.settled) l in
     record {
       settled = is.settled;
       sent = is.waiting;
       rest = shipment.rest.items;
       each = events-append moments is.settled is.waiting is.each is.waiting_each;
       done = is.done;
-      acknowledged = subst H
-          (ap (λ (n : ℕ). payloads_of path 0 is.settled ++ payloads_of path n is.waiting) (sym (place_is shipment.offset is.settled is.offset)) ∙ sym (payloads-append path 0 is.settled is.waiting)) served;
+      acknowledged = subst H (payloads_behind path earlier is.settled is.waiting shipment.offset (place_is shipment.offset is.settled is.offset)) served;
       spelled = is.spelled ∙ with_waiting is.settled is.waiting shipment.rest.items;
     }
 
-pub covers_now : {L : Type 0} (told : L → Option Talk) (moments : Option (List ℕ)) (key path : List ℕ) (link : Option L) (shipment : Shipment) (bytes : List ℕ) →
-    IsShipped told moments key path link shipment bytes → IsCovered told moments key path link shipment.progress bytes
-covers_now told moments key path link shipment bytes is =
-    let H : List Event → Type 0 = λ l. HasServed told link (payloads_of path 0 is.settled) (payloads_of path 0 l) in
+pub covers_now : {L : Type 0} (told : L → Option Talk) (moments : Option (List ℕ)) (key path : List ℕ) (earlier : List (List ℕ)) (link : Option L) (shipment : Shipment) (bytes : List ℕ) →
+    IsShipped told moments key path earlier link shipment bytes → IsCovered told moments key path earlier link shipment.progress bytes
+covers_now told moments key path earlier link shipment bytes is =
+    let H : List Event → Type 0 = λ l. HasServed told link (earlier ++ payloads_of path 0 is.settled) (earlier ++ payloads_of path 0 l) in
     let E : List Event → Type 0 = λ l. AreLineEvents moments l in
     record {
       settled = is.settled;
@@ -161,13 +89,13 @@ covers_now told moments key path link shipment bytes is =
       rest = lines_bytes is.waiting ++ shipment.rest.items;
       each = subst E (sym (append-nil is.settled)) is.each;
       done = is.done;
-      acknowledged = subst H (sym (append-nil is.settled)) (settled_serves told link (payloads_of path 0 is.settled) is.acknowledged);
+      acknowledged = subst H (sym (append-nil is.settled)) (settled_serves told link (earlier ++ payloads_of path 0 is.settled) is.acknowledged);
       spelled = is.spelled ∙ ap (λ (l : List Event). lines_bytes l ++ (lines_bytes is.waiting ++ shipment.rest.items)) (sym (append-nil is.settled));
     }
 
-pub covers_more : {L : Type 0} (told : L → Option Talk) (moments : Option (List ℕ)) (key path : List ℕ) (link : Option L) (progress : Progress) (bytes more : List ℕ) →
-    IsCovered told moments key path link progress bytes → IsCovered told moments key path link progress (bytes ++ more)
-covers_more told moments key path link progress bytes more covered = record {
+pub covers_more : {L : Type 0} (told : L → Option Talk) (moments : Option (List ℕ)) (key path : List ℕ) (earlier : List (List ℕ)) (link : Option L) (progress : Progress) (bytes more : List ℕ) →
+    IsCovered told moments key path earlier link progress bytes → IsCovered told moments key path earlier link progress (bytes ++ more)
+covers_more told moments key path earlier link progress bytes more covered = record {
   settled = covered.settled;
   sent = covered.sent;
   rest = covered.rest ++ more;
@@ -180,25 +108,25 @@ covers_more told moments key path link progress bytes more covered = record {
 -- ---- what waited is settled
 
 -- the first of the lines that waited are settled, and those behind them were sent
-pub partly : {L : Type 0} (told : L → Option Talk) (moments : Option (List ℕ)) (key path : List ℕ) (link after : Option L) (old : Shipment) (progress : Progress) (bytes : List ℕ) (Left : List Waiting → Type 0)
-    (is : IsShipped told moments key path link old bytes) → HasSettled told after (payloads_of path 0 is.settled ++ payloads_of path old.offset is.waiting) →
-    SettlesFirst key path (waiting_of path 0 is.settled) old.batch.waiting.items Left progress → IsCovered told moments key path after progress bytes
-partly told moments key path link after old progress bytes Left is settled settles =
+pub partly : {L : Type 0} (told : L → Option Talk) (moments : Option (List ℕ)) (key path : List ℕ) (earlier : List (List ℕ)) (link after : Option L) (old : Shipment) (progress : Progress) (bytes : List ℕ) (Left : List Waiting → Type 0)
+    (is : IsShipped told moments key path earlier link old bytes) → HasSettled told after ((earlier ++ payloads_of path 0 is.settled) ++ payloads_of path old.offset is.waiting) →
+    SettlesFirst key path (waiting_of path 0 is.settled) old.batch.waiting.items Left progress → IsCovered told moments key path earlier after progress bytes
+partly told moments key path earlier link after old progress bytes Left is settled settles =
     let front = front_of_lines path old.offset is.waiting settles.front settles.left (sym is.holds.waits ∙ settles.parts) in
     let events : List Event = is.settled ++ front.first in
     let here : 0 + length (lines_bytes is.settled) ≡ old.offset = place_is old.offset is.settled is.offset in
     let D : List Waiting → Type 0 = λ l. IsDoneBy key path progress l in
     let S : List (List ℕ) → Type 0 = λ l. HasSettled told after l in
-    let H : List (List ℕ) → Type 0 = λ l. HasServed told after (payloads_of path 0 events) l in
+    let H : List (List ℕ) → Type 0 = λ l. HasServed told after (earlier ++ payloads_of path 0 events) l in
     let E : List Event → Type 0 = λ l. AreLineEvents moments l in
     let both : is.settled ++ is.waiting ≡ events ++ front.later =
     ap (λ (l : List Event). is.settled ++ l) front.parts ∙ sym (append_assoc is.settled front.first front.later) in
     let behind : List (List ℕ) = payloads_of path (0 + length (lines_bytes events)) front.later in
-    let payloads : payloads_of path 0 is.settled ++ payloads_of path old.offset is.waiting ≡ payloads_of path 0 events ++ behind =
-    ap (λ (n : ℕ). payloads_of path 0 is.settled ++ payloads_of path n is.waiting) (sym here)
-    ∙ sym (payloads-append path 0 is.settled is.waiting)
-    ∙ ap (λ (l : List Event). payloads_of path 0 l) both
-    ∙ payloads-append path 0 events front.later in
+    let split : (earlier ++ payloads_of path 0 events) ++ behind ≡ earlier ++ payloads_of path 0 (events ++ front.later) = payloads_behind path earlier events front.later (0 + length (lines_bytes events)) refl in
+    let payloads : (earlier ++ payloads_of path 0 is.settled) ++ payloads_of path old.offset is.waiting ≡ (earlier ++ payloads_of path 0 events) ++ behind =
+    payloads_behind path earlier is.settled is.waiting old.offset here
+    ∙ ap (λ (l : List Event). earlier ++ payloads_of path 0 l) both
+    ∙ sym split in
     record {
       settled = events;
       sent = front.later;
@@ -208,23 +136,23 @@ partly told moments key path link after old progress bytes Left is settled settl
           (ap (λ (l : List Waiting). waiting_of path 0 is.settled ++ l) (front.are ∙ ap (λ (n : ℕ). waiting_of path n front.first) (sym here))
           ∙ sym (waiting-append path 0 is.settled front.first))
           settles.done;
-      acknowledged = subst H (sym (payloads-append path 0 events front.later)) (first_served told after (payloads_of path 0 events) behind (subst S payloads settled));
+      acknowledged = subst H split (first_served told after (earlier ++ payloads_of path 0 events) behind (subst S payloads settled));
       spelled = is.spelled ∙ with_waiting is.settled is.waiting old.rest.items ∙ ap (λ (l : List Event). lines_bytes l ++ old.rest.items) both;
     }
 
 -- all of them are
-pub flushed : {L : Type 0} (told : L → Option Talk) (moments : Option (List ℕ)) (key path : List ℕ) (link after : Option L) (old new : Shipment) (bytes : List ℕ) (is : IsShipped told moments key path link old bytes) →
-    HasSettled told after (payloads_of path 0 is.settled ++ payloads_of path old.offset is.waiting) →
+pub flushed : {L : Type 0} (told : L → Option Talk) (moments : Option (List ℕ)) (key path : List ℕ) (earlier : List (List ℕ)) (link after : Option L) (old new : Shipment) (bytes : List ℕ) (is : IsShipped told moments key path earlier link old bytes) →
+    HasSettled told after ((earlier ++ payloads_of path 0 is.settled) ++ payloads_of path old.offset is.waiting) →
     SettlesFirst key path (waiting_of path 0 is.settled) old.batch.waiting.items (λ left. left ≡ []) new.progress →
     new.offset ≡ old.offset + old.batch.size → HoldsLines path new.offset new.batch [] → new.rest ≡ old.rest →
-    IsShipped told moments key path after new bytes
-flushed told moments key path link after old new bytes is settled settles offset none rest =
+    IsShipped told moments key path earlier after new bytes
+flushed told moments key path earlier link after old new bytes is settled settles offset none rest =
     let here : 0 + length (lines_bytes is.settled) ≡ old.offset = place_is old.offset is.settled is.offset in
     let all : settles.front ≡ waiting_of path old.offset is.waiting =
     sym (append-nil settles.front) ∙ ap (λ (l : List Waiting). settles.front ++ l) (sym settles.so) ∙ sym settles.parts ∙ is.holds.waits in
     let D : List Waiting → Type 0 = λ l. IsDoneBy key path new.progress l in
     let S : List (List ℕ) → Type 0 = λ l. HasSettled told after l in
-    let P : _ → Type 0 = λ r. All IsPlainByte r.items in
+    let R : List ℕ → Type 0 = λ l. All IsPlainByte l in
     record {
       settled = is.settled ++ is.waiting;
       each = events-append moments is.settled is.waiting is.each is.waiting_each;
@@ -232,12 +160,12 @@ flushed told moments key path link after old new bytes is settled settles offset
           (ap (λ (l : List Waiting). waiting_of path 0 is.settled ++ l) (all ∙ ap (λ (n : ℕ). waiting_of path n is.waiting) (sym here))
           ∙ sym (waiting-append path 0 is.settled is.waiting))
           settles.done;
-      acknowledged = subst S (ap (λ (n : ℕ). payloads_of path 0 is.settled ++ payloads_of path n is.waiting) (sym here) ∙ sym (payloads-append path 0 is.settled is.waiting)) settled;
+      acknowledged = subst S (payloads_behind path earlier is.settled is.waiting old.offset here) settled;
       offset = omega (arith, offset, is.offset, is.holds.size, ap (λ (l : List ℕ). length l) (lines_bytes-append is.settled is.waiting), length-append (lines_bytes is.settled) (lines_bytes is.waiting));
       waiting = [];
       waiting_each = tt;
       holds = none;
-      plain = subst P (sym rest) is.plain;
+      plain = subst R (ap (λ r. r.items) (sym rest)) is.plain;
       spelled = is.spelled
           ∙ sym (append_assoc (lines_bytes is.settled) (lines_bytes is.waiting) old.rest.items)
           ∙ ap (λ (l : List ℕ). l ++ old.rest.items) (sym (lines_bytes-append is.settled is.waiting))
@@ -245,23 +173,23 @@ flushed told moments key path link after old new bytes is settled settles offset
     }
 
 -- by what became of the settling
-pub settled_so : {L : Type 0} (told : L → Option Talk) (moments : Option (List ℕ)) (key path : List ℕ) (link after : Option L) (old new : Shipment) (bytes : List ℕ) (result : Result (Unit {0}) Status) (is : IsShipped told moments key path link old bytes) →
-    HasSettled told after (payloads_of path 0 is.settled ++ payloads_of path old.offset is.waiting) →
+pub settled_so : {L : Type 0} (told : L → Option Talk) (moments : Option (List ℕ)) (key path : List ℕ) (earlier : List (List ℕ)) (link after : Option L) (old new : Shipment) (bytes : List ℕ) (result : Result (Unit {0}) Status) (is : IsShipped told moments key path earlier link old bytes) →
+    HasSettled told after ((earlier ++ payloads_of path 0 is.settled) ++ payloads_of path old.offset is.waiting) →
     SettlesFirst key path (waiting_of path 0 is.settled) old.batch.waiting.items (λ left. OnOk result (left ≡ [])) new.progress →
     OnOk result (new.offset ≡ old.offset + old.batch.size) → OnOk result (HoldsLines path new.offset new.batch []) → OnOk result (new.rest ≡ old.rest) →
-    MatchResult result (λ _. IsShipped told moments key path after new bytes) (λ _. IsCovered told moments key path after new.progress bytes)
-settled_so told moments key path link after old new bytes (Ok done) is settled settles offset none rest = flushed told moments key path link after old new bytes is settled settles offset none rest
-settled_so told moments key path link after old new bytes (Err status) is settled settles offset none rest =
-    partly told moments key path link after old new.progress bytes (λ left. Unit {0}) is settled settles
+    MatchResult result (λ _. IsShipped told moments key path earlier after new bytes) (λ _. IsCovered told moments key path earlier after new.progress bytes)
+settled_so told moments key path earlier link after old new bytes (Ok done) is settled settles offset none rest = flushed told moments key path earlier link after old new bytes is settled settles offset none rest
+settled_so told moments key path earlier link after old new bytes (Err status) is settled settles offset none rest =
+    partly told moments key path earlier link after old new.progress bytes (λ left. Unit {0}) is settled settles
 
 -- ---- a line, or the rest of a piece
 
 -- the line of the rest waits
-pub line_waits : {L : Type 0} (told : L → Option Talk) (moments : Option (List ℕ)) (key path : List ℕ) (link : Option L) (old new : Shipment) (bytes content whole : List ℕ) (now : ℕ) (is : IsShipped told moments key path link old bytes) →
+pub line_waits : {L : Type 0} (told : L → Option Talk) (moments : Option (List ℕ)) (key path : List ℕ) (earlier : List (List ℕ)) (link : Option L) (old new : Shipment) (bytes content whole : List ℕ) (now : ℕ) (is : IsShipped told moments key path earlier link old bytes) →
     IsMoment (record { 0 = now }) → IsGiven moments now → All IsPlainByte content → vec_len old.rest + length content ≤ LINE → whole ≡ old.rest.items ++ content →
     HoldsLines path old.offset new.batch (is.waiting ++ record { content = whole; now = now } ∷ []) → new.progress ≡ old.progress → new.offset ≡ old.offset → new.rest.items ≡ [] →
-    IsShipped told moments key path link new (bytes ++ (content ++ 10 ∷ []))
-line_waits told moments key path link old new bytes content whole now is range given plain short whole_is held progress offset rest =
+    IsShipped told moments key path earlier link new (bytes ++ (content ++ 10 ∷ []))
+line_waits told moments key path earlier link old new bytes content whole now is range given plain short whole_is held progress offset rest =
     let E : List ℕ → Type 0 = λ l. HoldsLines path old.offset new.batch (is.waiting ++ record { content = l; now = now } ∷ []) in
     let event : Event = record { content = old.rest.items ++ content; now = now } in
     let H : ℕ → Type 0 = λ n. HoldsLines path n new.batch (is.waiting ++ event ∷ []) in
@@ -295,10 +223,10 @@ line_waits told moments key path link old new bytes content whole now is range g
     }
 
 -- the rest grows
-pub rest_grows : {L : Type 0} (told : L → Option Talk) (moments : Option (List ℕ)) (key path : List ℕ) (link : Option L) (old new : Shipment) (bytes more : List ℕ) →
-    IsShipped told moments key path link old bytes → new.progress ≡ old.progress → new.offset ≡ old.offset → new.batch ≡ old.batch → new.rest.items ≡ old.rest.items ++ more → All IsPlainByte more →
-    IsShipped told moments key path link new (bytes ++ more)
-rest_grows told moments key path link old new bytes more is progress offset batch rest plain =
+pub rest_grows : {L : Type 0} (told : L → Option Talk) (moments : Option (List ℕ)) (key path : List ℕ) (earlier : List (List ℕ)) (link : Option L) (old new : Shipment) (bytes more : List ℕ) →
+    IsShipped told moments key path earlier link old bytes → new.progress ≡ old.progress → new.offset ≡ old.offset → new.batch ≡ old.batch → new.rest.items ≡ old.rest.items ++ more → All IsPlainByte more →
+    IsShipped told moments key path earlier link new (bytes ++ more)
+rest_grows told moments key path earlier link old new bytes more is progress offset batch rest plain =
     let H : ℕ → Type 0 = λ n. HoldsLines path n old.batch is.waiting in
     let B : _ → Type 0 = λ b. HoldsLines path new.offset b is.waiting in
     let R : List ℕ → Type 0 = λ l. All IsPlainByte l in
@@ -335,25 +263,25 @@ line_cut left used some within is =
     ∙ ap (λ (l : List ℕ). l ++ drop used left) (last_taken left used some within is)
 
 -- a part of the piece was taken
-pub record IsTaken {L : Type 0} (told : L → Option Talk) (moments : Option (List ℕ)) (key path : List ℕ) (link : Option L) (shipment : Shipment) (bytes piece left : List ℕ) : Type 0 where
+pub record IsTaken {L : Type 0} (told : L → Option Talk) (moments : Option (List ℕ)) (key path : List ℕ) (earlier : List (List ℕ)) (link : Option L) (shipment : Shipment) (bytes piece left : List ℕ) : Type 0 where
   pub taken : List ℕ
   pub parts : piece ≡ taken ++ left
-  pub shipped : IsShipped told moments key path link shipment (bytes ++ taken)
+  pub shipped : IsShipped told moments key path earlier link shipment (bytes ++ taken)
 
-pub taking_starts : {L : Type 0} (told : L → Option Talk) (begun moments : Option (List ℕ)) (now : ℕ) (after : Option (List ℕ)) (key path : List ℕ) (link : Option L) (shipment : Shipment) (bytes piece : List ℕ) →
-    MomentsGoOn begun moments → GivesMoment moments now after → IsShipped told (moments_since begun moments) key path link shipment bytes → IsTaken told (moments_since begun after) key path link shipment bytes piece piece
-taking_starts told begun moments now after key path link shipment bytes piece goes gives is =
-    let P : List ℕ → Type 0 = λ l. IsShipped told (moments_since begun after) key path link shipment l in
-    record { taken = []; parts = refl; shipped = subst P (sym (append-nil bytes)) (shipped_still told begun moments now after key path link shipment bytes goes gives is) }
+pub taking_starts : {L : Type 0} (told : L → Option Talk) (begun moments : Option (List ℕ)) (now : ℕ) (after : Option (List ℕ)) (key path : List ℕ) (earlier : List (List ℕ)) (link : Option L) (shipment : Shipment) (bytes piece : List ℕ) →
+    MomentsGoOn begun moments → GivesMoment moments now after → IsShipped told (moments_since begun moments) key path earlier link shipment bytes → IsTaken told (moments_since begun after) key path earlier link shipment bytes piece piece
+taking_starts told begun moments now after key path earlier link shipment bytes piece goes gives is =
+    let P : List ℕ → Type 0 = λ l. IsShipped told (moments_since begun after) key path earlier link shipment l in
+    record { taken = []; parts = refl; shipped = subst P (sym (append-nil bytes)) (shipped_still told begun moments after key path earlier link shipment bytes goes (moments_go moments now after gives) is) }
 
 -- a whole line was taken
-pub taking_goes_on : {L : Type 0} (told : L → Option Talk) (moments : Option (List ℕ)) (key path : List ℕ) (link after : Option L) (old new : Shipment) (bytes piece left : List ℕ) (used most : ℕ) →
-    (is : IsTaken told moments key path link old bytes piece left) → 1 ≤ used → used ≤ length left → length left ≤ used + most → get_or left (used - 1) 0 ≡ 10 →
-    IsShipped told moments key path after new ((bytes ++ is.taken) ++ (take (used - 1) left ++ 10 ∷ [])) →
-    IsTaken told moments key path after new bytes piece (take most (drop used left))
-taking_goes_on told moments key path link after old new bytes piece left used most is some within all line shipped =
-    let P : List ℕ → Type 0 = λ l. IsShipped told moments key path after new l in
-    let Q : List ℕ → Type 0 = λ l. IsTaken told moments key path after new bytes piece l in
+pub taking_goes_on : {L : Type 0} (told : L → Option Talk) (moments later : Option (List ℕ)) (key path : List ℕ) (earlier : List (List ℕ)) (link after : Option L) (old new : Shipment) (bytes piece left : List ℕ) (used most : ℕ) →
+    (is : IsTaken told moments key path earlier link old bytes piece left) → 1 ≤ used → used ≤ length left → length left ≤ used + most → get_or left (used - 1) 0 ≡ 10 →
+    IsShipped told later key path earlier after new ((bytes ++ is.taken) ++ (take (used - 1) left ++ 10 ∷ [])) →
+    IsTaken told later key path earlier after new bytes piece (take most (drop used left))
+taking_goes_on told moments later key path earlier link after old new bytes piece left used most is some within all line shipped =
+    let P : List ℕ → Type 0 = λ l. IsShipped told later key path earlier after new l in
+    let Q : List ℕ → Type 0 = λ l. IsTaken told later key path earlier after new bytes piece l in
     subst Q (sym (take_all most (drop used left) (omega (arith, length-drop used left))))
     (record {
       taken = is.taken ++ (take (used - 1) left ++ 10 ∷ []);
@@ -363,22 +291,22 @@ taking_goes_on told moments key path link after old new bytes piece left used mo
     })
 
 -- what is left is no whole line
-pub taking_ends : {L : Type 0} (told : L → Option Talk) (moments : Option (List ℕ)) (key path : List ℕ) (link : Option L) (old new : Shipment) (bytes piece left : List ℕ) →
-    IsTaken told moments key path link old bytes piece left → new.progress ≡ old.progress → new.offset ≡ old.offset → new.batch ≡ old.batch → new.rest.items ≡ old.rest.items ++ left → All IsPlainByte left →
-    IsShipped told moments key path link new (bytes ++ piece)
-taking_ends told moments key path link old new bytes piece left is progress offset batch rest plain =
-    let P : List ℕ → Type 0 = λ l. IsShipped told moments key path link new l in
+pub taking_ends : {L : Type 0} (told : L → Option Talk) (moments : Option (List ℕ)) (key path : List ℕ) (earlier : List (List ℕ)) (link : Option L) (old new : Shipment) (bytes piece left : List ℕ) →
+    IsTaken told moments key path earlier link old bytes piece left → new.progress ≡ old.progress → new.offset ≡ old.offset → new.batch ≡ old.batch → new.rest.items ≡ old.rest.items ++ left → All IsPlainByte left →
+    IsShipped told moments key path earlier link new (bytes ++ piece)
+taking_ends told moments key path earlier link old new bytes piece left is progress offset batch rest plain =
+    let P : List ℕ → Type 0 = λ l. IsShipped told moments key path earlier link new l in
     subst P (append_assoc bytes is.taken left ∙ ap (λ (l : List ℕ). bytes ++ l) (sym is.parts))
-    (rest_grows told moments key path link old new (bytes ++ is.taken) left is.shipped progress offset batch rest plain)
+    (rest_grows told moments key path earlier link old new (bytes ++ is.taken) left is.shipped progress offset batch rest plain)
 
 -- what was settled stays covered, whatever becomes of the piece
-pub taking_covers : {L : Type 0} (told : L → Option Talk) (moments : Option (List ℕ)) (key path : List ℕ) (link after : Option L) (progress : Progress) (shipment : Shipment) (bytes piece left : List ℕ) →
-    (is : IsTaken told moments key path link shipment bytes piece left) → IsCovered told moments key path after progress (bytes ++ is.taken) →
-    IsCovered told moments key path after progress (bytes ++ piece)
-taking_covers told moments key path link after progress shipment bytes piece left is covered =
-    let P : List ℕ → Type 0 = λ l. IsCovered told moments key path after progress l in
+pub taking_covers : {L : Type 0} (told : L → Option Talk) (moments later : Option (List ℕ)) (key path : List ℕ) (earlier : List (List ℕ)) (link after : Option L) (progress : Progress) (shipment : Shipment) (bytes piece left : List ℕ) →
+    (is : IsTaken told moments key path earlier link shipment bytes piece left) → IsCovered told later key path earlier after progress (bytes ++ is.taken) →
+    IsCovered told later key path earlier after progress (bytes ++ piece)
+taking_covers told moments later key path earlier link after progress shipment bytes piece left is covered =
+    let P : List ℕ → Type 0 = λ l. IsCovered told later key path earlier after progress l in
     subst P (append_assoc bytes is.taken left ∙ ap (λ (l : List ℕ). bytes ++ l) (sym is.parts))
-    (covers_more told moments key path after progress (bytes ++ is.taken) left covered)
+    (covers_more told later key path earlier after progress (bytes ++ is.taken) left covered)
 
 -- the place behind what was taken and what is left
 pub placed_still : (old new total used most : ℕ) (left : List ℕ) → 1 ≤ used → used ≤ length left → length left ≤ used + most →
@@ -402,9 +330,9 @@ each_sendable moments [] each = tt
 each_sendable moments (event ∷ events) each = ((each.0.plain, each.0.short), each_sendable moments events each.1)
 
 -- every byte that was read can be sent
-pub sendable : {L : Type 0} (told : L → Option Talk) (moments : Option (List ℕ)) (key path : List ℕ) (link : Option L) (shipment : Shipment) (bytes : List ℕ) →
-    IsShipped told moments key path link shipment bytes → vec_len shipment.rest ≤ LINE → IsSendable bytes
-sendable told moments key path link shipment bytes is short = record {
+pub sendable : {L : Type 0} (told : L → Option Talk) (moments : Option (List ℕ)) (key path : List ℕ) (earlier : List (List ℕ)) (link : Option L) (shipment : Shipment) (bytes : List ℕ) →
+    IsShipped told moments key path earlier link shipment bytes → vec_len shipment.rest ≤ LINE → IsSendable bytes
+sendable told moments key path earlier link shipment bytes is short = record {
   contents = contents_of (is.settled ++ is.waiting);
   line = shipment.rest.items;
   spelled = is.spelled
@@ -415,11 +343,11 @@ sendable told moments key path link shipment bytes is short = record {
 }
 
 -- the byte behind the rest and what of the piece can be sent
-pub unsendable : {L : Type 0} (told : L → Option Talk) (moments : Option (List ℕ)) (key path : List ℕ) (link : Option L) (shipment : Shipment) (bytes piece left : List ℕ) (place at : ℕ) →
-    (is : IsTaken told moments key path link shipment bytes piece left) → place < length left → vec_len shipment.rest + place ≤ LINE → All IsPlainByte (take place left) →
+pub unsendable : {L : Type 0} (told : L → Option Talk) (moments : Option (List ℕ)) (key path : List ℕ) (earlier : List (List ℕ)) (link : Option L) (shipment : Shipment) (bytes piece left : List ℕ) (place at : ℕ) →
+    (is : IsTaken told moments key path earlier link shipment bytes piece left) → place < length left → vec_len shipment.rest + place ≤ LINE → All IsPlainByte (take place left) →
     IsExcluded (vec_len shipment.rest) left place → at ≡ shipment.offset + shipment.batch.size + vec_len shipment.rest + place →
     IsUnsendableAt (bytes ++ piece) at
-unsendable told moments key path link shipment bytes piece left place at is within few plain excluded at_is =
+unsendable told moments key path earlier link shipment bytes piece left place at is within few plain excluded at_is =
     let now = is.shipped in
     let events : List Event = now.settled ++ now.waiting in
     let whole : List ℕ = lines_bytes events in

@@ -78,7 +78,7 @@ impl Batch {
     ) -> Result<(), NoMemory>
         requires moment { IsMoment now }
         requires in_range { start + self.old.size + length content.now + 1 ≤ MAX_PLACE }
-        requires room { vec_len self.old.waiting < 2 ^ 31 }
+        requires room { vec_len self.old.waiting + 1 < 2 ^ 32 }
         requires places { All (λ line. line.span.end ≤ MAX_PLACE) self.old.waiting.items }
         requires payloads { IsBatch self.old }
         ensures added { (events : List Event) → HoldsLines path.now start self.old events →
@@ -105,7 +105,7 @@ impl Batch {
     // Puts the JSON frame of the payload behind the others, where there is one.
     fn put(&mut self, payload: Option<Blob>) -> Result<(), NoMemory>
         requires small { IfSome payload (λ payload. length payload ≤ MAX_PAYLOAD) }
-        requires room { self.old.count < 2 ^ 31 }
+        requires room { self.old.count + 1 < 2 ^ 32 }
         ensures added { (payloads : List (List ℕ)) → HoldsPayloads self.old payloads → OnOk result (HoldsPayloads self.new (behind_payload payloads payload)) }
         ensures size { OnOk result (self.new.size ≡ self.old.size) }
         ensures waiting { OnOk result (self.new.waiting ≡ self.old.waiting) }
@@ -120,7 +120,7 @@ impl Batch {
     // Puts the next JSON frame behind the others.
     fn frame(&mut self, payload: &[u8]) -> Result<(), NoMemory>
         requires small { length payload.now ≤ MAX_PAYLOAD }
-        requires room { self.old.count < 2 ^ 31 }
+        requires room { self.old.count + 1 < 2 ^ 32 }
         ensures added { (payloads : List (List ℕ)) → HoldsPayloads self.old payloads → OnOk result (HoldsPayloads self.new (payloads ++ payload.now ∷ [])) }
         ensures size { OnOk result (self.new.size ≡ self.old.size) }
         ensures waiting { OnOk result (self.new.waiting ≡ self.old.waiting) }

@@ -75,7 +75,8 @@ pub fn ship_file<X: Wait, T: Tail, W: Wire, K: Clock>(
         match read_piece(tail, shipment.position(), &mut piece) {
             Ok(0) => return shipment.flush(rt, alloc, worker, wire, output, clock),
             Ok(count) => {
-                match shipment.take(rt, alloc, path, output, &piece[..count], worker, wire, clock) {
+                let read = &piece[..count];
+                match shipment.take(rt, alloc, path, output, read, worker, wire, clock) {
                     Ok(()) => {}
                     Err(status) => return Err(status),
                 }

@@ -1,4 +1,4 @@
-ghost use Rattle.std.specs.Prelude.{◌≡◌, ◌≢◌, ℕ, ◌+◌, ◌++◌, ◌∷◌, [], ◌<◌, ◌≤◌, List, All, Option, length, vec_len, IfErr, OnOk, MatchResult};
+ghost use Rattle.std.specs.Prelude.{◌≡◌, ℕ, ◌+◌, ◌^◌, ◌++◌, ◌∷◌, [], ◌<◌, ◌≤◌, List, All, Option, length, vec_len, IfErr, OnOk, MatchResult};
 ghost use Rattle.wire_base.specs.Ranges.{IsMoment};
 ghost use Rattle.beat_run.specs.Ends.{IsLineEnd, IsPieceEnd, IsSendingEnd};
 ghost use Rattle.beat_run.specs.Batches.{HoldsLines, HoldsPayloads};
@@ -89,7 +89,7 @@ impl Shipment {
             Ok(()) => {}
             Err(status) => return Err(status),
         }
-        self.settle(alloc, output.bulk_max_size)
+        self.settle(alloc)
     }
 
     // Sends what waits as one window.
@@ -114,16 +114,23 @@ impl Shipment {
         if self.batch.count == 0 {
             return Ok(());
         }
-        worker.deliver(rt, wire, output, clock, &self.batch.frames, self.batch.count)
+        worker.deliver(
+            rt,
+            wire,
+            output,
+            clock,
+            &self.batch.frames,
+            self.batch.count,
+        )
     }
 
     // What waited is settled.
-    fn settle(&mut self, alloc: Global, most: u32) -> Result<(), Status>
-        requires { IsSound most self.old }
+    fn settle(&mut self, alloc: Global) -> Result<(), Status>
+        requires { IsSound (2 ^ 32) self.old }
         ensures settles { (key path : List ℕ) (settled : List Waiting) → IsDoneBy key path self.old.progress settled →
             SettlesFirst key path settled self.old.batch.waiting.items (λ left. OnOk result (left ≡ [])) self.new.progress }
         ensures nothing { (path : List ℕ) (start : ℕ) → OnOk result (HoldsLines path start self.new.batch []) }
-        ensures sound { OnOk result (IsSound most self.new) }
+        ensures sound { (most : ℕ) → OnOk result (IsSound most self.new) }
         ensures offset { OnOk result (self.new.offset ≡ self.old.offset + self.old.batch.size) }
         ensures empty { OnOk result (self.new.batch.size ≡ 0) }
         ensures room { OnOk result (self.new.batch.waiting.items ≡ []) }
@@ -173,7 +180,9 @@ impl Shipment {
             match next_line(self.rest.len(), left) {
                 Next::Line(used) => {
                     let content = &left[..used - 1];
-                    match self.complete(rt, alloc, path, output, content, now, worker, wire, clock) {
+                    match self.complete(
+                        rt, alloc, path, output, content, now, worker, wire, clock,
+                    ) {
                         Ok(()) => left = &left[used..],
                         Err(status) => return Err(status),
                     }
@@ -235,10 +244,7 @@ impl Shipment {
         if self.rest.extend_from_slice(content).is_err() {
             return Err(Status::NoMemory);
         }
-        match self
-            .batch
-            .add(alloc, path, self.offset, &self.rest, now)
-        {
+        match self.batch.add(alloc, path, self.offset, &self.rest, now) {
             Ok(()) => {
                 self.rest.clear();
                 Ok(())

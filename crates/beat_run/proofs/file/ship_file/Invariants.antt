@@ -10,11 +10,11 @@ abbrev pub invariant-loop : goal.invariant-loop
 invariant-loop g l = record {
   goes_on : (goal.iterator-loop g).can_next l.iterator';
   ends : (goal.iterator-loop g).is_finite l.iterator';
-  sound : IsSound l.shipment;
+  sound : IsSound l.output.bulk_max_size l.shipment;
   faults : g.T.Tail.faults l.initial.tail ≤ g.T.Tail.faults l.tail;
-  going : MomentsGoOn (g.K.Clock.moments l.initial.clock) (g.K.Clock.moments l.clock);
-  told : (key : List ℕ) → IsUnused key l.form.path l.initial.shipment →
-      IsReadWhereTold g.W.Link.Link.told (moments_since (g.K.Clock.moments l.initial.clock) (g.K.Clock.moments l.clock)) key l.form.path l.initial.worker.link l.worker.link l.shipment (g.T.Tail.told l.initial.tail) (g.T.Tail.told l.tail);
+  going : (begun : Option (List ℕ)) → MomentsGoOn begun (g.K.Clock.moments l.initial.clock) → MomentsGoOn begun (g.K.Clock.moments l.clock);
+  told : (begun : Option (List ℕ)) (key : List ℕ) (earlier : List (List ℕ)) → MomentsGoOn begun (g.K.Clock.moments l.initial.clock) → IsUnused key l.path l.initial.shipment →
+      IsReadWhereTold g.W.Link.Link.told (moments_since begun (g.K.Clock.moments l.clock)) key l.path earlier l.initial.worker.link l.worker.link l.shipment (g.T.Tail.told l.initial.tail) (g.T.Tail.told l.tail);
   standing : (start : Option (List Outcome)) (count first : ℕ) →
       IsStanding g.W.Link.Link.told start count first (g.W.Wire.outcomes l.initial.wire) (g.W.Wire.open_links l.initial.wire) (g.W.Wire.faults l.initial.wire) l.initial.worker.link →
       IsStanding g.W.Link.Link.told start count first (g.W.Wire.outcomes l.wire) (g.W.Wire.open_links l.wire) (g.W.Wire.faults l.wire) l.worker.link;
