@@ -2,6 +2,7 @@ mod Endings
 mod EventLines
 mod FileShipments
 mod Filling
+mod Follows
 mod GivenMoments
 mod Harvests
 mod Hearings
@@ -16,6 +17,7 @@ mod Readings
 mod Refusals
 mod Runs
 mod SentPieces
+mod Silences
 mod Services
 mod Shipments
 mod Standings

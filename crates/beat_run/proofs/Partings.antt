@@ -2,13 +2,8 @@
 use Rattle.std.proofs.Common.{◌≡◌, ℕ, List, [], ◌++◌, Option, Some, None, Result, Ok, Err, IfErr, MatchResult, sym, subst, append-nil}
 use Rattle.outside.specs.Talks.{Talk}
 use Rattle.outside.specs.Wires.{Outcome}
-<<<<<<< HEAD
 use Rattle.report.specs.declared.status.Status.{Status}
 use Rattle.report.specs.declared.status.Status.TheVariants.{Done, Usage, Settings as SettingsFault, RegistryBad, DiskFault, FolderFault, Unreachable, OutFault, SourceFault, TooMany, NoMemory, Unbuilt}
-=======
-use Rattle.beat_run.specs.declared.status.Status.{Status}
-use Rattle.beat_run.specs.declared.status.Status.TheVariants.{Done, Usage, RegistryBad, DiskFault, FolderFault, Unreachable, OutFault, SourceFault, NoMemory, Unbuilt}
->>>>>>> 1cb21ec6d2481e4f259e4d302b68a560711c454b
 use Rattle.beat_run.specs.Ends.{IsReadingEnd}
 use Rattle.beat_run.specs.Standing.{Blames, GoesOnRefused, IsParted, IsStanding}
 
@@ -26,20 +21,14 @@ pub reading_blames : {L : Type 0} (told : L → Option Talk) (link_faults : L �
     IsReadingEnd before now status → Blames told link_faults timeout moments start outcomes faults link status
 reading_blames told link_faults timeout moments start outcomes faults link before now Done ends = tt
 reading_blames told link_faults timeout moments start outcomes faults link before now Usage ends = tt
-<<<<<<< HEAD
 reading_blames told link_faults timeout moments start outcomes faults link before now (SettingsFault fault) ends = tt
-=======
->>>>>>> 1cb21ec6d2481e4f259e4d302b68a560711c454b
 reading_blames told link_faults timeout moments start outcomes faults link before now (RegistryBad area at) ends = tt
 reading_blames told link_faults timeout moments start outcomes faults link before now DiskFault ends = tt
 reading_blames told link_faults timeout moments start outcomes faults link before now FolderFault ends = tt
 reading_blames told link_faults timeout moments start outcomes faults link before now (Unreachable worker failures) ends = absurd ends
 reading_blames told link_faults timeout moments start outcomes faults link before now OutFault ends = tt
 reading_blames told link_faults timeout moments start outcomes faults link before now SourceFault ends = tt
-<<<<<<< HEAD
 reading_blames told link_faults timeout moments start outcomes faults link before now (TooMany what path) ends = tt
-=======
->>>>>>> 1cb21ec6d2481e4f259e4d302b68a560711c454b
 reading_blames told link_faults timeout moments start outcomes faults link before now NoMemory ends = tt
 reading_blames told link_faults timeout moments start outcomes faults link before now (Unbuilt what) ends = tt
 
