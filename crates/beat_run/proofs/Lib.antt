@@ -5,6 +5,7 @@ mod FileShipments
 mod Filling
 mod Finds
 mod Folders
+mod GivenMoments
 mod Hearings
 mod Keeping
 mod Leavings
@@ -22,6 +23,7 @@ mod SentPieces
 mod Services
 mod SettingsRead
 mod Shipments
+mod Silences
 mod Standings
 mod StartedArea
 mod Stoppings
