@@ -17,9 +17,9 @@ mod Readings
 mod Refusals
 mod Runs
 mod SentPieces
-mod Silences
 mod Services
 mod Shipments
+mod Silences
 mod Standings
 mod Stoppings
 mod Storings

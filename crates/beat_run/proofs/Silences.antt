@@ -1,4 +1,4 @@
--- Two moments of a clock that lie apart, where the second is given.
+-- The moments that a clock gives while a peer is awaited: the last one, and two that lie apart.
 use Rattle.std.proofs.Common.{◌≡◌, ◌⊎◌, inl, inr, ℕ, zero, suc, ◌+◌, ◌-◌, drop, get_or, ◌≤◌, ◌<◌, List, [], ◌∷◌, ◌++◌, length, Contains, Option, Some, None, IfSome, slice_get, unwrap_or, refl, sym, ◌∙◌, ap, subst, arith, length-append}
 use Rattle.std.proofs.lemmas.List.{drop-append-le}
 use Rattle.outside.specs.Times.{EndsWith, GivesMoment}

@@ -37,7 +37,8 @@ pub record MeetsFault (count : ℕ) (bytes : List ℕ) : Type 0 where
       ((other : List ℕ) × ((bytes ≡ ack_bytes earlier ++ other) × BeginsNoAcknowledgement other))
       ⊎ ((number : ℕ) × ((bytes ≡ ack_bytes (earlier ++ number ∷ [])) × ((number < 2 ^ 32) × (count < number))))
 
--- whole acknowledgements, all of them below the count, and the front of the next; then nothing came, and the wait was over
+-- whole acknowledgements, all of them below the count, and the front of the next; then nothing came, and the wait was
+-- over
 pub record FallsSilent (count : ℕ) (Waited : Type 0) (talk : Talk) (bytes : List ℕ) : Type 0 where
   pub earlier : List ℕ
   pub few : All (λ number. number < count) earlier
@@ -47,8 +48,8 @@ pub record FallsSilent (count : ℕ) (Waited : Type 0) (talk : Talk) (bytes : Li
   pub idled : talk.idled ≡ true
   pub waited : Waited
 
--- pieces were heard behind the talk: with them the acknowledgement of all, or a fault or silence, where it was not the link
--- that failed
+-- pieces were heard behind the talk: with them the acknowledgement of all, or else a fault or silence, where it was not
+-- the link that failed
 pub record HearsPieces (talk : Talk) (count : ℕ) (Failed Waited : Type 0) (result : Result (Unit {0}) Status) (after : Option Talk) : Type 0 where
   pub now : Talk
   pub told : after ≡ Some now
