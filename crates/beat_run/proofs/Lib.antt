@@ -8,6 +8,7 @@ mod Harvests
 mod Hearings
 mod Keeping
 mod Living
+mod Openings
 mod Partings
 mod Payloads
 mod PieceReads

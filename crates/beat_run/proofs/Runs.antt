@@ -93,7 +93,7 @@ drained_so link_told settings told evidence members between after link noted sca
     let hs : List Harvest = follows.more in
     let listed = listed_of settings.inputs told members between scans in
     let P : List (List ℕ) → Type 0 = λ l. HasServed link_told link l (payloads_in (told_in hs)) in
-    record {
+    record { notes = record {
       follows = record {
         listings = scans.listings;
         listed = listed;
@@ -117,8 +117,7 @@ drained_so link_told settings told evidence members between after link noted sca
         };
       };
       rows = follows.followed.rows;
-      missed = λ whole. follows.followed.missed;
-    }
+    }; missed = follows.followed.missed }
 
 stopped_so : {L : Type 0} (link_told : L → Option Talk) (settings : Settings) (told : FolderHistory) (evidence : Evidence) (members : List Member) (between after : Option FolderHistory) (link : Option L) (noted : Noted) (status : Status) →
     (scans : Scans settings.inputs told members between) → FollowsSome link_told (listed_of settings.inputs told members between scans) evidence.moments link noted [] members after status →
@@ -193,15 +192,15 @@ scan_failed settings (Some told) after evidence noted status listed sent unnoted
     })
 
 -- what a status tells
-what_of : Status → Full
+abbrev what_of : Status → Full
 what_of (TooMany what path) = what
 what_of status = Files
 
-path_of : Status → List ℕ
+abbrev path_of : Status → List ℕ
 path_of (TooMany what path) = path
 path_of status = []
 
-status_in : Status → Result (Unit {0}) Status → Status
+abbrev status_in : Status → Result (Unit {0}) Status → Status
 status_in other (Ok done) = other
 status_in other (Err status) = status
 
@@ -241,7 +240,7 @@ too_many_so settings told after (ScanTooMany other) what path is refused =
     let P : List ℕ → Type 0 = λ p. IfSome told (λ history. FindsTooMany settings.inputs history p after) in
     (ap what_of is, subst P (sym (ap path_of is)) refused)
 
-pub too_many : (settings : Settings) (told after : Option FolderHistory) (error : ScanError) (status : Status) (what : Full) (path : List ℕ) → StandsForScan error status → Err status ≡ Err (TooMany what path) →
+pub too_many : (settings : Settings) (told after : Option FolderHistory) (error : ScanError) (status : Status) (what : Full) (path : List ℕ) → StandsForScan error status → ◌≡◌ {A = Result (Unit {0}) Status} (Err status) (Err (TooMany what path)) →
     IfSome told (λ history. RefusedAs settings.inputs history error after) → (what ≡ Files) × IfSome told (λ history. FindsTooMany settings.inputs history path after)
 too_many settings told after error status what path stands is refused =
     let S : Status → Type 0 = λ s. StandsForScan error s in
