@@ -1,3 +1,4 @@
+mod ByteOrder
 mod Endings
 mod EventLines
 mod FileShipments
@@ -10,6 +11,8 @@ mod Living
 mod Partings
 mod Payloads
 mod PieceReads
+mod Placings
+mod Preparing
 mod Printings
 mod Progresses
 mod Readings
@@ -17,6 +20,7 @@ mod Refusals
 mod Runs
 mod SentPieces
 mod Services
+mod SettingsBytes
 mod Shipments
 mod Standings
 mod Stoppings
