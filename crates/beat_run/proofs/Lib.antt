@@ -1,3 +1,4 @@
+mod Appending
 mod ByteOrder
 mod Endings
 mod EventLines

@@ -29,10 +29,13 @@ pub fn read_source<R: Source>(alloc: Global, source: &mut R) -> Result<Settings,
         Err(status) => return Err(status),
     };
     settings_or_one_first_fault();
-    match read_settings(alloc, &bytes) {
-        Ok(settings) => Ok(settings),
-        Err(SettingsError::NoMemory) => Err(Status::NoMemory),
-        Err(fault) => Err(Status::Settings(fault)),
+    let fault = match read_settings(alloc, &bytes) {
+        Ok(settings) => return Ok(settings),
+        Err(fault) => fault,
+    };
+    match fault {
+        SettingsError::NoMemory => Err(Status::NoMemory),
+        fault => Err(Status::Settings(fault)),
     }
 }
 
