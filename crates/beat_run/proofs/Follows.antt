@@ -1,8 +1,7 @@
 -- Files that are followed one after the other.
 use Rattle.std.proofs.Common.{◌≡◌, ℕ, suc, ◌+◌, ◌<◌, ◌≤◌, List, [], ◌∷◌, ◌++◌, length, take, drop, get_or, Option, refl, sym, ◌∙◌, ap, subst, append_assoc, arith}
-use Rattle.std.proofs.Math.ListN.{take_of_length-le}
 use Rattle.std.proofs.Math.Seq.{take-suc}
-use Rattle.std.proofs.lemmas.List.{map-append, take-append-drop}
+use Rattle.std.proofs.lemmas.List.{map-append, take-append-drop, take_all}
 use Rattle.outside.specs.Folders.{FolderHistory}
 use Rattle.outside.specs.Talks.{Talk}
 use Rattle.prospect.specs.declared.member.Member.{Member}
@@ -67,4 +66,4 @@ pub follows_done : {L : Type 0} (told : L → Option Talk) (listed : FolderHisto
     length members ≤ i → FollowsAll told listed moments link noted [] (take i members) folder → FollowsAll told listed moments link noted [] members folder
 follows_done told listed moments link noted members i folder all follows =
     let P : List Member → Type 0 = λ l. FollowsAll told listed moments link noted [] l folder in
-    subst P (take_of_length-le members all) follows
+    subst P (take_all i members all) follows

@@ -1,3 +1,5 @@
+mod Appending
+mod ByteOrder
 mod Endings
 mod EventLines
 mod FileShipments
@@ -12,6 +14,8 @@ mod Openings
 mod Partings
 mod Payloads
 mod PieceReads
+mod Placings
+mod Preparing
 mod Printings
 mod Progresses
 mod Readings
@@ -19,6 +23,7 @@ mod Refusals
 mod Runs
 mod SentPieces
 mod Services
+mod SettingsBytes
 mod Shipments
 mod Silences
 mod Standings
