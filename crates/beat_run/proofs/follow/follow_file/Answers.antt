@@ -11,13 +11,13 @@ use Rattle.beat_run.proofs.follow.follow_file.Goals as goal
 pub returns-in_default-clause-followed : goal.returns-in_default-clause-followed
 returns-in_default-clause-followed g c = λ begun listed before goes followed. alone_more _ listed _ _ _ _ before _ _ _ followed tt (search rules)
 
-pub returns-in-Err-begin-clause-followed : goal.returns-in-Err-begin-clause-followed
-returns-in-Err-begin-clause-followed g c = λ begun listed before goes followed. alone_more _ listed _ _ _ _ before _ _ _ followed tt (rw c.in-Err-begin.is at c.begin-2.ensures.rows_kept)
-
 pub returns-in-Err-clause-followed : goal.returns-in-Err-clause-followed
-returns-in-Err-clause-followed g c = λ begun listed before goes followed.
-    left_more _ listed _ _ _ _ _ before _ _ _ c.in-Err.status (record { gives = λ now given. given }) followed (finding_stops _ _ c.in-Err.status (rw c.in-Err.is at c.open.ensures.ends))
-    (rw c.in-Err.is at c.open.ensures.told) (c.forget.ensures.forgotten _ _ (rw c.in-Ok-begin.is at c.begin-2.ensures.begun))
+returns-in-Err-clause-followed g c = λ begun listed before goes followed. alone_more _ listed _ _ _ _ before _ _ _ followed tt (rw c.in-Err.is at c.begin-2.ensures.rows_kept)
+
+pub returns-in-Err-open-clause-followed : goal.returns-in-Err-open-clause-followed
+returns-in-Err-open-clause-followed g c = λ begun listed before goes followed.
+    left_more _ listed _ _ _ _ _ before _ _ _ c.in-Err-open.status (record { gives = λ now given. given }) followed (finding_stops _ _ c.in-Err-open.status (rw c.in-Err-open.is at c.open.ensures.ends))
+    (rw c.in-Err-open.is at c.open.ensures.told) (c.forget.ensures.forgotten _ _ (rw c.in-Ok-begin.is at c.begin-2.ensures.begun))
 
 pub returns-in-Ok-miss-clause-followed : goal.returns-in-Ok-miss-clause-followed
 returns-in-Ok-miss-clause-followed g c = λ begun listed before goes followed.
