@@ -118,7 +118,7 @@ follows_so settings told evidence Was Is after follows so = record {
 pub record HoldsRows (rows : List Row) (old new : Option (List ℕ)) : Type 0 where
   pub held : IfSome old (λ _. new ≡ Some (area_bytes 1 rows))
 
-rows_held : (rows others : List Row) (old new : Option (List ℕ)) → rows ≡ others → HoldsRows rows old new → IfSome old (λ _. new ≡ Some (area_bytes 1 others))
+pub rows_held : (rows others : List Row) (old new : Option (List ℕ)) → rows ≡ others → HoldsRows rows old new → IfSome old (λ _. new ≡ Some (area_bytes 1 others))
 rows_held rows others old new same holds =
     let P : List Row → Type 0 = λ l. IfSome old (λ _. new ≡ Some (area_bytes 1 l)) in
     subst P same holds.held
