@@ -5,10 +5,8 @@ use Rattle.std.proofs.lemmas.Option.{same_Some}
 use Rattle.std.specs.Ordering.{is_lt}
 use Rattle.std.specs.declared.cmp.Ordering.{Ordering}
 use Rattle.std.specs.declared.cmp.Ordering.TheVariants.{Less}
-use Rattle.beat_config.specs.Document.{AreSettingsOf, IsFirstFault}
+use Rattle.beat_config.specs.Document.{AreSettings, AreSettingsOf, IsFirstFault}
 use Rattle.beat_config.specs.Each.{AreEach}
-use Rattle.beat_config.specs.Input.{inputs_of}
-use Rattle.beat_config.specs.Output.{output_of}
 use Rattle.beat_config.specs.Processors.{AreListed, AreProcessorsOf, IsProcessor}
 use Rattle.beat_config.specs.declared.settings_error.SettingsError.{SettingsError}
 use Rattle.command_line.specs.LineCount.{IsLineCount}
@@ -24,7 +22,7 @@ use Rattle.report.specs.declared.status.Lack.{Lack}
 use Rattle.report.specs.declared.status.Lack.TheVariants.{Byte, Life, Key, Follow, Generate}
 use Rattle.report.specs.declared.status.Status.{Status}
 use Rattle.report.specs.declared.status.Status.TheVariants.{Done, Usage, Settings as SettingsFault, RegistryBad, DiskFault, FolderFault, Unreachable, OutFault, SourceFault, TooMany, NoMemory, Unbuilt}
-use Rattle.toml.specs.Data.{Data, Items, no_items, item, get_member, as_array}
+use Rattle.toml.specs.Data.{Data, Items, no_items, item, as_array}
 use Rattle.wire_base.specs.declared.limits.Which.{Which}
 use Rattle.wire_base.specs.declared.limits.Which.TheVariants.{A, B}
 use Rattle.outside.specs.Counts.{Rose}
@@ -238,13 +236,8 @@ lacks_alike settings other inputs output processors =
 -- all settings of the same bytes have the same lacks
 pub same_lacks : (bytes : List ℕ) (settings other : Settings) → AreSettingsOf bytes settings → AreSettingsOf bytes other → lacks_of settings ≡ lacks_of other
 same_lacks bytes settings other are also =
-    let same : are.document ≡ also.document = same_Some (sym are.parsed ∙ also.parsed) in
-    let inputs : settings.inputs ≡ other.inputs = are.said.inputs ∙ (ap (λ d. inputs_of (get_member (codes "inputs") d)) same ∙ sym also.said.inputs) in
-    let output : settings.output ≡ other.output = are.said.output ∙ (ap (λ d. output_of (get_member (codes "output") d)) same ∙ sym also.said.output) in
-    let processors : length settings.processors ≡ length other.processors =
-        same_processors (get_member (codes "processors") also.document) settings.processors other.processors
-        (subst (λ d. AreProcessorsOf (get_member (codes "processors") d) settings.processors) same are.said.processors) also.said.processors in
-    lacks_alike settings other inputs output processors
+    let said : AreSettings also.document settings = subst (λ d. AreSettings d settings) (same_Some (sym are.parsed ∙ also.parsed)) are.said in
+    lacks_alike settings other (said.inputs ∙ sym also.said.inputs) (said.output ∙ sym also.said.output) (same_processors _ settings.processors other.processors said.processors also.said.processors)
 
 pub same_first_lack : (settings other : Settings) (key also : List ℕ) → lacks_of settings ≡ lacks_of other → IsFirstLack settings key → IsFirstLack other also → key ≡ also
 same_first_lack settings other key also same first too =

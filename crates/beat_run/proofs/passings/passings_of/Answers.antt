@@ -21,5 +21,5 @@ returns c =
     let P : List (List ℕ) → Type 0 = λ l. ArePassings l c.loop-path.passed.items in
     subst P
     (sym (map-id c.loop-path.yielded)
-    ∙ (YieldsList-end (YieldsList-from_vec {s = start.result} c.args.missed.items start.ensures.into_iter_gives.0 (start.ensures.into_iter_gives.1 ∙ c.args.missed.ok.0)) c.loop-path.yielded _ c.loop-path.yielded_by _ _ c.in-None.is c.next.ensures.steps).0)
+    ∙ (YieldsList-end (YieldsList-from_vec {s = start.result} c.args.missed.items start.ensures.into_iter_gives.0 (start.ensures.into_iter_gives.1 ∙ c.args.missed.ok.0)) c.loop-path.yielded c.loop-path.path-iterator c.loop-path.yielded_by c.next.result c.next.new.self c.in-None.is c.next.ensures.steps).0)
     c.loop-path.invariant

@@ -14,5 +14,5 @@ loop-piece-preserved g c = record {
 pub returns-clause-read : goal.returns-clause-read
 returns-clause-read g c = elim c.loop-piece-test.branch [
   | else-loop-piece-test w ↦ read_full _ _ _ _ c.loop-piece.invariant.within (omega (arith, w.loop-piece-test.false, c.len.ensures)) c.loop-piece.invariant.told
-  | then-loop-piece-test+in-Ok-eq0 w ↦ read_to_the_end _ _ w.read.new.into _ w.in-Ok-eq0.field-0 _ _ c.loop-piece.invariant.within (search rules) w.in-Ok-eq0.field-0-is c.loop-piece.invariant.told (rw w.in-Ok-eq0.is at w.read.ensures.told)
+  | then-loop-piece-test+in-Ok-eq0 w ↦ read_to_the_end _ _ w.read.new.into _ w.in-Ok-eq0.field-0 _ _ c.loop-piece.invariant.within (search rules) (search rules) c.loop-piece.invariant.told (rw w.in-Ok-eq0.is at w.read.ensures.told)
 ]
