@@ -1,5 +1,6 @@
 mod Appending
 mod ByteOrder
+mod Ended
 mod Endings
 mod EventLines
 mod FileShipments
@@ -11,6 +12,7 @@ mod Hearings
 mod Keeping
 mod Living
 mod Openings
+mod Orders
 mod Partings
 mod Payloads
 mod PieceReads
