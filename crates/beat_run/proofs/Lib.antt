@@ -4,6 +4,7 @@ mod Endings
 mod EventLines
 mod FileShipments
 mod Filling
+mod FirstLacks
 mod GivenMoments
 mod Harvests
 mod Hearings
@@ -13,7 +14,6 @@ mod Partings
 mod Payloads
 mod PieceReads
 mod Placings
-mod Preparing
 mod Printings
 mod Progresses
 mod Readings
