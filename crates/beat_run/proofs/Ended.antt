@@ -100,6 +100,7 @@ drains_as evidence shipped dropped told_shipped told_dropped left harvests ships
 pub ended_so : (source : Option (List ℕ)) (settings : Settings) (told : Option FolderHistory) (evidence : Evidence) (noted : Noted) (ending : Ending) (after : Option FolderHistory) (old new : Option (List ℕ)) →
     IsNamed source settings → IfSome told (λ history. IsFollowedBy settings history evidence noted after (Ok tt)) → Tells noted ending.rows → ArePassings noted.missed.items ending.passed.items →
     ending.shipped ≡ noted.shipped → ending.dropped ≡ noted.dropped → HoldsRows ending.rows old new → IfSome told (λ history. IsEnded source history evidence after old new ending)
+unfolding follows_so
 ended_so source settings None evidence noted ending after old new named follows tells passed shipped dropped holds = tt
 ended_so source settings (Some told) evidence noted ending after old new named follows tells passed shipped dropped holds =
     let M : List (List ℕ) → Type 0 = λ l. ArePassings l ending.passed.items in
@@ -126,3 +127,9 @@ pub shows_so : (source : Option (List ℕ)) (settings : Settings) (told : Option
     IfSome told (λ history. FindsTooMany settings.inputs history path after) → IfSome told (λ history. ShowsTooMany source history path after)
 shows_so source settings None path after named found = tt
 shows_so source settings (Some told) path after named found = record { settings = settings; named = named; found = found }
+
+-- nothing was pending before the area was looked at, and nothing is
+pub only_later : (old between : Option (List ℕ)) (images later : List ℕ → Type 0) → between ≡ old → ((image : List ℕ) → later image → images image) → Only old images → Only between later
+only_later old between images later kept less only =
+    let P : Option (List ℕ) → Type 0 = λ o. Only o later in
+    subst P (sym kept) (λ image is. only image (less image is))
