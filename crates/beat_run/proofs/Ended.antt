@@ -1,5 +1,5 @@
 -- What a run ends with, by what it noted, what it tells of that, and what it stored.
-use Rattle.std.proofs.Common.{◌≡◌, ◌⊎◌, inl, inr, ℕ, List, [], Option, Some, None, Result, Ok, Err, IfSome, refl, sym, ◌∙◌, ap, subst}
+use Rattle.std.proofs.Common.{◌≡◌, ◌⊎◌, inl, inr, ℕ, List, [], Option, Some, None, Result, Ok, Err, IfErr, IfSome, IsErrOf, refl, sym, ◌∙◌, ap, subst}
 use Rattle.event_tree.specs.declared.settings.Settings.{Settings}
 use Rattle.outside.specs.DiskImages.{Only}
 use Rattle.outside.specs.Folders.{FolderHistory}
@@ -117,10 +117,10 @@ ended_so source settings (Some told) evidence noted ending after old new named f
 
 -- ---- whom a status blames
 
-pub fails_so : (source : Option (List ℕ)) (settings : Settings) (evidence : Evidence) (faults : ℕ) (status : Status) (worker failures : ℕ) → IsNamed source settings →
-    FailsFor settings.output.timeout evidence.moments faults evidence.outcomes status → status ≡ Unreachable worker failures → FailsBySettings source evidence faults
-fails_so source settings evidence faults status worker failures named fails is =
-    let P : Status → Type 0 = λ s. FailsFor settings.output.timeout evidence.moments faults evidence.outcomes s in
+pub fails_so : (source : Option (List ℕ)) (settings : Settings) (evidence : Evidence) (faults : ℕ) (result : Result Ending Status) (worker failures : ℕ) → IsNamed source settings →
+    IfErr result (FailsFor settings.output.timeout evidence.moments faults evidence.outcomes) → IsErrOf result (Unreachable worker failures) → FailsBySettings source evidence faults
+fails_so source settings evidence faults result worker failures named fails is =
+    let P : Result Ending Status → Type 0 = λ r. IfErr r (FailsFor settings.output.timeout evidence.moments faults evidence.outcomes) in
     record { settings = settings; named = named; failed = subst P is fails }
 
 pub shows_so : (source : Option (List ℕ)) (settings : Settings) (told : Option FolderHistory) (path : List ℕ) (after : Option FolderHistory) → IsNamed source settings →

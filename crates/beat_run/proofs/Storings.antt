@@ -95,7 +95,7 @@ preparing_stops source source_now area area_now (Unbuilt Generate) ends = tt
 
 -- ---- files that were followed so
 
-pub follows_so : (settings : Settings) (told : FolderHistory) (evidence : Evidence) (Was Is : List Member → List Harvest → Type 0) (after : Option FolderHistory) →
+unfoldable pub follows_so : (settings : Settings) (told : FolderHistory) (evidence : Evidence) (Was Is : List Member → List Harvest → Type 0) (after : Option FolderHistory) →
     (follows : Follows settings told evidence Was after) → Is follows.left follows.harvests → Follows settings told evidence Is after
 follows_so settings told evidence Was Is after follows so = record {
   listings = follows.listings;
