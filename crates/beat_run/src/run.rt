@@ -162,7 +162,15 @@ fn follow<X: Wait, F: Folder, W: Wire, K: Clock>(
     let mut worker = Worker::new();
     let output = &settings.output;
     let met = follow_all(
-        rt, alloc, &members, output, folder, &mut worker, wire, clock, noted,
+        rt,
+        alloc,
+        &members,
+        output,
+        folder,
+        &mut worker,
+        wire,
+        clock,
+        noted,
     );
     worker.end(wire);
     met
