@@ -40,7 +40,7 @@ noted_held noted rows old new same holds =
 
 pub done_rows : (source : Option (List ℕ)) (settings : Settings) (told : Option FolderHistory) (evidence : Evidence) (noted : Noted) (rows : List Row) (after : Option FolderHistory) (before now : ℕ) (old new : Option (List ℕ)) →
     IsNamed source settings → IfSome told (λ history. IsFollowedBy settings history evidence noted after (Ok tt)) → Tells noted rows → HoldsRows rows old new →
-    IfSome told (λ history. IsStored source history evidence after old new ⊥ (HoldsNoRow before now old new Done) (λ left harvests. AreWhole harvests))
+    IfSome told (λ history. IsStored source history evidence after old new ⊥ (HoldsNoRow before now old new Done) (λ left harvests end. AreWhole harvests))
 done_rows source settings None evidence noted rows after before now old new named follows tells holds = tt
 done_rows source settings (Some told) evidence noted rows after before now old new named follows tells holds =
     done_noted source settings (Some told) evidence noted after before now old new named follows (noted_held noted rows old new (tells (noted_in_order settings told evidence noted after (Ok tt) follows)) holds)
@@ -87,10 +87,11 @@ left_where_failed rows (Some old) between new images later kept less only leaves
 
 -- ---- a run that is done
 
-drains_as : (evidence : Evidence) (shipped dropped told_shipped told_dropped : ℕ) (left : List _) (harvests : List _) → told_shipped ≡ shipped → told_dropped ≡ dropped →
-    Drains evidence shipped dropped left harvests → Drains evidence told_shipped told_dropped left harvests
-drains_as evidence shipped dropped told_shipped told_dropped left harvests ships drops drains = record {
+drains_as : (evidence : Evidence) (shipped dropped told_shipped told_dropped : ℕ) (left : List _) (harvests : List _) (end : List _) → told_shipped ≡ shipped → told_dropped ≡ dropped →
+    Drains evidence shipped dropped left harvests end → Drains evidence told_shipped told_dropped left harvests end
+drains_as evidence shipped dropped told_shipped told_dropped left harvests end ships drops drains = record {
   none_left = drains.none_left;
+  nothing_else = drains.nothing_else;
   whole = drains.whole;
   shipped_are = ships ∙ drains.shipped_are;
   acknowledged = drains.acknowledged;
@@ -109,7 +110,7 @@ ended_so source settings (Some told) evidence noted ending after old new named f
       settings = settings;
       named = named;
       follows = follows_so settings told evidence (Drains evidence noted.shipped noted.dropped) (Drains evidence ending.shipped ending.dropped) after follows.notes.follows
-          (drains_as evidence noted.shipped noted.dropped ending.shipped ending.dropped _ _ shipped dropped follows.notes.follows.so);
+          (drains_as evidence noted.shipped noted.dropped ending.shipped ending.dropped _ _ _ shipped dropped follows.notes.follows.so);
       rows = rows;
       passed = subst M follows.missed passed;
       stored = rows_held ending.rows (rows_in follows.notes.follows.harvests) old new rows holds;
