@@ -1,0 +1,4 @@
+mod Crashes
+mod Gates
+mod Groups
+mod Printed

@@ -1,0 +1,36 @@
+use Rattle.std.proofs.Common.{◌≡◌, ◌≤◌, ◌∙◌, ℕ, List, length, subst, ◌+◌, ◌∷◌, ◌++◌, ap, sym, codes, drop, take, arith}
+use Rattle.std.proofs.lemmas.List.Elements.{All-nil}
+use Rattle.registry_frame.specs.Body.{operation_bytes}
+use Rattle.registry_log.specs.Area.{sets}
+use Rattle.registry_log.specs.Records.{records_behind}
+use Rattle.wire_base.specs.declared.row.Op.{Op}
+use Rattle.wire_base.specs.declared.row.Op.TheVariants.{Set}
+use Rattle.registry_log.proofs.Groups.{first_written, more_short, next_row, rows_fit, SetIsShort}
+use Rattle.registry_log.proofs.area_text.with_records.Goals as goal
+
+abbrev IsShortText : List ℕ → Type 0
+IsShortText text = length text ≤ 80_000
+
+pub loop-i-init : goal.loop-i-init
+loop-i-init c =
+    let body : c.into_bytes.result.items ≡ codes "[" ++ operation_bytes (Set c.at.result.now) =
+      rw c.into_bytes.ensures.value (c.in_ok-format.ensures.ok ∙ ap (λ (l : List ℕ). codes "[" ++ l) c.in_ok-first.ensures.spelled) in
+    record {
+      in_range = omega arith;
+      written = ap (λ (l : List ℕ). c.args.header.items ++ l) (first_written c.args.rows.now c.at.result.now _ c.at.ensures.at body);
+      short = more_short c.args.rows.now 0 c.at.result.now c.at.ensures.at (All-nil SetIsShort) (subst IsShortText c.in_ok-first.ensures.spelled c.in_ok-first.ensures.short);
+    }
+
+pub loop-i-preserved : goal.loop-i-preserved
+loop-i-preserved c =
+    let row = c.at-in-loop-i.result.now in
+    let at = c.at-in-loop-i.ensures.at in
+    record {
+      in_range = omega arith;
+      written = c.in_ok-add.ensures (Set row) (sets (drop (c.loop-i.i + 1) c.args.rows.now)) (c.as_str.ensures.value ∙ c.in_ok-operation.ensures.spelled)
+        ∙ ap (λ (l : List Op). c.loop-i.area.text.items ++ records_behind c.loop-i.area.body.items l) (sym (next_row c.args.rows.now c.loop-i.i row at)) ∙ c.loop-i.invariant.written;
+      short = more_short c.args.rows.now c.loop-i.i row at c.loop-i.invariant.short (subst IsShortText c.in_ok-operation.ensures.spelled c.in_ok-operation.ensures.short);
+    }
+
+pub returns-clause-bodies_fit : goal.returns-clause-bodies_fit
+returns-clause-bodies_fit c = rows_fit c.args.rows.now c.loop-i.i (omega arith) c.loop-i.invariant.short

@@ -1,0 +1,3 @@
+pub mod Area
+pub mod Records
+pub mod Starting
