@@ -52,11 +52,7 @@ impl AreaText {
 }
 
 /// All of the area behind its first gate.
-pub(crate) fn area_text(
-    alloc: Global,
-    generation: u64,
-    rows: &Rows,
-) -> Result<Vec<u8>, NoMemory>
+pub(crate) fn area_text(alloc: Global, generation: u64, rows: &Rows) -> Result<Vec<u8>, NoMemory>
     ensures spelled { IfOk result (λ text. 0x7B ∷ text.items ≡ area_bytes generation rows.now) }
     ensures bodies_fit { IfOk result (λ text. All (λ ops. length (body_bytes ops) ≤ MAX_BODY) (groups (sets rows.now))) }
 {
