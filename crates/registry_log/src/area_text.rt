@@ -1,5 +1,4 @@
-ghost use Rattle.std.specs.Prelude.{◌≡◌, ◌≤◌, ◌++◌, ◌∷◌, All, IfOk, OnOk, length, string_bytes, codes, List};
-ghost use Rattle.ship_core.specs.Rows.{AreRows};
+ghost use Rattle.std.specs.Prelude.{◌≡◌, ◌≤◌, ◌++◌, ◌∷◌, All, IfOk, OnOk, length, codes, List};
 ghost use Rattle.registry_frame.specs.Body.{body_bytes, operation_bytes};
 ghost use Rattle.registry_log.specs.Area.{area_bytes, sets};
 ghost use Rattle.registry_log.specs.Records.{groups, record_of, records_behind, records_bytes};
