@@ -1,0 +1,4 @@
+pub mod Command
+pub mod LineCount
+pub mod Places
+pub mod Words

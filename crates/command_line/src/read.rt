@@ -1,0 +1,51 @@
+ghost use Rattle.std.specs.Prelude.{◌≡◌, IfOk, MatchOption, codes, true, is_some};
+ghost use Rattle.clap.specs.Words.{first_value, found_of, rows_of};
+ghost use Rattle.command_line.specs.Words.{AsksFor, HasNoCount, IsCommand, IsNoCommand};
+
+use crate::command::parse;
+use crate::line_count::line_count;
+use crate::words::Words;
+use clap::ArgMatches;
+use clap::error::ErrorKind;
+use clap::parser::ValueSource;
+use std::alloc::Global;
+use wire_base::{NoMemory, Text};
+
+/// What the words ask for; `None` exactly where the command refuses them. The program's name is none of the words.
+pub fn read_words(alloc: Global, words: &[Text]) -> Result<Option<Words>, NoMemory>
+    ensures { IfOk result (λ found. MatchOption found (IsNoCommand words.now) (IsCommand words.now)) }
+{
+    let words: Vec<&str> = words.iter().map(|word| word.as_str()).collect(alloc)?;
+    match parse(alloc, words.as_slice()) {
+        Ok(matches) => words_of(alloc, &matches),
+        Err(error) if error.kind() == ErrorKind::OutOfMemory => Err(NoMemory),
+        Err(_) => Ok(None),
+    }
+}
+
+fn words_of(alloc: Global, matches: &ArgMatches) -> Result<Option<Words>, NoMemory>
+    requires settings { is_some (first_value (found_of matches.now) (codes "config")) ≡ true }
+    requires folder { is_some (first_value (found_of matches.now) (codes "data")) ≡ true }
+    ensures { IfOk result (λ found. MatchOption found (HasNoCount (rows_of (found_of matches.now)))
+        (AsksFor (rows_of (found_of matches.now)))) }
+{
+    let generate = match matches.get_str("generate") {
+        None => None,
+        Some(digits) => match line_count(digits) {
+            None => return Ok(None),
+            count => count,
+        },
+    };
+    Ok(Some(Words {
+        settings: text(alloc, matches.get_str("config").unwrap())?,
+        data: text(alloc, matches.get_str("data").unwrap())?,
+        once: matches.value_source("once") == Some(ValueSource::CommandLine),
+        generate,
+    }))
+}
+
+pub(crate) fn text(alloc: Global, value: &str) -> Result<Text, NoMemory>
+    ensures { IfOk result (λ text. text ≡ value.now) }
+{
+    Ok(Text::from_string(String::from_str(alloc, value)?))
+}
