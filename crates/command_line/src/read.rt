@@ -1,6 +1,6 @@
-ghost use Rattle.std.specs.Prelude.{◌≡◌, IfOk, MatchOption, codes, true, is_some};
+ghost use Rattle.std.specs.Prelude.{◌≡◌, ◌↔◌, IfOk, IsTrue, MatchOption, Some, codes, map, true, is_some};
 ghost use Rattle.clap.specs.Words.{first_value, found_of, rows_of};
-ghost use Rattle.command_line.specs.Words.{AsksFor, HasNoCount, IsCommand, IsNoCommand};
+ghost use Rattle.command_line.specs.Words.{AsksFor, HasNoCount, IsCommand, IsNoCommand, source_of};
 
 use crate::command::parse;
 use crate::line_count::line_count;
@@ -15,12 +15,22 @@ use wire_base::{NoMemory, Text};
 pub fn read_words(alloc: Global, words: &[Text]) -> Result<Option<Words>, NoMemory>
     ensures { IfOk result (λ found. MatchOption found (IsNoCommand words.now) (IsCommand words.now)) }
 {
-    let words: Vec<&str> = words.iter().map(|word| word.as_str()).collect(alloc)?;
+    let words = words_as_str(alloc, words)?;
     match parse(alloc, words.as_slice()) {
         Ok(matches) => words_of(alloc, &matches),
         Err(error) if error.kind() == ErrorKind::OutOfMemory => Err(NoMemory),
         Err(_) => Ok(None),
     }
+}
+
+fn words_as_str(alloc: Global, words: &[Text]) -> Result<Vec<&str>, NoMemory>
+    ensures { IfOk result (λ texts. map (λ text. text.now) texts.items ≡ words.now) }
+{
+    let mut texts = Vec::new(alloc);
+    for word in words {
+        texts.push(word.as_str())?;
+    }
+    Ok(texts)
 }
 
 fn words_of(alloc: Global, matches: &ArgMatches) -> Result<Option<Words>, NoMemory>
@@ -32,16 +42,23 @@ fn words_of(alloc: Global, matches: &ArgMatches) -> Result<Option<Words>, NoMemo
     let generate = match matches.get_str("generate") {
         None => None,
         Some(digits) => match line_count(digits) {
+            Some(count) => Some(count),
             None => return Ok(None),
-            count => count,
         },
     };
     Ok(Some(Words {
         settings: text(alloc, matches.get_str("config").unwrap())?,
         data: text(alloc, matches.get_str("data").unwrap())?,
-        once: matches.value_source("once") == Some(ValueSource::CommandLine),
+        once: is_in_words(matches, "once"),
         generate,
     }))
+}
+
+// By the words, and not by a default.
+fn is_in_words(matches: &ArgMatches, id: &str) -> bool
+    ensures { IsTrue result ↔ (source_of id.now (rows_of (found_of matches.now)) ≡ Some ValueSource.CommandLine) }
+{
+    matches.value_source(id) == Some(ValueSource::CommandLine)
 }
 
 pub(crate) fn text(alloc: Global, value: &str) -> Result<Text, NoMemory>
