@@ -1,11 +1,13 @@
 -- From the getters of clap's matches to its rows.
-use Rattle.std.proofs.Common.{◌≡◌, ◌≢◌, ◌⊎◌, ◌↔◌, ◌∙◌, ap, subst, sym, refl, ℕ, Bool, true, false, IsTrue, List, Option, Some, None, is_some, option_map, MatchOption, IsSomeAnd, codes}
+use Rattle.std.proofs.Common.{◌≡◌, ◌≢◌, ◌⊎◌, ◌↔◌, ◌∙◌, ap, subst, sym, refl, ℕ, Bool, true, false, IsTrue, List, Option, Some, None, is_some, option_map, MatchOption, IsSomeAnd, codes, [], inr}
 use Rattle.std.specs.Borrow.{Bor}
 use Rattle.std.specs.Option.{option_eq}
 use Rattle.std.proofs.lemmas.Bool.{false≢true}
 use Rattle.std.specs.Prelude.{find, option_and_then}
 use Rattle.std.specs.Str.{bytes_eq}
 use Rattle.clap.specs.Facts.{Entry}
+use Rattle.clap.specs.Faults.{fault_of}
+use Rattle.clap.specs.Simple.{matches_of}
 use Rattle.clap.specs.Matches.{first_value, found_of, matched_of}
 use Rattle.clap.specs.Walk.{Row, first_of, row_of, rows_of}
 use Rattle.clap.specs.declared.parser.matches.Found.{Found}
@@ -14,7 +16,9 @@ use Rattle.clap.specs.declared.parser.matches.ValueSource.{ValueSource}
 use Rattle.clap.specs.declared.parser.matches.ValueSource.TheVariants.{CommandLine, DefaultValue}
 use Rattle.clap.proofs.WalkLemmas.{find_row, first_value-rows}
 use Rattle.command_line.specs.LineCount.{IsLineCount}
-use Rattle.command_line.specs.Words.{HasNoCount, IsGenerateBy, source_of}
+use Rattle.command_line.specs.Command.{beat_command}
+use Rattle.command_line.specs.Words.{AsksFor, HasNoCount, IsCommand, IsGenerateBy, IsNoCommand, source_of}
+use Rattle.command_line.specs.declared.words.Words.{Words}
 use Rattle.wire_base.specs.Decimal.{value_of}
 
 pub source-rows : (f : Found) (id : List ℕ) → option_and_then (λ (a : MatchedArg). a.source) (matched_of f id) ≡ source_of id (rows_of f)
@@ -59,3 +63,10 @@ source_test f id o b E same other got test =
     let row : o ≡ source_of id (rows_of f) = got ∙ source-rows f id in
     subst (λ (x : Bool). IsTrue x ↔ (source_of id (rows_of f) ≡ Some CommandLine)) (sym test)
     (subst (λ (x : Option ValueSource). IsTrue (option_eq E o (Some CommandLine)) ↔ (x ≡ Some CommandLine)) row (is_words E same other o))
+
+-- what the rows ask for is what the words ask for, where clap takes them
+pub asks_of_words : (words : List (List ℕ)) (rows : List Row) (found : Option Words) → fault_of beat_command words ≡ []
+    → rows ≡ matches_of beat_command words → MatchOption found (HasNoCount rows) (AsksFor rows)
+    → MatchOption found (IsNoCommand words) (IsCommand words)
+asks_of_words words rows None taken same none = inr (subst HasNoCount same none)
+asks_of_words words rows (Some asked) taken same asks = (taken, subst (λ (r : List Row). AsksFor r asked) same asks)
