@@ -1,2 +1,3 @@
+pub mod Plain
 mod Rows
 mod Taken

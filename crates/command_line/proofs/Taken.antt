@@ -173,7 +173,7 @@ filled c m p is d lt x e same key passes =
     let some : 1 ≤ least_values a = least (slice_index_or (args_of c) 1 d) data_option rule refl in
     let no_groups : groups_of p.built ≡ [] = (p.from.plain (plain c is)).1 in
     let own : (y : Arg) (k : ℕ) → k < length (args_of p.built) → slice_index_or (args_of p.built) k y ≡ y
-        → bytes_eq y.id.now e.0.now ≡ true → SameRules a y =
+    → bytes_eq y.id.now e.0.now ≡ true → SameRules a y =
     λ y k inside at named. same_rules_by_id c m p 1 d lt
     (λ j f low named_so. only_data j (rw (← count c is) low) (moved _ _ _ _ (id_at c is j f low) id named_so))
     (λ auto. elim auto [

@@ -17,5 +17,5 @@ pub use place::places;
 pub use read::read_words;
 pub use words::Words;
 
-
-
+#[cfg(test)]
+mod tests;
