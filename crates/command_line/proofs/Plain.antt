@@ -1,15 +1,16 @@
 -- What the definition of the command comes to at plain words.
-use Rattle.std.proofs.Common.{◌≡◌, ◌≢◌, refl, sym, subst, ap₂, ◌∙◌, ◌==◌, ◌&&◌, cond, is_some, List, ℕ, Bool, [], ◌∷◌, ◌++◌, codes, Some, None, true, false, inl, inr, arith}
+use Rattle.std.proofs.Common.{◌≡◌, refl, sym, subst, ap₂, ◌∙◌, ◌==◌, ◌&&◌, cond, is_some, List, ℕ, Bool, [], ◌∷◌, ◌++◌, codes, Option, Some, None, IsSomeAnd, true, false, inl, inr, arith}
 use Rattle.std.specs.Str.{bytes_eq}
 use Rattle.clap.specs.Faults.{check_fault, defaults_fault, entered_fault, fault_of, settle_fault, turn_fault, walk_fault}
 use Rattle.clap.specs.Kinds.{Kinds, or_else}
 use Rattle.clap.specs.Lexer.{strip_byte}
 use Rattle.clap.specs.Simple.{Shape, built, entered, matches_of}
-use Rattle.clap.specs.Walk.{Walk, finished, idle, nothing_held, pushed, settled, walk_from, walked}
+use Rattle.clap.specs.Walk.{Walk, finished, first_of, idle, nothing_held, pushed, settled, walk_from, walked}
 use Rattle.clap.specs.declared.error.kind.ErrorKind.TheVariants as kind
 use Rattle.clap.proofs.OnLiterals.{clap_on_literals}
 use Rattle.command_line.specs.Command.{beat_command}
-use Rattle.command_line.specs.Words.{AsksFor, IsCommand, IsNoCommand}
+use Rattle.command_line.specs.LineCount.{IsLineCount}
+use Rattle.command_line.specs.Words.{AsksFor, IsCommand, IsGenerateBy, IsNoCommand}
 use Rattle.command_line.specs.declared.words.Words.{Words}
 
 -- ---- words that are taken
@@ -117,6 +118,15 @@ apart_is_taken file plain = (apart_has_no_fault file plain (no_dashes file plain
         by_test false h = refl
 
 -- ---- words that are refused
+
+-- no words are both taken and refused
+pub not_both : (words : List (List ℕ)) (asked : Words) → IsCommand words asked → IsNoCommand words → ⊥
+not_both words asked taken (inl fault) = fault taken.0
+not_both words asked taken (inr no_count) = go (first_of (codes "generate") (matches_of beat_command words)) taken.1.generate no_count
+  where
+    go : (value : Option (List ℕ)) → IsGenerateBy value asked.generate → IsSomeAnd value (λ digits. ¬ (IsLineCount digits)) → ⊥
+    go None read refused = refused
+    go (Some digits) read refused = refused read.0
 
 nothing : fault_of beat_command [] ≡ kind.MissingRequiredArgument ∷ []
 unfolding clap_on_literals
