@@ -1,0 +1,4 @@
+pub mod Collecting
+pub mod Lacks
+pub mod Members
+pub mod Scan

@@ -1,0 +1,91 @@
+ghost use Rattle.std.specs.Prelude.{◌≡◌, ◌++◌, [], IfOk, MatchOption, OnOk};
+ghost use Rattle.prospect.specs.Lacks.{IsFirstLack, input_key, is_auto, is_nil, is_path, is_single, lacks_of, lacks_of_input, lacks_of_inputs, unless_built};
+
+use event_tree::{GroupRule, IdentityRule, InputRule, Settings, Terminator};
+use std::alloc::Global;
+use wire_base::{NoMemory, Text};
+
+/// The most bytes of a message that are kept by default (Filebeat reference, message_max_bytes).
+const DEFAULT_MESSAGE_MAX_BYTES: u64 = 10_485_760;
+
+/// The first key in byte order by which valid settings ask for what is not built, as
+/// `inputs.0.file_identity` or `output.workers`.
+pub fn first_lack(alloc: Global, settings: &Settings) -> Result<Option<Text>, NoMemory>
+    ensures first { IfOk result (λ found. MatchOption found (lacks_of settings.now ≡ []) (IsFirstLack settings.now)) }
+{
+    let lacks = lacks_of(alloc, settings)?;
+    Ok(lacks.into_iter().min())
+}
+
+/// All such keys, in the order of the settings.
+fn lacks_of(alloc: Global, settings: &Settings) -> Result<Vec<Text>, NoMemory>
+    ensures { IfOk result (λ lacks. lacks.items ≡ lacks_of settings.now) }
+{
+    let mut lacks = Vec::new(alloc);
+    add_inputs(alloc, &mut lacks, settings.inputs.as_slice())?;
+    let one_worker = settings.output.workers == 1;
+    add(alloc, &mut lacks, one_worker, "output.workers")?;
+    let no_processor = settings.processors.as_slice().is_empty();
+    add(alloc, &mut lacks, no_processor, "processors")?;
+    Ok(lacks)
+}
+
+fn add_inputs(alloc: Global, lacks: &mut Vec<Text>, inputs: &[InputRule]) -> Result<(), NoMemory>
+    ensures { OnOk result (lacks.new.items ≡ lacks.old.items ++ lacks_of_inputs 0 inputs.now) }
+{
+    for (number, input) in inputs.iter().enumerate() {
+        add_input(alloc, lacks, number, input)?;
+    }
+    Ok(())
+}
+
+fn add_input(
+    alloc: Global,
+    lacks: &mut Vec<Text>,
+    number: usize,
+    input: &InputRule,
+) -> Result<(), NoMemory>
+    ensures { OnOk result (lacks.new.items ≡ lacks.old.items ++ lacks_of_input number input.now) }
+{
+    let lines = input.lines;
+    let by_path = matches!(input.file_identity, IdentityRule::Path);
+    add_of(alloc, lacks, number, by_path, "file_identity")?;
+    let auto = matches!(lines.terminator, Terminator::Auto);
+    add_of(alloc, lacks, number, auto, "line_terminator")?;
+    let default_size = lines.message_max_bytes == DEFAULT_MESSAGE_MAX_BYTES;
+    add_of(alloc, lacks, number, default_size, "message_max_bytes")?;
+    let all_included = input.include_lines.as_slice().is_empty();
+    add_of(alloc, lacks, number, all_included, "include_lines")?;
+    let none_excluded = input.exclude_lines.as_slice().is_empty();
+    add_of(alloc, lacks, number, none_excluded, "exclude_lines")?;
+    let single = matches!(input.multiline, GroupRule::Single { .. });
+    add_of(alloc, lacks, number, single, "multiline")
+}
+
+/// Adds the key of a setting of an input, unless what it asks for is built.
+fn add_of(
+    alloc: Global,
+    lacks: &mut Vec<Text>,
+    number: usize,
+    built: bool,
+    name: &str,
+) -> Result<(), NoMemory>
+    ensures { OnOk result (lacks.new.items ≡ lacks.old.items ++ unless_built built (input_key number name.now)) }
+{
+    if !built {
+        let key = format!(in alloc; "inputs.{number}.{name}")?;
+        lacks.push(Text::from_string(key))?;
+    }
+    Ok(())
+}
+
+/// Adds the key, unless what it asks for is built.
+fn add(alloc: Global, lacks: &mut Vec<Text>, built: bool, key: &str) -> Result<(), NoMemory>
+    ensures { OnOk result (lacks.new.items ≡ lacks.old.items ++ unless_built built key.now) }
+{
+    if !built {
+        let key = String::from_str(alloc, key)?;
+        lacks.push(Text::from_string(key))?;
+    }
+    Ok(())
+}

@@ -1,0 +1,20 @@
+//! Which files the settings name, as one scan shows them; and which keys of the settings ask for
+//! what is not built.
+//!
+//! A scan lists once for each glob of the settings. What it hands out, and what of the settings is
+//! lacking, are definitions of `specs/`. Nothing here opens a file.
+#![tactic(auto)]
+
+mod collect;
+mod input_globs;
+mod lack;
+mod listings;
+mod member;
+
+mod scan_error;
+
+pub use lack::first_lack;
+pub use member::Member;
+pub use listings::{MAX_FILES, scan};
+pub use scan_error::ScanError;
+
