@@ -1,1 +1,4 @@
-
+pub mod Adding
+pub mod Lacking
+pub mod Listing
+pub mod Naming

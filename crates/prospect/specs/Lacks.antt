@@ -1,5 +1,5 @@
 -- Which keys of valid settings ask for what is not built (this project's profile).
-use Rattle.std.specs.Prelude.{◌≡◌, ℕ, ◌+◌, Bool, true, false, not, ◌==◌, List, [], ◌∷◌, ◌++◌, All, Contains, codes, decimal}
+use Rattle.std.specs.Prelude.{◌≡◌, ℕ, ◌+◌, Bool, true, false, not, ◌==◌, List, [], ◌∷◌, ◌++◌, length, All, Contains, codes, decimal}
 use Rattle.std.specs.Ordering.{is_lt}
 use Rattle.event_tree.specs.declared.group_rule.GroupRule.{GroupRule}
 use Rattle.event_tree.specs.declared.group_rule.GroupRule.TheVariants.{Single, Count, Pattern}
@@ -27,10 +27,6 @@ is_single (Single message_max_bytes) = true
 is_single (Count count_lines max_lines timeout skip_newline message_max_bytes) = false
 is_single (Pattern pattern negate side flush_pattern max_lines timeout skip_newline message_max_bytes) = false
 
-abbrev pub is_nil : {A : Type 0} → List A → Bool
-is_nil [] = true
-is_nil (one ∷ more) = false
-
 -- the key, where what it asks for is not built
 abbrev pub unless_built : Bool → List ℕ → List (List ℕ)
 unless_built true key = []
@@ -45,8 +41,8 @@ lacks_of_input number input =
     unless_built (is_path input.file_identity) (input_key number (codes "file_identity"))
     ++ unless_built (is_auto input.lines.terminator) (input_key number (codes "line_terminator"))
     ++ unless_built (input.lines.message_max_bytes == 10485760) (input_key number (codes "message_max_bytes"))
-    ++ unless_built (is_nil input.include_lines) (input_key number (codes "include_lines"))
-    ++ unless_built (is_nil input.exclude_lines) (input_key number (codes "exclude_lines"))
+    ++ unless_built (length input.include_lines == 0) (input_key number (codes "include_lines"))
+    ++ unless_built (length input.exclude_lines == 0) (input_key number (codes "exclude_lines"))
     ++ unless_built (is_single input.multiline) (input_key number (codes "multiline"))
 
 -- those of the inputs from this number on
@@ -59,7 +55,7 @@ abbrev pub lacks_of : Settings → List (List ℕ)
 lacks_of settings =
     lacks_of_inputs 0 settings.inputs
     ++ unless_built (settings.output.workers == 1) (codes "output.workers")
-    ++ unless_built (is_nil settings.processors) (codes "processors")
+    ++ unless_built (length settings.processors == 0) (codes "processors")
 
 -- the key is lacking, and no lacking key comes before it in byte order
 pub record IsFirstLack (settings : Settings) (key : List ℕ) : Type 0 where

@@ -1,5 +1,5 @@
 ghost use Rattle.std.specs.Prelude.{◌≡◌, ◌++◌, [], IfOk, MatchOption, OnOk};
-ghost use Rattle.prospect.specs.Lacks.{IsFirstLack, input_key, is_auto, is_nil, is_path, is_single, lacks_of, lacks_of_input, lacks_of_inputs, unless_built};
+ghost use Rattle.prospect.specs.Lacks.{IsFirstLack, input_key, is_auto, is_path, is_single, lacks_of, lacks_of_input, lacks_of_inputs, unless_built};
 
 use event_tree::{GroupRule, IdentityRule, InputRule, Settings, Terminator};
 use std::alloc::Global;
@@ -47,19 +47,37 @@ fn add_input(
 ) -> Result<(), NoMemory>
     ensures { OnOk result (lacks.new.items ≡ lacks.old.items ++ lacks_of_input number input.now) }
 {
-    let lines = input.lines;
-    let by_path = matches!(input.file_identity, IdentityRule::Path);
+    let by_path = is_path(input.file_identity);
     add_of(alloc, lacks, number, by_path, "file_identity")?;
-    let auto = matches!(lines.terminator, Terminator::Auto);
+    let auto = is_auto(input.lines.terminator);
     add_of(alloc, lacks, number, auto, "line_terminator")?;
-    let default_size = lines.message_max_bytes == DEFAULT_MESSAGE_MAX_BYTES;
+    let default_size = input.lines.message_max_bytes == DEFAULT_MESSAGE_MAX_BYTES;
     add_of(alloc, lacks, number, default_size, "message_max_bytes")?;
     let all_included = input.include_lines.as_slice().is_empty();
     add_of(alloc, lacks, number, all_included, "include_lines")?;
     let none_excluded = input.exclude_lines.as_slice().is_empty();
     add_of(alloc, lacks, number, none_excluded, "exclude_lines")?;
-    let single = matches!(input.multiline, GroupRule::Single { .. });
-    add_of(alloc, lacks, number, single, "multiline")
+    let single = is_single(&input.multiline);
+    add_of(alloc, lacks, number, single, "multiline")?;
+    Ok(())
+}
+
+fn is_path(rule: IdentityRule) -> bool
+    ensures { result ≡ is_path rule }
+{
+    matches!(rule, IdentityRule::Path)
+}
+
+fn is_auto(terminator: Terminator) -> bool
+    ensures { result ≡ is_auto terminator }
+{
+    matches!(terminator, Terminator::Auto)
+}
+
+fn is_single(rule: &GroupRule) -> bool
+    ensures { result ≡ is_single rule.now }
+{
+    matches!(rule, GroupRule::Single { .. })
 }
 
 /// Adds the key of a setting of an input, unless what it asks for is built.

@@ -10,11 +10,9 @@ mod input_globs;
 mod lack;
 mod listings;
 mod member;
-
 mod scan_error;
 
 pub use lack::first_lack;
-pub use member::Member;
 pub use listings::{MAX_FILES, scan};
+pub use member::Member;
 pub use scan_error::ScanError;
-
