@@ -1,0 +1,4 @@
+mod Eaches
+mod Escapes
+mod Parts
+mod Writings

@@ -1,0 +1,5 @@
+pub mod Escape
+pub mod ExitStatus
+pub mod Part
+pub mod Report
+pub mod Writing

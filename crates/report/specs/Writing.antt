@@ -1,0 +1,10 @@
+-- Writing a text to a sink (this project's profile).
+use Rattle.std.specs.Prelude.{◌≡◌, ℕ, List, ◌++◌, take, Option, Some, None, Result, MatchResult}
+use Rattle.outside.specs.declared.failed.Failed.{Failed}
+
+-- where the sink tells, all of the text stands behind what it held, or a front of it where the writing failed
+abbrev pub WritesAll : Option (List ℕ) → List ℕ → Result (Unit {0}) Failed → Option (List ℕ) → Type 0
+WritesAll None text result after = after ≡ None
+WritesAll (Some written) text result after = MatchResult result
+    (λ _. after ≡ Some (written ++ text))
+    (λ _. (count : ℕ) × (after ≡ Some (written ++ take count text)))

@@ -1,0 +1,164 @@
+ghost use Rattle.std.specs.Prelude.{◌≡◌, ◌≤◌, ◌++◌, codes, OnErr};
+ghost use Rattle.std.specs.Fmt.{signed_decimal};
+ghost use Rattle.outside.specs.Counts.{Rose};
+ghost use Rattle.report.specs.Report.{area_letter, full_name, lack_text, settings_text, status_bytes};
+ghost use Rattle.report.specs.Writing.{WritesAll};
+
+use crate::part::Part::{Number, Plain, Quoted, Signed};
+use crate::part::write_parts;
+use crate::status::{Lack, Status};
+use crate::write::write_all;
+use beat_config::SettingsError;
+use outside::{Failed, Sink};
+use wire_base::{Full, Text, Which};
+
+/// Writes the last line. Takes no memory.
+pub fn status_line<S: Sink>(status: &Status, out: &mut S) -> Result<(), Failed>
+    ensures told { WritesAll (S.written out.old) (status_bytes status.now) result (S.written out.new) }
+    ensures faults_never_fall { S.faults out.old ≤ S.faults out.new }
+    ensures failed_only_where_faults_rose { OnErr result (Rose (S.faults out.old) (S.faults out.new)) }
+{
+    match status {
+        Status::Done => write_all(out, b"status 0 done\n"),
+        Status::Usage => write_all(
+            out,
+            b"status 2 usage: beat_main -c FILE [--once] [--data DIR] [--generate N]\n",
+        ),
+        Status::Settings(fault) => settings_line(fault, out),
+        Status::RegistryBad { area, at } => write_parts(
+            out,
+            &[
+                Plain(b"status 4 registry bad area "),
+                Plain(area_name(*area)),
+                Plain(b" at "),
+                Number(*at),
+                Plain(b"\n"),
+            ],
+        ),
+        Status::DiskFault => write_all(out, b"status 5 disk fault\n"),
+        Status::FolderFault => write_all(out, b"status 6 folder fault\n"),
+        Status::Unreachable { worker, failures } => write_parts(
+            out,
+            &[
+                Plain(b"status 7 unreachable worker "),
+                Number(u64::from(*worker)),
+                Plain(b" failures "),
+                Number(u64::from(*failures)),
+                Plain(b"\n"),
+            ],
+        ),
+        Status::OutFault => Ok(()),
+        Status::SourceFault => write_all(out, b"status 9 source fault\n"),
+        Status::TooMany { what, path } => write_parts(
+            out,
+            &[
+                Plain(b"status 10 too many "),
+                Plain(full_name(*what)),
+                Plain(b" "),
+                Quoted(path),
+                Plain(b"\n"),
+            ],
+        ),
+        Status::NoMemory => write_all(out, b"status 12 no memory\n"),
+        Status::Unbuilt { what } => unbuilt_line(what, out),
+    }
+}
+
+fn settings_line<S: Sink>(fault: &SettingsError, out: &mut S) -> Result<(), Failed>
+    ensures told { WritesAll (S.written out.old) (codes "status 3 settings " ++ (settings_text fault.now ++ codes "\n")) result (S.written out.new) }
+    ensures faults_never_fall { S.faults out.old ≤ S.faults out.new }
+    ensures failed_only_where_faults_rose { OnErr result (Rose (S.faults out.old) (S.faults out.new)) }
+{
+    match fault {
+        SettingsError::TooLong => write_all(out, b"status 3 settings too long\n"),
+        SettingsError::NotToml => write_all(out, b"status 3 settings not toml\n"),
+        SettingsError::Unknown { key } => key_line(b"unknown ", key, out),
+        SettingsError::Missing { key } => key_line(b"missing ", key, out),
+        SettingsError::WrongKind { key } => key_line(b"wrong kind ", key, out),
+        SettingsError::BadText { key } => key_line(b"bad text ", key, out),
+        SettingsError::OutOfRange { key, value } => range_line(key, *value, out),
+        SettingsError::BadGlob { key, .. } => key_line(b"bad glob ", key, out),
+        SettingsError::BadPattern { key } => key_line(b"bad pattern ", key, out),
+        SettingsError::NoMemory => write_all(out, b"status 3 settings no memory\n"),
+    }
+}
+
+fn key_line<'a, S: Sink>(fault: &'a [u8], key: &'a Text, out: &mut S) -> Result<(), Failed>
+    ensures told { WritesAll (S.written out.old) (codes "status 3 settings " ++ (fault.now ++ (key.now ++ codes "\n"))) result (S.written out.new) }
+    ensures faults_never_fall { S.faults out.old ≤ S.faults out.new }
+    ensures failed_only_where_faults_rose { OnErr result (Rose (S.faults out.old) (S.faults out.new)) }
+{
+    write_parts(
+        out,
+        &[
+            Plain(b"status 3 settings "),
+            Plain(fault),
+            Plain(key.bytes()),
+            Plain(b"\n"),
+        ],
+    )
+}
+
+fn range_line<S: Sink>(key: &Text, value: i64, out: &mut S) -> Result<(), Failed>
+    ensures told { WritesAll (S.written out.old) (codes "status 3 settings out of range " ++ (key.now ++ (codes " " ++ (signed_decimal value ++ codes "\n")))) result (S.written out.new) }
+    ensures faults_never_fall { S.faults out.old ≤ S.faults out.new }
+    ensures failed_only_where_faults_rose { OnErr result (Rose (S.faults out.old) (S.faults out.new)) }
+{
+    write_parts(
+        out,
+        &[
+            Plain(b"status 3 settings out of range "),
+            Plain(key.bytes()),
+            Plain(b" "),
+            Signed(value),
+            Plain(b"\n"),
+        ],
+    )
+}
+
+fn unbuilt_line<S: Sink>(lack: &Lack, out: &mut S) -> Result<(), Failed>
+    ensures told { WritesAll (S.written out.old) (codes "status 13 unbuilt " ++ (lack_text lack.now ++ codes "\n")) result (S.written out.new) }
+    ensures faults_never_fall { S.faults out.old ≤ S.faults out.new }
+    ensures failed_only_where_faults_rose { OnErr result (Rose (S.faults out.old) (S.faults out.new)) }
+{
+    match lack {
+        Lack::Byte(at) => write_parts(
+            out,
+            &[
+                Plain(b"status 13 unbuilt byte "),
+                Number(*at),
+                Plain(b"\n"),
+            ],
+        ),
+        Lack::Life => write_all(out, b"status 13 unbuilt life\n"),
+        Lack::Key(key) => write_parts(
+            out,
+            &[
+                Plain(b"status 13 unbuilt key "),
+                Plain(key.bytes()),
+                Plain(b"\n"),
+            ],
+        ),
+        Lack::Follow => write_all(out, b"status 13 unbuilt follow\n"),
+        Lack::Generate => write_all(out, b"status 13 unbuilt generate\n"),
+    }
+}
+
+fn area_name(area: Which) -> &'static [u8]
+    ensures { result.now ≡ area_letter area }
+{
+    match area {
+        Which::A => b"A",
+        Which::B => b"B",
+    }
+}
+
+fn full_name(what: Full) -> &'static [u8]
+    ensures { result.now ≡ full_name what }
+{
+    match what {
+        Full::Files => b"files",
+        Full::Epochs => b"epochs",
+        Full::Slots => b"slots",
+    }
+}
