@@ -1,6 +1,8 @@
+mod Endings
 mod EventLines
 mod FileShipments
 mod Filling
+mod Follows
 mod GivenMoments
 mod Harvests
 mod Hearings
@@ -9,12 +11,15 @@ mod Living
 mod Partings
 mod Payloads
 mod PieceReads
+mod Printings
 mod Progresses
 mod Readings
+mod Refusals
 mod Runs
 mod SentPieces
 mod Services
 mod Shipments
+mod Silences
 mod Standings
 mod Stoppings
 mod Storings

@@ -136,7 +136,7 @@ acks-snoc numbers number =
 
 -- pieces that were heard behind the talk
 heard_on : (talk now : Talk) (count : ℕ) (pieces : List Piece) (earlier front bytes next : List ℕ) (idled : Bool) (after : Option Talk) →
-    now.pieces ≡ talk.pieces ++ pieces → out_bytes pieces ≡ [] → All (λ number. number ≤ count) earlier →
+    now.pieces ≡ talk.pieces ++ pieces → out_bytes pieces ≡ [] → All (λ number. number < count) earlier →
     in_bytes pieces ≡ ack_bytes earlier ++ front → next ≡ front ++ bytes →
     after ≡ Some (record { pieces = now.pieces ++ In bytes ∷ []; idled = idled }) → HearsFront talk count next after
 heard_on talk now count pieces earlier front bytes next idled after added none few heard is told = record {
@@ -188,10 +188,10 @@ hearing_waits (Some talk) count filled k frame into before after fits was tells 
     }
 
 -- what is heard adds nothing where the connection ended
-pub hearing_fails : (start : Option Talk) (count : ℕ) (Failed : Type 0) (front : List ℕ) (status : Status) (before after : Option Talk) →
-    Failed → IsFrontHeard start count front before → after ≡ before → HearsAll start count Failed (Err status) after
-hearing_fails None count Failed front status before after failed was same = same ∙ was
-hearing_fails (Some talk) count Failed front status before after failed was same = record {
+pub hearing_fails : (start : Option Talk) (count : ℕ) (Failed Waited : Type 0) (front : List ℕ) (status : Status) (before after : Option Talk) →
+    Failed → IsFrontHeard start count front before → after ≡ before → HearsAll start count Failed Waited (Err status) after
+hearing_fails None count Failed Waited front status before after failed was same = same ∙ was
+hearing_fails (Some talk) count Failed Waited front status before after failed was same = record {
   now = was.now;
   told = same ∙ was.told;
   pieces = was.pieces;
@@ -201,33 +201,58 @@ hearing_fails (Some talk) count Failed front status before after failed was same
 }
 
 -- the front is no acknowledgement's, or one's above the count
-pub hearing_meets : (start : Option Talk) (count : ℕ) (Failed : Type 0) (front : List ℕ) (status : Status) (now : Option Talk) →
-    BeginsNoAcknowledgement front → IsFrontHeard start count front now → HearsAll start count Failed (Err status) now
-hearing_meets None count Failed front status now begins was = was
-hearing_meets (Some talk) count Failed front status now begins was = record {
+pub hearing_meets : (start : Option Talk) (count : ℕ) (Failed Waited : Type 0) (front : List ℕ) (status : Status) (now : Option Talk) →
+    BeginsNoAcknowledgement front → IsFrontHeard start count front now → HearsAll start count Failed Waited (Err status) now
+hearing_meets None count Failed Waited front status now begins was = was
+hearing_meets (Some talk) count Failed Waited front status now begins was = record {
   now = was.now;
   told = was.told;
   pieces = was.pieces;
   added = was.added;
   none_sent = was.none_sent;
-  heard = inr (record { earlier = was.earlier; few = was.few; fault = inl (front, (was.heard, begins)) });
+  heard = inr (inl (record { earlier = was.earlier; few = was.few; fault = inl (front, (was.heard, begins)) }));
 }
 
-pub hearing_exceeds : (start : Option Talk) (count number : ℕ) (Failed : Type 0) (front : List ℕ) (status : Status) (now : Option Talk) →
-    front ≡ frame_bytes (Ack number) → number < 2 ^ 32 → count < number → IsFrontHeard start count front now → HearsAll start count Failed (Err status) now
-hearing_exceeds None count number Failed front status now is small above was = was
-hearing_exceeds (Some talk) count number Failed front status now is small above was = record {
+pub hearing_exceeds : (start : Option Talk) (count number : ℕ) (Failed Waited : Type 0) (front : List ℕ) (status : Status) (now : Option Talk) →
+    front ≡ frame_bytes (Ack number) → number < 2 ^ 32 → count < number → IsFrontHeard start count front now → HearsAll start count Failed Waited (Err status) now
+hearing_exceeds None count number Failed Waited front status now is small above was = was
+hearing_exceeds (Some talk) count number Failed Waited front status now is small above was = record {
   now = was.now;
   told = was.told;
   pieces = was.pieces;
   added = was.added;
   none_sent = was.none_sent;
-  heard = inr (record {
+  heard = inr (inl (record {
     earlier = was.earlier;
     few = was.few;
     fault = inr (number, (was.heard ∙ ap (λ (l : List ℕ). ack_bytes was.earlier ++ l) is ∙ sym (acks-snoc was.earlier number), (small, above)));
-  });
+  }));
 }
+
+-- nothing came for the whole wait
+pub hearing_waited : (start : Option Talk) (count : ℕ) (Failed Waited : Type 0) (front into : List ℕ) (status : Status) (before after : Option Talk) →
+    length front < 6 → Waited → IsFrontHeard start count front before → TellsReceiving before into NotYet after → HearsAll start count Failed Waited (Err status) after
+hearing_waited None count Failed Waited front into status before after short waited was tells =
+    let P : Option Talk → Type 0 = λ o. TellsReceiving o into NotYet after in
+    subst P was tells
+hearing_waited (Some talk) count Failed Waited front into status before after short waited was tells =
+    let P : Option Talk → Type 0 = λ o. TellsReceiving o into NotYet after in
+    record {
+      now = record { pieces = was.now.pieces; idled = true };
+      told = subst P was.told tells;
+      pieces = was.pieces;
+      added = was.added;
+      none_sent = was.none_sent;
+      heard = inr (inr (record {
+        earlier = was.earlier;
+        few = was.few;
+        front = front;
+        short = short;
+        are = was.heard;
+        idled = refl;
+        waited = waited;
+      }));
+    }
 
 pub closed_adds_nothing : (into : List ℕ) (before after : Option Talk) → TellsReceiving before into Closed after → after ≡ before
 closed_adds_nothing into None after tells = tells
@@ -246,13 +271,13 @@ hearing_starts (Some talk) count = record {
   added = sym (append-nil talk.pieces);
   none_sent = refl;
   earlier = [];
-  few = All-nil (λ (number : ℕ). number ≤ count);
+  few = All-nil (λ (number : ℕ). number < count);
   heard = refl;
 }
 
 -- an acknowledgement of fewer is one of those before
 pub hearing_goes_on : (start : Option Talk) (count number : ℕ) (front : List ℕ) (now : Option Talk) →
-    front ≡ frame_bytes (Ack number) → number ≤ count → IsFrontHeard start count front now → IsFrontHeard start count [] now
+    front ≡ frame_bytes (Ack number) → number < count → IsFrontHeard start count front now → IsFrontHeard start count [] now
 hearing_goes_on None count number front now is fewer was = was
 hearing_goes_on (Some talk) count number front now is fewer was = record {
   now = was.now;
@@ -261,15 +286,15 @@ hearing_goes_on (Some talk) count number front now is fewer was = record {
   added = was.added;
   none_sent = was.none_sent;
   earlier = was.earlier ++ number ∷ [];
-  few = All-append (λ (n : ℕ). n ≤ count) was.earlier (number ∷ []) was.few (All-one (λ (n : ℕ). n ≤ count) number fewer);
+  few = All-append (λ (n : ℕ). n < count) was.earlier (number ∷ []) was.few (All-one (λ (n : ℕ). n < count) number fewer);
   heard = was.heard ∙ ap (λ (l : List ℕ). ack_bytes was.earlier ++ l) is
       ∙ sym (acks-snoc was.earlier number) ∙ sym (append-nil (ack_bytes (was.earlier ++ number ∷ [])));
 }
 
-pub hearing_ends : (start : Option Talk) (count number : ℕ) (Failed : Type 0) (front : List ℕ) (now : Option Talk) →
-    front ≡ frame_bytes (Ack number) → number ≡ count → IsFrontHeard start count front now → HearsAll start count Failed (Ok tt) now
-hearing_ends None count number Failed front now is all was = was
-hearing_ends (Some talk) count number Failed front now is all was = record {
+pub hearing_ends : (start : Option Talk) (count number : ℕ) (Failed Waited : Type 0) (front : List ℕ) (now : Option Talk) →
+    front ≡ frame_bytes (Ack number) → number ≡ count → IsFrontHeard start count front now → HearsAll start count Failed Waited (Ok tt) now
+hearing_ends None count number Failed Waited front now is all was = was
+hearing_ends (Some talk) count number Failed Waited front now is all was = record {
   now = was.now;
   told = was.told;
   pieces = was.pieces;

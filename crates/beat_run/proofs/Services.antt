@@ -1,11 +1,13 @@
 -- What a worker's peer has acknowledged, as windows are sent.
-use Rattle.std.proofs.Common.{◌≡◌, ◌⊎◌, inl, inr, ℕ, ◌≤◌, ◌<◌, ◌^◌, All, Contains, length, arith, List, [], ◌∷◌, ◌++◌, Option, Some, None, Result, Ok, Err, IfSome, IsErr, MatchResult, OnErr, refl, sym, ◌∙◌, ap, subst, append_assoc, append-nil}
+use Rattle.std.proofs.Common.{◌≡◌, ◌⊎◌, inl, inr, ℕ, ◌≤◌, ◌<◌, ◌^◌, All, Contains, length, arith, List, [], ◌∷◌, ◌++◌, Option, Some, None, Result, Ok, Err, IfSome, IsErr, IsSome, MatchResult, OnErr, refl, sym, ◌∙◌, ap, subst, append_assoc, append-nil}
 use Rattle.std.specs.List.{AllByRecursion, flat_map}
 use Rattle.wire_base.specs.declared.talk.Piece.{Piece}
 use Rattle.outside.specs.Talks.{Talk}
+use Rattle.std.proofs.lemmas.Bool.{false≢true}
 use Rattle.std.proofs.lemmas.Grind.{flat_map-append}
 use Rattle.std.proofs.lemmas.List.Elements.{All-append, All-cons, All-nil, Contains-push}
 use Rattle.lumber_frame.specs.declared.frame.Frame.TheVariants.{Window}
+use Rattle.lumber_frame.specs.Acknowledged.{Acknowledges}
 use Rattle.lumber_frame.specs.Frame.{frame_bytes}
 use Rattle.lumber_frame.specs.PeerFault.{BeginsNoAcknowledgement, HasPeerFault}
 use Rattle.lumber_frame.specs.Settled.{IsSettled, ack_bytes}
@@ -14,7 +16,8 @@ use Rattle.lumber_frame.specs.Window.{IsWindow, window_bytes}
 use Rattle.report.specs.declared.status.Status.{Status}
 use Rattle.beat_run.specs.Acknowledged.{SendsFront}
 use Rattle.beat_run.specs.Serving.{Settles, Serves, HasSettled, HasServed, IsWindowOf}
-use Rattle.beat_run.specs.Talking.{AcknowledgesAll, MeetsFault, SendsAll, SendsPieces, HearsAll, HearsPieces}
+use Rattle.beat_run.specs.Talking.{AcknowledgesAll, FallsSilent, MeetsFault, SendsAll, SendsPieces, HearsAll, HearsPieces}
+use Rattle.beat_run.specs.TimedOut.{IsUnanswered}
 use Rattle.beat_run.proofs.SentPieces.{out_bytes-append, in_bytes-append}
 
 -- pieces were put behind the talk, and what of them was sent is a front of these bytes
@@ -36,11 +39,18 @@ sending_adds None bytes result after sends = sends
 sending_adds (Some talk) bytes result after sends =
     record { now = sends.now; told = sends.told; pieces = sends.pieces; added = sends.added; left = sends.left; sent = sends.sent }
 
-pub hearing_adds : (start : Option Talk) (count : ℕ) (Failed : Type 0) (result : Result (Unit {0}) Status) (after : Option Talk) →
-    HearsAll start count Failed result after → IsLonger start [] after
-hearing_adds None count Failed result after hears = hears
-hearing_adds (Some talk) count Failed result after hears =
+pub hearing_adds : (start : Option Talk) (count : ℕ) (Failed Waited : Type 0) (result : Result (Unit {0}) Status) (after : Option Talk) →
+    HearsAll start count Failed Waited result after → IsLonger start [] after
+hearing_adds None count Failed Waited result after hears = hears
+hearing_adds (Some talk) count Failed Waited result after hears =
     record { now = hears.now; told = hears.told; pieces = hears.pieces; added = hears.added; left = []; sent = append-nil (out_bytes hears.pieces) ∙ hears.none_sent }
+
+-- a talk that was told is told still
+pub longer_tells : (start after : Option Talk) (bytes : List ℕ) → IsLonger start bytes after → IsSome start → IsSome after
+longer_tells None after bytes longer tells = absurd (false≢true tells)
+longer_tells (Some talk) after bytes longer tells =
+    let P : Option Talk → Type 0 = λ o. IsSome o in
+    subst P (sym longer.told) refl
 
 -- where nothing is left, all was sent
 all_of : (front left bytes : List ℕ) → front ++ left ≡ bytes → left ≡ [] → front ≡ bytes
@@ -128,6 +138,10 @@ SettlesOneMore = (talk sent heard : List Piece) (windows : List (List (List ℕ)
     All (λ number. number ≤ length payloads) numbers → Contains numbers (length payloads) →
     IsSettled ((talk ++ sent) ++ heard) (windows ++ payloads ∷ [])
 
+-- numbers below the count are not above it
+not_above : (count : ℕ) (numbers : List ℕ) → All (λ number. number < count) numbers → All (λ number. number ≤ count) numbers
+not_above count numbers below = λ i there. omega (arith, below i there)
+
 settles_more : SettlesOneMore → (talk : Talk) (earlier payloads : List (List ℕ)) (head frames : List ℕ) (count : ℕ)
     (first second heard : List Piece) (pieces : List Piece) →
     head ≡ frame_bytes (Window count) → IsWindowOf payloads frames count →
@@ -142,7 +156,7 @@ settles_more law talk earlier payloads head frames count first second heard piec
     let none : in_bytes (first ++ second) ≡ [] = in_bytes-append first second ∙ ap (λ (l : List ℕ). l ++ in_bytes second) none_first ∙ none_second in
     let N : ℕ → Type 0 = λ n. All (λ number. number ≤ n) (acknowledged.earlier ++ count ∷ []) in
     let few : All (λ number. number ≤ count) (acknowledged.earlier ++ count ∷ []) =
-    All-append (λ (n : ℕ). n ≤ count) acknowledged.earlier (count ∷ []) acknowledged.few
+    All-append (λ (n : ℕ). n ≤ count) acknowledged.earlier (count ∷ []) (not_above count acknowledged.earlier acknowledged.few)
     (All-cons (λ (n : ℕ). n ≤ count) count [] (omega arith) (All-nil (λ (n : ℕ). n ≤ count))) in
     let C : ℕ → Type 0 = λ n. Contains (acknowledged.earlier ++ count ∷ []) n in
     record {
@@ -157,23 +171,23 @@ settles_more law talk earlier payloads head frames count first second heard piec
           ∙ sym (flat_map-append (λ w. w) settles.windows (payloads ∷ []));
     }
 
-pub serves_window : SettlesOneMore → (Failed : Type 0) (start between third after : Option Talk) (earlier payloads : List (List ℕ)) (head frames : List ℕ) (count : ℕ) →
+pub serves_window : SettlesOneMore → (Failed Waited : Type 0) (start between third after : Option Talk) (earlier payloads : List (List ℕ)) (head frames : List ℕ) (count : ℕ) →
     head ≡ frame_bytes (Window count) → IsWindowOf payloads frames count →
-    SendsAll start head (Ok tt) between → SendsAll between frames (Ok tt) third → HearsAll third count Failed (Ok tt) after →
+    SendsAll start head (Ok tt) between → SendsAll between frames (Ok tt) third → HearsAll third count Failed Waited (Ok tt) after →
     IfSome start (λ talk. Settles talk.pieces earlier) → IfSome after (λ talk. Settles talk.pieces (earlier ++ payloads))
-serves_window law Failed None between third after earlier payloads head frames count head_is window first second hears settles =
+serves_window law Failed Waited None between third after earlier payloads head frames count head_is window first second hears settles =
     let S : Option Talk → Type 0 = λ o. SendsAll o frames (Ok tt) third in
-    let H : Option Talk → Type 0 = λ o. HearsAll o count Failed (Ok tt) after in
+    let H : Option Talk → Type 0 = λ o. HearsAll o count Failed Waited (Ok tt) after in
     let R : Option Talk → Type 0 = λ o. IfSome o (λ talk. Settles talk.pieces (earlier ++ payloads)) in
     let two : third ≡ None = subst S first second in
     let three : after ≡ None = subst H two hears in
     subst R (sym three) tt
-serves_window law Failed (Some talk) between third after earlier payloads head frames count head_is window first second hears settles =
+serves_window law Failed Waited (Some talk) between third after earlier payloads head frames count head_is window first second hears settles =
     let S : Option Talk → Type 0 = λ o. SendsAll o frames (Ok tt) third in
-    let H : Option Talk → Type 0 = λ o. HearsAll o count Failed (Ok tt) after in
+    let H : Option Talk → Type 0 = λ o. HearsAll o count Failed Waited (Ok tt) after in
     let R : Option Talk → Type 0 = λ o. IfSome o (λ t. Settles t.pieces (earlier ++ payloads)) in
     let two : SendsPieces first.now frames (Ok tt) third = subst S first.told second in
-    let three : HearsPieces two.now count Failed (Ok tt) after = subst H two.told hears in
+    let three : HearsPieces two.now count Failed Waited (Ok tt) after = subst H two.told hears in
     subst R (sym three.told)
     (settles_more law talk earlier payloads head frames count first.pieces two.pieces three.pieces three.now.pieces head_is window
     first.none_heard (all_of (out_bytes first.pieces) first.left head first.sent first.all_sent) two.none_heard (all_of (out_bytes two.pieces) two.left frames two.sent two.all_sent) three.none_sent three.heard
@@ -228,52 +242,94 @@ meets_fault : MeetsOther → MeetsAbove → (talk sent heard : List Piece) (wind
     out_bytes heard ≡ [] → MeetsFault count (in_bytes heard) → HasPeerFault ((talk ++ sent) ++ heard)
 meets_fault other above talk sent heard windows payloads count settled window counted sends none none_sent meets =
     let N : ℕ → Type 0 = λ n. All (λ number. number ≤ n) meets.earlier in
-    let few : All (λ number. number ≤ length payloads) meets.earlier = subst N counted meets.few in
+    let few : All (λ number. number ≤ length payloads) meets.earlier = subst N counted (not_above count meets.earlier meets.few) in
     elim meets.fault [
       | inl begins ↦ other talk sent heard windows payloads meets.earlier begins.0 settled window sends none none_sent begins.1.0 few begins.1.1
       | inr exceeds ↦ above talk sent heard windows payloads meets.earlier [] exceeds.0 settled window sends none none_sent
           (exceeds.1.0 ∙ sym (append-nil (ack_bytes (meets.earlier ++ exceeds.0 ∷ [])))) few exceeds.1.1.0 (omega (arith, counted, exceeds.1.1.1))
     ]
 
-fails_so : MeetsOther → MeetsAbove → (Failed : Type 0) (talk : Talk) (earlier payloads : List (List ℕ)) (head frames : List ℕ) (count : ℕ)
-    (first second heard pieces : List Piece) →
+-- acknowledgements below the count leave the window unanswered, by the law of frames
+abbrev pub StaysUnanswered : Type 0
+StaysUnanswered = (talk sent heard : List Piece) (windows : List (List (List ℕ))) (payloads : List (List ℕ)) (numbers bytes : List ℕ) →
+    IsSettled talk windows → IsWindow payloads → out_bytes sent ≡ window_bytes payloads → in_bytes sent ≡ [] →
+    out_bytes heard ≡ [] → in_bytes heard ≡ ack_bytes numbers ++ bytes →
+    All (λ number. number < length payloads) numbers → length bytes < 6 →
+    (acknowledged : List (List ℕ)) × Acknowledges ((talk ++ sent) ++ heard) acknowledged × (length acknowledged < length (flat_map (λ window. window) (windows ++ payloads ∷ [])))
+
+unanswered : StaysUnanswered → (Waited : Type 0) (now : Talk) (talk sent heard : List Piece) (windows : List (List (List ℕ))) (payloads : List (List ℕ)) (count : ℕ) →
+    IsSettled talk windows → IsWindow payloads → count ≡ length payloads → out_bytes sent ≡ window_bytes payloads → in_bytes sent ≡ [] →
+    out_bytes heard ≡ [] → now.pieces ≡ (talk ++ sent) ++ heard → FallsSilent count Waited now (in_bytes heard) → IsUnanswered now × Waited
+unanswered law Waited now talk sent heard windows payloads count settled window counted sends none none_sent are silent =
+    let N : ℕ → Type 0 = λ n. All (λ number. number < n) silent.earlier in
+    let short = law talk sent heard windows payloads silent.earlier silent.front settled window sends none none_sent silent.are (subst N counted silent.few) silent.short in
+    let A : List Piece → Type 0 = λ l. Acknowledges l short.0 in (
+      record {
+        windows = windows ++ payloads ∷ [];
+        each = windows-snoc windows payloads settled.each window;
+        sent = ap out_bytes are ∙ out_bytes-append (talk ++ sent) heard
+            ∙ ap (λ (l : List ℕ). out_bytes (talk ++ sent) ++ l) none_sent ∙ append-nil (out_bytes (talk ++ sent))
+            ∙ out_bytes-append talk sent
+            ∙ ap (λ (l : List ℕ). l ++ out_bytes sent) settled.sent
+            ∙ ap (λ (l : List ℕ). flat_map window_bytes windows ++ l) (sends ∙ sym (append-nil (window_bytes payloads)))
+            ∙ sym (flat_map-append window_bytes windows (payloads ∷ []));
+        acknowledged = short.0;
+        acknowledges = subst A (sym are) short.1;
+        fewer = short.2;
+        idled = silent.idled;
+      },
+      silent.waited,
+    )
+
+-- what the laws of frames say of a peer that fails
+pub record FailingLaws : Type 0 where
+  pub other : MeetsOther
+  pub above : MeetsAbove
+  pub silent : StaysUnanswered
+
+fails_so : FailingLaws → (Failed Waited : Type 0) (talk now : Talk) (earlier payloads : List (List ℕ)) (head frames : List ℕ) (count : ℕ)
+    (first second heard : List Piece) →
     head ≡ frame_bytes (Window count) → IsWindowOf payloads frames count →
     in_bytes first ≡ [] → out_bytes first ≡ head → in_bytes second ≡ [] → out_bytes second ≡ frames →
-    out_bytes heard ≡ [] → (Failed ⊎ MeetsFault count (in_bytes heard)) →
-    pieces ≡ ((talk.pieces ++ first) ++ second) ++ heard → Settles talk.pieces earlier → Failed ⊎ HasPeerFault pieces
-fails_so other above Failed talk earlier payloads head frames count first second heard pieces head_is window none_first first_is none_second second_is none_heard (inl failed) are settles = inl failed
-fails_so other above Failed talk earlier payloads head frames count first second heard pieces head_is window none_first first_is none_second second_is none_heard (inr meets) are settles =
+    out_bytes heard ≡ [] → (Failed ⊎ (MeetsFault count (in_bytes heard) ⊎ FallsSilent count Waited now (in_bytes heard))) →
+    now.pieces ≡ ((talk.pieces ++ first) ++ second) ++ heard → Settles talk.pieces earlier → Failed ⊎ (HasPeerFault now.pieces ⊎ (IsUnanswered now × Waited))
+fails_so laws Failed Waited talk now earlier payloads head frames count first second heard head_is window none_first first_is none_second second_is none_heard failed are settles =
     let P : List Piece → Type 0 = λ l. HasPeerFault l in
     let bytes : out_bytes (first ++ second) ≡ window_bytes payloads =
     out_bytes-append first second ∙ ap (λ (l : List ℕ). l ++ out_bytes second) (first_is ∙ head_is ∙ ap (λ (n : ℕ). frame_bytes (Window n)) window.counted)
     ∙ ap (λ (l : List ℕ). frame_bytes (Window (length payloads)) ++ l) (second_is ∙ window.frames_are) in
     let none : in_bytes (first ++ second) ≡ [] = in_bytes-append first second ∙ ap (λ (l : List ℕ). l ++ in_bytes second) none_first ∙ none_second in
-    inr (subst P
-    (ap (λ (l : List Piece). l ++ heard) (sym (append_assoc talk.pieces first second)) ∙ sym are)
-    (meets_fault other above talk.pieces (first ++ second) heard settles.windows payloads count settles.settled window.window window.counted bytes none none_heard meets))
+    let all : now.pieces ≡ (talk.pieces ++ (first ++ second)) ++ heard = are ∙ ap (λ (l : List Piece). l ++ heard) (append_assoc talk.pieces first second) in
+    elim failed [
+      | inl link ↦ inl link
+      | inr (inl meets) ↦
+          inr (inl (subst P (sym all) (meets_fault laws.other laws.above talk.pieces (first ++ second) heard settles.windows payloads count settles.settled window.window window.counted bytes none none_heard meets)))
+      | inr (inr silent) ↦
+          inr (inr (unanswered laws.silent Waited now talk.pieces (first ++ second) heard settles.windows payloads count settles.settled window.window window.counted bytes none none_heard all silent))
+    ]
 
--- where the acknowledgement does not come, the link has counted a fault, or the talk has one of the peer
-pub fails_window : MeetsOther → MeetsAbove → (Failed : Type 0) (status : Status) (start between third after : Option Talk) (earlier payloads : List (List ℕ)) (head frames : List ℕ) (count : ℕ) →
+-- where the acknowledgement does not come, the link has counted a fault, the talk has one of the peer, or it was silent
+pub fails_window : FailingLaws → (Failed Waited : Type 0) (status : Status) (start between third after : Option Talk) (earlier payloads : List (List ℕ)) (head frames : List ℕ) (count : ℕ) →
     head ≡ frame_bytes (Window count) → IsWindowOf payloads frames count →
-    SendsAll start head (Ok tt) between → SendsAll between frames (Ok tt) third → HearsAll third count Failed (Err status) after →
-    IfSome start (λ talk. Settles talk.pieces earlier) → Failed ⊎ IfSome after (λ talk. HasPeerFault talk.pieces)
-fails_window other above Failed status None between third after earlier payloads head frames count head_is window first second hears settles =
+    SendsAll start head (Ok tt) between → SendsAll between frames (Ok tt) third → HearsAll third count Failed Waited (Err status) after →
+    IfSome start (λ talk. Settles talk.pieces earlier) → Failed ⊎ IfSome after (λ talk. HasPeerFault talk.pieces ⊎ (IsUnanswered talk × Waited))
+fails_window laws Failed Waited status None between third after earlier payloads head frames count head_is window first second hears settles =
     let S : Option Talk → Type 0 = λ o. SendsAll o frames (Ok tt) third in
-    let H : Option Talk → Type 0 = λ o. HearsAll o count Failed (Err status) after in
-    let R : Option Talk → Type 0 = λ o. IfSome o (λ talk. HasPeerFault talk.pieces) in
+    let H : Option Talk → Type 0 = λ o. HearsAll o count Failed Waited (Err status) after in
+    let R : Option Talk → Type 0 = λ o. IfSome o (λ talk. HasPeerFault talk.pieces ⊎ (IsUnanswered talk × Waited)) in
     let two : third ≡ None = subst S first second in
     let three : after ≡ None = subst H two hears in
     inr (subst R (sym three) tt)
-fails_window other above Failed status (Some talk) between third after earlier payloads head frames count head_is window first second hears settles =
+fails_window laws Failed Waited status (Some talk) between third after earlier payloads head frames count head_is window first second hears settles =
     let S : Option Talk → Type 0 = λ o. SendsAll o frames (Ok tt) third in
-    let H : Option Talk → Type 0 = λ o. HearsAll o count Failed (Err status) after in
-    let R : Option Talk → Type 0 = λ o. IfSome o (λ t. HasPeerFault t.pieces) in
+    let H : Option Talk → Type 0 = λ o. HearsAll o count Failed Waited (Err status) after in
+    let R : Option Talk → Type 0 = λ o. IfSome o (λ t. HasPeerFault t.pieces ⊎ (IsUnanswered t × Waited)) in
     let two : SendsPieces first.now frames (Ok tt) third = subst S first.told second in
-    let three : HearsPieces two.now count Failed (Err status) after = subst H two.told hears in
-    elim (fails_so other above Failed talk earlier payloads head frames count first.pieces two.pieces three.pieces three.now.pieces head_is window
+    let three : HearsPieces two.now count Failed Waited (Err status) after = subst H two.told hears in
+    elim (fails_so laws Failed Waited talk three.now earlier payloads head frames count first.pieces two.pieces three.pieces head_is window
     first.none_heard (all_of (out_bytes first.pieces) first.left head first.sent first.all_sent) two.none_heard (all_of (out_bytes two.pieces) two.left frames two.sent two.all_sent) three.none_sent three.heard
     (three.added ∙ ap (λ (l : List Piece). l ++ three.pieces) (two.added ∙ ap (λ (l : List Piece). l ++ two.pieces) first.added))
     settles) [
       | inl failed ↦ inl failed
-      | inr fault ↦ inr (subst R (sym three.told) fault)
+      | inr so ↦ inr (subst R (sym three.told) so)
     ]

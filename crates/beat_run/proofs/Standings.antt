@@ -18,6 +18,7 @@ use Rattle.report.specs.declared.status.Status.TheVariants.{Done, Usage, Setting
 use Rattle.beat_run.specs.Acknowledged.{AcknowledgeInAll, AreAcknowledged, FailsFor, IsFailure, SendOnly, SendsFront, SendsNothingElse}
 use Rattle.beat_run.specs.Ends.{IsReadingEnd}
 use Rattle.beat_run.specs.Serving.{HasFailed, HasServed, HasSettled, IsSomeWindow, IsWindowOf, Serves, Settles}
+use Rattle.beat_run.specs.TimedOut.{IsTimedOut}
 use Rattle.beat_run.specs.Standing.{Blames, GoesOn, GoesOnRefused, HasParted, IsParted, IsFailedConnection, IsStanding, OnFirst, Tells, WasRefused, outcomes_since, with_link}
 
 -- ---- lists that go on
@@ -59,41 +60,41 @@ tells_still : {L : Type 0} (told : L → Option Talk) (outcomes : Option (List O
 tells_still told None link after keeps tells = tt
 tells_still told (Some list) link after keeps tells = keeps tells
 
-blames_any : {L : Type 0} (told : L → Option Talk) (link_faults : L → ℕ) (start outcomes : Option (List Outcome)) (faults : ℕ) (link : Option L) (status : Status) →
-    HasParted told link_faults start outcomes faults link → Blames told link_faults start outcomes faults link status
-blames_any told link_faults start outcomes faults link Done parted = tt
-blames_any told link_faults start outcomes faults link Usage parted = tt
-blames_any told link_faults start outcomes faults link (SettingsFault fault) parted = tt
-blames_any told link_faults start outcomes faults link (RegistryBad area at) parted = tt
-blames_any told link_faults start outcomes faults link DiskFault parted = tt
-blames_any told link_faults start outcomes faults link FolderFault parted = tt
-blames_any told link_faults start outcomes faults link (Unreachable worker failures) parted = parted
-blames_any told link_faults start outcomes faults link OutFault parted = tt
-blames_any told link_faults start outcomes faults link SourceFault parted = tt
-blames_any told link_faults start outcomes faults link (TooMany what path) parted = tt
-blames_any told link_faults start outcomes faults link NoMemory parted = tt
-blames_any told link_faults start outcomes faults link (Unbuilt what) parted = tt
+blames_any : {L : Type 0} (told : L → Option Talk) (link_faults : L → ℕ) (timeout : ℕ) (moments : Option (List ℕ)) (start outcomes : Option (List Outcome)) (faults : ℕ) (link : Option L) (status : Status) →
+    HasParted told link_faults timeout moments start outcomes faults link → Blames told link_faults timeout moments start outcomes faults link status
+blames_any told link_faults timeout moments start outcomes faults link Done parted = tt
+blames_any told link_faults timeout moments start outcomes faults link Usage parted = tt
+blames_any told link_faults timeout moments start outcomes faults link (SettingsFault fault) parted = tt
+blames_any told link_faults timeout moments start outcomes faults link (RegistryBad area at) parted = tt
+blames_any told link_faults timeout moments start outcomes faults link DiskFault parted = tt
+blames_any told link_faults timeout moments start outcomes faults link FolderFault parted = tt
+blames_any told link_faults timeout moments start outcomes faults link (Unreachable worker failures) parted = parted
+blames_any told link_faults timeout moments start outcomes faults link OutFault parted = tt
+blames_any told link_faults timeout moments start outcomes faults link SourceFault parted = tt
+blames_any told link_faults timeout moments start outcomes faults link (TooMany what path) parted = tt
+blames_any told link_faults timeout moments start outcomes faults link NoMemory parted = tt
+blames_any told link_faults timeout moments start outcomes faults link (Unbuilt what) parted = tt
 
 -- a reading blames no peer
-pub reading_blames : {L : Type 0} (told : L → Option Talk) (link_faults : L → ℕ) (start outcomes : Option (List Outcome)) (faults : ℕ) (link : Option L) (before now : ℕ) (status : Status) →
-    IsReadingEnd before now status → Blames told link_faults start outcomes faults link status
-reading_blames told link_faults start outcomes faults link before now Done ends = tt
-reading_blames told link_faults start outcomes faults link before now Usage ends = tt
-reading_blames told link_faults start outcomes faults link before now (SettingsFault fault) ends = tt
-reading_blames told link_faults start outcomes faults link before now (RegistryBad area at) ends = tt
-reading_blames told link_faults start outcomes faults link before now DiskFault ends = tt
-reading_blames told link_faults start outcomes faults link before now FolderFault ends = tt
-reading_blames told link_faults start outcomes faults link before now (Unreachable worker failures) ends = absurd ends
-reading_blames told link_faults start outcomes faults link before now OutFault ends = tt
-reading_blames told link_faults start outcomes faults link before now SourceFault ends = tt
-reading_blames told link_faults start outcomes faults link before now (TooMany what path) ends = tt
-reading_blames told link_faults start outcomes faults link before now NoMemory ends = tt
-reading_blames told link_faults start outcomes faults link before now (Unbuilt what) ends = tt
+pub reading_blames : {L : Type 0} (told : L → Option Talk) (link_faults : L → ℕ) (timeout : ℕ) (moments : Option (List ℕ)) (start outcomes : Option (List Outcome)) (faults : ℕ) (link : Option L) (before now : ℕ) (status : Status) →
+    IsReadingEnd before now status → Blames told link_faults timeout moments start outcomes faults link status
+reading_blames told link_faults timeout moments start outcomes faults link before now Done ends = tt
+reading_blames told link_faults timeout moments start outcomes faults link before now Usage ends = tt
+reading_blames told link_faults timeout moments start outcomes faults link before now (SettingsFault fault) ends = tt
+reading_blames told link_faults timeout moments start outcomes faults link before now (RegistryBad area at) ends = tt
+reading_blames told link_faults timeout moments start outcomes faults link before now DiskFault ends = tt
+reading_blames told link_faults timeout moments start outcomes faults link before now FolderFault ends = tt
+reading_blames told link_faults timeout moments start outcomes faults link before now (Unreachable worker failures) ends = absurd ends
+reading_blames told link_faults timeout moments start outcomes faults link before now OutFault ends = tt
+reading_blames told link_faults timeout moments start outcomes faults link before now SourceFault ends = tt
+reading_blames told link_faults timeout moments start outcomes faults link before now (TooMany what path) ends = tt
+reading_blames told link_faults timeout moments start outcomes faults link before now NoMemory ends = tt
+reading_blames told link_faults timeout moments start outcomes faults link before now (Unbuilt what) ends = tt
 
 -- a worker that stands well gave up for another reason
-pub parts_well : {L : Type 0} (told : L → Option Talk) (link_faults : L → ℕ) (start : Option (List Outcome)) (count first : ℕ) (outcomes : Option (List Outcome)) (links faults : ℕ) (link : Option L) (status : Status) →
-    Blames told link_faults start outcomes faults link status → IsStanding told start count first outcomes links faults link → IsParted told link_faults start count first outcomes links faults link status
-parts_well told link_faults start count first outcomes links faults link status blamed is = record {
+pub parts_well : {L : Type 0} (told : L → Option Talk) (link_faults : L → ℕ) (timeout : ℕ) (moments : Option (List ℕ)) (start : Option (List Outcome)) (count first : ℕ) (outcomes : Option (List Outcome)) (links faults : ℕ) (link : Option L) (status : Status) →
+    Blames told link_faults timeout moments start outcomes faults link status → IsStanding told start count first outcomes links faults link → IsParted told link_faults timeout moments start count first outcomes links faults link status
+parts_well told link_faults timeout moments start count first outcomes links faults link status blamed is = record {
   refused = same_refused start outcomes is.none_came;
   tells = is.tells;
   opened = is.opened;
@@ -101,14 +102,14 @@ parts_well told link_faults start count first outcomes links faults link status 
   blamed = blamed;
 }
 
-pub standing_served : {L : Type 0} (told : L → Option Talk) (link_faults : L → ℕ) (start : Option (List Outcome)) (count first : ℕ) (outcomes : Option (List Outcome)) (links faults : ℕ) (link after : L) (frames : List ℕ) (number : ℕ) (result : Result (Unit {0}) Status) →
+pub standing_served : {L : Type 0} (told : L → Option Talk) (link_faults : L → ℕ) (timeout : ℕ) (moments : Option (List ℕ)) (start : Option (List Outcome)) (count first : ℕ) (outcomes : Option (List Outcome)) (links faults : ℕ) (link after : L) (frames : List ℕ) (number : ℕ) (result : Result (Unit {0}) Status) →
     IsSomeWindow frames number → (IsSome (told link) → IsSome (told after)) →
     ((earlier payloads : List (List ℕ)) → HasSettled told (Some link) earlier → IsWindowOf payloads frames number →
     MatchResult result (λ _. HasSettled told (Some after) (earlier ++ payloads)) (λ _. HasServed told (Some after) earlier (earlier ++ payloads))) →
-    ((earlier payloads : List (List ℕ)) → HasSettled told (Some link) earlier → IsWindowOf payloads frames number → OnErr result (HasFailed told link_faults (Some after))) →
+    ((earlier payloads : List (List ℕ)) → HasSettled told (Some link) earlier → IsWindowOf payloads frames number → OnErr result (HasFailed told link_faults timeout moments (Some after))) →
     IsStanding told start count first outcomes links faults (Some link) →
-    MatchResult result (λ _. IsStanding told start count first outcomes links faults (Some after)) (IsParted told link_faults start count first outcomes links faults (Some after))
-standing_served told link_faults start count first outcomes links faults link after frames number (Ok done) window keeps serves fails is = record {
+    MatchResult result (λ _. IsStanding told start count first outcomes links faults (Some after)) (IsParted told link_faults timeout moments start count first outcomes links faults (Some after))
+standing_served told link_faults timeout moments start count first outcomes links faults link after frames number (Ok done) window keeps serves fails is = record {
   none_came = is.none_came;
   tells = tells_still told outcomes link after keeps is.tells;
   opened = is.opened;
@@ -118,22 +119,22 @@ standing_served told link_faults start count first outcomes links faults link af
     settled = serves is.settled.payloads window.payloads is.settled.settled window.window;
   };
 }
-standing_served told link_faults start count first outcomes links faults link after frames number (Err status) window keeps serves fails is = record {
+standing_served told link_faults timeout moments start count first outcomes links faults link after frames number (Err status) window keeps serves fails is = record {
   refused = same_refused start outcomes is.none_came;
   tells = tells_still told outcomes link after keeps is.tells;
   opened = is.opened;
   counted = is.counted;
-  blamed = blames_any told link_faults start outcomes faults (Some after) status (fails is.settled.payloads window.payloads is.settled.settled window.window);
+  blamed = blames_any told link_faults timeout moments start outcomes faults (Some after) status (fails is.settled.payloads window.payloads is.settled.settled window.window);
 }
 
 -- by what became of a settling, which the wire does not see
-pub standing_so : {L : Type 0} (told : L → Option Talk) (link_faults : L → ℕ) (start : Option (List Outcome)) (count first : ℕ) (outcomes : Option (List Outcome)) (links faults : ℕ) (link : Option L) (result : Result (Unit {0}) Status) →
+pub standing_so : {L : Type 0} (told : L → Option Talk) (link_faults : L → ℕ) (timeout : ℕ) (moments : Option (List ℕ)) (start : Option (List Outcome)) (count first : ℕ) (outcomes : Option (List Outcome)) (links faults : ℕ) (link : Option L) (result : Result (Unit {0}) Status) →
     IfErr result (λ status. status ≡ NoMemory) → IsStanding told start count first outcomes links faults link →
-    MatchResult result (λ _. IsStanding told start count first outcomes links faults link) (IsParted told link_faults start count first outcomes links faults link)
-standing_so told link_faults start count first outcomes links faults link (Ok done) ends is = is
-standing_so told link_faults start count first outcomes links faults link (Err status) ends is =
-    let P : Status → Type 0 = λ s. IsParted told link_faults start count first outcomes links faults link s in
-    subst P (sym ends) (parts_well told link_faults start count first outcomes links faults link NoMemory tt is)
+    MatchResult result (λ _. IsStanding told start count first outcomes links faults link) (IsParted told link_faults timeout moments start count first outcomes links faults link)
+standing_so told link_faults timeout moments start count first outcomes links faults link (Ok done) ends is = is
+standing_so told link_faults timeout moments start count first outcomes links faults link (Err status) ends is =
+    let P : Status → Type 0 = λ s. IsParted told link_faults timeout moments start count first outcomes links faults link s in
+    subst P (sym ends) (parts_well told link_faults timeout moments start count first outcomes links faults link NoMemory tt is)
 
 pub none_there : {L : Type 0} (link : Option L) → is_some link ≡ false → link ≡ None
 none_there None none = refl
@@ -202,21 +203,21 @@ was_refused told start (Some list) after failed faults same (inr full) =
     let P : Option (List Outcome) → Type 0 = λ o. WasRefused o after faults in
     subst P same (inr full.0)
 
-parted_so : {L : Type 0} (told : L → Option Talk) (link_faults : L → ℕ) (start outcomes : Option (List Outcome)) (faults : ℕ) (link : Option L) → link ≡ None → WasRefused start outcomes faults → HasParted told link_faults start outcomes faults link
-parted_so told link_faults start outcomes faults link none refused =
-    let P : _ → Type 0 = λ l. HasParted told link_faults start outcomes faults l in
+parted_so : {L : Type 0} (told : L → Option Talk) (link_faults : L → ℕ) (timeout : ℕ) (moments : Option (List ℕ)) (start outcomes : Option (List Outcome)) (faults : ℕ) (link : Option L) → link ≡ None → WasRefused start outcomes faults → HasParted told link_faults timeout moments start outcomes faults link
+parted_so told link_faults timeout moments start outcomes faults link none refused =
+    let P : _ → Type 0 = λ l. HasParted told link_faults timeout moments start outcomes faults l in
     subst P (sym none) refused
 
-pub parted_refused : {L : Type 0} (told : L → Option Talk) (link_faults : L → ℕ) (start : Option (List Outcome)) (count first : ℕ) (outcomes : Option (List Outcome)) (links faults : ℕ) (link : Option L) (failed : Failed) (status : Status)
+pub parted_refused : {L : Type 0} (told : L → Option Talk) (link_faults : L → ℕ) (timeout : ℕ) (moments : Option (List ℕ)) (start : Option (List Outcome)) (count first : ℕ) (outcomes : Option (List Outcome)) (links faults : ℕ) (link : Option L) (failed : Failed) (status : Status)
     (after : Option (List Outcome)) (links_after faults_after : ℕ) → link ≡ None → TellsConnecting told outcomes (Err failed) after faults_after → links_after ≡ links → faults ≤ faults_after →
-    IsStanding told start count first outcomes links faults link → IsParted told link_faults start count first after links_after faults_after link status
-parted_refused told link_faults start count first outcomes links faults link failed status after links_after faults_after none tells opened rises is = record {
+    IsStanding told start count first outcomes links faults link → IsParted told link_faults timeout moments start count first after links_after faults_after link status
+parted_refused told link_faults timeout moments start count first outcomes links faults link failed status after links_after faults_after none tells opened rises is = record {
   refused = refused_goes_on told start outcomes after failed faults_after is.none_came tells;
   tells = unlinked_tells told after link none;
   opened = opened ∙ is.opened;
   counted = omega (arith, is.counted, rises);
-  blamed = blames_any told link_faults start after faults_after link status
-      (parted_so told link_faults start after faults_after link none (was_refused told start outcomes after failed faults_after is.none_came tells));
+  blamed = blames_any told link_faults timeout moments start after faults_after link status
+      (parted_so told link_faults timeout moments start after faults_after link none (was_refused told start outcomes after failed faults_after is.none_came tells));
 }
 
 -- a worker that has not connected
@@ -359,86 +360,86 @@ pub none_counted : (outcomes : Option (List Outcome)) (payloads : List (List ℕ
 none_counted outcomes payloads none = since_none outcomes (λ list. AcknowledgeInAll list (length payloads)) (ap (λ (l : List (List ℕ)). length l) none)
 
 -- a fault of the wire, of the link or of the peer
-finished_failed : (start before after : Option (List Outcome)) (talk : Option Talk) (faults idles faults_after : ℕ) →
-    GoesOnRefused start before → IfSome before (λ _. IsSome talk) → (Rose 0 faults ⊎ IfSome talk (λ t. HasPeerFault t.pieces)) → TellsFinishing before talk faults idles after →
-    IsFailure faults_after (outcomes_since start after)
-finished_failed None before after talk faults idles faults_after goes tells failed finishes = tt
-finished_failed (Some list) before after None faults idles faults_after goes tells failed finishes = absurd (false≢true (told_talk list before None goes tells))
-finished_failed (Some list) before after (Some talk) faults idles faults_after goes tells failed finishes =
+finished_failed : (timeout : ℕ) (moments : Option (List ℕ)) (start before after : Option (List Outcome)) (talk : Option Talk) (faults idles faults_after : ℕ) →
+    GoesOnRefused start before → IfSome before (λ _. IsSome talk) → (Rose 0 faults ⊎ IfSome talk (λ t. HasPeerFault t.pieces ⊎ IsTimedOut timeout moments t)) → TellsFinishing before talk faults idles after →
+    IsFailure timeout moments faults_after (outcomes_since start after)
+finished_failed timeout moments None before after talk faults idles faults_after goes tells failed finishes = tt
+finished_failed timeout moments (Some list) before after None faults idles faults_after goes tells failed finishes = absurd (false≢true (told_talk list before None goes tells))
+finished_failed timeout moments (Some list) before after (Some talk) faults idles faults_after goes tells failed finishes =
     let ends = ends_with list before after talk faults idles goes finishes in
-    let P : Option (List Outcome) → Type 0 = λ o. IsFailure faults_after o in
+    let P : Option (List Outcome) → Type 0 = λ o. IsFailure timeout moments faults_after o in
     subst P (sym ends.are) (inl (record { earlier = ends.more; last = Finished talk faults idles; are = refl; failed = failed }))
 
-pub ended_fails : {L : Type 0} (told : L → Option Talk) (link_faults : L → ℕ) (start before after : Option (List Outcome)) (link : L) (idles faults_after : ℕ) →
-    TellsFinishing before (told link) (link_faults link) idles after → GoesOnRefused start before → Tells told before (Some link) → HasFailed told link_faults (Some link) →
-    IsFailure faults_after (outcomes_since start after)
-ended_fails told link_faults start before after link idles faults_after finishes goes tells failed = finished_failed start before after (told link) (link_faults link) idles faults_after goes tells failed finishes
+pub ended_fails : {L : Type 0} (told : L → Option Talk) (link_faults : L → ℕ) (timeout : ℕ) (moments : Option (List ℕ)) (start before after : Option (List Outcome)) (link : L) (idles faults_after : ℕ) →
+    TellsFinishing before (told link) (link_faults link) idles after → GoesOnRefused start before → Tells told before (Some link) → HasFailed told link_faults timeout moments (Some link) →
+    IsFailure timeout moments faults_after (outcomes_since start after)
+ended_fails told link_faults timeout moments start before after link idles faults_after finishes goes tells failed = finished_failed timeout moments start before after (told link) (link_faults link) idles faults_after goes tells failed finishes
 
-pub refused_fails : (start outcomes : Option (List Outcome)) (faults : ℕ) → WasRefused start outcomes faults → IsFailure faults (outcomes_since start outcomes)
-refused_fails None outcomes faults refused = tt
-refused_fails (Some list) outcomes faults (inl refused) =
-    let P : Option (List Outcome) → Type 0 = λ o. IsFailure faults o in
+pub refused_fails : (timeout : ℕ) (moments : Option (List ℕ)) (start outcomes : Option (List Outcome)) (faults : ℕ) → WasRefused start outcomes faults → IsFailure timeout moments faults (outcomes_since start outcomes)
+refused_fails timeout moments None outcomes faults refused = tt
+refused_fails timeout moments (Some list) outcomes faults (inl refused) =
+    let P : Option (List Outcome) → Type 0 = λ o. IsFailure timeout moments faults o in
     subst P (sym (since list (Refused ∷ []) outcomes refused)) (inl (record { earlier = []; last = Refused; are = refl; failed = tt }))
-refused_fails (Some list) outcomes faults (inr end) = at_end (outcomes_since (Some list) outcomes)
+refused_fails timeout moments (Some list) outcomes faults (inr end) = at_end (outcomes_since (Some list) outcomes)
   where
-    at_end : (o : Option (List Outcome)) → IsFailure faults o
+    at_end : (o : Option (List Outcome)) → IsFailure timeout moments faults o
     at_end None = tt
     at_end (Some l) = inr end
 
 -- ---- how the run of a file left the wire
 
-abbrev pub LeftSo : {L : Type 0} → (L → Option Talk) → (L → ℕ) → Option (List Outcome) → ℕ → ℕ → Option (List Outcome) → ℕ → ℕ → Option L → Result (Unit {0}) Status → Type 0
-LeftSo told link_faults start count first outcomes links faults link result =
-    MatchResult result (λ _. IsStanding told start count first outcomes links faults link) (IsParted told link_faults start count first outcomes links faults link)
+abbrev pub LeftSo : {L : Type 0} → (L → Option Talk) → (L → ℕ) → ℕ → Option (List ℕ) → Option (List Outcome) → ℕ → ℕ → Option (List Outcome) → ℕ → ℕ → Option L → Result (Unit {0}) Status → Type 0
+LeftSo told link_faults timeout moments start count first outcomes links faults link result =
+    MatchResult result (λ _. IsStanding told start count first outcomes links faults link) (IsParted told link_faults timeout moments start count first outcomes links faults link)
 
-pub left_refused : {L : Type 0} (told : L → Option Talk) (link_faults : L → ℕ) (start : Option (List Outcome)) (count first : ℕ) (outcomes : Option (List Outcome)) (links faults : ℕ) (link : Option L) (result : Result (Unit {0}) Status) →
-    LeftSo told link_faults start count first outcomes links faults link result → GoesOnRefused start outcomes
-left_refused told link_faults start count first outcomes links faults link (Ok done) left = same_refused start outcomes left.none_came
-left_refused told link_faults start count first outcomes links faults link (Err status) left = left.refused
+pub left_refused : {L : Type 0} (told : L → Option Talk) (link_faults : L → ℕ) (timeout : ℕ) (moments : Option (List ℕ)) (start : Option (List Outcome)) (count first : ℕ) (outcomes : Option (List Outcome)) (links faults : ℕ) (link : Option L) (result : Result (Unit {0}) Status) →
+    LeftSo told link_faults timeout moments start count first outcomes links faults link result → GoesOnRefused start outcomes
+left_refused told link_faults timeout moments start count first outcomes links faults link (Ok done) left = same_refused start outcomes left.none_came
+left_refused told link_faults timeout moments start count first outcomes links faults link (Err status) left = left.refused
 
-pub left_tells : {L : Type 0} (told : L → Option Talk) (link_faults : L → ℕ) (start : Option (List Outcome)) (count first : ℕ) (outcomes : Option (List Outcome)) (links faults : ℕ) (link : Option L) (result : Result (Unit {0}) Status) →
-    LeftSo told link_faults start count first outcomes links faults link result → Tells told outcomes link
-left_tells told link_faults start count first outcomes links faults link (Ok done) left = left.tells
-left_tells told link_faults start count first outcomes links faults link (Err status) left = left.tells
+pub left_tells : {L : Type 0} (told : L → Option Talk) (link_faults : L → ℕ) (timeout : ℕ) (moments : Option (List ℕ)) (start : Option (List Outcome)) (count first : ℕ) (outcomes : Option (List Outcome)) (links faults : ℕ) (link : Option L) (result : Result (Unit {0}) Status) →
+    LeftSo told link_faults timeout moments start count first outcomes links faults link result → Tells told outcomes link
+left_tells told link_faults timeout moments start count first outcomes links faults link (Ok done) left = left.tells
+left_tells told link_faults timeout moments start count first outcomes links faults link (Err status) left = left.tells
 
-pub left_opened : {L : Type 0} (told : L → Option Talk) (link_faults : L → ℕ) (start : Option (List Outcome)) (count first : ℕ) (outcomes : Option (List Outcome)) (links faults : ℕ) (link : Option L) (result : Result (Unit {0}) Status) →
-    LeftSo told link_faults start count first outcomes links faults link result → links ≡ with_link count link
-left_opened told link_faults start count first outcomes links faults link (Ok done) left = left.opened
-left_opened told link_faults start count first outcomes links faults link (Err status) left = left.opened
+pub left_opened : {L : Type 0} (told : L → Option Talk) (link_faults : L → ℕ) (timeout : ℕ) (moments : Option (List ℕ)) (start : Option (List Outcome)) (count first : ℕ) (outcomes : Option (List Outcome)) (links faults : ℕ) (link : Option L) (result : Result (Unit {0}) Status) →
+    LeftSo told link_faults timeout moments start count first outcomes links faults link result → links ≡ with_link count link
+left_opened told link_faults timeout moments start count first outcomes links faults link (Ok done) left = left.opened
+left_opened told link_faults timeout moments start count first outcomes links faults link (Err status) left = left.opened
 
 -- all that was acknowledged is counted
-pub left_counts : {L : Type 0} (told : L → Option Talk) (link_faults : L → ℕ) (start : Option (List Outcome)) (count first : ℕ) (outcomes after : Option (List Outcome)) (links faults : ℕ) (link : Option L) (result : Result (Unit {0}) Status) →
-    LeftSo told link_faults start count first outcomes links faults link result →
+pub left_counts : {L : Type 0} (told : L → Option Talk) (link_faults : L → ℕ) (timeout : ℕ) (moments : Option (List ℕ)) (start : Option (List Outcome)) (count first : ℕ) (outcomes after : Option (List Outcome)) (links faults : ℕ) (link : Option L) (result : Result (Unit {0}) Status) →
+    LeftSo told link_faults timeout moments start count first outcomes links faults link result →
     ((payloads : List (List ℕ)) → Tells told outcomes link → HasSettled told link payloads → IfSome (outcomes_since outcomes after) (λ list. AcknowledgeInAll list (length payloads))) →
     OnOk result ((payloads : List (List ℕ)) → HasSettled told link payloads → IfSome (outcomes_since start after) (λ list. AcknowledgeInAll list (length payloads)))
-left_counts told link_faults start count first outcomes after links faults link (Ok done) left counts = λ payloads settled.
+left_counts told link_faults timeout moments start count first outcomes after links faults link (Ok done) left counts = λ payloads settled.
     let P : Option (List Outcome) → Type 0 = λ o. IfSome (outcomes_since o after) (λ list. AcknowledgeInAll list (length payloads)) in
     subst P left.none_came (counts payloads left.tells settled)
-left_counts told link_faults start count first outcomes after links faults link (Err status) left counts = tt
+left_counts told link_faults timeout moments start count first outcomes after links faults link (Err status) left counts = tt
 
-fails_for : {L : Type 0} (told : L → Option Talk) (link_faults : L → ℕ) (start before since_start : Option (List Outcome)) (faults faults_after : ℕ) (link : Option L) (status : Status) →
-    (HasParted told link_faults start before faults link → IsFailure faults_after since_start) → Blames told link_faults start before faults link status → FailsFor faults_after since_start status
-fails_for told link_faults start before since_start faults faults_after link Done fails blamed = tt
-fails_for told link_faults start before since_start faults faults_after link Usage fails blamed = tt
-fails_for told link_faults start before since_start faults faults_after link (SettingsFault fault) fails blamed = tt
-fails_for told link_faults start before since_start faults faults_after link (RegistryBad area at) fails blamed = tt
-fails_for told link_faults start before since_start faults faults_after link DiskFault fails blamed = tt
-fails_for told link_faults start before since_start faults faults_after link FolderFault fails blamed = tt
-fails_for told link_faults start before since_start faults faults_after link (Unreachable worker failures) fails blamed = fails blamed
-fails_for told link_faults start before since_start faults faults_after link OutFault fails blamed = tt
-fails_for told link_faults start before since_start faults faults_after link SourceFault fails blamed = tt
-fails_for told link_faults start before since_start faults faults_after link (TooMany what path) fails blamed = tt
-fails_for told link_faults start before since_start faults faults_after link NoMemory fails blamed = tt
-fails_for told link_faults start before since_start faults faults_after link (Unbuilt what) fails blamed = tt
+fails_for : {L : Type 0} (told : L → Option Talk) (link_faults : L → ℕ) (timeout : ℕ) (moments : Option (List ℕ)) (start before since_start : Option (List Outcome)) (faults faults_after : ℕ) (link : Option L) (status : Status) →
+    (HasParted told link_faults timeout moments start before faults link → IsFailure timeout moments faults_after since_start) → Blames told link_faults timeout moments start before faults link status → FailsFor timeout moments faults_after since_start status
+fails_for told link_faults timeout moments start before since_start faults faults_after link Done fails blamed = tt
+fails_for told link_faults timeout moments start before since_start faults faults_after link Usage fails blamed = tt
+fails_for told link_faults timeout moments start before since_start faults faults_after link (SettingsFault fault) fails blamed = tt
+fails_for told link_faults timeout moments start before since_start faults faults_after link (RegistryBad area at) fails blamed = tt
+fails_for told link_faults timeout moments start before since_start faults faults_after link DiskFault fails blamed = tt
+fails_for told link_faults timeout moments start before since_start faults faults_after link FolderFault fails blamed = tt
+fails_for told link_faults timeout moments start before since_start faults faults_after link (Unreachable worker failures) fails blamed = fails blamed
+fails_for told link_faults timeout moments start before since_start faults faults_after link OutFault fails blamed = tt
+fails_for told link_faults timeout moments start before since_start faults faults_after link SourceFault fails blamed = tt
+fails_for told link_faults timeout moments start before since_start faults faults_after link (TooMany what path) fails blamed = tt
+fails_for told link_faults timeout moments start before since_start faults faults_after link NoMemory fails blamed = tt
+fails_for told link_faults timeout moments start before since_start faults faults_after link (Unbuilt what) fails blamed = tt
 
 -- the status that blames the peer has its cause
-pub left_fails : {L : Type 0} (told : L → Option Talk) (link_faults : L → ℕ) (start : Option (List Outcome)) (count first : ℕ) (outcomes after : Option (List Outcome)) (links faults faults_after : ℕ) (link : Option L) (result : Result (Unit {0}) Status) →
-    LeftSo told link_faults start count first outcomes links faults link result →
-    (GoesOnRefused start outcomes → Tells told outcomes link → HasParted told link_faults start outcomes faults link → IsFailure faults_after (outcomes_since start after)) →
-    IfErr result (FailsFor faults_after (outcomes_since start after))
-left_fails told link_faults start count first outcomes after links faults faults_after link (Ok done) left fails = tt
-left_fails told link_faults start count first outcomes after links faults faults_after link (Err status) left fails =
-    fails_for told link_faults start outcomes (outcomes_since start after) faults faults_after link status (fails left.refused left.tells) left.blamed
+pub left_fails : {L : Type 0} (told : L → Option Talk) (link_faults : L → ℕ) (timeout : ℕ) (moments : Option (List ℕ)) (start : Option (List Outcome)) (count first : ℕ) (outcomes after : Option (List Outcome)) (links faults faults_after : ℕ) (link : Option L) (result : Result (Unit {0}) Status) →
+    LeftSo told link_faults timeout moments start count first outcomes links faults link result →
+    (GoesOnRefused start outcomes → Tells told outcomes link → HasParted told link_faults timeout moments start outcomes faults link → IsFailure timeout moments faults_after (outcomes_since start after)) →
+    IfErr result (FailsFor timeout moments faults_after (outcomes_since start after))
+left_fails told link_faults timeout moments start count first outcomes after links faults faults_after link (Ok done) left fails = tt
+left_fails told link_faults timeout moments start count first outcomes after links faults faults_after link (Err status) left fails =
+    fails_for told link_faults timeout moments start outcomes (outcomes_since start after) faults faults_after link status (fails left.refused left.tells) left.blamed
 
 -- what was done to the first wire
 pub on_first : {W A : Type 0} (member : W → A) (old new : Vec W Global) (first last : W) (Relation : A → A → Type 0) →

@@ -1,7 +1,7 @@
 -- When a link has timed out (Filebeat reference, Logstash output, `timeout`; this project's profile): what was sent ends
 -- with a whole window, some window is not acknowledged in full, nothing came for a while behind the last piece that was
 -- sent, and the clock gave two moments at least so far apart.
-use Rattle.std.specs.Prelude.{◌≡◌, ℕ, ◌+◌, ◌<◌, ◌≤◌, true, List, [], ◌∷◌, ◌++◌, length, Option, IfSome}
+use Rattle.std.specs.Prelude.{◌≡◌, ℕ, ◌+◌, ◌<◌, ◌≤◌, true, List, ◌∷◌, ◌++◌, length, Option, IfSome}
 use Rattle.std.specs.List.{AllByRecursion, flat_map}
 use Rattle.outside.specs.Talks.{Talk}
 use Rattle.lumber_frame.specs.Acknowledged.{Acknowledges}

@@ -5,23 +5,24 @@ ghost use Rattle.outside.specs.Wires.{Outcome};
 ghost use Rattle.beat_run.specs.Acknowledged.{AcknowledgeInAll, AreAcknowledged, IsFailure, SendOnly};
 ghost use Rattle.beat_run.specs.Ends.{IsSendingEnd};
 ghost use Rattle.beat_run.specs.Evidence.{MomentsGoOn, moments_since};
-ghost use Rattle.beat_run.specs.Hearing.{IsHeardAs};
+ghost use Rattle.beat_run.specs.Events.{IsGiven};
+ghost use Rattle.beat_run.specs.Hearing.{HasWaited, IsHeardAs, IsInTime, IsLastGiven};
 ghost use Rattle.beat_run.specs.Output.{IsOutput};
 ghost use Rattle.beat_run.specs.Serving.{HasFailed, HasServed, HasSettled, IsSomeWindow, IsWindowOf};
 ghost use Rattle.beat_run.specs.Standing.{GoesOn, GoesOnRefused, HasParted, IsParted, IsStanding, Tells, outcomes_since, with_link};
 ghost use Rattle.beat_run.specs.Talking.{HearsAll, IsFrontHeard, SendsAll};
 
 use report::Status;
-use lumber_frame::{
-    FrameRead, FrameView, a_fault_is_met, a_window_is_settled, no_acknowledgement_begins,
-    nothing_is_settled, read_frame, settled_is_acknowledged, settled_stays_acknowledged,
-    window_head,
-};
 use event_tree::OutputRule;
+use lumber_frame::{
+    FrameRead, FrameView, a_fault_is_met, a_window_is_settled, a_window_is_unanswered,
+    no_acknowledgement_begins, nothing_is_settled, read_frame, settled_is_acknowledged,
+    settled_stays_acknowledged, window_head,
+};
 use outside::{Clock, Link, Recv, Wire};
 use std::mem;
 use std::sync::Wait;
-use wire_base::Host;
+use wire_base::{Host, Moment};
 
 /// How long the run waits before it asks a peer again, in milliseconds.
 const PAUSE: u64 = 100;
@@ -70,7 +71,8 @@ impl<L: Link> Worker<L> {
         }
     }
 
-    /// Sends the window of these JSON frames and waits until the peer has acknowledged all of it.
+    /// Sends the window of these JSON frames to the first host, and waits until the peer has
+    /// acknowledged all of it or was silent for the timeout.
     pub fn deliver<X: Wait, W: Wire<Link = L>, K: Clock>(
         &mut self,
         rt: &X,
@@ -102,9 +104,9 @@ impl<L: Link> Worker<L> {
         ensures there { OnOk result (IsSome self.new.link) }
         ensures told { (payloads : List (List ℕ)) → HasSettled L.told self.old.link payloads →
             MatchResult result (λ _. HasSettled L.told self.new.link payloads) (λ _. (all : List (List ℕ)) → HasServed L.told self.new.link payloads all) }
-        ensures standing { (start : Option (List Outcome)) (count first : ℕ) → IsStanding L.told start count first (W.outcomes wire.old) (W.open_links wire.old) (W.faults wire.old) self.old.link →
+        ensures standing { (timeout : ℕ) (moments : Option (List ℕ)) (start : Option (List Outcome)) (count first : ℕ) → IsStanding L.told start count first (W.outcomes wire.old) (W.open_links wire.old) (W.faults wire.old) self.old.link →
             MatchResult result (λ _. IsStanding L.told start count first (W.outcomes wire.new) (W.open_links wire.new) (W.faults wire.new) self.new.link)
-            (IsParted L.told L.faults start count first (W.outcomes wire.new) (W.open_links wire.new) (W.faults wire.new) self.new.link) }
+            (IsParted L.told L.faults timeout moments start count first (W.outcomes wire.new) (W.open_links wire.new) (W.faults wire.new) self.new.link) }
         ensures ends { IfErr result IsSendingEnd }
     {
         if self.link.is_some() {
@@ -142,16 +144,18 @@ fn serve<X: Wait, L: Link, K: Clock>(
 ) -> Result<(), Status>
     ensures told { (earlier payloads : List (List ℕ)) → HasSettled L.told (Some link.old) earlier → IsWindowOf payloads frames.now count →
         MatchResult result (λ _. HasSettled L.told (Some link.new) (earlier ++ payloads)) (λ _. HasServed L.told (Some link.new) earlier (earlier ++ payloads)) }
-    ensures failed { (earlier payloads : List (List ℕ)) → HasSettled L.told (Some link.old) earlier → IsWindowOf payloads frames.now count →
-        OnErr result (HasFailed L.told L.faults (Some link.new)) }
+    ensures failed { (begun : Option (List ℕ)) (earlier payloads : List (List ℕ)) → MomentsGoOn begun (K.moments clock.old) →
+        HasSettled L.told (Some link.old) earlier → IsWindowOf payloads frames.now count →
+        OnErr result (HasFailed L.told L.faults timeout (moments_since begun (K.moments clock.new)) (Some link.new)) }
     ensures tells { IsSome (L.told link.old) → IsSome (L.told link.new) }
-    ensures moments_kept { K.moments clock.new ≡ K.moments clock.old }
+    ensures moments_go_on { (begun : Option (List ℕ)) → MomentsGoOn begun (K.moments clock.old) → MomentsGoOn begun (K.moments clock.new) }
     ensures ends { IfErr result IsSendingEnd }
 {
     send_all(link, &window_head(count))?;
     send_all(link, frames)?;
     a_fault_is_met();
-    await_acknowledgement(rt, link, clock, count)?;
+    a_window_is_unanswered();
+    await_acknowledgement(rt, link, clock, timeout, count)?;
     a_window_is_settled();
     Ok(())
 }
@@ -171,20 +175,25 @@ fn send_all<L: Link>(link: &mut L, bytes: &[u8]) -> Result<(), Status>
     Ok(())
 }
 
+// Waits for the acknowledgement of the whole window, for at most `timeout` milliseconds since the
+// window was out, or since the last byte that came.
 fn await_acknowledgement<X: Wait, L: Link, K: Clock>(
     rt: &X,
     link: &mut L,
     clock: &mut K,
+    timeout: u64,
     count: u32,
 ) -> Result<(), Status>
-    ensures told { HearsAll (L.told link.old) count (Rose 0 (L.faults link.new)) result (L.told link.new) }
-    ensures moments_kept { K.moments clock.new ≡ K.moments clock.old }
+    ensures told { (begun : Option (List ℕ)) → MomentsGoOn begun (K.moments clock.old) →
+        HearsAll (L.told link.old) count (Rose 0 (L.faults link.new)) (HasWaited timeout begun (K.moments clock.new)) result (L.told link.new) }
+    ensures moments_go_on { (begun : Option (List ℕ)) → MomentsGoOn begun (K.moments clock.old) → MomentsGoOn begun (K.moments clock.new) }
     ensures ends { IfErr result IsSendingEnd }
 {
     let mut frame = [0u8; ACKNOWLEDGEMENT];
     let mut filled = 0;
+    let mut since = clock.now();
     for _ in rt.forever() {
-        filled = hear(link, clock, &mut frame, filled)?;
+        filled = hear(link, clock, timeout, &mut since, &mut frame, filled)?;
         match heard_of(&frame[..filled]) {
             Heard::Acknowledgement(number) if number == count => return Ok(()),
             Heard::Acknowledgement(number) if number < count => filled = 0,
@@ -196,23 +205,41 @@ fn await_acknowledgement<X: Wait, L: Link, K: Clock>(
     unreachable!()
 }
 
-// Receives once into the rest of the frame, or waits a little where nothing has come.
+// Receives once into the rest of the frame. Where nothing has come it waits a little, unless that has
+// lasted for the timeout.
 fn hear<L: Link, K: Clock>(
     link: &mut L,
     clock: &mut K,
+    timeout: u64,
+    since: &mut Moment,
     frame: &mut [u8],
     filled: usize,
 ) -> Result<usize, Status>
-    requires { filled < length frame.old }
+    requires room { filled < length frame.old }
+    requires one_frame { length frame.old ≤ ACKNOWLEDGEMENT }
     ensures within { IfOk result (λ count. count ≤ length frame.old) }
-    ensures told { (start : Option Talk) (count : ℕ) → IsFrontHeard start count (take filled frame.old) (L.told link.old) →
-        MatchResult result (λ filled. IsFrontHeard start count (take filled frame.new) (L.told link.new)) (λ status. HearsAll start count (Rose 0 (L.faults link.new)) (Err status) (L.told link.new)) }
-    ensures moments_kept { K.moments clock.new ≡ K.moments clock.old }
+    ensures told { (begun : Option (List ℕ)) (start : Option Talk) (count : ℕ) → MomentsGoOn begun (K.moments clock.old) → IsGiven (moments_since begun (K.moments clock.old)) since.old.0 →
+        IsFrontHeard start count (take filled frame.old) (L.told link.old) →
+        MatchResult result (λ filled. IsFrontHeard start count (take filled frame.new) (L.told link.new))
+        (λ status. HearsAll start count (Rose 0 (L.faults link.new)) (HasWaited timeout begun (K.moments clock.new)) (Err status) (L.told link.new)) }
+    ensures since { (begun : Option (List ℕ)) → MomentsGoOn begun (K.moments clock.old) → IsGiven (moments_since begun (K.moments clock.old)) since.old.0 →
+        IsGiven (moments_since begun (K.moments clock.new)) since.new.0 }
+    ensures restarted { IfOk result (λ count. filled < count → IsLastGiven (K.moments clock.new) since.new.0) }
+    ensures in_time { IfOk result (λ count. count ≡ filled → (since.new ≡ since.old) × IsInTime timeout since.old.0 (K.moments clock.new)) }
+    ensures moments_go_on { (begun : Option (List ℕ)) → MomentsGoOn begun (K.moments clock.old) → MomentsGoOn begun (K.moments clock.new) }
     ensures ends { IfErr result IsSendingEnd }
 {
     match link.recv(&mut frame[filled..]) {
-        Recv::Got(more) => Ok(filled + more),
+        Recv::Got(more) => {
+            *since = clock.now();
+            Ok(filled + more)
+        }
         Recv::NotYet => {
+            let now = clock.now();
+            // The clock may have gone back.
+            if since.0 < now.0 && now.0 - since.0 >= timeout {
+                return Err(UNREACHABLE);
+            }
             clock.pause(PAUSE);
             Ok(filled)
         }

@@ -94,7 +94,7 @@ no_numbers (v ∷ k ∷ a ∷ b ∷ c ∷ d ∷ bytes) none =
     ])
 
 -- what stands behind the acknowledgements
-behind_is : (bytes : List ℕ) (numbers tail : List ℕ) → bytes ≡ ack_bytes numbers ++ tail → AllByRecursion (λ number. number < 2 ^ 32) numbers → acknowledgements tail ≡ [] → (acknowledgements bytes ≡ numbers) × (drop (6 * length (acknowledgements bytes)) bytes ≡ tail)
+pub behind_is : (bytes : List ℕ) (numbers tail : List ℕ) → bytes ≡ ack_bytes numbers ++ tail → AllByRecursion (λ number. number < 2 ^ 32) numbers → acknowledgements tail ≡ [] → (acknowledgements bytes ≡ numbers) × (drop (6 * length (acknowledgements bytes)) bytes ≡ tail)
 behind_is bytes numbers tail is small none =
     let read : acknowledgements bytes ≡ numbers = ap acknowledgements is ∙ numbers_read numbers tail small ∙ ap (λ (others : List ℕ). numbers ++ others) none ∙ append-nil numbers in (
       read,
@@ -104,12 +104,12 @@ behind_is bytes numbers tail is small none =
 -- ---- a fault is met
 
 -- what is received with one more window
-received_then : (talk more : List Piece) (windows : List (List (List ℕ))) (numbers bytes : List ℕ) (settled : IsSettled talk windows) → in_bytes more ≡ ack_bytes numbers ++ bytes → in_bytes (talk ++ more) ≡ ack_bytes (settled.numbers ++ numbers) ++ bytes
+pub received_then : (talk more : List Piece) (windows : List (List (List ℕ))) (numbers bytes : List ℕ) (settled : IsSettled talk windows) → in_bytes more ≡ ack_bytes numbers ++ bytes → in_bytes (talk ++ more) ≡ ack_bytes (settled.numbers ++ numbers) ++ bytes
 received_then talk more windows numbers bytes settled received =
     in_append talk more ∙ ap (λ (front : List ℕ). front ++ in_bytes more) settled.received ∙ ap (λ (tail : List ℕ). ack_bytes settled.numbers ++ tail) received ∙ sym (append_assoc (ack_bytes settled.numbers) (ack_bytes numbers) bytes) ∙ ap (λ (front : List ℕ). front ++ bytes) (sym (flat_map-append (λ number. frame_bytes (Ack number)) settled.numbers numbers))
 
 -- the windows then
-windows_then : (talk more : List Piece) (windows : List (List (List ℕ))) (payloads : List (List ℕ)) → IsSettled talk windows → IsSent more payloads → AreWindows (out_bytes (talk ++ more)) (windows ++ payloads ∷ [])
+pub windows_then : (talk more : List Piece) (windows : List (List (List ℕ))) (payloads : List (List ℕ)) → IsSettled talk windows → IsSent more payloads → AreWindows (out_bytes (talk ++ more)) (windows ++ payloads ∷ [])
 windows_then talk more windows payloads settled window = record {
   each = all_both IsWindow windows (payloads ∷ []) settled.each (window.is, tt);
   rest = [];
@@ -213,7 +213,7 @@ pub settled_has_none : (talk : List Piece) (windows : List (List (List ℕ))) �
 settled_has_none talk windows settled =
     no_fault talk windows settled.numbers [] (windows_are talk windows settled) (settled.received ∙ sym (append-nil (ack_bytes settled.numbers))) settled.small refl settled.faultless none_begins
 
-few_read : (bytes : List ℕ) → length bytes < 6 → acknowledgements bytes ≡ []
+pub few_read : (bytes : List ℕ) → length bytes < 6 → acknowledgements bytes ≡ []
 few_read [] few = refl
 few_read (v ∷ []) few = refl
 few_read (v ∷ k ∷ []) few = refl

@@ -8,3 +8,4 @@ pub mod WindowsThere
 pub mod GoingOn
 pub mod OneMoreWindow
 pub mod Faults
+pub mod Unanswered

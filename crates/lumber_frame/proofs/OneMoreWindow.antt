@@ -227,6 +227,29 @@ full_then windows payloads given numbers in_full few full window =
       ]
     ]
 
+-- numbers below the count are not above it
+pub below_too : (most : ℕ) (numbers : List ℕ) → AllByRecursion (λ number. number < most) numbers → AllByRecursion (λ number. number ≤ most) numbers
+below_too most [] below = tt
+below_too most (number ∷ numbers) below = (omega (arith, below.0), below_too most numbers below.1)
+
+-- the greatest of numbers below the count is below it
+greatest_below : (last most : ℕ) (numbers : List ℕ) → 0 < most → AllByRecursion (λ number. number < most) numbers → greatest last (for_window last numbers) < most
+unfolding for_window
+greatest_below last most [] some below = some
+greatest_below last most (number ∷ numbers) some below =
+    elim (eqb_tells last last) [
+      | inl is ↦ rw (is.0) (omega (arith, below.0, greatest_below last most numbers some below.1))
+      | inr is ↦ absurd (is.1 refl)
+    ]
+
+-- the new window then has not its count, where all numbers are below it
+pub below_then : (talk more : List Piece) (windows : List (List (List ℕ))) (payloads : List (List ℕ)) (numbers : List ℕ) → (settled : IsSettled talk windows) → IsSent more payloads → AllByRecursion (λ number. number < length payloads) numbers → greatest (suc (length windows)) (answers (windows ++ payloads ∷ []) (talk ++ more) 0 (settled.numbers ++ numbers)) < length payloads
+below_then talk more windows payloads numbers settled window below =
+    let last = suc (length windows) in
+    let given = answers windows talk 0 settled.numbers in
+    let are = answers_then talk more windows payloads numbers settled window (below_too (length payloads) numbers below) in
+    omega (arith, ap (greatest last) are, greatest-append last given (for_window last numbers), settled.in_full last, count_past windows last (omega arith), greatest_below last (length payloads) numbers window.is.some below)
+
 one_more : (talk more : List Piece) (windows : List (List (List ℕ))) (payloads : List (List ℕ)) (numbers : List ℕ) → IsSettled talk windows → IsAnswered more payloads numbers → IsSettled (talk ++ more) (windows ++ payloads ∷ [])
 one_more talk more windows payloads numbers settled answered =
     let given = answers windows talk 0 settled.numbers in

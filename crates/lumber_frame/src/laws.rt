@@ -112,6 +112,18 @@ pub fn no_fault_is_met()
         ¬ (HasPeerFault ((talk ++ sent) ++ heard)) }
 {}
 
+/// One more window behind a settled talk is not acknowledged in full by acknowledgements below its count, behind which
+/// another may have begun. A law; it computes nothing.
+pub fn a_window_is_unanswered()
+    ensures { (talk sent heard : List Piece) (windows : List (List (List ℕ))) (payloads : List (List ℕ))
+        (numbers bytes : List ℕ) → IsSettled talk windows → IsWindow payloads →
+        out_bytes sent ≡ window_bytes payloads → in_bytes sent ≡ [] →
+        out_bytes heard ≡ [] → in_bytes heard ≡ ack_bytes numbers ++ bytes →
+        All (λ number. number < length payloads) numbers → length bytes < 6 →
+        (acknowledged : List (List ℕ)) × Acknowledges ((talk ++ sent) ++ heard) acknowledged ×
+        (length acknowledged < length (flat_map (λ window. window) (windows ++ payloads ∷ []))) }
+{}
+
 /// A peer's fault stays, whatever is sent and received afterwards. A law; it computes nothing.
 pub fn a_fault_stays()
     ensures { (talk more : List Piece) → HasPeerFault talk → HasPeerFault (talk ++ more) }

@@ -13,12 +13,12 @@ returns-in-Some-clause-counted g c = λ payloads tells settled.
     ended_counts g.L.Link.told (g.W.Wire.outcomes c.args.wire.now) (g.W.Wire.outcomes c.finish.new.self) c.in-Some.link (g.L.Link.faults c.in-Some.link) (g.L.Link.idles c.in-Some.link) payloads c.settled_is_acknowledged.ensures (rw c.in-Some.is at tells) (rw c.in-Some.is at settled) c.finish.ensures.told
 
 pub returns-in-Some-clause-failed : goal.returns-in-Some-clause-failed
-returns-in-Some-clause-failed g c = λ start goes tells parted.
-    ended_fails g.L.Link.told g.L.Link.faults start (g.W.Wire.outcomes c.args.wire.now) (g.W.Wire.outcomes c.finish.new.self) c.in-Some.link (g.L.Link.idles c.in-Some.link) (g.W.Wire.faults c.finish.new.self)
+returns-in-Some-clause-failed g c = λ timeout moments start goes tells parted.
+    ended_fails g.L.Link.told g.L.Link.faults timeout moments start (g.W.Wire.outcomes c.args.wire.now) (g.W.Wire.outcomes c.finish.new.self) c.in-Some.link (g.L.Link.idles c.in-Some.link) (g.W.Wire.faults c.finish.new.self)
     c.finish.ensures.told goes (rw c.in-Some.is at tells) (rw c.in-Some.is at parted)
 
 pub returns-in-None-clause-failed : goal.returns-in-None-clause-failed
-returns-in-None-clause-failed g c = λ start goes tells parted. refused_fails start (g.W.Wire.outcomes c.args.wire.now) (g.W.Wire.faults c.args.wire.now) (rw c.in-None.is at parted)
+returns-in-None-clause-failed g c = λ timeout moments start goes tells parted. refused_fails timeout moments start (g.W.Wire.outcomes c.args.wire.now) (g.W.Wire.faults c.args.wire.now) (rw c.in-None.is at parted)
 
 pub returns-in-None-clause-acknowledged : goal.returns-in-None-clause-acknowledged
 returns-in-None-clause-acknowledged g c = λ start payloads all goes tells served. none_acknowledged start (g.W.Wire.outcomes c.args.wire.now) payloads all goes (rw c.in-None.is at served)

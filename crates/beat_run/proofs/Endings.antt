@@ -1,0 +1,75 @@
+-- Which ends stored what was noted, and which came before; and what is so of a status that was printed in another's place.
+use Rattle.std.proofs.Common.{◌≡◌, ◌⊎◌, inl, inr, ℕ, List, Option, Some, None, IfSome, take, sym, subst}
+use Rattle.beat_config.specs.Document.{AreSettingsOf, IsFirstFault}
+use Rattle.beat_config.specs.declared.settings_error.SettingsError.{SettingsError}
+use Rattle.event_tree.specs.declared.settings.Settings.{Settings}
+use Rattle.prospect.specs.Lacks.{IsFirstLack}
+use Rattle.report.specs.declared.status.Lack.TheVariants.{Byte, Life, Key, Follow, Generate}
+use Rattle.report.specs.declared.status.Status.{Status}
+use Rattle.report.specs.declared.status.Status.TheVariants.{Done, Usage, Settings as SettingsFault, RegistryBad, DiskFault, FolderFault, Unreachable, OutFault, SourceFault, TooMany, NoMemory, Unbuilt}
+use Rattle.beat_run.specs.Ends.{HasStored, IsPreparingEnd, IsStoringEnd}
+
+pub not_stored_preparing : (source source_now area area_now : ℕ) (status : Status) (P : Type 0) → IsPreparingEnd source source_now area area_now status → HasStored status → P
+not_stored_preparing source source_now area area_now Done P ends stored = absurd ends
+not_stored_preparing source source_now area area_now Usage P ends stored = absurd stored
+not_stored_preparing source source_now area area_now (SettingsFault fault) P ends stored = absurd stored
+not_stored_preparing source source_now area area_now (RegistryBad which at) P ends stored = absurd stored
+not_stored_preparing source source_now area area_now DiskFault P ends stored = absurd stored
+not_stored_preparing source source_now area area_now FolderFault P ends stored = absurd ends
+not_stored_preparing source source_now area area_now (Unreachable worker failures) P ends stored = absurd ends
+not_stored_preparing source source_now area area_now OutFault P ends stored = absurd stored
+not_stored_preparing source source_now area area_now SourceFault P ends stored = absurd stored
+not_stored_preparing source source_now area area_now (TooMany what path) P ends stored = absurd ends
+not_stored_preparing source source_now area area_now NoMemory P ends stored = absurd stored
+not_stored_preparing source source_now area area_now (Unbuilt (Byte at)) P ends stored = absurd ends
+not_stored_preparing source source_now area area_now (Unbuilt Life) P ends stored = absurd ends
+not_stored_preparing source source_now area area_now (Unbuilt (Key key)) P ends stored = absurd stored
+not_stored_preparing source source_now area area_now (Unbuilt Follow) P ends stored = absurd stored
+not_stored_preparing source source_now area area_now (Unbuilt Generate) P ends stored = absurd stored
+
+pub not_stored_storing : (before now : ℕ) (status : Status) (P : Type 0) → IsStoringEnd before now status → HasStored status → P
+not_stored_storing before now Done P ends stored = absurd ends
+not_stored_storing before now Usage P ends stored = absurd stored
+not_stored_storing before now (SettingsFault fault) P ends stored = absurd stored
+not_stored_storing before now (RegistryBad which at) P ends stored = absurd stored
+not_stored_storing before now DiskFault P ends stored = absurd stored
+not_stored_storing before now FolderFault P ends stored = absurd ends
+not_stored_storing before now (Unreachable worker failures) P ends stored = absurd ends
+not_stored_storing before now OutFault P ends stored = absurd stored
+not_stored_storing before now SourceFault P ends stored = absurd stored
+not_stored_storing before now (TooMany what path) P ends stored = absurd ends
+not_stored_storing before now NoMemory P ends stored = absurd stored
+not_stored_storing before now (Unbuilt (Byte at)) P ends stored = absurd ends
+not_stored_storing before now (Unbuilt Life) P ends stored = absurd ends
+not_stored_storing before now (Unbuilt (Key key)) P ends stored = absurd stored
+not_stored_storing before now (Unbuilt Follow) P ends stored = absurd stored
+not_stored_storing before now (Unbuilt Generate) P ends stored = absurd stored
+
+-- a run that printed another status than it met has not
+pub stored_still : (faulted : Type 0) (status printed : Status) (P : Type 0) → ((printed ≡ status) ⊎ ((printed ≡ OutFault) × faulted)) → (HasStored status → P) → HasStored printed → P
+stored_still faulted status printed P (inl same) holds stored = holds (subst HasStored same stored)
+stored_still faulted status printed P (inr out) holds stored = absurd (subst HasStored out.0 stored)
+
+-- what is so of the status, and of a fault of the sink, is so of what was printed
+pub printed_so : (faulted : Type 0) (status printed : Status) (P : Status → Type 0) → ((printed ≡ status) ⊎ ((printed ≡ OutFault) × faulted)) → P status → P OutFault → P printed
+printed_so faulted status printed P (inl same) is out = subst P (sym same) is
+printed_so faulted status printed P (inr other) is out = subst P (sym other.0) out
+
+-- the same of what is told
+pub told_printed : {A : Type 0} (told : Option A) (Q : A → Type 0) (faulted : Type 0) (status printed : Status) (P : Status → Type 0) → ((printed ≡ status) ⊎ ((printed ≡ OutFault) × faulted)) →
+    IfSome told (λ one. Q one → P status) → P OutFault → IfSome told (λ one. Q one → P printed)
+told_printed None Q faulted status printed P prints is out = tt
+told_printed (Some one) Q faulted status printed P prints is out = λ so. printed_so faulted status printed P prints (is so) out
+
+pub told_never : {A : Type 0} (told : Option A) (Q : A → Type 0) (P : Type 0) → IfSome told (λ one. Q one → ⊥) → IfSome told (λ one. Q one → P)
+told_never None Q P never = tt
+told_never (Some one) Q P never = λ so. absurd (never so)
+
+pub two_printed : {A : Type 0} (told : Option A) (Q R : A → Type 0) (faulted : Type 0) (status printed : Status) (P : Status → Type 0) → ((printed ≡ status) ⊎ ((printed ≡ OutFault) × faulted)) →
+    IfSome told (λ one. Q one → R one → P status) → P OutFault → IfSome told (λ one. Q one → R one → P printed)
+two_printed None Q R faulted status printed P prints is out = tt
+two_printed (Some one) Q R faulted status printed P prints is out = λ so then. printed_so faulted status printed P prints (is so then) out
+
+pub two_never : {A : Type 0} (told : Option A) (Q R : A → Type 0) (P : Type 0) → IfSome told (λ one. Q one → R one → ⊥) → IfSome told (λ one. Q one → R one → P)
+two_never None Q R P never = tt
+two_never (Some one) Q R P never = λ so then. absurd (never so then)

@@ -1,0 +1,115 @@
+use Rattle.std.proofs.Common.{arith, inl, inr, sym, subst, ◌≡◌, ◌⊎◌, ℕ, List, take, ◌++◌, slice_get, Option, Some, None, IfSome, Vec}
+use Rattle.std.specs.Vec.{with_item}
+use Rattle.std.specs.declared.alloc.Global.{Global}
+use Rattle.outside.specs.Counts.{IsAtEnd}
+use Rattle.outside.specs.Folders.{FolderHistory}
+use Rattle.outside.specs.Wires.{Outcome}
+use Rattle.beat_config.specs.Document.{AreSettingsOf, IsFirstFault}
+use Rattle.prospect.specs.Lacks.{IsFirstLack}
+use Rattle.beat_run.specs.declared.ending.Ending.{Ending}
+use Rattle.beat_run.specs.declared.settings.TheConstants.{LIMIT}
+use Rattle.beat_run.specs.Blamed.{FailsBySettings}
+use Rattle.beat_run.specs.Ends.{RefusesArea, RefusesKey, RefusesLack, RefusesSettings, RefusesWords}
+use Rattle.beat_run.specs.Evidence.{Evidence, evidence_of}
+use Rattle.beat_run.specs.Printed.{ending_bytes}
+use Rattle.beat_run.specs.Standing.{OnFirst}
+use Rattle.beat_run.specs.Stored.{HasNoOtherRow, IsDone, IsEnded, IsStoredBy}
+use Rattle.beat_run.specs.Untouched.{IsUntouched}
+use Rattle.beat_run.proofs.Endings.{printed_so, stored_still, told_never, told_printed, two_never, two_printed}
+use Rattle.beat_run.proofs.Standings.{first_is, first_set, on_first, wires_stay}
+use Rattle.beat_run.proofs.Storings.{done_stored, printed_stored}
+use Rattle.beat_run.proofs.shipping.ship.Goals as goal
+
+-- ---- a run that was refused
+
+pub returns-in-Err-clause-other_words_are_usage : goal.returns-in-Err-clause-other_words_are_usage
+returns-in-Err-clause-other_words_are_usage g c = λ none. printed_so _ c.in-Err.status c.print_status.result RefusesWords c.print_status.ensures.printed (rw c.in-Err.is at c.run.ensures.other_words_refused none) tt
+
+pub returns-in-Err-clause-words_for_the_unbuilt_are_refused : goal.returns-in-Err-clause-words_for_the_unbuilt_are_refused
+returns-in-Err-clause-words_for_the_unbuilt_are_refused g c = λ lack asks. printed_so _ c.in-Err.status c.print_status.result (RefusesLack lack) c.print_status.ensures.printed (rw c.in-Err.is at c.run.ensures.unbuilt_refused lack asks) tt
+
+pub returns-in-Ok-clause-faulty_settings_are_refused : goal.returns-in-Ok-clause-faulty_settings_are_refused
+returns-in-Ok-clause-faulty_settings_are_refused g c = λ fault. told_never (g.R.Source.left c.args.settings.now) (λ bytes. IsFirstFault (take LIMIT bytes) fault) _ (rw c.in-Ok.is at c.run.ensures.fault_refused fault)
+
+pub returns-in-Err-clause-faulty_settings_are_refused : goal.returns-in-Err-clause-faulty_settings_are_refused
+returns-in-Err-clause-faulty_settings_are_refused g c = λ fault.
+    told_printed (g.R.Source.left c.args.settings.now) (λ bytes. IsFirstFault (take LIMIT bytes) fault) _ c.in-Err.status c.print_status.result (RefusesSettings fault) c.print_status.ensures.printed (rw c.in-Err.is at c.run.ensures.fault_refused fault) tt
+
+pub returns-in-Ok-clause-keys_of_the_unbuilt_are_refused : goal.returns-in-Ok-clause-keys_of_the_unbuilt_are_refused
+returns-in-Ok-clause-keys_of_the_unbuilt_are_refused g c = λ asked key.
+    two_never (g.R.Source.left c.args.settings.now) (λ bytes. AreSettingsOf (take LIMIT bytes) asked) (λ bytes. IsFirstLack asked key) _ (rw c.in-Ok.is at c.run.ensures.key_refused asked key)
+
+pub returns-in-Err-clause-keys_of_the_unbuilt_are_refused : goal.returns-in-Err-clause-keys_of_the_unbuilt_are_refused
+returns-in-Err-clause-keys_of_the_unbuilt_are_refused g c = λ asked key.
+    two_printed (g.R.Source.left c.args.settings.now) (λ bytes. AreSettingsOf (take LIMIT bytes) asked) (λ bytes. IsFirstLack asked key) _ c.in-Err.status c.print_status.result (RefusesKey key) c.print_status.ensures.printed (rw c.in-Err.is at c.run.ensures.key_refused asked key) tt
+
+pub returns-in-Ok-clause-refused_runs_change_nothing : goal.returns-in-Ok-clause-refused_runs_change_nothing
+returns-in-Ok-clause-refused_runs_change_nothing g c = λ refused.
+    let untouched = c.run.ensures.untouched_where_refused refused in
+    (untouched.0, (untouched.1.0, wires_stay c.args.wires.now c.index_mut.result.now c.run.new.wire (omega (arith, c.requires)) c.index_mut.ensures.value untouched.1.1))
+
+pub returns-in-Err-clause-refused_runs_change_nothing : goal.returns-in-Err-clause-refused_runs_change_nothing
+returns-in-Err-clause-refused_runs_change_nothing g c = λ refused.
+    let untouched = c.run.ensures.untouched_where_refused refused in
+    (untouched.0, (untouched.1.0, wires_stay c.args.wires.now c.index_mut.result.now c.run.new.wire (omega (arith, c.requires)) c.index_mut.ensures.value untouched.1.1))
+
+-- ---- a run that was not
+
+first_told : {W : Type 0} (member : W → Option (List Outcome)) (old new : Vec W Global) (first last : W) (told : Option FolderHistory) (P : FolderHistory → Option (List Outcome) → Option (List Outcome) → Type 0) →
+    slice_get old.items 0 ≡ Some first → slice_get new.items 0 ≡ Some last → IfSome told (λ history. P history (member first) (member last)) →
+    IfSome told (λ history. OnFirst member old new (P history))
+first_told member old new first last None P was is holds = tt
+first_told member old new first last (Some told) P was is holds = on_first member old new first last (P told) was is holds
+
+pub returns-in-Ok-clause-stored_rows_are_kept : goal.returns-in-Ok-clause-stored_rows_are_kept
+returns-in-Ok-clause-stored_rows_are_kept g c =
+    first_told g.W.Wire.outcomes c.args.wires.now (with_item c.args.wires.now 0 c.run.new.wire) c.index_mut.result.now c.run.new.wire _ (λ history before outcomes. IsStoredBy (g.R.Source.left c.args.settings.now) history (evidence_of (g.K.Clock.moments c.args.clock.now) (g.K.Clock.moments c.run.new.clock) before outcomes) (g.F.Folder.told c.run.new.folder) (g.D.Disk.faults c.args.area_a.now) (g.D.Disk.faults c.run.new.area)
+    (g.D.Disk.contents c.args.area_a.now) (g.D.Disk.contents c.run.new.area) c.print_report.result) (first_is c.args.wires.now.items _ (omega (arith, c.requires)) c.index_mut.ensures.value) (first_set c.args.wires.now c.run.new.wire (omega (arith, c.requires)))
+    (done_stored _ _ _ _ _ _ _ _ _ _ c.print_report.result c.print_report.ensures.ends (rw c.in-Ok.is at c.run.ensures.rows))
+
+pub returns-in-Err-clause-stored_rows_are_kept : goal.returns-in-Err-clause-stored_rows_are_kept
+returns-in-Err-clause-stored_rows_are_kept g c =
+    first_told g.W.Wire.outcomes c.args.wires.now (with_item c.args.wires.now 0 c.run.new.wire) c.index_mut.result.now c.run.new.wire _ (λ history before outcomes. IsStoredBy (g.R.Source.left c.args.settings.now) history (evidence_of (g.K.Clock.moments c.args.clock.now) (g.K.Clock.moments c.run.new.clock) before outcomes) (g.F.Folder.told c.run.new.folder) (g.D.Disk.faults c.args.area_a.now) (g.D.Disk.faults c.run.new.area)
+    (g.D.Disk.contents c.args.area_a.now) (g.D.Disk.contents c.run.new.area) c.print_status.result) (first_is c.args.wires.now.items _ (omega (arith, c.requires)) c.index_mut.ensures.value) (first_set c.args.wires.now c.run.new.wire (omega (arith, c.requires)))
+    (printed_stored _ _ _ _ _ _ _ _ _ c.in-Err.status c.print_status.result c.print_status.ensures.printed (rw c.in-Err.is at c.run.ensures.rows))
+
+pub returns-in-Ok-clause-links_finished : goal.returns-in-Ok-clause-links_finished
+returns-in-Ok-clause-links_finished g c =
+    on_first g.W.Wire.open_links c.args.wires.now (with_item c.args.wires.now 0 c.run.new.wire) c.index_mut.result.now c.run.new.wire (λ old new. ¬ (IsAtEnd old) → new ≡ old) (first_is c.args.wires.now.items _ (omega (arith, c.requires)) c.index_mut.ensures.value) (first_set c.args.wires.now c.run.new.wire (omega (arith, c.requires))) c.run.ensures.links_finished
+
+pub returns-in-Err-clause-links_finished : goal.returns-in-Err-clause-links_finished
+returns-in-Err-clause-links_finished g c =
+    on_first g.W.Wire.open_links c.args.wires.now (with_item c.args.wires.now 0 c.run.new.wire) c.index_mut.result.now c.run.new.wire (λ old new. ¬ (IsAtEnd old) → new ≡ old) (first_is c.args.wires.now.items _ (omega (arith, c.requires)) c.index_mut.ensures.value) (first_set c.args.wires.now c.run.new.wire (omega (arith, c.requires))) c.run.ensures.links_finished
+
+-- the report of a run that is done
+done_so : (source : Option (List ℕ)) (told : Option FolderHistory) (evidence : Evidence) (after : Option FolderHistory) (old new : Option (List ℕ)) (ending : Ending) (written printed : Option (List ℕ)) →
+    IfSome told (λ history. IsEnded source history evidence after old new ending) → IfSome written (λ bytes. printed ≡ Some (bytes ++ ending_bytes ending)) →
+    IfSome told (λ history. IsDone source history evidence after old new written printed)
+done_so source None evidence after old new ending written printed ended reported = tt
+done_so source (Some told) evidence after old new ending written printed ended reported = record { ending = ending; ended = ended; reported = reported }
+
+pub returns-in-Ok-clause-done_only_where_every_file_was_drained : goal.returns-in-Ok-clause-done_only_where_every_file_was_drained
+returns-in-Ok-clause-done_only_where_every_file_was_drained g c = λ done.
+    first_told g.W.Wire.outcomes c.args.wires.now (with_item c.args.wires.now 0 c.run.new.wire) c.index_mut.result.now c.run.new.wire _
+    (λ history before outcomes. IsDone (g.R.Source.left c.args.settings.now) history (evidence_of (g.K.Clock.moments c.args.clock.now) (g.K.Clock.moments c.run.new.clock) before outcomes) (g.F.Folder.told c.run.new.folder) (g.D.Disk.contents c.args.area_a.now) (g.D.Disk.contents c.run.new.area)
+    (g.S.Sink.written c.args.out.now) (g.S.Sink.written c.print_report.new.out))
+    (first_is c.args.wires.now.items _ (omega (arith, c.requires)) c.index_mut.ensures.value) (first_set c.args.wires.now c.run.new.wire (omega (arith, c.requires)))
+    (done_so _ _ _ _ _ _ c.in-Ok.ending _ _ (rw c.in-Ok.is at c.run.ensures.done) (c.print_report.ensures.printed done))
+
+pub returns-in-Ok-clause-no_other_row_is_stored : goal.returns-in-Ok-clause-no_other_row_is_stored
+returns-in-Ok-clause-no_other_row_is_stored g c = λ only.
+    first_told g.W.Wire.outcomes c.args.wires.now (with_item c.args.wires.now 0 c.run.new.wire) c.index_mut.result.now c.run.new.wire _
+    (λ history before outcomes. HasNoOtherRow (g.R.Source.left c.args.settings.now) history (evidence_of (g.K.Clock.moments c.args.clock.now) (g.K.Clock.moments c.run.new.clock) before outcomes) (g.F.Folder.told c.run.new.folder)
+    (g.D.Disk.contents c.args.area_a.now) (g.D.Disk.contents c.run.new.area))
+    (first_is c.args.wires.now.items _ (omega (arith, c.requires)) c.index_mut.ensures.value) (first_set c.args.wires.now c.run.new.wire (omega (arith, c.requires))) (c.run.ensures.no_other_row only)
+
+pub returns-in-Err-clause-no_other_row_is_stored : goal.returns-in-Err-clause-no_other_row_is_stored
+returns-in-Err-clause-no_other_row_is_stored g c = λ only.
+    first_told g.W.Wire.outcomes c.args.wires.now (with_item c.args.wires.now 0 c.run.new.wire) c.index_mut.result.now c.run.new.wire _
+    (λ history before outcomes. HasNoOtherRow (g.R.Source.left c.args.settings.now) history (evidence_of (g.K.Clock.moments c.args.clock.now) (g.K.Clock.moments c.run.new.clock) before outcomes) (g.F.Folder.told c.run.new.folder)
+    (g.D.Disk.contents c.args.area_a.now) (g.D.Disk.contents c.run.new.area))
+    (first_is c.args.wires.now.items _ (omega (arith, c.requires)) c.index_mut.ensures.value) (first_set c.args.wires.now c.run.new.wire (omega (arith, c.requires))) (c.run.ensures.no_other_row only)
+
+pub returns-in-Err-clause-stored_rows_are_durable : goal.returns-in-Err-clause-stored_rows_are_durable
+returns-in-Err-clause-stored_rows_are_durable g c =
+    stored_still _ c.in-Err.status c.print_status.result _ c.print_status.ensures.printed (rw c.in-Err.is at c.run.ensures.durable_where_stored)
