@@ -3,7 +3,7 @@ use Rattle.std.proofs.Common.{◌≡◌, ℕ, ◌+◌, List, [], ◌∷◌, ◌+
 use Rattle.std.specs.List.{AllByRecursion}
 use Rattle.wire_base.specs.declared.row.Row.{Row}
 use Rattle.outside.specs.Files.{File}
-use Rattle.outside.specs.Folders.{Event, FolderHistory}
+use Rattle.outside.specs.Folders.{Event, FolderHistory, NotThere, with_event}
 use Rattle.outside.specs.Talks.{Talk}
 use Rattle.prospect.specs.Scan.{with_events}
 use Rattle.prospect.specs.declared.member.Member.{Member}
@@ -20,6 +20,7 @@ use Rattle.beat_run.specs.Lives.{SeesTruncations}
 use Rattle.beat_run.specs.Run.{StopsIn, StopsLast, counted}
 use Rattle.beat_run.specs.Serving.{HasServed, HasSettled}
 use Rattle.beat_run.specs.Unbuilt.{StopsUnopened}
+use Rattle.beat_run.proofs.Openings.{unopened_itself}
 use Rattle.beat_run.proofs.Services.{settled_serves}
 
 -- ---- one behind the others
@@ -73,7 +74,7 @@ payloads-append (one ∷ first) second =
     ap (with_payload (payload_of_fate one.fate)) (payloads-append first second) ∙ sym (payload-append (payload_of_fate one.fate) (payloads_in first) (payloads_in second))
 
 dropped-append : (first second : List ToldEvent) → dropped_among (first ++ second) ≡ dropped_among first + dropped_among second
-dropped-append [] second = refl
+dropped-append [] second = omega arith
 dropped-append (one ∷ first) second = omega (arith, dropped-append first second)
 
 -- of files that were read to their ends all told events are settled
@@ -126,7 +127,7 @@ harvests_later files older newer (Read member reading ∷ harvests) goes each = 
 
 -- ---- the folder's list
 
-or_else : Option FolderHistory → FolderHistory → FolderHistory
+abbrev or_else : Option FolderHistory → FolderHistory → FolderHistory
 or_else None other = other
 or_else (Some history) other = history
 
@@ -135,6 +136,9 @@ same_inside first second is = ap (λ (o : Option FolderHistory). or_else o first
 
 with_more : (listed : FolderHistory) (first second : List Event) → with_events (with_events listed first) second ≡ with_events listed (first ++ second)
 with_more listed first second = ap (λ (l : List Event). record listed { events = l }) (append_assoc listed.events first second)
+
+none_is_told : (listed : FolderHistory) (events : List Event) → None ≡ Some (with_events listed events) → ⊥
+none_is_told listed events is = absurd cc
 
 trace_behind : (listed history : FolderHistory) (folder : Option FolderHistory) (before : List Harvest) (one : Harvest) →
     Some history ≡ Some (with_events listed (events_from (length listed.events) before)) → folder ≡ Some (with_events history (events_of (length history.events) one)) →
@@ -241,3 +245,50 @@ stopped_more told listed older newer link after noted now before one history fol
         served = subst A (sym all) (subst F (sym front) served);
       };
     }
+
+-- ---- by the history that the folder tells
+
+unopened_where_told : (start : Option FolderHistory) → IfSome start (λ history. IsUnopened history start)
+unopened_where_told None = tt
+unopened_where_told (Some history) = unopened_itself history (Some history) refl
+
+-- the folder was left alone
+pub left_more : {L : Type 0} (told : L → Option Talk) (listed : FolderHistory) (older newer : Option (List ℕ)) (link : Option L) (noted now : Noted) (before : List Harvest) (member : Member) (start folder : Option FolderHistory) (status : Status) →
+    GoOnGiving older newer → HasFollowed told listed older link noted before start → StopsUnopened status → IfSome start (λ history. IsUnopened history folder) → now.rows.items ≡ noted.rows.items →
+    FollowsSome told listed newer link now before (member ∷ []) folder status
+left_more told listed older newer link noted now before member None folder status goes followed stops unopened rows = absurd (none_is_told listed (events_from (length listed.events) before) followed.trace)
+left_more told listed older newer link noted now before member (Some history) folder status goes followed stops unopened rows =
+    none_more told listed older newer link noted now before member history folder status goes followed stops unopened rows
+
+pub alone_more : {L : Type 0} (told : L → Option Talk) (listed : FolderHistory) (moments : Option (List ℕ)) (link : Option L) (noted now : Noted) (before : List Harvest) (member : Member) (start : Option FolderHistory) (status : Status) →
+    HasFollowed told listed moments link noted before start → StopsUnopened status → now.rows.items ≡ noted.rows.items →
+    FollowsSome told listed moments link now before (member ∷ []) start status
+alone_more told listed moments link noted now before member start status followed stops rows =
+    left_more told listed moments moments link noted now before member start start status (record { gives = λ now given. given }) followed stops (unopened_where_told start) rows
+
+counted_still : (before now earlier : ℕ) → before ≡ counted earlier → now ≡ before → now ≡ min (before + 0) 18446744073709551615
+counted_still before now earlier is same = omega (arith, is, same)
+
+-- the file was gone
+pub missed_more : {L : Type 0} (told : L → Option Talk) (listed : FolderHistory) (moments : Option (List ℕ)) (link : Option L) (noted now : Noted) (before : List Harvest) (member : Member) (start folder : Option FolderHistory) →
+    HasFollowed told listed moments link noted before start → IfSome start (λ history. folder ≡ Some (with_event history (NotThere member.path))) →
+    now.rows.items ≡ noted.rows.items → now.missed.items ≡ noted.missed.items ++ member.path ∷ [] → now.shipped ≡ noted.shipped → now.dropped ≡ noted.dropped →
+    FollowsAll told listed moments link now before (member ∷ []) folder
+missed_more told listed moments link noted now before member None folder followed gone rows missed shipped dropped = absurd (none_is_told listed (events_from (length listed.events) before) followed.trace)
+missed_more told listed moments link noted now before member (Some history) folder followed gone rows missed shipped dropped =
+    let S : List (List ℕ) → Type 0 = λ l. HasSettled told link l in
+    one_more told listed moments moments link link noted now before (Missed member) history folder 0 0 (record { gives = λ now given. given }) followed tt tt gone
+    (rows ∙ sym (append-nil noted.rows.items)) missed (subst S (sym (append-nil (payloads_in (told_in before)))) followed.settled) refl refl
+    (counted_still noted.shipped now.shipped (length (payloads_in (told_in before))) followed.shipped shipped)
+    (counted_still noted.dropped now.dropped (dropped_among (told_in before)) followed.dropped dropped)
+
+-- it was, and that could not be noted
+pub unnoted_more : {L : Type 0} (told : L → Option Talk) (listed : FolderHistory) (moments : Option (List ℕ)) (link : Option L) (noted now : Noted) (before : List Harvest) (member : Member) (start folder : Option FolderHistory) (status : Status) →
+    HasFollowed told listed moments link noted before start → StopsUnopened status → IfSome start (λ history. folder ≡ Some (with_event history (NotThere member.path))) →
+    now.rows.items ≡ noted.rows.items → FollowsSome told listed moments link now before (member ∷ []) folder status
+unnoted_more told listed moments link noted now before member None folder status followed stops gone rows = absurd (none_is_told listed (events_from (length listed.events) before) followed.trace)
+unnoted_more told listed moments link noted now before member (Some history) folder status followed stops gone rows =
+    let P : List (List ℕ) = payloads_in (told_in before) in
+    let S : List (List ℕ) → Type 0 = λ l. HasServed told link l l in
+    stopped_more told listed moments moments link link noted now before (Missed member) history folder status (record { gives = λ now given. given }) followed tt stops gone
+    (rows ∙ sym (append-nil noted.rows.items)) (subst S (sym (append-nil P)) (settled_serves told link P followed.settled))

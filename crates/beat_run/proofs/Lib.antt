@@ -1,3 +1,6 @@
+mod Appending
+mod ByteOrder
+mod Ended
 mod Endings
 mod EventLines
 mod FileShipments
@@ -8,9 +11,13 @@ mod Harvests
 mod Hearings
 mod Keeping
 mod Living
+mod Openings
+mod Orders
 mod Partings
 mod Payloads
 mod PieceReads
+mod Placings
+mod Preparing
 mod Printings
 mod Progresses
 mod Readings
@@ -18,6 +25,7 @@ mod Refusals
 mod Runs
 mod SentPieces
 mod Services
+mod SettingsBytes
 mod Shipments
 mod Silences
 mod Standings

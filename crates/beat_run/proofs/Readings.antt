@@ -192,7 +192,7 @@ seen_followed laws told listed older newer link after progress noted now before 
 seen_followed laws told listed older newer link after progress noted now before member history between folder tail tail_after faults (Err status) goes followed files opened seen closes notes =
     stopped_followed laws told listed older newer link after progress noted now before member history between folder tail tail_after faults status goes followed files opened seen closes notes
 
-files_of : Option FolderHistory → List File
+abbrev files_of : Option FolderHistory → List File
 files_of None = []
 files_of (Some history) = history.files
 

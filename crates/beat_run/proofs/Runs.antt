@@ -93,7 +93,7 @@ drained_so link_told settings told evidence members between after link noted sca
     let hs : List Harvest = follows.more in
     let listed = listed_of settings.inputs told members between scans in
     let P : List (List ℕ) → Type 0 = λ l. HasServed link_told link l (payloads_in (told_in hs)) in
-    record {
+    record { notes = record {
       follows = record {
         listings = scans.listings;
         listed = listed;
@@ -117,8 +117,7 @@ drained_so link_told settings told evidence members between after link noted sca
         };
       };
       rows = follows.followed.rows;
-      missed = λ whole. follows.followed.missed;
-    }
+    }; missed = follows.followed.missed }
 
 stopped_so : {L : Type 0} (link_told : L → Option Talk) (settings : Settings) (told : FolderHistory) (evidence : Evidence) (members : List Member) (between after : Option FolderHistory) (link : Option L) (noted : Noted) (status : Status) →
     (scans : Scans settings.inputs told members between) → FollowsSome link_told (listed_of settings.inputs told members between scans) evidence.moments link noted [] members after status →
@@ -156,15 +155,17 @@ followed_by : {L : Type 0} (link_told : L → Option Talk) (settings : Settings)
 followed_by link_told settings told evidence members between after link noted (Ok done) scans follows ends counts = drained_so link_told settings told evidence members between after link noted scans follows ends counts
 followed_by link_told settings told evidence members between after link noted (Err status) scans follows ends counts = stopped_so link_told settings told evidence members between after link noted status scans follows ends
 
-pub run_followed : {L : Type 0} (link_told : L → Option Talk) (settings : Settings) (told : Option FolderHistory) (evidence : Evidence) (members : List Member) (between after : Option FolderHistory) (first link : Option L) (before noted : Noted) (older : Option (List ℕ)) (result : Result (Unit {0}) Status) →
-    IfSome told (λ history. Scans settings.inputs history members between) → IsUnnoted before → HasSettled link_told first [] →
+pub run_followed : {L : Type 0} (link_told : L → Option Talk) (settings : Settings) (inputs : List InputRule) → inputs ≡ settings.inputs → (told : Option FolderHistory) (evidence : Evidence) (members : List Member) (between after : Option FolderHistory) (first link : Option L) (before noted : Noted) (older : Option (List ℕ)) (result : Result (Unit {0}) Status) →
+    IfSome told (λ history. Scans inputs history members between) → IsUnnoted before → HasSettled link_told first [] →
     ((listed : FolderHistory) → HasFollowed link_told listed older first before [] between → FollowsBy link_told listed evidence.moments link noted members after result) →
     EndsAcknowledged link_told link evidence → OnOk result (EndsCounted link_told link evidence) →
     IfSome told (λ history. IsFollowedBy settings history evidence noted after result)
-run_followed link_told settings None evidence members between after first link before noted older result scans unnoted settled follows ends counts = tt
-run_followed link_told settings (Some told) evidence members between after first link before noted older result scans unnoted settled follows ends counts =
-    followed_by link_told settings told evidence members between after link noted result scans
-    (follows (listed_of settings.inputs told members between scans) (begins link_told settings.inputs told members between older first before scans unnoted settled)) ends counts
+run_followed link_told settings inputs same None evidence members between after first link before noted older result scans unnoted settled follows ends counts = tt
+run_followed link_told settings inputs same (Some told) evidence members between after first link before noted older result scans unnoted settled follows ends counts =
+    let S : List InputRule → Type 0 = λ l. Scans l told members between in
+    let here : Scans settings.inputs told members between = subst S same scans in
+    followed_by link_told settings told evidence members between after link noted result here
+    (follows (listed_of settings.inputs told members between here) (begins link_told settings.inputs told members between older first before here unnoted settled)) ends counts
 
 -- ---- a scan that failed
 
@@ -193,15 +194,15 @@ scan_failed settings (Some told) after evidence noted status listed sent unnoted
     })
 
 -- what a status tells
-what_of : Status → Full
+abbrev what_of : Status → Full
 what_of (TooMany what path) = what
 what_of status = Files
 
-path_of : Status → List ℕ
+abbrev path_of : Status → List ℕ
 path_of (TooMany what path) = path
 path_of status = []
 
-status_in : Status → Result (Unit {0}) Status → Status
+abbrev status_in : Status → Result (Unit {0}) Status → Status
 status_in other (Ok done) = other
 status_in other (Err status) = status
 
@@ -227,11 +228,11 @@ scan_stops ScanFailed status is = subst StopsUnopened (sym is) tt
 scan_stops ScanNoMemory status is = subst StopsUnopened (sym is) tt
 scan_stops (ScanTooMany path) status is = subst StopsUnopened (sym is) tt
 
-pub scan_refused : (settings : Settings) (told after : Option FolderHistory) (evidence : Evidence) (noted : Noted) (error : ScanError) (status : Status) →
-    StandsForScan error status → IfSome told (λ history. RefusedAs settings.inputs history error after) → SendsNothing evidence → IsUnnoted noted →
+pub scan_refused : (settings : Settings) (inputs : List InputRule) → inputs ≡ settings.inputs → (told after : Option FolderHistory) (evidence : Evidence) (noted : Noted) (error : ScanError) (status : Status) →
+    StandsForScan error status → IfSome told (λ history. RefusedAs inputs history error after) → SendsNothing evidence → IsUnnoted noted →
     IfSome told (λ history. IsFollowedBy settings history evidence noted after (Err status))
-scan_refused settings told after evidence noted error status stands refused sent unnoted =
-    scan_failed settings told after evidence noted status (all_only_listed settings.inputs told error after refused) sent unnoted (scan_stops error status stands)
+scan_refused settings inputs same told after evidence noted error status stands refused sent unnoted =
+    scan_failed settings told after evidence noted status (all_only_listed inputs told error after refused) sent unnoted (scan_stops error status stands)
 
 too_many_so : (settings : Settings) (told after : Option FolderHistory) (error : ScanError) (what : Full) (path : List ℕ) → StandsForScan error (TooMany what path) →
     IfSome told (λ history. RefusedAs settings.inputs history error after) → (what ≡ Files) × IfSome told (λ history. FindsTooMany settings.inputs history path after)
@@ -241,8 +242,9 @@ too_many_so settings told after (ScanTooMany other) what path is refused =
     let P : List ℕ → Type 0 = λ p. IfSome told (λ history. FindsTooMany settings.inputs history p after) in
     (ap what_of is, subst P (sym (ap path_of is)) refused)
 
-pub too_many : (settings : Settings) (told after : Option FolderHistory) (error : ScanError) (status : Status) (what : Full) (path : List ℕ) → StandsForScan error status → Err status ≡ Err (TooMany what path) →
-    IfSome told (λ history. RefusedAs settings.inputs history error after) → (what ≡ Files) × IfSome told (λ history. FindsTooMany settings.inputs history path after)
-too_many settings told after error status what path stands is refused =
+pub too_many : (settings : Settings) (inputs : List InputRule) → inputs ≡ settings.inputs → (told after : Option FolderHistory) (error : ScanError) (status : Status) (what : Full) (path : List ℕ) → StandsForScan error status → ◌≡◌ {A = Result (Unit {0}) Status} (Err status) (Err (TooMany what path)) →
+    IfSome told (λ history. RefusedAs inputs history error after) → (what ≡ Files) × IfSome told (λ history. FindsTooMany settings.inputs history path after)
+too_many settings inputs same told after error status what path stands is refused =
     let S : Status → Type 0 = λ s. StandsForScan error s in
-    too_many_so settings told after error what path (subst S (ap (λ (r : Result (Unit {0}) Status). status_in status r) is) stands) refused
+    let R : List InputRule → Type 0 = λ l. IfSome told (λ history. RefusedAs l history error after) in
+    too_many_so settings told after error what path (subst S (ap (λ (r : Result (Unit {0}) Status). status_in status r) is) stands) (subst R same refused)

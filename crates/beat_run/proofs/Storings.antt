@@ -118,7 +118,7 @@ follows_so settings told evidence Was Is after follows so = record {
 pub record HoldsRows (rows : List Row) (old new : Option (List ℕ)) : Type 0 where
   pub held : IfSome old (λ _. new ≡ Some (area_bytes 1 rows))
 
-rows_held : (rows others : List Row) (old new : Option (List ℕ)) → rows ≡ others → HoldsRows rows old new → IfSome old (λ _. new ≡ Some (area_bytes 1 others))
+pub rows_held : (rows others : List Row) (old new : Option (List ℕ)) → rows ≡ others → HoldsRows rows old new → IfSome old (λ _. new ≡ Some (area_bytes 1 others))
 rows_held rows others old new same holds =
     let P : List Row → Type 0 = λ l. IfSome old (λ _. new ≡ Some (area_bytes 1 l)) in
     subst P same holds.held
@@ -144,7 +144,7 @@ pub done_noted : (source : Option (List ℕ)) (settings : Settings) (told : Opti
     IfSome told (λ history. IsStored source history evidence after old new ⊥ (HoldsNoRow before now old new Done) (λ left harvests. AreWhole harvests))
 done_noted source settings None evidence noted after before now old new named follows holds = tt
 done_noted source settings (Some told) evidence noted after before now old new named follows holds =
-    inr (notes_stored source settings told evidence noted (Drains evidence noted.shipped noted.dropped) (λ left harvests. AreWhole harvests) after old new ⊥ named follows follows.follows.so.whole (inl holds))
+    inr (notes_stored source settings told evidence noted (Drains evidence noted.shipped noted.dropped) (λ left harvests. AreWhole harvests) after old new ⊥ named follows.notes follows.notes.follows.so.whole (inl holds))
 
 -- an area that was started without a row
 started_so : (before now : ℕ) (old new : Option (List ℕ)) (status : Status) → IfSome old (λ _. new ≡ Some (area_bytes 1 [])) → HoldsNoRow before now old new status
@@ -191,13 +191,13 @@ stopped_noted source settings None evidence noted after before now old new statu
 stopped_noted source settings (Some told) evidence noted after before now old new status named follows holds = stopped_by source settings told evidence noted after before now old new status named follows holds
 
 -- nothing was opened yet
-unopened_itself : (told : FolderHistory) → IsUnopened told (Some told)
-unopened_itself told = record { more = []; none = tt; kept = ap (λ (l : List Rattle.outside.specs.Folders.Event). Some (record told { events = l })) (sym (append-nil told.events)) }
+unopened_here : (told : FolderHistory) → IsUnopened told (Some told)
+unopened_here told = record { more = []; none = tt; kept = ap (λ (l : List Rattle.outside.specs.Folders.Event). Some (record told { events = l })) (sym (append-nil told.events)) }
 
 pub early_stored : (source : Option (List ℕ)) (told : Option FolderHistory) (evidence : Evidence) (before now : ℕ) (old new : Option (List ℕ)) (status : Status) →
     SendsNothing evidence → StopsUnopened status → new ≡ old → IfSome told (λ history. IsStoredBy source history evidence told before now old new status)
 early_stored source None evidence before now old new status sends stops kept = tt
-early_stored source (Some told) evidence before now old new status sends stops kept = inl (unopened_itself told, (sends, (stops, kept_so before now old new status kept)))
+early_stored source (Some told) evidence before now old new status sends stops kept = inl (unopened_here told, (sends, (stops, kept_so before now old new status kept)))
 
 -- ---- the area could not be started
 
@@ -251,8 +251,8 @@ missed_unopened before now old new (Unbuilt what) is = absurd is
 missed_by : (source : Option (List ℕ)) (settings : Settings) (told : FolderHistory) (evidence : Evidence) (noted : Noted) (after : Option FolderHistory) (before now : ℕ) (old new : Option (List ℕ)) (result : Result (Unit {0}) Status) (status : Status) →
     IsNamed source settings → IsFollowedBy settings told evidence noted after result → MissesRows before now old new status → IsStoredBy source told evidence after before now old new status
 missed_by source settings told evidence noted after before now old new (Ok done) status named notes is =
-    inr (notes_stored source settings told evidence noted (Drains evidence noted.shipped noted.dropped) (λ left harvests. StopsIn status harvests) after old new (MissesRows before now old new status) named notes
-    (whole_stops status notes.follows.harvests (missing_is_free before now old new status is).unopened notes.follows.so.whole) (inr is))
+    inr (notes_stored source settings told evidence noted (Drains evidence noted.shipped noted.dropped) (λ left harvests. StopsIn status harvests) after old new (MissesRows before now old new status) named notes.notes
+    (whole_stops status notes.notes.follows.harvests (missing_is_free before now old new status is).unopened notes.notes.follows.so.whole) (inr is))
 missed_by source settings told evidence noted after before now old new (Err met) status named (inl nothing) is =
     inl (nothing.unopened, (nothing.sent, ((missing_is_free before now old new status is).unopened, missed_unopened before now old new status is)))
 missed_by source settings told evidence noted after before now old new (Err met) status named (inr notes) is =
@@ -378,7 +378,7 @@ rows_left source settings told evidence noted So after old new named notes left 
 
 left_by : (source : Option (List ℕ)) (settings : Settings) (told : FolderHistory) (evidence : Evidence) (noted : Noted) (after : Option FolderHistory) (old new : Option (List ℕ)) (result : Result (Unit {0}) Status) →
     IsNamed source settings → IsFollowedBy settings told evidence noted after result → Leaves noted.rows.items old new → HasNoOtherRow source told evidence after old new
-left_by source settings told evidence noted after old new (Ok done) named notes left = inr (rows_left source settings told evidence noted (Drains evidence noted.shipped noted.dropped) after old new named notes left)
+left_by source settings told evidence noted after old new (Ok done) named notes left = inr (rows_left source settings told evidence noted (Drains evidence noted.shipped noted.dropped) after old new named notes.notes left)
 left_by source settings told evidence noted after old new (Err status) named (inl nothing) left = inl (nothing.unopened, none_left noted.rows.items old new nothing.unnoted.rows left)
 left_by source settings told evidence noted after old new (Err status) named (inr notes) left = inr (rows_left source settings told evidence noted (λ left harvests. StopsIn status harvests) after old new named notes left)
 
@@ -398,7 +398,7 @@ left_where_stored rows (Some old) new holds =
 pub left_alone : (source : Option (List ℕ)) (told : Option FolderHistory) (evidence : Evidence) (old new : Option (List ℕ)) → new ≡ old →
     IfSome told (λ history. HasNoOtherRow source history evidence told old new)
 left_alone source None evidence old new kept = tt
-left_alone source (Some told) evidence None new kept = inl (unopened_itself told, tt)
+left_alone source (Some told) evidence None new kept = inl (unopened_here told, tt)
 left_alone source (Some told) evidence (Some old) new kept =
     let P : Option (List ℕ) → Type 0 = λ o. IfSome o (λ holds. (holds ≡ old) ⊎ IsPartStarted 1 [] old holds) in
-    inl (unopened_itself told, subst P (sym kept) (inl refl))
+    inl (unopened_here told, subst P (sym kept) (inl refl))

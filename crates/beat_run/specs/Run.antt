@@ -81,7 +81,11 @@ pub record Drains (evidence : Evidence) (shipped dropped : ℕ) (left : List Mem
 pub record NotesRows (settings : Settings) (told : FolderHistory) (evidence : Evidence) (noted : Noted) (So : List Member → List Harvest → Type 0) (after : Option FolderHistory) : Type 0 where
   pub follows : Follows settings told evidence So after
   pub rows : noted.rows.items ≡ rows_in follows.harvests
-  pub missed : AreWhole follows.harvests → noted.missed.items ≡ missed_in follows.harvests
+
+-- all of them were read to their ends, and the paths that were gone are noted, too
+pub record NotesDrained (settings : Settings) (told : FolderHistory) (evidence : Evidence) (noted : Noted) (after : Option FolderHistory) : Type 0 where
+  pub notes : NotesRows settings told evidence noted (Drains evidence noted.shipped noted.dropped) after
+  pub missed : noted.missed.items ≡ missed_in notes.follows.harvests
 
 -- nothing is noted
 pub record IsUnnoted (noted : Noted) : Type 0 where
@@ -99,6 +103,6 @@ pub record NotesNothing (told : FolderHistory) (evidence : Evidence) (noted : No
 
 -- by the answer of following the files
 abbrev pub IsFollowedBy : Settings → FolderHistory → Evidence → Noted → Option FolderHistory → Result (Unit {0}) Status → Type 0
-IsFollowedBy settings told evidence noted after (Ok done) = NotesRows settings told evidence noted (Drains evidence noted.shipped noted.dropped) after
+IsFollowedBy settings told evidence noted after (Ok done) = NotesDrained settings told evidence noted after
 IsFollowedBy settings told evidence noted after (Err status) =
     NotesNothing told evidence noted status after ⊎ NotesRows settings told evidence noted (λ left harvests. StopsIn status harvests) after

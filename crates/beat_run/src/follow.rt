@@ -91,8 +91,9 @@ fn follow_file<X: Wait, F: Folder, W: Wire, K: Clock>(
     let Ok(progress) = Progress::begin(alloc, &member.key, &member.path) else {
         return Err(Status::NoMemory);
     };
-    if noted.begin(alloc, member).is_err() {
-        return Err(Status::NoMemory);
+    match noted.begin(alloc, member) {
+        Ok(()) => {}
+        Err(_) => return Err(Status::NoMemory),
     }
     match open(alloc, folder, &member.path) {
         Err(status) => {

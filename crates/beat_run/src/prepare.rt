@@ -9,11 +9,11 @@ ghost use Rattle.beat_run.specs.Named.{IsNamed};
 ghost use Rattle.beat_run.specs.declared.settings.TheConstants.{LIMIT};
 
 use crate::settings::read_source;
+use beat_config::{SettingsError, settings_or_one_first_fault};
 use command_line::read_words;
 use event_tree::Settings;
 use outside::{Disk, Source};
 use prospect::first_lack;
-use beat_config::SettingsError;
 use report::{Lack, Status};
 use std::alloc::Global;
 use wire_base::{NoMemory, Text, Which};
@@ -47,6 +47,7 @@ pub fn prepare<D: Disk, R: Source>(
         Ok(()) => {}
         Err(status) => return Err(status),
     }
+    settings_or_one_first_fault();
     let settings = match read_source(alloc, source) {
         Ok(settings) => settings,
         Err(status) => return Err(status),

@@ -4,7 +4,7 @@ ghost use Rattle.beat_config.specs.InRange.{AreInRange};
 ghost use Rattle.beat_run.specs.Ends.{IsReadEnd, IsSettingsEnd, RefusesSettings};
 ghost use Rattle.beat_run.specs.Named.{IsNamed};
 
-use beat_config::{MAX_SETTINGS, SettingsError, read_settings};
+use beat_config::{MAX_SETTINGS, SettingsError, read_settings, settings_or_one_first_fault};
 use event_tree::Settings;
 use outside::Source;
 use report::Status;
@@ -28,10 +28,14 @@ pub fn read_source<R: Source>(alloc: Global, source: &mut R) -> Result<Settings,
         Ok(bytes) => bytes,
         Err(status) => return Err(status),
     };
-    match read_settings(alloc, &bytes) {
-        Ok(settings) => Ok(settings),
-        Err(SettingsError::NoMemory) => Err(Status::NoMemory),
-        Err(fault) => Err(Status::Settings(fault)),
+    settings_or_one_first_fault();
+    let fault = match read_settings(alloc, &bytes) {
+        Ok(settings) => return Ok(settings),
+        Err(fault) => fault,
+    };
+    match fault {
+        SettingsError::NoMemory => Err(Status::NoMemory),
+        fault => Err(Status::Settings(fault)),
     }
 }
 
@@ -46,11 +50,10 @@ fn read_all<R: Source>(alloc: Global, source: &mut R) -> Result<Vec<u8>, Status>
         let room = PIECE.min(LIMIT - all.len());
         match source.read(&mut piece[..room]) {
             Ok(0) => break,
-            Ok(count) => {
-                if all.extend_from_slice(&piece[..count]).is_err() {
-                    return Err(Status::NoMemory);
-                }
-            }
+            Ok(count) => match all.extend_from_slice(&piece[..count]) {
+                Ok(()) => {}
+                Err(_) => return Err(Status::NoMemory),
+            },
             Err(_) => return Err(Status::SourceFault),
         }
     }

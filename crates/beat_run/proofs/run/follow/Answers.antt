@@ -1,24 +1,41 @@
-use Rattle.std.proofs.Common.{rules, ◌∙◌}
+use Rattle.std.proofs.Common.{rules, ◌∙◌, List}
 use Rattle.beat_run.proofs.GivenMoments.{moments_go_themselves}
 use Rattle.beat_run.proofs.Runs.{run_followed, scan_refused, too_many}
-use Rattle.beat_run.proofs.Standings.{left_counts, left_fails, left_opened, left_refused, left_tells, nothing_sent, standing_first}
+use Rattle.beat_run.proofs.Standings.{left_counts, left_fails, left_opened, left_refused, left_tells, nothing_sent, refused_goes, standing_first}
 use Rattle.beat_run.proofs.run.follow.Goals as goal
 
 pub returns-in-Err-clause-followed : goal.returns-in-Err-clause-followed
 returns-in-Err-clause-followed g c =
-    scan_refused c.args.settings.now _ _ _ _ c.in-Err.error c.status_of_scan.result c.status_of_scan.ensures (rw c.in-Err.is at c.scan.ensures.refused) (nothing_sent (g.W.Wire.outcomes c.args.wire.now)) c.requires.unnoted
+    scan_refused c.args.settings.now c.as_slice.result.now c.as_slice.ensures _ _ _ _ c.in-Err.error c.status_of_scan.result c.status_of_scan.ensures (rw c.in-Err.is at c.scan.ensures.refused) (nothing_sent (g.W.Wire.outcomes c.args.wire.now)) c.requires.unnoted
 
 pub returns-in-Err-clause-too_many : goal.returns-in-Err-clause-too_many
 returns-in-Err-clause-too_many g c = λ what path is.
-    too_many c.args.settings.now _ _ c.in-Err.error c.status_of_scan.result what path c.status_of_scan.ensures is (rw c.in-Err.is at c.scan.ensures.refused)
+    too_many c.args.settings.now c.as_slice.result.now c.as_slice.ensures _ _ c.in-Err.error c.status_of_scan.result what path c.status_of_scan.ensures is (rw c.in-Err.is at c.scan.ensures.refused)
 
-pub returns-in-Ok-clause-followed : goal.returns-in-Ok-clause-followed
-returns-in-Ok-clause-followed g c =
-    let moments = moments_go_themselves (g.K.Clock.moments c.args.clock.now) in
-    let left = c.follow_all.ensures.standing (g.K.Clock.moments c.args.clock.now) (g.W.Wire.outcomes c.args.wire.now) (g.W.Wire.open_links c.args.wire.now) (g.W.Wire.faults c.args.wire.now) moments
+pub returns-clause-followed : goal.returns-clause-followed
+returns-clause-followed g c =
+    let left = c.follow_all-met.ensures.standing (g.K.Clock.moments c.args.clock.now) (g.W.Wire.outcomes c.args.wire.now) (g.W.Wire.open_links c.args.wire.now) (g.W.Wire.faults c.args.wire.now) (moments_go_themselves (g.K.Clock.moments c.args.clock.now))
     (standing_first g.W.Link.Link.told (g.W.Wire.outcomes c.args.wire.now) (g.W.Wire.open_links c.args.wire.now) (g.W.Wire.faults c.args.wire.now) c.new.result.link c.new.ensures.unlinked c.new.ensures.settled) in
-    run_followed g.W.Link.Link.told c.args.settings.now _ _ c.in-Ok.members.items _ _ c.new.result.link c.follow_all.new.worker.link c.args.noted.now c.follow_all.new.noted _ c.follow_all.result
+    run_followed g.W.Link.Link.told c.args.settings.now c.as_slice.result.now c.as_slice.ensures _ _ c.in-Ok.members.items _ _ c.new.result.link c.follow_all-met.new.worker.link c.args.noted.now c.follow_all-met.new.noted _ c.follow_all-met.result
     (rw c.in-Ok.is at c.scan.ensures.scanned) c.requires.unnoted c.new.ensures.settled
-    (λ listed. c.follow_all.ensures.followed (g.K.Clock.moments c.args.clock.now) listed moments)
-    (λ payloads all served. c.end.ensures.acknowledged _ payloads all (left_refused g.W.Link.Link.told g.W.Link.Link.faults _ _ _ _ _ _ _ _ _ c.follow_all.result left) (left_tells g.W.Link.Link.told g.W.Link.Link.faults _ _ _ _ _ _ _ _ _ c.follow_all.result left) served)
-    (left_counts g.W.Link.Link.told g.W.Link.Link.faults _ _ _ _ _ _ (g.W.Wire.outcomes c.end.new.wire) _ _ _ c.follow_all.result left c.end.ensures.counted)
+    (λ listed. c.follow_all-met.ensures.followed (g.K.Clock.moments c.args.clock.now) listed (moments_go_themselves (g.K.Clock.moments c.args.clock.now)))
+    (λ payloads all served. c.end.ensures.acknowledged _ payloads all (left_refused g.W.Link.Link.told g.W.Link.Link.faults _ _ (g.W.Wire.outcomes c.args.wire.now) (g.W.Wire.open_links c.args.wire.now) (g.W.Wire.faults c.args.wire.now) (g.W.Wire.outcomes c.follow_all-met.new.wire) _ _ _ c.follow_all-met.result left) (left_tells g.W.Link.Link.told g.W.Link.Link.faults _ _ (g.W.Wire.outcomes c.args.wire.now) (g.W.Wire.open_links c.args.wire.now) (g.W.Wire.faults c.args.wire.now) (g.W.Wire.outcomes c.follow_all-met.new.wire) _ _ _ c.follow_all-met.result left) served)
+    (left_counts g.W.Link.Link.told g.W.Link.Link.faults _ _ (g.W.Wire.outcomes c.args.wire.now) (g.W.Wire.open_links c.args.wire.now) (g.W.Wire.faults c.args.wire.now) (g.W.Wire.outcomes c.follow_all-met.new.wire) (g.W.Wire.outcomes c.end.new.wire) _ _ _ c.follow_all-met.result left c.end.ensures.counted)
+
+pub returns-clause-wire_goes_on : goal.returns-clause-wire_goes_on
+returns-clause-wire_goes_on g c =
+    let left = c.follow_all-met.ensures.standing (g.K.Clock.moments c.args.clock.now) (g.W.Wire.outcomes c.args.wire.now) (g.W.Wire.open_links c.args.wire.now) (g.W.Wire.faults c.args.wire.now) (moments_go_themselves (g.K.Clock.moments c.args.clock.now))
+    (standing_first g.W.Link.Link.told (g.W.Wire.outcomes c.args.wire.now) (g.W.Wire.open_links c.args.wire.now) (g.W.Wire.faults c.args.wire.now) c.new.result.link c.new.ensures.unlinked c.new.ensures.settled) in
+    c.end.ensures.goes_on _ (left_refused g.W.Link.Link.told g.W.Link.Link.faults _ _ (g.W.Wire.outcomes c.args.wire.now) (g.W.Wire.open_links c.args.wire.now) (g.W.Wire.faults c.args.wire.now) (g.W.Wire.outcomes c.follow_all-met.new.wire) _ _ _ c.follow_all-met.result left)
+
+pub returns-clause-links_finished : goal.returns-clause-links_finished
+returns-clause-links_finished g c = λ below.
+    let left = c.follow_all-met.ensures.standing (g.K.Clock.moments c.args.clock.now) (g.W.Wire.outcomes c.args.wire.now) (g.W.Wire.open_links c.args.wire.now) (g.W.Wire.faults c.args.wire.now) (moments_go_themselves (g.K.Clock.moments c.args.clock.now))
+    (standing_first g.W.Link.Link.told (g.W.Wire.outcomes c.args.wire.now) (g.W.Wire.open_links c.args.wire.now) (g.W.Wire.faults c.args.wire.now) c.new.result.link c.new.ensures.unlinked c.new.ensures.settled) in
+    c.end.ensures.closed _ (left_opened g.W.Link.Link.told g.W.Link.Link.faults _ _ (g.W.Wire.outcomes c.args.wire.now) (g.W.Wire.open_links c.args.wire.now) (g.W.Wire.faults c.args.wire.now) (g.W.Wire.outcomes c.follow_all-met.new.wire) _ _ _ c.follow_all-met.result left) below
+
+pub returns-clause-unreachable : goal.returns-clause-unreachable
+returns-clause-unreachable g c =
+    let left = c.follow_all-met.ensures.standing (g.K.Clock.moments c.args.clock.now) (g.W.Wire.outcomes c.args.wire.now) (g.W.Wire.open_links c.args.wire.now) (g.W.Wire.faults c.args.wire.now) (moments_go_themselves (g.K.Clock.moments c.args.clock.now))
+    (standing_first g.W.Link.Link.told (g.W.Wire.outcomes c.args.wire.now) (g.W.Wire.open_links c.args.wire.now) (g.W.Wire.faults c.args.wire.now) c.new.result.link c.new.ensures.unlinked c.new.ensures.settled) in
+    left_fails g.W.Link.Link.told g.W.Link.Link.faults _ _ (g.W.Wire.outcomes c.args.wire.now) (g.W.Wire.open_links c.args.wire.now) (g.W.Wire.faults c.args.wire.now) (g.W.Wire.outcomes c.follow_all-met.new.wire) (g.W.Wire.outcomes c.end.new.wire) _ _ (g.W.Wire.faults c.end.new.wire) _ c.follow_all-met.result left (c.end.ensures.failed _ _ _)

@@ -1,9 +1,10 @@
-use Rattle.std.proofs.Common.{rules, ◌∙◌, ap, refl, absurd, Err}
+use Rattle.std.proofs.Common.{rules, ◌∙◌, ap, refl, Err, absurd}
 use Rattle.report.specs.declared.status.Status.{Status}
+use Rattle.beat_run.proofs.Ended.{done_rows, ended_so, fails_so, left_as_before, left_where_failed, rows_left, shows_so, stopped_rows, stores_rows}
 use Rattle.beat_run.proofs.Endings.{not_stored_preparing, not_stored_storing}
 use Rattle.beat_run.proofs.Refusals.{never_refused}
 use Rattle.beat_run.proofs.Standings.{nothing_sent}
-use Rattle.beat_run.proofs.Storings.{all_missing, done_noted, early_stored, left_alone, left_where_failed, left_where_stored, misses, noted_left, preparing_stops, stopped_noted, stores_rows}
+use Rattle.beat_run.proofs.Storings.{all_missing, early_stored, left_alone, left_where_stored, misses, preparing_stops}
 use Rattle.beat_run.proofs.run.run.Goals as goal
 
 pub returns-in-Err-clause-rows : goal.returns-in-Err-clause-rows

@@ -1,0 +1,128 @@
+-- What a run ends with, by what it noted, what it tells of that, and what it stored.
+use Rattle.std.proofs.Common.{◌≡◌, ◌⊎◌, inl, inr, ℕ, List, [], Option, Some, None, Result, Ok, Err, IfSome, refl, sym, ◌∙◌, ap, subst}
+use Rattle.event_tree.specs.declared.settings.Settings.{Settings}
+use Rattle.outside.specs.DiskImages.{Only}
+use Rattle.outside.specs.Folders.{FolderHistory}
+use Rattle.prospect.specs.Scan.{FindsTooMany}
+use Rattle.registry_log.specs.Area.{area_bytes}
+use Rattle.registry_log.specs.Starting.{Holds, IsPartStarted}
+use Rattle.report.specs.declared.status.Status.{Status}
+use Rattle.report.specs.declared.status.Status.TheVariants.{Done, Unreachable, NoMemory}
+use Rattle.ship_core.specs.Rows.{IsInOrder}
+use Rattle.wire_base.specs.declared.row.Row.{Row}
+use Rattle.beat_run.specs.declared.ending.Ending.{Ending}
+use Rattle.beat_run.specs.declared.noted.Noted.{Noted}
+use Rattle.beat_run.specs.Acknowledged.{FailsFor}
+use Rattle.beat_run.specs.Blamed.{FailsBySettings, ShowsTooMany}
+use Rattle.beat_run.specs.Evidence.{Evidence}
+use Rattle.beat_run.specs.Harvest.{AreWhole, missed_in, rows_in}
+use Rattle.beat_run.specs.Named.{IsNamed}
+use Rattle.beat_run.specs.Passings.{ArePassings}
+use Rattle.beat_run.specs.Run.{Drains, IsFollowedBy}
+use Rattle.beat_run.specs.Stored.{HasNoOtherRow, HoldsNoRow, IsEnded, IsStored, IsStoredBy, MissesRows}
+use Rattle.beat_run.proofs.Orders.{noted_in_order}
+use Rattle.beat_run.proofs.Storings.{HoldsRows, Leaves, all_missing, done_noted, follows_so, left_where_stored, noted_left, rows_held, stopped_noted}
+
+-- the rows that are told are those that were noted, where these are in order; the area held this, and then holds those
+abbrev pub Tells : Noted → List Row → Type 0
+Tells noted rows = IsInOrder noted.rows.items → rows ≡ noted.rows.items
+
+-- the area was started with the rows that are told
+pub stores_rows : (rows : List Row) (old between new : Option (List ℕ)) → between ≡ old → IfSome between (λ _. new ≡ Some (area_bytes 1 rows)) → HoldsRows rows old new
+stores_rows rows old between new kept stored =
+    let P : Option (List ℕ) → Type 0 = λ o. IfSome o (λ _. new ≡ Some (area_bytes 1 rows)) in
+    record { held = subst P kept stored }
+
+noted_held : (noted : Noted) (rows : List Row) (old new : Option (List ℕ)) → rows ≡ noted.rows.items → HoldsRows rows old new → HoldsRows noted.rows.items old new
+noted_held noted rows old new same holds =
+    let P : List Row → Type 0 = λ l. HoldsRows l old new in
+    subst P same holds
+
+pub done_rows : (source : Option (List ℕ)) (settings : Settings) (told : Option FolderHistory) (evidence : Evidence) (noted : Noted) (rows : List Row) (after : Option FolderHistory) (before now : ℕ) (old new : Option (List ℕ)) →
+    IsNamed source settings → IfSome told (λ history. IsFollowedBy settings history evidence noted after (Ok tt)) → Tells noted rows → HoldsRows rows old new →
+    IfSome told (λ history. IsStored source history evidence after old new ⊥ (HoldsNoRow before now old new Done) (λ left harvests. AreWhole harvests))
+done_rows source settings None evidence noted rows after before now old new named follows tells holds = tt
+done_rows source settings (Some told) evidence noted rows after before now old new named follows tells holds =
+    done_noted source settings (Some told) evidence noted after before now old new named follows (noted_held noted rows old new (tells (noted_in_order settings told evidence noted after (Ok tt) follows)) holds)
+
+pub stopped_rows : (source : Option (List ℕ)) (settings : Settings) (told : Option FolderHistory) (evidence : Evidence) (noted : Noted) (rows : List Row) (after : Option FolderHistory) (before now : ℕ) (old new : Option (List ℕ)) (status : Status) →
+    IsNamed source settings → IfSome told (λ history. IsFollowedBy settings history evidence noted after (Err status)) → Tells noted rows → HoldsRows rows old new →
+    IfSome told (λ history. IsStoredBy source history evidence after before now old new status)
+stopped_rows source settings None evidence noted rows after before now old new status named follows tells holds = tt
+stopped_rows source settings (Some told) evidence noted rows after before now old new status named follows tells holds =
+    stopped_noted source settings (Some told) evidence noted after before now old new status named follows (noted_held noted rows old new (tells (noted_in_order settings told evidence noted after (Err status) follows)) holds)
+
+-- ---- the area has no other row
+
+left_held : (noted : Noted) (rows : List Row) (old new : Option (List ℕ)) → rows ≡ noted.rows.items → Leaves rows old new → Leaves noted.rows.items old new
+left_held noted rows old new same left =
+    let P : List Row → Type 0 = λ l. Leaves l old new in
+    subst P same left
+
+pub rows_left : (source : Option (List ℕ)) (settings : Settings) (told : Option FolderHistory) (evidence : Evidence) (noted : Noted) (rows : List Row) (after : Option FolderHistory) (old new : Option (List ℕ)) (result : Result (Unit {0}) Status) →
+    IsNamed source settings → IfSome told (λ history. IsFollowedBy settings history evidence noted after result) → Tells noted rows → Leaves rows old new →
+    IfSome told (λ history. HasNoOtherRow source history evidence after old new)
+rows_left source settings None evidence noted rows after old new result named follows tells left = tt
+rows_left source settings (Some told) evidence noted rows after old new result named follows tells left =
+    noted_left source settings (Some told) evidence noted after old new result named follows (left_held noted rows old new (tells (noted_in_order settings told evidence noted after result follows)) left)
+
+-- nothing was written
+pub left_as_before : (rows : List Row) (old new : Option (List ℕ)) → new ≡ old → Leaves rows old new
+left_as_before rows None new kept = tt
+left_as_before rows (Some old) new kept =
+    let P : Option (List ℕ) → Type 0 = λ o. IfSome o (IsPartStarted 1 rows old) in
+    subst P (sym kept) (inl (inl refl))
+
+held_leaves : (rows : List Row) (before : List ℕ) (new : Option (List ℕ)) → Holds (IsPartStarted 1 rows before) new → IfSome new (IsPartStarted 1 rows before)
+held_leaves rows before None holds = tt
+held_leaves rows before (Some new) holds = holds
+
+-- it could not be started
+pub left_where_failed : (rows : List Row) (old between new : Option (List ℕ)) (images later : List ℕ → Type 0) → between ≡ old → ((image : List ℕ) → later image → images image) → Only old images →
+    (Only between later → IfSome between (λ before. Holds (IsPartStarted 1 rows before) new)) → Leaves rows old new
+left_where_failed rows None between new images later kept less only leaves = tt
+left_where_failed rows (Some old) between new images later kept less only leaves =
+    let B : Option (List ℕ) → Type 0 = λ o. Only o later → IfSome o (λ before. Holds (IsPartStarted 1 rows before) new) in
+    held_leaves rows old new (subst B kept leaves (λ image is. only image (less image is)))
+
+-- ---- a run that is done
+
+drains_as : (evidence : Evidence) (shipped dropped told_shipped told_dropped : ℕ) (left : List _) (harvests : List _) → told_shipped ≡ shipped → told_dropped ≡ dropped →
+    Drains evidence shipped dropped left harvests → Drains evidence told_shipped told_dropped left harvests
+drains_as evidence shipped dropped told_shipped told_dropped left harvests ships drops drains = record {
+  none_left = drains.none_left;
+  whole = drains.whole;
+  shipped_are = ships ∙ drains.shipped_are;
+  acknowledged = drains.acknowledged;
+  dropped_are = drops ∙ drains.dropped_are;
+}
+
+pub ended_so : (source : Option (List ℕ)) (settings : Settings) (told : Option FolderHistory) (evidence : Evidence) (noted : Noted) (ending : Ending) (after : Option FolderHistory) (old new : Option (List ℕ)) →
+    IsNamed source settings → IfSome told (λ history. IsFollowedBy settings history evidence noted after (Ok tt)) → Tells noted ending.rows → ArePassings noted.missed.items ending.passed.items →
+    ending.shipped ≡ noted.shipped → ending.dropped ≡ noted.dropped → HoldsRows ending.rows old new → IfSome told (λ history. IsEnded source history evidence after old new ending)
+ended_so source settings None evidence noted ending after old new named follows tells passed shipped dropped holds = tt
+ended_so source settings (Some told) evidence noted ending after old new named follows tells passed shipped dropped holds =
+    let M : List (List ℕ) → Type 0 = λ l. ArePassings l ending.passed.items in
+    let rows : ending.rows ≡ rows_in follows.notes.follows.harvests = tells (noted_in_order settings told evidence noted after (Ok tt) follows) ∙ follows.notes.rows in
+    record {
+      settings = settings;
+      named = named;
+      follows = follows_so settings told evidence (Drains evidence noted.shipped noted.dropped) (Drains evidence ending.shipped ending.dropped) after follows.notes.follows
+          (drains_as evidence noted.shipped noted.dropped ending.shipped ending.dropped _ _ shipped dropped follows.notes.follows.so);
+      rows = rows;
+      passed = subst M follows.missed passed;
+      stored = rows_held ending.rows (rows_in follows.notes.follows.harvests) old new rows holds;
+    }
+
+-- ---- whom a status blames
+
+pub fails_so : (source : Option (List ℕ)) (settings : Settings) (evidence : Evidence) (faults : ℕ) (status : Status) (worker failures : ℕ) → IsNamed source settings →
+    FailsFor settings.output.timeout evidence.moments faults evidence.outcomes status → status ≡ Unreachable worker failures → FailsBySettings source evidence faults
+fails_so source settings evidence faults status worker failures named fails is =
+    let P : Status → Type 0 = λ s. FailsFor settings.output.timeout evidence.moments faults evidence.outcomes s in
+    record { settings = settings; named = named; failed = subst P is fails }
+
+pub shows_so : (source : Option (List ℕ)) (settings : Settings) (told : Option FolderHistory) (path : List ℕ) (after : Option FolderHistory) → IsNamed source settings →
+    IfSome told (λ history. FindsTooMany settings.inputs history path after) → IfSome told (λ history. ShowsTooMany source history path after)
+shows_so source settings None path after named found = tt
+shows_so source settings (Some told) path after named found = record { settings = settings; named = named; found = found }
