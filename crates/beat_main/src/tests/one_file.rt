@@ -60,40 +60,44 @@ fn two_plain_lines_are_sent_in_order_and_stored(rt: HostRuntime) -> Result<(), F
     Ok(())
 }
 
-#[test]
-fn complete_lines_alone_are_shipped(rt: HostRuntime) -> Result<(), Fail> {
-    let no_file = Wanted {
-        printed: "shipped 0 dropped 0\nstatus 0 done\n",
-        area: Area::Started(&[]),
-        windows: Some(&[]),
-        ..TWO_LINES
-    };
-    let empty = Wanted {
-        printed: "\
+const NO_FILE: Wanted = Wanted {
+    printed: "shipped 0 dropped 0\nstatus 0 done\n",
+    area: Area::Started(&[]),
+    windows: Some(&[]),
+    ..TWO_LINES
+};
+
+const EMPTY_FILE: Wanted = Wanted {
+    printed: "\
 file \"filestream::w::path::/w/a.log\" 0 0 \"/w/a.log\"
 shipped 0 dropped 0
 status 0 done
 ",
-        area: Area::Started(&[("w", "/w/a.log", 0)]),
-        windows: Some(&[]),
-        ..TWO_LINES
-    };
-    let rest_waits = Wanted {
-        printed: "\
+    area: Area::Started(&[("w", "/w/a.log", 0)]),
+    windows: Some(&[]),
+    ..TWO_LINES
+};
+
+const FIRST_LINE: Wanted = Wanted {
+    printed: "\
 file \"filestream::w::path::/w/a.log\" 0 2 \"/w/a.log\"
 shipped 1 dropped 0
 status 0 done
 ",
-        area: Area::Started(&[("w", "/w/a.log", 2)]),
-        windows: Some(&[&[("/w/a.log", 0, "a")]]),
-        ..TWO_LINES
-    };
-    let cases: [(&[(&str, &str, Later)], Wanted); 3] = [
-        (&[], no_file),
-        (&[("/w/a.log", "", Later::Stays)], empty),
-        (&[("/w/a.log", "a\nb", Later::Stays)], rest_waits),
-    ];
-    for (files, wanted) in cases {
+    area: Area::Started(&[("w", "/w/a.log", 2)]),
+    windows: Some(&[&[("/w/a.log", 0, "a")]]),
+    ..TWO_LINES
+};
+
+const INCOMPLETE: [(&[(&str, &str, Later)], Wanted); 3] = [
+    (&[], NO_FILE),
+    (&[("/w/a.log", "", Later::Stays)], EMPTY_FILE),
+    (&[("/w/a.log", "a\nb", Later::Stays)], FIRST_LINE),
+];
+
+#[test]
+fn complete_lines_alone_are_shipped(rt: HostRuntime) -> Result<(), Fail> {
+    for (files, wanted) in INCOMPLETE {
         check(&rt, wanted.printed, Start { files, ..PLAIN }, wanted)?;
     }
     Ok(())
@@ -171,24 +175,25 @@ fn excluded_byte_is_refused_at_its_place(rt: HostRuntime) -> Result<(), Fail> {
     Ok(())
 }
 
+const CUT: Wanted = Wanted {
+    status: 13,
+    printed: "status 13 unbuilt life\n",
+    ..TWO_LINES
+};
+
+const GONE: Wanted = Wanted {
+    printed: "passed \"/w/a.log\" gone\nshipped 0 dropped 0\nstatus 0 done\n",
+    ..NO_FILE
+};
+
+const CHANGED: [(&[(&str, &str, Later)], Wanted); 2] = [
+    (&[("/w/a.log", "a\nb\n", Later::CutAfter(2))], CUT),
+    (&[("/w/a.log", "a\nb\n", Later::RemovedAfter(1))], GONE),
+];
+
 #[test]
 fn file_that_is_cut_or_removed_is_told(rt: HostRuntime) -> Result<(), Fail> {
-    let cut = Wanted {
-        status: 13,
-        printed: "status 13 unbuilt life\n",
-        ..TWO_LINES
-    };
-    let gone = Wanted {
-        printed: "passed \"/w/a.log\" gone\nshipped 0 dropped 0\nstatus 0 done\n",
-        area: Area::Started(&[]),
-        windows: Some(&[]),
-        ..TWO_LINES
-    };
-    let cases: [(&[(&str, &str, Later)], Wanted); 2] = [
-        (&[("/w/a.log", "a\nb\n", Later::CutAfter(2))], cut),
-        (&[("/w/a.log", "a\nb\n", Later::RemovedAfter(1))], gone),
-    ];
-    for (files, wanted) in cases {
+    for (files, wanted) in CHANGED {
         check(&rt, wanted.printed, Start { files, ..PLAIN }, wanted)?;
     }
     Ok(())

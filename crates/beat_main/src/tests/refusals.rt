@@ -12,35 +12,37 @@ const LACKING: &str = "[[inputs]]\nid = \"w\"\npaths = [\"/w/*.log\"]\n[output]\
 
 const GENERATE: &str = "status 13 unbuilt generate\n";
 
+const REFUSED_WORDS: [(&str, &[&str]); 10] = [
+    ("no words", &[]),
+    ("no settings", &["--once"]),
+    ("no file", &["--once", "-c"]),
+    ("two files", &["-c", "f", "-c", "g", "--once"]),
+    ("a word more", &["-c", "f", "x"]),
+    ("no lines", &["-c", "f", "--generate", "0"]),
+    ("too many lines", &["-c", "f", "--generate", "1000001"]),
+    ("no such word", &["-c", "f", "--once", "--twice"]),
+    ("help", &["--help"]),
+    ("short help", &["-c", "f", "--once", "-h"]),
+];
+
 #[test]
 fn usage_refusals(rt: HostRuntime) -> Result<(), Fail> {
-    let cases: [(&str, &[&str]); 10] = [
-        ("no words", &[]),
-        ("no settings", &["--once"]),
-        ("no file", &["--once", "-c"]),
-        ("two files", &["-c", "f", "-c", "g", "--once"]),
-        ("a word more", &["-c", "f", "x"]),
-        ("no lines", &["-c", "f", "--generate", "0"]),
-        ("too many lines", &["-c", "f", "--generate", "1000001"]),
-        ("no such word", &["-c", "f", "--once", "--twice"]),
-        ("help", &["--help"]),
-        ("short help", &["-c", "f", "--once", "-h"]),
-    ];
-    for (case, words) in cases {
+    for (case, words) in REFUSED_WORDS {
         check(&rt, case, Start { words, ..PLAIN }, refused(2, USAGE))?;
     }
     Ok(())
 }
 
+const UNBUILT_WORDS: [(&str, &[&str]); 4] = [
+    (FOLLOW, &["-c", "f"]),
+    (FOLLOW, &["--data", "d", "--config", "f"]),
+    (FOLLOW, &["-c", "f", "--generate", "5"]),
+    (GENERATE, &["-c", "f", "--once", "--generate", "5"]),
+];
+
 #[test]
 fn words_for_what_is_not_built_are_refused(rt: HostRuntime) -> Result<(), Fail> {
-    let cases: [(&str, &[&str]); 4] = [
-        (FOLLOW, &["-c", "f"]),
-        (FOLLOW, &["--data", "d", "--config", "f"]),
-        (FOLLOW, &["-c", "f", "--generate", "5"]),
-        (GENERATE, &["-c", "f", "--once", "--generate", "5"]),
-    ];
-    for (printed, words) in cases {
+    for (printed, words) in UNBUILT_WORDS {
         check(&rt, printed, Start { words, ..PLAIN }, refused(13, printed))?;
     }
     Ok(())
