@@ -1,5 +1,5 @@
 -- A row behind all others is appended.
-use Rattle.std.proofs.Common.{◌≡◌, ℕ, ◌+◌, ◌≤◌, List, [], ◌∷◌, ◌++◌, length, refl, sym, ap, ◌∙◌, subst, arith}
+use Rattle.std.proofs.Common.{◌≡◌, ℕ, ◌+◌, ◌≤◌, List, [], ◌∷◌, ◌++◌, length, refl, ap, ◌∙◌, subst, arith}
 use Rattle.std.specs.Iterator.{Yields}
 use Rattle.std.specs.Ordering.{match_ordering}
 use Rattle.std.specs.Vec.Iter.{into_iter_items, into_iter_steps}

@@ -1,5 +1,5 @@
 -- What a run ends with, by what it noted, what it tells of that, and what it stored.
-use Rattle.std.proofs.Common.{◌≡◌, ◌⊎◌, inl, inr, ℕ, List, [], Option, Some, None, Result, Ok, Err, IfSome, refl, sym, ◌∙◌, ap, subst}
+use Rattle.std.proofs.Common.{◌≡◌, ◌⊎◌, inl, inr, ℕ, List, [], Option, Some, None, Result, Ok, Err, IfErr, IfSome, IsErrOf, refl, sym, ◌∙◌, ap, subst}
 use Rattle.event_tree.specs.declared.settings.Settings.{Settings}
 use Rattle.outside.specs.DiskImages.{Only}
 use Rattle.outside.specs.Folders.{FolderHistory}
@@ -100,6 +100,7 @@ drains_as evidence shipped dropped told_shipped told_dropped left harvests ships
 pub ended_so : (source : Option (List ℕ)) (settings : Settings) (told : Option FolderHistory) (evidence : Evidence) (noted : Noted) (ending : Ending) (after : Option FolderHistory) (old new : Option (List ℕ)) →
     IsNamed source settings → IfSome told (λ history. IsFollowedBy settings history evidence noted after (Ok tt)) → Tells noted ending.rows → ArePassings noted.missed.items ending.passed.items →
     ending.shipped ≡ noted.shipped → ending.dropped ≡ noted.dropped → HoldsRows ending.rows old new → IfSome told (λ history. IsEnded source history evidence after old new ending)
+unfolding follows_so
 ended_so source settings None evidence noted ending after old new named follows tells passed shipped dropped holds = tt
 ended_so source settings (Some told) evidence noted ending after old new named follows tells passed shipped dropped holds =
     let M : List (List ℕ) → Type 0 = λ l. ArePassings l ending.passed.items in
@@ -116,13 +117,19 @@ ended_so source settings (Some told) evidence noted ending after old new named f
 
 -- ---- whom a status blames
 
-pub fails_so : (source : Option (List ℕ)) (settings : Settings) (evidence : Evidence) (faults : ℕ) (status : Status) (worker failures : ℕ) → IsNamed source settings →
-    FailsFor settings.output.timeout evidence.moments faults evidence.outcomes status → status ≡ Unreachable worker failures → FailsBySettings source evidence faults
-fails_so source settings evidence faults status worker failures named fails is =
-    let P : Status → Type 0 = λ s. FailsFor settings.output.timeout evidence.moments faults evidence.outcomes s in
+pub fails_so : (source : Option (List ℕ)) (settings : Settings) (evidence : Evidence) (faults : ℕ) (result : Result Ending Status) (worker failures : ℕ) → IsNamed source settings →
+    IfErr result (FailsFor settings.output.timeout evidence.moments faults evidence.outcomes) → IsErrOf result (Unreachable worker failures) → FailsBySettings source evidence faults
+fails_so source settings evidence faults result worker failures named fails is =
+    let P : Result Ending Status → Type 0 = λ r. IfErr r (FailsFor settings.output.timeout evidence.moments faults evidence.outcomes) in
     record { settings = settings; named = named; failed = subst P is fails }
 
 pub shows_so : (source : Option (List ℕ)) (settings : Settings) (told : Option FolderHistory) (path : List ℕ) (after : Option FolderHistory) → IsNamed source settings →
     IfSome told (λ history. FindsTooMany settings.inputs history path after) → IfSome told (λ history. ShowsTooMany source history path after)
 shows_so source settings None path after named found = tt
 shows_so source settings (Some told) path after named found = record { settings = settings; named = named; found = found }
+
+-- nothing was pending before the area was looked at, and nothing is
+pub only_later : (old between : Option (List ℕ)) (images later : List ℕ → Type 0) → between ≡ old → ((image : List ℕ) → later image → images image) → Only old images → Only between later
+only_later old between images later kept less only =
+    let P : Option (List ℕ) → Type 0 = λ o. Only o later in
+    subst P (sym kept) (λ image is. only image (less image is))

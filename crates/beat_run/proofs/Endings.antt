@@ -1,13 +1,15 @@
 -- Which ends stored what was noted, and which came before; and what is so of a status that was printed in another's place.
-use Rattle.std.proofs.Common.{◌≡◌, ◌⊎◌, inl, inr, ℕ, List, Option, Some, None, IfSome, take, sym, subst}
+use Rattle.std.proofs.Common.{◌≡◌, ◌⊎◌, inl, inr, ℕ, List, Option, Some, None, Result, Ok, Err, IfErr, IfSome, IsErrOf, take, ap, sym, subst}
 use Rattle.beat_config.specs.Document.{AreSettingsOf, IsFirstFault}
 use Rattle.beat_config.specs.declared.settings_error.SettingsError.{SettingsError}
 use Rattle.event_tree.specs.declared.settings.Settings.{Settings}
 use Rattle.prospect.specs.Lacks.{IsFirstLack}
+use Rattle.report.specs.declared.status.Lack.{Lack}
 use Rattle.report.specs.declared.status.Lack.TheVariants.{Byte, Life, Key, Follow, Generate}
 use Rattle.report.specs.declared.status.Status.{Status}
 use Rattle.report.specs.declared.status.Status.TheVariants.{Done, Usage, Settings as SettingsFault, RegistryBad, DiskFault, FolderFault, Unreachable, OutFault, SourceFault, TooMany, NoMemory, Unbuilt}
-use Rattle.beat_run.specs.Ends.{HasStored, IsPreparingEnd, IsStoringEnd}
+use Rattle.beat_run.specs.Asked.{IsAsked}
+use Rattle.beat_run.specs.Ends.{HasStored, IsHarvestEnd, IsPreparingEnd, IsStoringEnd}
 
 pub not_stored_preparing : (source source_now area area_now : ℕ) (status : Status) (P : Type 0) → IsPreparingEnd source source_now area area_now status → HasStored status → P
 not_stored_preparing source source_now area area_now Done P ends stored = absurd ends
@@ -73,3 +75,26 @@ two_printed (Some one) Q R faulted status printed P prints is out = λ so then. 
 pub two_never : {A : Type 0} (told : Option A) (Q R : A → Type 0) (P : Type 0) → IfSome told (λ one. Q one → R one → ⊥) → IfSome told (λ one. Q one → R one → P)
 two_never None Q R P never = tt
 two_never (Some one) Q R P never = λ so then. absurd (never so then)
+
+-- a run that followed files ends for nothing that is asked for before
+harvest_lacks : (folder folder_now area area_now : ℕ) (words : List (List ℕ)) (source : Option (List ℕ)) (lack : Lack) → IsHarvestEnd folder folder_now area area_now (Unbuilt lack) → IsAsked words source lack
+harvest_lacks folder folder_now area area_now words source (Byte at) ends = tt
+harvest_lacks folder folder_now area area_now words source Life ends = tt
+harvest_lacks folder folder_now area area_now words source (Key key) ends = absurd ends
+harvest_lacks folder folder_now area area_now words source Follow ends = absurd ends
+harvest_lacks folder folder_now area area_now words source Generate ends = absurd ends
+
+pub harvest_asks : {T : Type 0} (folder folder_now area area_now : ℕ) (words : List (List ℕ)) (source : Option (List ℕ)) (result : Result T Status) (lack : Lack) → IfErr result (IsHarvestEnd folder folder_now area area_now) →
+    IsErrOf result (Unbuilt lack) → IsAsked words source lack
+harvest_asks {T} folder folder_now area area_now words source result lack ends is =
+    let P : Result T Status → Type 0 = λ r. IfErr r (IsHarvestEnd folder folder_now area area_now) in
+    harvest_lacks folder folder_now area area_now words source lack (subst P is ends)
+
+-- the error of one answer is that of another of the same error
+error_of : {T : Type 0} → Status → Result T Status → Status
+error_of other (Ok done) = other
+error_of other (Err status) = status
+
+pub same_error : {T U : Type 0} (status other : Status) → ◌≡◌ {A = Result T Status} (Err status) (Err other) → ◌≡◌ {A = Result U Status} (Err status) (Err other)
+unfolding error_of
+same_error {T} {U} status other is = ap (λ (s : Status). Err s) (ap (λ (r : Result T Status). error_of status r) is)

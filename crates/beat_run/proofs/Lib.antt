@@ -5,6 +5,7 @@ mod Endings
 mod EventLines
 mod FileShipments
 mod Filling
+mod FirstLacks
 mod Follows
 mod GivenMoments
 mod Harvests
@@ -17,7 +18,6 @@ mod Partings
 mod Payloads
 mod PieceReads
 mod Placings
-mod Preparing
 mod Printings
 mod Progresses
 mod Readings

@@ -34,7 +34,7 @@ follows_in_order : (settings : Settings) (told : FolderHistory) (evidence : Evid
     (follows : Follows settings told evidence So after) → IsInOrder (rows_in follows.harvests)
 follows_in_order settings told evidence So after follows =
     let P : List Member → Type 0 = λ l. AreMembersInOrder l in
-    rows_in_order follows.harvests (front_in_order (members_in follows.harvests) follows.left (subst P follows.in_order follows.are_members.named.in_order))
+    rows_in_order follows.harvests (front_in_order (members_in follows.harvests) follows.left (subst P follows.in_order follows.are_members.in_order))
 
 notes_in_order : (settings : Settings) (told : FolderHistory) (evidence : Evidence) (noted : Noted) (So : List Member → List Harvest → Type 0) (after : Option FolderHistory) →
     NotesRows settings told evidence noted So after → IsInOrder noted.rows.items

@@ -93,31 +93,34 @@ drained_so link_told settings told evidence members between after link noted sca
     let hs : List Harvest = follows.more in
     let listed = listed_of settings.inputs told members between scans in
     let P : List (List ℕ) → Type 0 = λ l. HasServed link_told link l (payloads_in (told_in hs)) in
-    record { notes = record {
-      follows = record {
-        listings = scans.listings;
-        listed = listed;
-        scanned = record { one_for_each_glob = scans.listed.one_for_each_glob; kept = refl };
-        members = members;
-        are_members = scans.members_are;
-        harvests = hs;
-        left = [];
-        in_order = follows.are ∙ sym (append-nil (members_in hs));
-        each = follows.followed.each;
-        kept = kept_so link_told link evidence hs ends (subst P (ap payloads_in (sym (whole_settled hs follows.followed.whole))) (settled_serves link_told link (payloads_in (told_in hs)) follows.followed.settled));
-        end = [];
-        none_opened = tt;
-        trace = follows.followed.trace ∙ ap (λ (l : List Event). Some (with_events listed l)) (sym (append-nil (events_from (length listed.events) hs)));
-        so = record {
-          none_left = refl;
-          whole = follows.followed.whole;
-          shipped_are = follows.followed.shipped;
-          acknowledged = counts (payloads_in (told_in hs)) follows.followed.settled;
-          dropped_are = follows.followed.dropped;
+    record {
+      notes = record {
+        follows = record {
+          listings = scans.listings;
+          listed = listed;
+          scanned = record { one_for_each_glob = scans.listed.one_for_each_glob; kept = refl };
+          members = members;
+          are_members = scans.members_are;
+          harvests = hs;
+          left = [];
+          in_order = follows.are ∙ sym (append-nil (members_in hs));
+          each = follows.followed.each;
+          kept = kept_so link_told link evidence hs ends (subst P (ap payloads_in (sym (whole_settled hs follows.followed.whole))) (settled_serves link_told link (payloads_in (told_in hs)) follows.followed.settled));
+          end = [];
+          none_opened = tt;
+          trace = follows.followed.trace ∙ ap (λ (l : List Event). Some (with_events listed l)) (sym (append-nil (events_from (length listed.events) hs)));
+          so = record {
+            none_left = refl;
+            whole = follows.followed.whole;
+            shipped_are = follows.followed.shipped;
+            acknowledged = counts (payloads_in (told_in hs)) follows.followed.settled;
+            dropped_are = follows.followed.dropped;
+          };
         };
+        rows = follows.followed.rows;
       };
-      rows = follows.followed.rows;
-    }; missed = follows.followed.missed }
+      missed = follows.followed.missed;
+    }
 
 stopped_so : {L : Type 0} (link_told : L → Option Talk) (settings : Settings) (told : FolderHistory) (evidence : Evidence) (members : List Member) (between after : Option FolderHistory) (link : Option L) (noted : Noted) (status : Status) →
     (scans : Scans settings.inputs told members between) → FollowsSome link_told (listed_of settings.inputs told members between scans) evidence.moments link noted [] members after status →

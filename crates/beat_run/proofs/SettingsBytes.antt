@@ -1,12 +1,11 @@
 -- The bytes of the settings, read piece by piece, and what they spell.
-use Rattle.std.proofs.Common.{◌≡◌, ◌⊎◌, inl, inr, ℕ, ◌+◌, ◌<◌, ◌≤◌, List, [], ◌++◌, length, take, drop, Option, Some, None, Ok, IfSome, sym, ◌∙◌, ap, subst, arith}
+use Rattle.std.proofs.Common.{◌≡◌, ℕ, ◌+◌, ◌<◌, ◌≤◌, List, [], ◌++◌, length, take, drop, Option, Some, None, Ok, IfSome, sym, ◌∙◌, ap, subst, arith}
 use Rattle.std.proofs.Math.Seq.{take-add}
 use Rattle.std.proofs.lemmas.List.{take-append-le, drop-drop, take_all, length-drop}
 use Rattle.beat_config.specs.Document.{AreSettingsOf, IsFirstFault}
 use Rattle.beat_config.specs.declared.settings_error.SettingsError.{SettingsError}
 use Rattle.event_tree.specs.declared.settings.Settings.{Settings}
 use Rattle.outside.specs.Streams.{GivesFront, ReadsOn}
-use Rattle.beat_run.specs.Named.{IsNamed}
 use Rattle.beat_run.specs.declared.settings.TheConstants.{LIMIT}
 
 -- so many bytes were read, and the rest of them is left

@@ -95,7 +95,7 @@ preparing_stops source source_now area area_now (Unbuilt Generate) ends = tt
 
 -- ---- files that were followed so
 
-pub follows_so : (settings : Settings) (told : FolderHistory) (evidence : Evidence) (Was Is : List Member → List Harvest → Type 0) (after : Option FolderHistory) →
+unfoldable pub follows_so : (settings : Settings) (told : FolderHistory) (evidence : Evidence) (Was Is : List Member → List Harvest → Type 0) (after : Option FolderHistory) →
     (follows : Follows settings told evidence Was after) → Is follows.left follows.harvests → Follows settings told evidence Is after
 follows_so settings told evidence Was Is after follows so = record {
   listings = follows.listings;
@@ -126,6 +126,7 @@ rows_held rows others old new same holds =
 notes_stored : (source : Option (List ℕ)) (settings : Settings) (told : FolderHistory) (evidence : Evidence) (noted : Noted) (Was Is : List Member → List Harvest → Type 0) (after : Option FolderHistory) (old new : Option (List ℕ)) (Missing : Type 0) →
     IsNamed source settings → (notes : NotesRows settings told evidence noted Was after) → Is notes.follows.left notes.follows.harvests → HoldsRows noted.rows.items old new ⊎ Missing →
     StoresKept source told evidence Is after old new Missing
+unfolding follows_so
 notes_stored source settings told evidence noted Was Is after old new Missing named notes so (inl holds) = record {
   settings = settings;
   named = named;
@@ -271,6 +272,7 @@ stored_so : (source : Option (List ℕ)) (told : FolderHistory) (evidence : Evid
     (Missing Other : Type 0) (Unopened So : Type 0) (Was Is : List Member → List Harvest → Type 0) →
     (Missing → Other) → (Unopened → So) → ((left : List Member) (harvests : List Harvest) → Was left harvests → Is left harvests) →
     IsStored source told evidence after old new Missing Unopened Was → IsStored source told evidence after old new Other So Is
+unfolding follows_so
 stored_so source told evidence after old new Missing Other Unopened So Was Is other so then (inl unopened) = inl (unopened.0, (unopened.1.0, so unopened.1.1))
 stored_so source told evidence after old new Missing Other Unopened So Was Is other so then (inr stores) = inr (record {
   settings = stores.settings;
@@ -367,6 +369,7 @@ none_left rows (Some old) (Some new) none left =
 
 rows_left : (source : Option (List ℕ)) (settings : Settings) (told : FolderHistory) (evidence : Evidence) (noted : Noted) (So : List Member → List Harvest → Type 0) (after : Option FolderHistory) (old new : Option (List ℕ)) →
     IsNamed source settings → NotesRows settings told evidence noted So after → Leaves noted.rows.items old new → LeavesKept source told evidence after old new
+unfolding follows_so
 rows_left source settings told evidence noted So after old new named notes left =
     let P : List Row → Type 0 = λ l. Leaves l old new in
     record {

@@ -131,6 +131,17 @@ IsFollowingEnd before now (Unbuilt (Byte at)) = Unit {0}
 IsFollowingEnd before now (Unbuilt Life) = Unit {0}
 IsFollowingEnd before now _ = ⊥
 
+-- following them and storing their rows, by the folder's count of faults and the area's
+abbrev pub IsHarvestEnd : ℕ → ℕ → ℕ → ℕ → Status → Type 0
+IsHarvestEnd folder folder_now area area_now FolderFault = Rose folder folder_now
+IsHarvestEnd folder folder_now area area_now (Unreachable worker failures) = IsFirstFailure worker failures
+IsHarvestEnd folder folder_now area area_now (TooMany Files path) = Unit {0}
+IsHarvestEnd folder folder_now area area_now DiskFault = Rose area area_now
+IsHarvestEnd folder folder_now area area_now NoMemory = Unit {0}
+IsHarvestEnd folder folder_now area area_now (Unbuilt (Byte at)) = Unit {0}
+IsHarvestEnd folder folder_now area area_now (Unbuilt Life) = Unit {0}
+IsHarvestEnd folder folder_now area area_now _ = ⊥
+
 -- the run before its report is printed
 abbrev pub IsRunEnd : Status → Type 0
 IsRunEnd Done = ⊥

@@ -12,9 +12,9 @@ ghost use Rattle.beat_run.specs.Reading.{AddsBytes, GoesOnReaching, ReadsPiece};
 
 use crate::peer::Worker;
 use crate::shipment::Shipment;
-use report::{Lack, Status};
 use event_tree::OutputRule;
 use outside::{Clock, Tail, Wire};
+use report::{Lack, Status};
 use std::alloc::Global;
 use std::sync::Wait;
 use wire_base::Text;

@@ -53,7 +53,9 @@ pub fn follow_all<X: Wait, F: Folder, W: Wire, K: Clock>(
     ensures ends { IfErr result (IsShippingEnd (F.faults folder.old) (F.faults folder.new)) }
 {
     for member in members {
-        match follow_file(rt, alloc, member, output, folder, worker, wire, clock, noted) {
+        match follow_file(
+            rt, alloc, member, output, folder, worker, wire, clock, noted,
+        ) {
             Ok(()) => {}
             Err(status) => return Err(status),
         }
@@ -108,7 +110,15 @@ fn follow_file<X: Wait, F: Folder, W: Wire, K: Clock>(
             let path = &member.path;
             let mut shipment = Shipment::new(alloc, progress);
             let met = ship_file(
-                rt, alloc, path, output, &mut tail, worker, wire, clock, &mut shipment,
+                rt,
+                alloc,
+                path,
+                output,
+                &mut tail,
+                worker,
+                wire,
+                clock,
+                &mut shipment,
             );
             folder.close(tail);
             each_line_is_an_event();

@@ -12,7 +12,6 @@ ghost use Rattle.beat_run.specs.Serving.{HasFailed, HasServed, HasSettled, IsSom
 ghost use Rattle.beat_run.specs.Standing.{GoesOn, GoesOnRefused, HasParted, IsParted, IsStanding, Tells, outcomes_since, with_link};
 ghost use Rattle.beat_run.specs.Talking.{HearsAll, IsFrontHeard, SendsAll};
 
-use report::Status;
 use event_tree::OutputRule;
 use lumber_frame::{
     FrameRead, FrameView, a_fault_is_met, a_window_is_settled, a_window_is_unanswered,
@@ -20,6 +19,7 @@ use lumber_frame::{
     settled_stays_acknowledged, window_head,
 };
 use outside::{Clock, Link, Recv, Wire};
+use report::Status;
 use std::mem;
 use std::sync::Wait;
 use wire_base::{Host, Moment};

@@ -1,4 +1,4 @@
-ghost use Rattle.std.specs.Prelude.{Some, ℕ, List, All, ◌<◌, length, vec_len, ◌≡◌, ◌≤◌, take, IfErr, IfOk, IfSome, IsErrOf, MatchResult, OnErr, OnOk};
+ghost use Rattle.std.specs.Prelude.{Some, ℕ, List, All, Option, ◌<◌, length, vec_len, ◌≡◌, ◌≤◌, take, IfErr, IfOk, IfSome, IsErrOf, MatchResult, OnErr, OnOk};
 ghost use Rattle.outside.specs.Counts.{IsAtEnd, Rose};
 ghost use Rattle.outside.specs.DiskImages.{Only};
 ghost use Rattle.beat_config.specs.Document.{AreSettingsOf, IsFirstFault};
@@ -11,9 +11,10 @@ ghost use Rattle.registry_log.specs.Starting.{Holds, IsPartStarted};
 ghost use Rattle.wire_base.specs.Ranges.{IsRow};
 ghost use Rattle.beat_run.specs.Acknowledged.{FailsFor};
 ghost use Rattle.beat_run.specs.Asked.{AskFor, IsAsked};
-ghost use Rattle.beat_run.specs.Ends.{HasStored, IsFollowingEnd, IsRefusal, IsRunEnd, IsStoringEnd, RefusesArea, RefusesKey, RefusesLack, RefusesSettings, RefusesWords, StandsForScan};
+ghost use Rattle.beat_run.specs.Ends.{HasStored, IsFollowingEnd, IsHarvestEnd, IsRefusal, IsRunEnd, IsStoringEnd, RefusesArea, RefusesKey, RefusesLack, RefusesSettings, RefusesWords, StandsForScan};
 ghost use Rattle.beat_run.specs.Evidence.{evidence_of, moments_since};
 ghost use Rattle.beat_run.specs.Blamed.{FailsBySettings, ShowsTooMany};
+ghost use Rattle.beat_run.specs.Named.{IsNamed};
 ghost use Rattle.beat_run.specs.Harvest.{AreWhole};
 ghost use Rattle.beat_run.specs.Run.{IsFollowedBy, IsUnnoted};
 ghost use Rattle.beat_run.specs.Standing.{GoesOn, outcomes_since};
@@ -85,8 +86,38 @@ pub fn run<X: Wait, F: Folder, W: Wire, D: Disk, K: Clock, R: Source>(
         Ok(settings) => settings,
         Err(status) => return Err(status),
     };
+    follow_and_store(rt, alloc, &settings, folder, wire, area, clock)
+}
+
+// Follows the files of the settings, and starts the area with the rows of what was done.
+fn follow_and_store<X: Wait, F: Folder, W: Wire, D: Disk, K: Clock>(
+    rt: &X,
+    alloc: Global,
+    settings: &Settings,
+    folder: &mut F,
+    wire: &mut W,
+    area: &mut D,
+    clock: &mut K,
+) -> Result<Ending, Status>
+    requires in_range { AreInRange settings.now }
+    ensures done { (source held : Option (List ℕ)) → IsNamed source settings.now → D.contents area.old ≡ held → IfOk result (λ ending. IfSome (F.told folder.old) (λ told.
+        IsEnded source told (evidence_of (K.moments clock.old) (K.moments clock.new) (W.outcomes wire.old) (W.outcomes wire.new)) (F.told folder.new) held (D.contents area.new) ending)) }
+    ensures rows { (source held : Option (List ℕ)) (faults : ℕ) → IsNamed source settings.now → D.contents area.old ≡ held → faults ≤ D.faults area.old → IfSome (F.told folder.old) (λ told. MatchResult result
+        (λ _. IsStored source told (evidence_of (K.moments clock.old) (K.moments clock.new) (W.outcomes wire.old) (W.outcomes wire.new)) (F.told folder.new) held (D.contents area.new) ⊥ (HoldsNoRow faults (D.faults area.new) held (D.contents area.new) Status.Done) (λ left harvests. AreWhole harvests))
+        (IsStoredBy source told (evidence_of (K.moments clock.old) (K.moments clock.new) (W.outcomes wire.old) (W.outcomes wire.new)) (F.told folder.new) faults (D.faults area.new) held (D.contents area.new))) }
+    ensures no_other_row { (source held : Option (List ℕ)) → IsNamed source settings.now → D.contents area.old ≡ held → Only (D.contents area.old) (D.images area.old) → IfSome (F.told folder.old) (λ told.
+        HasNoOtherRow source told (evidence_of (K.moments clock.old) (K.moments clock.new) (W.outcomes wire.old) (W.outcomes wire.new)) (F.told folder.new) held (D.contents area.new)) }
+    ensures durable { IfOk result (λ _. Only (D.contents area.new) (D.images area.new)) }
+    ensures durable_where_stored { IfErr result (λ status. HasStored status → Only (D.contents area.new) (D.images area.new)) }
+    ensures wire_goes_on { GoesOn (W.outcomes wire.old) (W.outcomes wire.new) }
+    ensures links_finished { ¬ (IsAtEnd (W.open_links wire.old)) → W.open_links wire.new ≡ W.open_links wire.old }
+    ensures tails_closed { ¬ (IsAtEnd (F.open_tails folder.old)) → F.open_tails folder.new ≡ F.open_tails folder.old }
+    ensures unreachable { IfErr result (FailsFor settings.now.output.timeout (moments_since (K.moments clock.old) (K.moments clock.new)) (W.faults wire.new) (outcomes_since (W.outcomes wire.old) (W.outcomes wire.new))) }
+    ensures too_many { (what : Full) (path : List ℕ) → IsErrOf result (Status.TooMany what path) → (what ≡ Full.Files) × IfSome (F.told folder.old) (λ told. FindsTooMany settings.now.inputs told path (F.told folder.new)) }
+    ensures ends { IfErr result (IsHarvestEnd (F.faults folder.old) (F.faults folder.new) (D.faults area.old) (D.faults area.new)) }
+{
     let mut noted = Noted::new(alloc);
-    let met = follow(rt, alloc, &settings, folder, wire, clock, &mut noted);
+    let met = follow(rt, alloc, settings, folder, wire, clock, &mut noted);
     let ending = match ending_of(alloc, noted) {
         Ok(ending) => ending,
         Err(_) => return Err(Status::NoMemory),
@@ -131,7 +162,15 @@ fn follow<X: Wait, F: Folder, W: Wire, K: Clock>(
     let mut worker = Worker::new();
     let output = &settings.output;
     let met = follow_all(
-        rt, alloc, &members, output, folder, &mut worker, wire, clock, noted,
+        rt,
+        alloc,
+        &members,
+        output,
+        folder,
+        &mut worker,
+        wire,
+        clock,
+        noted,
     );
     worker.end(wire);
     met

@@ -1,4 +1,4 @@
-use Rattle.std.proofs.Common.{◌≡◌, ◌⊎◌, inl, inr, List, ℕ, take, IfSome, subst}
+use Rattle.std.proofs.Common.{◌≡◌, ◌⊎◌, inl, inr, take, IfSome, subst}
 use Rattle.beat_config.specs.Document.{IsFirstFault}
 use Rattle.beat_config.specs.declared.settings_error.SettingsError.{SettingsError}
 use Rattle.beat_run.specs.declared.settings.TheConstants.{LIMIT}
