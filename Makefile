@@ -1,6 +1,6 @@
 .PHONY: run test bench
 
-# ships an example file to a receiver on loopback, and shows what came in
+# ships the logs of examples/ by examples/beat.toml to a receiver on loopback, and shows what came in
 run:
 	python3 -B tests/end_to_end/first_run.py
 
@@ -8,6 +8,6 @@ run:
 test:
 	.ci/run
 
-# times the program and single calls, into bench/RESULTS.md; wants rustc for what it compares with
+# times the program over one file and many, and single calls, into bench/RESULTS.md; wants rustc for what it compares with
 bench:
 	python3 -B bench/run.py

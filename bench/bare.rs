@@ -1,13 +1,14 @@
 //! What the program's transport is compared with; no part of the product, and nothing of it is proved.
 //!
-//! `bare send FILE HOST` reads the lines of a file and sends them as the program does: the same payloads but for the
-//! moment, in windows of 2,048, each acknowledged in full before the next. `bare receive TIMES` prints the port at which
-//! it listens, takes so many connections one after another, acknowledges each window once it is there, and prints for
-//! each connection how many events it had.
+//! `bare send FOLDER HOST` reads the lines of the files of a folder, one file after the other by their names, and sends
+//! them as the program does: the same payloads but for the moment, in windows of at most 2,048 lines of one file, each
+//! acknowledged in full before the next. `bare receive TIMES` prints the port at which it listens, takes so many
+//! connections one after another, acknowledges each window once it is there, and prints for each connection how many
+//! events it had.
 
 use std::env;
 use std::error::Error;
-use std::fs::File;
+use std::fs::{self, File};
 use std::io::{BufRead, BufReader, Read, Write};
 use std::net::{TcpListener, TcpStream};
 
@@ -16,27 +17,40 @@ const EVENTS: u32 = 2_048;
 fn main() -> Result<(), Box<dyn Error>> {
     let words: Vec<String> = env::args().skip(1).collect();
     match words.iter().map(String::as_str).collect::<Vec<_>>()[..] {
-        ["send", path, host] => send(path, host),
+        ["send", folder, host] => send(folder, host),
         ["receive", times] => receive(times.parse()?),
-        _ => Err("usage: bare send FILE HOST | bare receive TIMES".into()),
+        _ => Err("usage: bare send FOLDER HOST | bare receive TIMES".into()),
     }
 }
 
-fn send(path: &str, host: &str) -> Result<(), Box<dyn Error>> {
-    let mut file = BufReader::with_capacity(16_384, File::open(path)?);
+fn send(folder: &str, host: &str) -> Result<(), Box<dyn Error>> {
+    let mut names = Vec::new();
+    for entry in fs::read_dir(folder)? {
+        names.push(entry?.file_name().into_string().map_err(|name| format!("{name:?} is no text"))?);
+    }
+    names.sort();
     let mut peer = TcpStream::connect(host)?;
     peer.set_nodelay(true)?;
-    let (mut line, mut frames, mut count, mut offset) = (Vec::new(), Vec::new(), 0, 0);
+    let mut frames = Vec::new();
+    for name in names {
+        send_file(&mut peer, &mut frames, &format!("{folder}/{name}"))?;
+    }
+    Ok(())
+}
+
+fn send_file(peer: &mut TcpStream, frames: &mut Vec<u8>, path: &str) -> Result<(), Box<dyn Error>> {
+    let mut file = BufReader::with_capacity(16_384, File::open(path)?);
+    let (mut line, mut count, mut offset) = (Vec::new(), 0, 0);
     loop {
         line.clear();
         let size = file.read_until(b'\n', &mut line)?;
         if line.pop_if(|last| *last == b'\n').is_some() {
             count += 1;
-            put_frame(&mut frames, count, path, offset, &line);
+            put_frame(frames, count, path, offset, &line);
             offset += size;
         }
         if count == EVENTS || (size == 0 && count > 0) {
-            send_window(&mut peer, &frames, count)?;
+            send_window(peer, frames, count)?;
             frames.clear();
             count = 0;
         }

@@ -1,4 +1,4 @@
-"""Times the program over a file and a receiver on loopback, beside a bare sender of the same frames."""
+"""Times the program over files and a receiver on loopback, beside a bare sender of the same frames."""
 
 import os
 import subprocess
@@ -16,17 +16,27 @@ import program  # noqa: E402
 LINES = 200_000
 # bytes of a line, its line feed not counted
 LINE = 120
+# in so many files they stand, in each of them as many
+FILES = [1, 100, 2_000]
 RUNS = 5
 
 HEAD = f"""
-## The program over a file
+## The program over files
 
-A file of {LINES:,} lines of {LINE} bytes to a receiver on loopback that acknowledges each window of 2,048 events, beside
-a bare sender (`bench/bare.rs`) that reads the file and sends the same frames. Each time is the best of {RUNS} runs, taken
-in turn; the peak of memory is that of one more run. The receiver is the same for both.
+{LINES:,} lines of {LINE} bytes, {LINES * (LINE + 1) / 1e6:.1f} megabytes, in so many files of one size, to a receiver on
+loopback that acknowledges each window. A window has at most 2,048 events, all of one file. Beside it a bare sender
+(`bench/bare.rs`) that reads the same files in the same order and sends the same frames. Each time is the best of {RUNS}
+runs, taken in turn; the peak of memory is that of one more run. The receiver is the same for both.
 
-| | Lines a second | Megabytes of the file a second | Processor seconds | Peak memory, MiB |
-|---|---:|---:|---:|---:|
+| Files | | Lines a second | Megabytes of the files a second | Processor seconds | Peak memory, MiB |
+|---:|---|---:|---:|---:|---:|
+"""
+
+RATIOS = """
+The program beside the bare sender, in these runs:
+
+| Files | Times its time | Times its processor time | Times its peak memory |
+|---:|---:|---:|---:|
 """
 
 
@@ -37,21 +47,34 @@ class Run(NamedTuple):
     processor: float
 
 
+class Figures(NamedTuple):
+    """The best run, and the peak of its memory in bytes."""
+
+    run: Run
+    memory: int
+
+
 def make_bare(folder):
     bare = Path(folder) / "bare"
     subprocess.run(["rustc", "--edition", "2021", "-O", "-o", bare, ROOT / "bench" / "bare.rs"], check=True)
     return bare
 
 
-def make_file(folder):
-    """Lines that differ in their number, of letters and spaces else."""
-    path = Path(folder) / "app.log"
-    with path.open("w") as file:
-        for number in range(LINES):
-            file.write(f"{number:08} " + "the quick brown fox jumps over the lazy dog "[:37] * 3 + "\n")
-    if path.stat().st_size != LINES * (LINE + 1):
-        raise SystemExit(f"the lines have not {LINE} bytes")
-    return path
+def make_files(folder, count):
+    """A folder with so many files of lines that differ in their number, of letters and spaces else."""
+    logs = Path(folder) / f"logs-{count}"
+    logs.mkdir()
+    for first in range(0, LINES, LINES // count):
+        lines = "".join(line_of(number) for number in range(first, first + LINES // count))
+        (logs / f"{first:08}.log").write_text(lines)
+    sizes = [it.stat().st_size for it in logs.iterdir()]
+    if len(sizes) != count or sum(sizes) != LINES * (LINE + 1):
+        raise SystemExit(f"the lines have not {LINE} bytes, or the files are not {count}")
+    return logs
+
+
+def line_of(number):
+    return f"{number:08} " + "the quick brown fox jumps over the lazy dog "[:37] * 3 + "\n"
 
 
 def timed(command, folder):
@@ -80,53 +103,60 @@ def peak_memory(command, folder):
 
 
 class Loopback:
-    """A file and a receiver, over which commands are run in folders of their own."""
+    """A receiver, to which commands ship files, each in a folder of its own."""
 
     def __init__(self, folder):
         self.folder = Path(folder)
         self.bare = make_bare(folder)
-        self.log = make_file(folder)
-        times = str(2 * RUNS + 2)
+        times = str(len(FILES) * (2 * RUNS + 2))
         self.receiver = subprocess.Popen([self.bare, "receive", times], stdout=subprocess.PIPE, text=True)
         self.host = f"127.0.0.1:{int(self.receiver.stdout.readline())}"
 
-    def over(self, measure, command):
+    def over(self, measure, command, logs):
         """What is measured of one run, after which the receiver has to have every line."""
         # the registry of a run is in the folder where it runs
         with tempfile.TemporaryDirectory(dir=self.folder) as place:
-            (Path(place) / "beat.toml").write_text(program.settings_text(self.log, self.host))
+            (Path(place) / "beat.toml").write_text(program.settings_text(logs / "*.log", self.host))
             taken = measure(command, place)
         if int(self.receiver.stdout.readline()) != LINES:
             raise SystemExit("the receiver had not every line")
         return taken
 
-    def measured(self, ours, others):
-        """The best runs of both, and the peaks of their memory."""
-        runs = [[self.over(timed, command) for command in (ours, others)] for _ in range(RUNS)]
+    def measured(self, moqhuluzi, logs):
+        """The figures of the program and of the bare sender over these files."""
+        commands = ([moqhuluzi, "-c", "beat.toml", "--once"], [self.bare, "send", logs, self.host])
+        runs = [[self.over(timed, command, logs) for command in commands] for _ in range(RUNS)]
         best = [Run(*map(min, zip(*of_one))) for of_one in zip(*runs)]
-        return zip(best, [self.over(peak_memory, command) for command in (ours, others)])
+        peaks = [self.over(peak_memory, command, logs) for command in commands]
+        return [Figures(*of_one) for of_one in zip(best, peaks)]
 
     def end(self):
         self.receiver.terminate()
         self.receiver.wait()
 
 
-def row(name, run, memory):
+def row(files, name, figures):
+    run, memory = figures
     mega = LINES * (LINE + 1) / run.wall / 1e6
-    return f"| {name} | {LINES / run.wall:.0f} | {mega:.1f} | {run.processor:.3f} | {memory / 2**20:.1f} |\n"
+    return f"| {files} | {name} | {LINES / run.wall:.0f} | {mega:.1f} | {run.processor:.3f} | {memory / 2**20:.1f} |\n"
+
+
+def ratios(files, ours, bare):
+    wall, processor = ours.run.wall / bare.run.wall, ours.run.processor / bare.run.processor
+    print(f"{files:>6} files {wall:.2f} times the bare sender's time, {processor:.2f} times its processor time", flush=True)
+    return f"| {files} | {wall:.2f} | {processor:.2f} | {ours.memory / bare.memory:.1f} |\n"
 
 
 def transport_table():
     moqhuluzi = program.proved_program()
+    rows, beside = "", ""
     with tempfile.TemporaryDirectory() as folder:
         loopback = Loopback(folder)
         try:
-            ours, bare = loopback.measured(
-                [moqhuluzi, "-c", "beat.toml", "--once"], [loopback.bare, "send", loopback.log, loopback.host]
-            )
+            for files in FILES:
+                ours, bare = loopback.measured(moqhuluzi, make_files(folder, files))
+                rows += row(files, "the program", ours) + row(files, "the bare sender", bare)
+                beside += ratios(files, ours, bare)
         finally:
             loopback.end()
-    ratio = f"The program takes {ours[0].wall / bare[0].wall:.2f} times as long as the bare sender, and "
-    ratio += f"{ours[0].processor / bare[0].processor:.2f} times its processor time."
-    print(ratio, flush=True)
-    return HEAD + row("the program", *ours) + row("the bare sender", *bare) + f"\n{ratio}\n"
+    return HEAD + rows + RATIOS + beside

@@ -8,8 +8,8 @@ def key_of(path, input_id="w"):
     return f"filestream::{input_id}::path::{path}"
 
 
-def row(path, offset, epoch=0):
-    return {"epoch": epoch, "key": key_of(path), "offset": offset, "path": path}
+def row(path, offset, input_id="w"):
+    return {"epoch": 0, "key": key_of(path, input_id), "offset": offset, "path": path}
 
 
 def text(value):

@@ -1,5 +1,6 @@
 #!/usr/bin/env python3
-"""Ships examples/app.log to a receiver on loopback, and shows the events, the report and the stored offset.
+"""Ships the logs of examples/ by examples/beat.toml to a receiver on loopback, and shows the events, the report and
+the stored offsets.
 
 It runs the program that the gate proved; where there is none, one that `rt try` builds with no proof.
 All files that a run makes lie in a temporary folder.
@@ -15,20 +16,27 @@ from area import rows_of
 from peer import Peer
 
 EXAMPLES = program.ROOT / "examples"
+# what the example says of its user's machine
+LOGS = "/var/log/shop"
+HOST = "127.0.0.1:5044"
 
 # seconds that `rt try` may take to build the program and run it
 PATIENCE = 600
 
 
-def settings_for(log, host):
-    """The example's settings, for this file and this receiver."""
+def settings_for(logs, host):
+    """The example's settings, for logs in this folder and for this receiver."""
     text = (EXAMPLES / "beat.toml").read_text()
-    return text.replace("/var/log/app.log", str(log)).replace("127.0.0.1:5044", host)
+    for said, meant in ((f'"{LOGS}/', f'"{logs}/'), (f'"{HOST}"', f'"{host}"')):
+        if said not in text:
+            raise ValueError(f"examples/beat.toml does not say {said}")
+        text = text.replace(said, meant)
+    return text
 
 
-def run_unproved(settings):
-    """Builds and runs the program with no proof. It runs in a folder of its own, of which nothing is kept."""
-    started = program.start("rt", ["try", "--", "-c", str(settings), "--once"], program.CRATE)
+def run_unproved(words):
+    """Builds and runs the program with no proof."""
+    started = program.start("rt", ["try", "--", *words], program.CRATE)
     return program.finish(started, PATIENCE)
 
 
@@ -36,18 +44,20 @@ def show(payload):
     print(f"  {payload.decode(errors='replace')}", flush=True)
 
 
-def ship(log, folder, peer):
+def ship(logs, folder, peer):
     settings = folder / "beat.toml"
-    settings.write_text(settings_for(log, peer.host))
+    settings.write_text(settings_for(logs, peer.host))
+    print(f"Settings: examples/beat.toml, with {logs} for {LOGS} and {peer.host} for {HOST}")
+    words = ["-c", str(settings), "--data", str(folder / "data"), "--once"]
     try:
         proved = program.proved_program()
     except program.Missing as why:
         print(f"Not proved: {why}. So rt try builds the program and runs it, which takes a minute or two.")
-        print(f"Events received at {peer.host}:", flush=True)
-        return run_unproved(settings)
+        print("Events received:", flush=True)
+        return run_unproved(words)
     print(f"Proved: {proved.relative_to(program.ROOT)}, as rt ci built it.")
-    print(f"Events received at {peer.host}:", flush=True)
-    return program.run(proved, ["-c", str(settings), "--once"], folder)
+    print("Events received:", flush=True)
+    return program.run(proved, words, folder)
 
 
 def tell(ran, folder, peer):
@@ -56,10 +66,9 @@ def tell(ran, folder, peer):
         print(f"  {line}")
     area = folder / "data" / "registry.a"
     if area.exists():
+        print("Stored in the registry:")
         for row in rows_of(area.read_bytes()):
-            print(f"Stored in the registry: offset {row['offset']} of {row['path']}")
-    elif ran.args[0] == "rt":
-        print("The registry lay in a folder that rt try removed; the stored offset is the one of the report.")
+            print(f"  offset {row['offset']} of {row['path']}")
     for fault in peer.faults:
         print(f"The program broke the protocol: {fault}")
     if ran.returncode:
@@ -72,13 +81,16 @@ def main():
         return 1
     with tempfile.TemporaryDirectory(prefix="beat-run-") as room:
         folder = Path(room).resolve()
-        log = Path(shutil.copy(EXAMPLES / "app.log", folder))
-        content = log.read_bytes()
-        lines = content.count(b"\n")
-        print(f"File: examples/app.log, {lines} lines, {len(content)} bytes, copied to {log}")
+        logs = Path(shutil.copytree(EXAMPLES / "logs", folder / "logs"))
+        lines = 0
+        print("Files, copied from examples/logs:")
+        for log in sorted(logs.rglob("*.log")):
+            count = log.read_bytes().count(b"\n")
+            print(f"  {log.relative_to(logs)}, {count} lines")
+            lines += count
         try:
             with Peer(tell=show) as peer:
-                ran = ship(log, folder, peer)
+                ran = ship(logs, folder, peer)
         except (program.TooLong, OSError) as fault:
             print(fault)
             return 1

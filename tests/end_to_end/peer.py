@@ -18,6 +18,10 @@ from dataclasses import dataclass
 # how long a call on a socket waits before it looks whether the receiver is to end
 GLANCE = 0.05
 
+# how often a slow receiver says that it is alive, and the seconds before each time
+SIGNS = 4
+SIGN = 0.4
+
 # the fault of a client that ends, or is ended, before its window is whole
 CUT_OFF = "the connection ended within a window"
 
@@ -27,10 +31,10 @@ class Behaviour(enum.Enum):
 
     WHOLE = "acknowledges the whole window"
     SINGLE_BYTES = "acknowledges the whole window, each byte sent by itself"
+    SLOW = "says a few times that it is alive, and then acknowledges the whole window"
     COMPRESSED = "answers with the head of a compressed frame"
     ABOVE = "acknowledges a number above the window's count"
-    SILENT = "closes the connection before any byte"
-    PART = "acknowledges all frames of the window but the last, and closes the connection"
+    PART = "acknowledges all frames of the window but the last, and nothing more"
 
 
 @dataclass(frozen=True)
@@ -113,20 +117,25 @@ class Talk:
 
     def _answer(self):
         if self._answered == self._peer.windows:
-            return True
+            return self._peer.closes
         self._answered += 1
         behaviour = self._peer.behaviour
         if behaviour is Behaviour.WHOLE:
             self._acknowledge(self._count)
         elif behaviour is Behaviour.SINGLE_BYTES:
             self._acknowledge(self._count, pause=0.002)
+        elif behaviour is Behaviour.SLOW:
+            for _ in range(SIGNS):
+                time.sleep(SIGN)
+                self._link.sendall(struct.pack(">2sI", b"2A", 0))
+            self._acknowledge(self._count)
         elif behaviour is Behaviour.COMPRESSED:
             self._link.sendall(b"2C")
         elif behaviour is Behaviour.ABOVE:
             self._link.sendall(struct.pack(">2sI", b"2A", self._count + 1))
         elif behaviour is Behaviour.PART and self._count > 1:
             self._acknowledge(self._count - 1)
-        return behaviour in (Behaviour.SILENT, Behaviour.PART)
+        return behaviour is Behaviour.PART and self._peer.closes
 
     def _acknowledge(self, sequence, pause=None):
         answer = struct.pack(">2sI", b"2A", sequence)
@@ -144,10 +153,12 @@ class Peer:
     Read what it recorded after `end`, which waits until all that came in was taken.
     """
 
-    def __init__(self, behaviour=Behaviour.WHOLE, windows=None, port=0, tell=None):
+    def __init__(self, behaviour=Behaviour.WHOLE, windows=None, closes=True, port=0, tell=None):
         self.behaviour = behaviour
-        # how many windows of a connection it answers; in place of one more answer it closes the connection
+        # how many windows of a connection it answers
         self.windows = windows
+        # whether it closes the connection where it answers no more, or is silent
+        self.closes = closes
         # what was received: the bytes of each connection, all frames and all payloads, in order
         self.raw = []
         self.frames = []

@@ -40,16 +40,10 @@ def proved_program():
     return program
 
 
-def settings_text(path, host, input_id="w"):
-    """The settings in the one form that the program takes."""
-    return (
-        "[[inputs]]\n"
-        f'id = "{input_id}"\n'
-        f'paths = ["{path}"]\n'
-        'file_identity = "path"\n'
-        "[output]\n"
-        f'hosts = ["{host}"]\n'
-    )
+def settings_text(glob, host, *more):
+    """The settings of one input with this glob; more lines are keys of the output."""
+    lines = ("[[inputs]]", 'id = "w"', f'paths = ["{glob}"]', 'file_identity = "path"', "[output]", f'hosts = ["{host}"]')
+    return "".join(f"{line}\n" for line in lines + more)
 
 
 def start(program, words, folder, output=subprocess.PIPE):

@@ -1,0 +1,135 @@
+"""Peers that are absent, faulty, slow or silent, and an output that nobody reads."""
+
+import contextlib
+import os
+import socket
+import time
+from pathlib import Path
+
+import program
+from area import area, row
+from peer import GLANCE, Behaviour, Peer
+from shipping import UNREACHABLE, WINDOW, Shipping, end_of, now, numbered_lines
+
+# a timeout, as the settings say it and in seconds
+TIMEOUT = 'timeout = "1s"'
+SECONDS = 1
+
+
+def unused_host():
+    """A socket that holds a port on which nobody listens, and that port as a host of the settings."""
+    holder = socket.socket()
+    holder.bind(("127.0.0.1", 0))
+    return holder, "127.0.0.1:%d" % holder.getsockname()[1]
+
+
+@contextlib.contextmanager
+def full_pipe():
+    """A pipe that takes nothing more: its reading and its writing end."""
+    with contextlib.ExitStack() as ends:
+        reader, writer = (ends.enter_context(open(end, mode, buffering=0)) for end, mode in zip(os.pipe(), ("rb", "wb")))
+        os.set_blocking(writer.fileno(), False)
+        while writer.write(bytes(4096)) is not None:
+            pass
+        os.set_blocking(writer.fileno(), True)
+        yield reader, writer
+
+
+class Peers(Shipping):
+    def wait_for_row(self):
+        """Until the area is opened; a run prints only then."""
+        last = time.monotonic() + program.LIMIT
+        while not (self.area.exists() and self.area.read_bytes().startswith(b"{")):
+            self.assertLess(time.monotonic(), last, "no area was opened")
+            time.sleep(GLANCE)
+
+    def test_no_peer_keeps_the_row(self):
+        Path(self.path).write_bytes(b"a\nb\n")
+        holder, host = unused_host()
+        with holder:
+            ran = self.run_settings(program.settings_text(self.path, host))
+        self.assert_wrote(ran, UNREACHABLE)
+        self.assertEqual(self.area.read_bytes(), area(row(self.path, 0)))
+
+    def test_full_output_pipe_is_closed(self):
+        """The report cannot be printed, and the row is stored all the same."""
+        with Peer() as peer, full_pipe() as (reader, writer):
+            with self.start(b"a\nb\n", peer, output=writer) as started:
+                self.wait_for_row()
+                reader.close()
+                ran = program.finish(started)
+        self.assertEqual(ran.stderr, b"")
+        self.assertEqual(ran.returncode, 8)
+        self.assertEqual(self.area.read_bytes(), area(row(self.path, 4)))
+
+    def test_acknowledgement_in_single_bytes(self):
+        since = now()
+        with Peer(Behaviour.SINGLE_BYTES) as peer:
+            ran = self.ship(b"a\nb\n", peer)
+        self.assert_events(peer, [(0, "a"), (2, "b")], since)
+        self.assert_report(ran, 4, 2)
+
+    def ship_to_faulty(self, peer):
+        with peer:
+            ran = self.ship(b"a\nb\nc\n", peer)
+        self.assertEqual(peer.faults, [])
+        self.assertEqual(peer.connections, 1)
+        self.assert_wrote(ran, UNREACHABLE)
+        self.assert_covered(peer)
+
+    def test_compressed_frame_from_the_peer(self):
+        self.ship_to_faulty(Peer(Behaviour.COMPRESSED))
+
+    def test_acknowledgement_above_the_count(self):
+        self.ship_to_faulty(Peer(Behaviour.ABOVE))
+
+    def test_connection_closed_before_any_byte(self):
+        self.ship_to_faulty(Peer(windows=0))
+
+    def test_acknowledgement_of_a_part(self):
+        self.ship_to_faulty(Peer(Behaviour.PART))
+
+    def test_second_window_unacknowledged_keeps_the_first(self):
+        since = now()
+        content, events = numbered_lines(WINDOW + 2)
+        with Peer(windows=1) as peer:
+            ran = self.ship(content, peer)
+        self.assert_events(peer, events, since)
+        self.assertEqual(len(peer.acknowledged), WINDOW)
+        self.assert_first_acknowledged(peer, events)
+        self.assert_wrote(ran, UNREACHABLE)
+        self.assertEqual(self.area.read_bytes(), area(row(self.path, end_of(events[:WINDOW]))))
+
+    # peers that are slow or silent
+
+    def ship_to_silent(self, content, peer, *more):
+        """A run that ends by the timeout, and not before; what it wrote."""
+        began = time.monotonic()
+        with peer:
+            ran = self.ship(content, peer, TIMEOUT, *more)
+        self.assertGreaterEqual(time.monotonic() - began, SECONDS)
+        self.assertEqual(peer.connections, 1)
+        self.assertEqual(peer.faults, [])
+        self.assert_wrote(ran, UNREACHABLE)
+
+    def test_silent_peer(self):
+        self.ship_to_silent(b"a\nb\n", Peer(windows=0, closes=False))
+        self.assertEqual(self.area.read_bytes(), area(row(self.path, 0)))
+
+    def test_silent_peer_behind_a_part(self):
+        peer = Peer(Behaviour.PART, closes=False)
+        self.ship_to_silent(b"a\nb\nc\n", peer)
+        self.assert_covered(peer)
+
+    def test_silent_peer_behind_the_first_window(self):
+        self.ship_to_silent(b"a\nb\nc\n", Peer(windows=1, closes=False), "bulk_max_size = 2")
+        self.assertEqual(self.area.read_bytes(), area(row(self.path, 4)))
+
+    def test_signs_of_life_are_waited_for(self):
+        """They come for longer than the timeout, each within it."""
+        since = now()
+        with Peer(Behaviour.SLOW) as peer:
+            ran = self.ship(b"a\nb\n", peer, TIMEOUT)
+        self.assertGreaterEqual((now() - since).total_seconds(), SECONDS)
+        self.assert_events(peer, [(0, "a"), (2, "b")], since)
+        self.assert_report(ran, 4, 2)

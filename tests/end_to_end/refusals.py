@@ -1,0 +1,114 @@
+"""Words, settings and folders that are refused, each by its name."""
+
+from pathlib import Path
+
+import program
+from area import area, row
+from peer import Peer
+from shipping import Shipping
+
+USAGE = "status 2 usage: beat_main -c FILE [--once] [--data DIR] [--generate N]"
+FOLLOW = "status 13 unbuilt follow"
+GENERATE = "status 13 unbuilt generate"
+# so many bytes the settings have at most
+SETTINGS = 1_048_576
+# so many files are followed at most
+FILES = 65_536
+# seconds that a run over more files may take
+PATIENCE = 120
+
+WORDS = (
+    ([], USAGE),
+    (["--once"], USAGE),
+    (["-c"], USAGE),
+    (["-c", "f", "x"], USAGE),
+    (["-c", "f", "--once", "--twice"], USAGE),
+    (["-c", "f", "--generate", "0"], USAGE),
+    (["--help"], USAGE),
+    (["-c", "f", "--once", "-h"], USAGE),
+    (["-c", "f"], FOLLOW),
+    (["-c", "f", "--generate", "5"], FOLLOW),
+    (["-c", "f", "--once", "--generate", "5"], GENERATE),
+)
+
+# settings that are refused: what is made of valid ones, and the line that tells it
+SETTINGS_REFUSED = (
+    (lambda valid: "", "status 3 settings missing inputs"),
+    (lambda valid: "a =", "status 3 settings not toml"),
+    (lambda valid: valid + "#" * (SETTINGS + 1 - len(valid)), "status 3 settings too long"),
+    (lambda valid: "paht = 1\n" + valid, "status 3 settings unknown paht"),
+    (lambda valid: valid + "ttl = 1\n", "status 3 settings unknown output.ttl"),
+    (lambda valid: valid.replace("hosts", "# hosts"), "status 3 settings missing output.hosts"),
+    (lambda valid: valid.replace('"w"', "1"), "status 3 settings wrong kind inputs.0.id"),
+    (lambda valid: valid.replace('"w"', '"two words"'), "status 3 settings bad text inputs.0.id"),
+    (lambda valid: valid.replace("127.0.0.1", "no host"), "status 3 settings bad text output.hosts.0"),
+    (lambda valid: valid + 'timeout = "1 s"\n', "status 3 settings bad text output.timeout"),
+    (lambda valid: valid + "bulk_max_size = 0\n", "status 3 settings out of range output.bulk_max_size 0"),
+    (lambda valid: valid.replace('["/', '["'), "status 3 settings bad glob inputs.0.paths.0"),
+    (lambda valid: valid.replace("a.log", "[a"), "status 3 settings bad glob inputs.0.paths.0"),
+    (
+        lambda valid: valid.replace("[output]", 'include_lines = ["["]\n[output]'),
+        "status 3 settings bad pattern inputs.0.include_lines.0",
+    ),
+    (lambda valid: valid.replace("file_identity", "# file_identity"), "status 13 unbuilt key inputs.0.file_identity"),
+    (lambda valid: valid.replace('"path"', '"native"'), "status 13 unbuilt key inputs.0.file_identity"),
+    (
+        lambda valid: valid.replace("[output]", "multiline.count_lines = 2\nmultiline.type = 'count'\n[output]"),
+        "status 13 unbuilt key inputs.0.multiline",
+    ),
+    (lambda valid: valid + "workers = 2\n", "status 13 unbuilt key output.workers"),
+    (lambda valid: valid + "[[processors]]\nadd_tags.tags = ['x']\n", "status 13 unbuilt key processors"),
+)
+
+# the same settings spelled otherwise
+SETTINGS_TAKEN = (
+    lambda valid: valid[:-1],
+    lambda valid: valid.replace("\n", "\r\n"),
+    lambda valid: valid + "#" * (SETTINGS - len(valid)),
+    lambda valid: valid + "attempts = 3\nworkers = 1\n[queue]\nevents = 32\n",
+)
+
+
+class Refusals(Shipping):
+    def test_faulty_words(self):
+        for words, line in WORDS:
+            with self.subTest(words=words):
+                self.assert_wrote(self.run_words(*words), line)
+        self.assertFalse(self.area.exists())
+
+    def test_settings_refused_by_name(self):
+        Path(self.path).write_bytes(b"a\n")
+        with Peer() as peer:
+            valid = program.settings_text(self.path, peer.host)
+            for made_of, line in SETTINGS_REFUSED:
+                with self.subTest(line=line):
+                    settings = made_of(valid)
+                    self.assertNotEqual(settings, valid)
+                    self.assert_wrote(self.run_settings(settings), line)
+        self.assertEqual(peer.connections, 0)
+        self.assertFalse(self.area.exists())
+
+    def test_settings_spelled_otherwise(self):
+        for made_of in SETTINGS_TAKEN:
+            self.enter_new_folder()
+            Path(self.path).write_bytes(b"a\n")
+            with Peer() as peer:
+                ran = self.run_settings(made_of(program.settings_text(self.path, peer.host)))
+            self.assert_done(ran, [row(self.path, 2)], 1)
+
+    def test_settings_file_is_absent(self):
+        self.assert_wrote(self.run_words("-c", "beat.toml", "--once"), "status 9 source fault")
+        self.assertFalse(self.area.exists())
+
+    def test_more_files_than_are_followed(self):
+        """They are empty; the one too many is the last in byte order."""
+        logs = self.folder / "logs"
+        logs.mkdir()
+        for number in range(FILES + 1):
+            (logs / f"{number:05}").touch()
+        with Peer() as peer:
+            self.write_settings(program.settings_text(logs / "*", peer.host))
+            ran = program.finish(program.start(self.tested, ("-c", "beat.toml", "--once"), self.folder), PATIENCE)
+        self.assert_wrote(ran, f'status 10 too many files "{logs}/{FILES:05}"')
+        self.assertEqual(self.area.read_bytes(), area())
+        self.assertEqual(peer.connections, 0)

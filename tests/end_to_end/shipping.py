@@ -1,0 +1,163 @@
+"""What the tests have in common: runs of the program in a folder of their own, and what they compare."""
+
+import contextlib
+import datetime
+import json
+import re
+import subprocess
+import tempfile
+import unittest
+from pathlib import Path
+
+import program
+from area import area, row, rows_of, text
+from peer import Window
+
+ONCE = ("-c", "beat.toml", "--once")
+UNREACHABLE = "status 7 unreachable worker 0 failures 1"
+# so many lines go into one window at most where the settings do not say it
+WINDOW = 2048
+STAMP = re.compile(rb'\{"@timestamp":"(\d{4}-\d\d-\d\dT\d\d:\d\d:\d\d\.\d{3}Z)"')
+
+
+def now():
+    return datetime.datetime.now(datetime.timezone.utc)
+
+
+def numbered_lines(count):
+    """So many short lines as the content of a file, and as events: the offset and the message of each."""
+    content, events = "", []
+    for number in range(count):
+        message = f"line {number}"
+        events.append((len(content), message))
+        content += f"{message}\n"
+    return content.encode(), events
+
+
+def lines_of(content):
+    """The offset and the content of each complete line."""
+    lines, offset = [], 0
+    for line in content.decode().split("\n")[:-1]:
+        lines.append((offset, line))
+        offset += len(line) + 1
+    return lines
+
+
+def events_of(payloads):
+    """The offset and the message of each."""
+    events = map(json.loads, payloads)
+    return [(event["log"]["offset"], event["message"]) for event in events]
+
+
+def end_of(events):
+    """The place behind the last of these lines."""
+    return max((offset + len(message) + 1 for offset, message in events), default=0)
+
+
+def windows_of(peer):
+    """How many events each window of a receiver had."""
+    return [frame.count for frame in peer.frames if isinstance(frame, Window)]
+
+
+class Shipping(unittest.TestCase):
+    tested = None
+    seed = 0
+
+    def setUp(self):
+        self.enter_new_folder()
+
+    def enter_new_folder(self):
+        """The folder of the next run; it is removed when the test has ended."""
+        room = tempfile.TemporaryDirectory(prefix="beat-test-")
+        self.addCleanup(room.cleanup)
+        self.folder = Path(room.name).resolve()
+        self.path = str(self.folder / "a.log")
+        self.area = self.folder / "data" / "registry.a"
+
+    # what a test does
+
+    def run_words(self, *words):
+        return program.run(self.tested, words, self.folder)
+
+    def write_settings(self, settings):
+        (self.folder / "beat.toml").write_bytes(settings.encode())
+
+    def run_settings(self, settings):
+        self.write_settings(settings)
+        return self.run_words(*ONCE)
+
+    def start(self, content, peer, *more, output=subprocess.PIPE):
+        """Starts a run over a file with this content; without content there is no file. `more` are keys of the output."""
+        if content is not None:
+            Path(self.path).write_bytes(content)
+        self.write_settings(program.settings_text(self.path, peer.host, *more))
+        return program.start(self.tested, ONCE, self.folder, output)
+
+    def ship(self, content, peer, *more):
+        """One run over such a file."""
+        return program.finish(self.start(content, peer, *more))
+
+    @contextlib.contextmanager
+    def shipping(self, content, peer):
+        """A run in a folder of its own, from its start on or, where the peer hangs up, from then on."""
+        self.enter_new_folder()
+        with peer, self.start(content, peer) as started:
+            try:
+                if peer.windows is not None:
+                    self.assertTrue(peer.hung_up.wait(program.LIMIT), "the peer got no window to hang up at")
+                yield started
+            finally:
+                started.kill()
+
+    # what it compares
+
+    def assert_wrote(self, ran, *lines):
+        """Standard output is these lines, the last of which has the exit status; nothing else was written."""
+        wrote = ran.stdout.decode(errors="replace").splitlines(keepends=True)
+        for found, line in zip(wrote, lines):
+            self.assertEqual(found, f"{line}\n")
+        self.assertEqual(len(wrote), len(lines), wrote[-1:])
+        self.assertEqual(ran.stderr, b"")
+        self.assertEqual(ran.returncode, int(lines[-1].split()[1]))
+
+    def assert_done(self, ran, rows, shipped, dropped=0):
+        """The report and the area have these rows, in byte order of their keys, and no other."""
+        rows = sorted(rows, key=lambda it: it["key"].encode())
+        files = [f"file {text(it['key'])} {it['epoch']} {it['offset']} {text(it['path'])}" for it in rows]
+        self.assert_wrote(ran, *files, f"shipped {shipped} dropped {dropped}", "status 0 done")
+        self.assertEqual(self.area.read_bytes(), area(*rows))
+
+    def assert_report(self, ran, offset, shipped):
+        """The run over `a.log` has this row and no other."""
+        self.assert_done(ran, [row(self.path, offset)], shipped)
+
+    def assert_sent(self, peer, events, since):
+        """These paths, offsets and messages came in this order, in whole windows, each with a moment of this run."""
+        self.assertEqual(peer.faults, [])
+        self.assertEqual(len(peer.payloads), len(events))
+        near = datetime.timedelta(seconds=1)
+        for payload, (path, offset, message) in zip(peer.payloads, events):
+            stamp = STAMP.match(payload)
+            self.assertIsNotNone(stamp, payload)
+            moment = datetime.datetime.strptime(stamp[1].decode(), "%Y-%m-%dT%H:%M:%S.%fZ")
+            moment = moment.replace(tzinfo=datetime.timezone.utc)
+            self.assertTrue(since - near <= moment <= now() + near, f"{moment} is not near {now()}")
+            rest = f',"input":{{"type":"filestream"}},"log":{{"file":{{"path":{text(path)}}},"offset":{offset}}}'
+            self.assertEqual(payload[stamp.end() :].decode(), f'{rest},"message":{text(message)}}}')
+
+    def assert_events(self, peer, events, since):
+        """These offsets and messages of `a.log` came so."""
+        self.assert_sent(peer, [(self.path, *event) for event in events], since)
+
+    def assert_covered(self, peer):
+        """The area has the one row of `a.log`, at 0 or at the end of an event that was acknowledged."""
+        (stored,) = rows_of(self.area.read_bytes())
+        self.assertEqual(stored, row(self.path, stored["offset"]))
+        ends = [0] + [end_of([event]) for event in events_of(peer.acknowledged)]
+        why = f"{stored['offset']} ends no acknowledged line; the last of them ends at {ends[-1]}"
+        self.assertTrue(stored["offset"] in ends, why)
+
+    def assert_first_acknowledged(self, peer, events):
+        """What was acknowledged are the first of these events, in order and without a gap."""
+        acknowledged = events_of(peer.acknowledged)
+        self.assertTrue(acknowledged == events[: len(acknowledged)], "not the first lines were acknowledged")
