@@ -1,5 +1,5 @@
 -- What a run ends with, by what it noted, what it tells of that, and what it stored.
-use Rattle.std.proofs.Common.{◌≡◌, ◌⊎◌, inl, inr, ℕ, List, [], Option, Some, None, Result, Ok, Err, IfErr, IfSome, IsErrOf, refl, sym, ◌∙◌, ap, subst}
+use Rattle.std.proofs.Common.{◌≡◌, inl, ℕ, List, Option, Some, None, Result, Ok, Err, IfErr, IfSome, IsErrOf, refl, sym, ◌∙◌, subst}
 use Rattle.event_tree.specs.declared.settings.Settings.{Settings}
 use Rattle.outside.specs.DiskImages.{Only}
 use Rattle.outside.specs.Folders.{FolderHistory}
@@ -7,7 +7,7 @@ use Rattle.prospect.specs.Scan.{FindsTooMany}
 use Rattle.registry_log.specs.Area.{area_bytes}
 use Rattle.registry_log.specs.Starting.{Holds, IsPartStarted}
 use Rattle.report.specs.declared.status.Status.{Status}
-use Rattle.report.specs.declared.status.Status.TheVariants.{Done, Unreachable, NoMemory}
+use Rattle.report.specs.declared.status.Status.TheVariants.{Done, Unreachable}
 use Rattle.ship_core.specs.Rows.{IsInOrder}
 use Rattle.wire_base.specs.declared.row.Row.{Row}
 use Rattle.beat_run.specs.declared.ending.Ending.{Ending}
@@ -15,13 +15,13 @@ use Rattle.beat_run.specs.declared.noted.Noted.{Noted}
 use Rattle.beat_run.specs.Acknowledged.{FailsFor}
 use Rattle.beat_run.specs.Blamed.{FailsBySettings, ShowsTooMany}
 use Rattle.beat_run.specs.Evidence.{Evidence}
-use Rattle.beat_run.specs.Harvest.{AreWhole, missed_in, rows_in}
+use Rattle.beat_run.specs.Harvest.{AreWhole, rows_in}
 use Rattle.beat_run.specs.Named.{IsNamed}
 use Rattle.beat_run.specs.Passings.{ArePassings}
 use Rattle.beat_run.specs.Run.{Drains, IsFollowedBy}
-use Rattle.beat_run.specs.Stored.{HasNoOtherRow, HoldsNoRow, IsEnded, IsStored, IsStoredBy, MissesRows}
+use Rattle.beat_run.specs.Stored.{HasNoOtherRow, HoldsNoRow, IsEnded, IsStored, IsStoredBy}
 use Rattle.beat_run.proofs.Orders.{noted_in_order}
-use Rattle.beat_run.proofs.Storings.{HoldsRows, Leaves, all_missing, done_noted, follows_so, left_where_stored, noted_left, rows_held, stopped_noted}
+use Rattle.beat_run.proofs.Storings.{HoldsRows, Leaves, done_noted, follows_so, noted_left, rows_held, stopped_noted}
 
 -- the rows that are told are those that were noted, where these are in order; the area held this, and then holds those
 abbrev pub Tells : Noted → List Row → Type 0

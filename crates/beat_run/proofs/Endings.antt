@@ -1,9 +1,5 @@
 -- Which ends stored what was noted, and which came before; and what is so of a status that was printed in another's place.
-use Rattle.std.proofs.Common.{◌≡◌, ◌⊎◌, ◌∙◌, inl, inr, ℕ, List, Option, Some, None, Result, Ok, Err, IfErr, IfSome, IsErrOf, take, ap, sym, subst}
-use Rattle.beat_config.specs.Document.{AreSettingsOf, IsFirstFault}
-use Rattle.beat_config.specs.declared.settings_error.SettingsError.{SettingsError}
-use Rattle.event_tree.specs.declared.settings.Settings.{Settings}
-use Rattle.prospect.specs.Lacks.{IsFirstLack}
+use Rattle.std.proofs.Common.{◌≡◌, ◌⊎◌, ◌∙◌, inl, inr, ℕ, List, Option, Some, None, Result, Ok, Err, IfErr, IfSome, IsErrOf, ap, sym, subst}
 use Rattle.report.specs.declared.status.Lack.{Lack}
 use Rattle.report.specs.declared.status.Lack.TheVariants.{Byte, Life, Key, Follow, Generate}
 use Rattle.report.specs.declared.status.Status.{Status}

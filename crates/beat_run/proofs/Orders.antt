@@ -1,5 +1,5 @@
 -- The rows of files that were followed in byte order of their keys.
-use Rattle.std.proofs.Common.{◌≡◌, inl, inr, ℕ, List, [], ◌∷◌, ◌++◌, Option, Some, None, Result, Ok, Err, sym, subst}
+use Rattle.std.proofs.Common.{inl, inr, ℕ, List, [], ◌∷◌, ◌++◌, Option, Result, Ok, Err, sym, subst}
 use Rattle.event_tree.specs.declared.settings.Settings.{Settings}
 use Rattle.outside.specs.Folders.{Event, FolderHistory}
 use Rattle.prospect.specs.Members.{IsBefore as IsMemberBefore, IsInOrder as AreMembersInOrder}

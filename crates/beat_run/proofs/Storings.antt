@@ -1,12 +1,12 @@
 -- The rows that area A holds as a run ends.
-use Rattle.std.proofs.Common.{◌≡◌, ◌⊎◌, inl, inr, ℕ, ◌≤◌, List, [], ◌∷◌, ◌++◌, length, Option, Some, None, Result, Ok, Err, IfSome, refl, subst, sym, ◌∙◌, ap, arith, append-nil}
+use Rattle.std.proofs.Common.{◌≡◌, ◌⊎◌, inl, inr, ℕ, ◌≤◌, List, [], ◌∷◌, Option, Some, None, Result, Ok, Err, IfSome, refl, subst, sym, ◌∙◌, ap, arith, append-nil}
 use Rattle.event_tree.specs.declared.settings.Settings.{Settings}
 use Rattle.outside.specs.Files.{File}
 use Rattle.outside.specs.Folders.{Event, FolderHistory}
 use Rattle.outside.specs.declared.history.Look.{Look}
 use Rattle.prospect.specs.declared.member.Member.{Member}
 use Rattle.registry_log.specs.Area.{area_bytes}
-use Rattle.registry_log.specs.Starting.{Holds, IsPartStarted}
+use Rattle.registry_log.specs.Starting.{IsPartStarted}
 use Rattle.report.specs.declared.status.Lack.TheVariants.{Byte, Life, Key, Follow, Generate}
 use Rattle.report.specs.declared.status.Status.{Status}
 use Rattle.report.specs.declared.status.Status.TheVariants.{Done, Usage, Settings as SettingsFault, RegistryBad, DiskFault, FolderFault, Unreachable, OutFault, SourceFault, TooMany, NoMemory, Unbuilt}
@@ -17,7 +17,7 @@ use Rattle.beat_run.specs.Evidence.{Evidence}
 use Rattle.beat_run.specs.Followed.{IsUnopened}
 use Rattle.beat_run.specs.Harvest.{AreWhole, Harvest, Missed, Read, rows_in}
 use Rattle.beat_run.specs.Named.{IsNamed}
-use Rattle.beat_run.specs.Run.{Drains, Follows, IsFollowedBy, NotesNothing, NotesRows, SendsNothing, StopsHarvest, StopsIn, StopsLast}
+use Rattle.beat_run.specs.Run.{Drains, Follows, IsFollowedBy, NotesRows, SendsNothing, StopsHarvest, StopsIn, StopsLast}
 use Rattle.beat_run.specs.Stored.{HasNoOtherRow, HoldsNoRow, IsStored, IsStoredBy, LeavesKept, MissesRows, StoresKept}
 use Rattle.beat_run.specs.Unbuilt.{StopsFor, StopsUnopened}
 

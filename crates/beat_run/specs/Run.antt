@@ -14,7 +14,7 @@ use Rattle.beat_run.specs.declared.noted.Noted.{Noted}
 use Rattle.beat_run.specs.Acknowledged.{AcknowledgeInAll, Place, SendOnly}
 use Rattle.beat_run.specs.Evidence.{Evidence}
 use Rattle.beat_run.specs.Followed.{IsNoOpening, IsUnopened}
-use Rattle.beat_run.specs.Harvest.{AreWhole, Harvest, IsHarvest, IsWhole, Missed, Read, events_from, members_in, missed_in, rows_in, settled_in, told_in}
+use Rattle.beat_run.specs.Harvest.{AreWhole, Harvest, IsHarvest, Missed, Read, events_from, members_in, missed_in, rows_in, settled_in, told_in}
 use Rattle.beat_run.specs.Kept.{AreApart, AreSettled, dropped_among, payloads_in}
 use Rattle.beat_run.specs.Unbuilt.{StopsFor, StopsUnopened}
 

@@ -1,4 +1,4 @@
-use Rattle.std.proofs.Common.{arith, inl, inr, sym, subst, ap, ◌∙◌, Err, ◌≡◌, ◌⊎◌, ℕ, List, take, ◌++◌, slice_get, Option, Some, None, IfSome, Vec}
+use Rattle.std.proofs.Common.{arith, ap, ◌∙◌, Err, ◌≡◌, ℕ, List, take, ◌++◌, slice_get, Option, Some, None, IfSome, Vec}
 use Rattle.std.specs.Vec.{with_item}
 use Rattle.std.specs.declared.alloc.Global.{Global}
 use Rattle.outside.specs.Counts.{IsAtEnd}
@@ -11,12 +11,11 @@ use Rattle.report.specs.declared.status.Status.TheVariants.{TooMany, Unreachable
 use Rattle.beat_run.specs.declared.ending.Ending.{Ending}
 use Rattle.beat_run.specs.declared.settings.TheConstants.{LIMIT}
 use Rattle.beat_run.specs.Blamed.{FailsBySettings}
-use Rattle.beat_run.specs.Ends.{RefusesArea, RefusesKey, RefusesLack, RefusesSettings, RefusesWords}
+use Rattle.beat_run.specs.Ends.{RefusesKey, RefusesLack, RefusesSettings, RefusesWords}
 use Rattle.beat_run.specs.Evidence.{Evidence, evidence_of}
 use Rattle.beat_run.specs.Printed.{ending_bytes}
 use Rattle.beat_run.specs.Standing.{OnFirst}
 use Rattle.beat_run.specs.Stored.{HasNoOtherRow, IsDone, IsEnded, IsStoredBy}
-use Rattle.beat_run.specs.Untouched.{IsUntouched}
 use Rattle.beat_run.proofs.Endings.{printed_so, stored_still, told_never, told_printed, two_never, two_printed, was_met}
 use Rattle.beat_run.proofs.Standings.{first_is, first_set, on_first, wires_stay}
 use Rattle.beat_run.proofs.Storings.{done_stored, printed_stored}
