@@ -8,6 +8,6 @@ run:
 test:
 	.ci/run
 
-# times the program over one file and many, and single calls, into bench/RESULTS.md; wants rustc for what it compares with
+# times the program over one file and many, and single calls, into bench/RESULTS.md; wants rustc
 bench:
 	python3 -B bench/run.py

@@ -2,6 +2,9 @@
 
 import json
 
+# bytes that the body of a record has at most
+MAX_BODY = 1_048_576
+
 
 def key_of(path, input_id="w"):
     """The key of a file whose identity is its path."""
@@ -18,13 +21,25 @@ def text(value):
 
 
 def area(*rows):
-    """The bytes of an area that was just started with these rows: generation 1, at most one record."""
-    head = b"{beat 1 %020d\n" % 1
-    if not rows:
-        return head + b"."
-    sets = [{**it, "op": "set"} for it in sorted(rows, key=lambda it: it["key"].encode())]
-    body = json.dumps(sets, ensure_ascii=False, separators=(",", ":"), sort_keys=True).encode()
-    return head + b"{%07d " % len(body) + body + b"\n."
+    """The bytes of an area that was just started with these rows: generation 1, as many rows in each record as fit."""
+    stored = b"{beat 1 %020d\n" % 1
+    for body in bodies(sorted(rows, key=lambda it: it["key"].encode())):
+        stored += b"{%07d " % len(body) + body + b"\n"
+    return stored + b"."
+
+
+def bodies(rows):
+    """The bodies of the records that set these rows."""
+    body = b""
+    for it in rows:
+        operation = json.dumps({**it, "op": "set"}, ensure_ascii=False, separators=(",", ":"), sort_keys=True).encode()
+        # with a comma before it and the bracket behind it
+        if body and len(body) + len(operation) + 2 > MAX_BODY:
+            yield body + b"]"
+            body = b""
+        body += (b"," if body else b"[") + operation
+    if body:
+        yield body + b"]"
 
 
 def rows_of(stored):

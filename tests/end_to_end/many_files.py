@@ -5,7 +5,7 @@ from pathlib import Path
 
 import first_run
 import program
-from area import key_of, row
+from area import MAX_BODY, key_of, row
 from peer import Peer
 from shipping import ONCE, Shipping, lines_of, now
 
@@ -47,16 +47,18 @@ class ManyFiles(Shipping):
         self.assert_shipped(ran, peer, files, since)
 
     def test_two_thousand_small_files(self):
-        """Of no line, of one, of two with an empty one between them, and with a rest that waits."""
+        """Of no line, of one, of two with an empty one between them, and with a rest that waits. Their names are so long
+        that the area has two records."""
         since = now()
         logs = self.folder / "logs"
         logs.mkdir()
         contents = ("", "one line of file {}\n", "first of {}\n\nthird\n", "line of {}\nrest")
         for number in range(SMALL_FILES):
-            (logs / f"{number}.log").write_text(contents[number % len(contents)].format(number))
+            (logs / f"{number}-{'x' * 200}.log").write_text(contents[number % len(contents)].format(number))
         with Peer() as peer:
             ran = self.run_for(program.settings_text(logs / "*.log", peer.host))
         self.assert_shipped(ran, peer, [("w", str(path)) for path in logs.iterdir()], since)
+        self.assertGreater(self.area.stat().st_size, MAX_BODY)
 
     def test_globs_over_folders(self):
         """`**` stands for none to eight folders. Folders, symbolic links and files of another name are passed over."""

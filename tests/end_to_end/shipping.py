@@ -87,7 +87,7 @@ class Shipping(unittest.TestCase):
         return self.run_words(*ONCE)
 
     def start(self, content, peer, *more, output=subprocess.PIPE):
-        """Starts a run over a file with this content; without content there is no file. `more` are keys of the output."""
+        """Starts a run over a file with this content; without content there is no file. More are keys of the output."""
         if content is not None:
             Path(self.path).write_bytes(content)
         self.write_settings(program.settings_text(self.path, peer.host, *more))
