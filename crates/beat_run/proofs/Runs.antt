@@ -110,7 +110,7 @@ drained_so link_told settings told evidence members between after link noted sca
           trace = follows.followed.trace ∙ ap (λ (l : List Event). Some (with_events listed l)) (sym (append-nil (events_from (length listed.events) hs)));
           so = record {
             none_left = refl;
-          nothing_else = refl;
+            nothing_else = refl;
             whole = follows.followed.whole;
             shipped_are = follows.followed.shipped;
             acknowledged = counts (payloads_in (told_in hs)) follows.followed.settled;
