@@ -31,3 +31,4 @@ mod Silences
 mod Standings
 mod Stoppings
 mod Storings
+mod Worked
