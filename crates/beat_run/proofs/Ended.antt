@@ -1,5 +1,5 @@
 -- What a run ends with, by what it noted, what it tells of that, and what it stored.
-use Rattle.std.proofs.Common.{◌≡◌, ◌⊎◌, inl, inr, ℕ, List, [], Option, Some, None, Result, Ok, Err, IfErr, IfSome, IsErrOf, refl, sym, ◌∙◌, ap, subst}
+use Rattle.std.proofs.Common.{◌≡◌, inl, ℕ, List, Option, Some, None, Result, Ok, Err, IfErr, IfSome, IsErrOf, refl, sym, ◌∙◌, subst}
 use Rattle.event_tree.specs.declared.settings.Settings.{Settings}
 use Rattle.outside.specs.DiskImages.{Only}
 use Rattle.outside.specs.Folders.{FolderHistory}
@@ -7,7 +7,7 @@ use Rattle.prospect.specs.Scan.{FindsTooMany}
 use Rattle.registry_log.specs.Area.{area_bytes}
 use Rattle.registry_log.specs.Starting.{Holds, IsPartStarted}
 use Rattle.report.specs.declared.status.Status.{Status}
-use Rattle.report.specs.declared.status.Status.TheVariants.{Done, Unreachable, NoMemory}
+use Rattle.report.specs.declared.status.Status.TheVariants.{Done, Unreachable}
 use Rattle.ship_core.specs.Rows.{IsInOrder}
 use Rattle.wire_base.specs.declared.row.Row.{Row}
 use Rattle.beat_run.specs.declared.ending.Ending.{Ending}
@@ -15,13 +15,13 @@ use Rattle.beat_run.specs.declared.noted.Noted.{Noted}
 use Rattle.beat_run.specs.Acknowledged.{FailsFor}
 use Rattle.beat_run.specs.Blamed.{FailsBySettings, ShowsTooMany}
 use Rattle.beat_run.specs.Evidence.{Evidence}
-use Rattle.beat_run.specs.Harvest.{AreWhole, missed_in, rows_in}
+use Rattle.beat_run.specs.Harvest.{AreWhole, rows_in}
 use Rattle.beat_run.specs.Named.{IsNamed}
 use Rattle.beat_run.specs.Passings.{ArePassings}
 use Rattle.beat_run.specs.Run.{Drains, IsFollowedBy}
-use Rattle.beat_run.specs.Stored.{HasNoOtherRow, HoldsNoRow, IsEnded, IsStored, IsStoredBy, MissesRows}
+use Rattle.beat_run.specs.Stored.{HasNoOtherRow, HoldsNoRow, IsEnded, IsStored, IsStoredBy}
 use Rattle.beat_run.proofs.Orders.{noted_in_order}
-use Rattle.beat_run.proofs.Storings.{HoldsRows, Leaves, all_missing, done_noted, follows_so, left_where_stored, noted_left, rows_held, stopped_noted}
+use Rattle.beat_run.proofs.Storings.{HoldsRows, Leaves, done_noted, follows_so, noted_left, rows_held, stopped_noted}
 
 -- the rows that are told are those that were noted, where these are in order; the area held this, and then holds those
 abbrev pub Tells : Noted → List Row → Type 0
@@ -40,7 +40,7 @@ noted_held noted rows old new same holds =
 
 pub done_rows : (source : Option (List ℕ)) (settings : Settings) (told : Option FolderHistory) (evidence : Evidence) (noted : Noted) (rows : List Row) (after : Option FolderHistory) (before now : ℕ) (old new : Option (List ℕ)) →
     IsNamed source settings → IfSome told (λ history. IsFollowedBy settings history evidence noted after (Ok tt)) → Tells noted rows → HoldsRows rows old new →
-    IfSome told (λ history. IsStored source history evidence after old new ⊥ (HoldsNoRow before now old new Done) (λ left harvests. AreWhole harvests))
+    IfSome told (λ history. IsStored source history evidence after old new ⊥ (HoldsNoRow before now old new Done) (λ left harvests end. AreWhole harvests))
 done_rows source settings None evidence noted rows after before now old new named follows tells holds = tt
 done_rows source settings (Some told) evidence noted rows after before now old new named follows tells holds =
     done_noted source settings (Some told) evidence noted after before now old new named follows (noted_held noted rows old new (tells (noted_in_order settings told evidence noted after (Ok tt) follows)) holds)
@@ -87,10 +87,11 @@ left_where_failed rows (Some old) between new images later kept less only leaves
 
 -- ---- a run that is done
 
-drains_as : (evidence : Evidence) (shipped dropped told_shipped told_dropped : ℕ) (left : List _) (harvests : List _) → told_shipped ≡ shipped → told_dropped ≡ dropped →
-    Drains evidence shipped dropped left harvests → Drains evidence told_shipped told_dropped left harvests
-drains_as evidence shipped dropped told_shipped told_dropped left harvests ships drops drains = record {
+drains_as : (evidence : Evidence) (shipped dropped told_shipped told_dropped : ℕ) (left : List _) (harvests : List _) (end : List _) → told_shipped ≡ shipped → told_dropped ≡ dropped →
+    Drains evidence shipped dropped left harvests end → Drains evidence told_shipped told_dropped left harvests end
+drains_as evidence shipped dropped told_shipped told_dropped left harvests end ships drops drains = record {
   none_left = drains.none_left;
+  nothing_else = drains.nothing_else;
   whole = drains.whole;
   shipped_are = ships ∙ drains.shipped_are;
   acknowledged = drains.acknowledged;
@@ -109,7 +110,7 @@ ended_so source settings (Some told) evidence noted ending after old new named f
       settings = settings;
       named = named;
       follows = follows_so settings told evidence (Drains evidence noted.shipped noted.dropped) (Drains evidence ending.shipped ending.dropped) after follows.notes.follows
-          (drains_as evidence noted.shipped noted.dropped ending.shipped ending.dropped _ _ shipped dropped follows.notes.follows.so);
+          (drains_as evidence noted.shipped noted.dropped ending.shipped ending.dropped _ _ _ shipped dropped follows.notes.follows.so);
       rows = rows;
       passed = subst M follows.missed passed;
       stored = rows_held ending.rows (rows_in follows.notes.follows.harvests) old new rows holds;

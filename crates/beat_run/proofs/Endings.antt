@@ -1,9 +1,5 @@
 -- Which ends stored what was noted, and which came before; and what is so of a status that was printed in another's place.
-use Rattle.std.proofs.Common.{◌≡◌, ◌⊎◌, inl, inr, ℕ, List, Option, Some, None, Result, Ok, Err, IfErr, IfSome, IsErrOf, take, ap, sym, subst}
-use Rattle.beat_config.specs.Document.{AreSettingsOf, IsFirstFault}
-use Rattle.beat_config.specs.declared.settings_error.SettingsError.{SettingsError}
-use Rattle.event_tree.specs.declared.settings.Settings.{Settings}
-use Rattle.prospect.specs.Lacks.{IsFirstLack}
+use Rattle.std.proofs.Common.{◌≡◌, ◌⊎◌, ◌∙◌, inl, inr, ℕ, List, Option, Some, None, Result, Ok, Err, IfErr, IfSome, IsErrOf, ap, sym, subst}
 use Rattle.report.specs.declared.status.Lack.{Lack}
 use Rattle.report.specs.declared.status.Lack.TheVariants.{Byte, Life, Key, Follow, Generate}
 use Rattle.report.specs.declared.status.Status.{Status}
@@ -98,3 +94,8 @@ error_of other (Err status) = status
 pub same_error : {T U : Type 0} (status other : Status) → ◌≡◌ {A = Result T Status} (Err status) (Err other) → ◌≡◌ {A = Result U Status} (Err status) (Err other)
 unfolding error_of
 same_error {T} {U} status other is = ap (λ (s : Status). Err s) (ap (λ (r : Result T Status). error_of status r) is)
+
+-- a status that is no fault of the sink was met as it was printed
+pub was_met : (faulted : Type 0) (status printed other : Status) → ((printed ≡ status) ⊎ ((printed ≡ OutFault) × faulted)) → (OutFault ≡ other → ⊥) → printed ≡ other → status ≡ other
+was_met faulted status printed other (inl same) never is = sym same ∙ is
+was_met faulted status printed other (inr out) never is = absurd (never (sym out.0 ∙ is))

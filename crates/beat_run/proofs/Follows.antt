@@ -8,7 +8,7 @@ use Rattle.prospect.specs.declared.member.Member.{Member}
 use Rattle.report.specs.declared.status.Status.{Status}
 use Rattle.beat_run.specs.declared.noted.Noted.{Noted}
 use Rattle.beat_run.specs.Evidence.{MomentsGoOn, moments_since}
-use Rattle.beat_run.specs.Following.{FollowsAll, FollowsSome, HasFollowed, HasStopped}
+use Rattle.beat_run.specs.Following.{FollowsAll, FollowsSome, HasFollowed}
 use Rattle.beat_run.specs.Harvest.{Harvest, member_of, members_in}
 use Rattle.beat_run.proofs.GivenMoments.{given_still}
 use Rattle.beat_run.proofs.Harvests.{GoOnGiving}

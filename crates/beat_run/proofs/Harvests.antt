@@ -1,5 +1,5 @@
 -- Files that were followed, one behind the other.
-use Rattle.std.proofs.Common.{◌≡◌, ℕ, ◌+◌, List, [], ◌∷◌, ◌++◌, length, map, min, Option, Some, None, IfSome, refl, sym, ◌∙◌, ap, subst, append_assoc, append-nil, arith, length-append, Contains}
+use Rattle.std.proofs.Common.{◌≡◌, ℕ, ◌+◌, List, [], ◌∷◌, ◌++◌, length, min, Option, Some, None, IfSome, refl, sym, ◌∙◌, ap, subst, append_assoc, append-nil, arith, length-append}
 use Rattle.std.specs.List.{AllByRecursion}
 use Rattle.wire_base.specs.declared.row.Row.{Row}
 use Rattle.outside.specs.Files.{File}
@@ -10,14 +10,12 @@ use Rattle.prospect.specs.declared.member.Member.{Member}
 use Rattle.report.specs.declared.status.Status.{Status}
 use Rattle.beat_run.specs.declared.noted.Noted.{Noted}
 use Rattle.beat_run.specs.Events.{IsGiven, with_payload}
-use Rattle.beat_run.specs.Evidence.{MomentsGoOn, moments_since}
-use Rattle.beat_run.specs.Fate.{DroppedBy, Fate, ShippedAs, payload_of_fate}
-use Rattle.beat_run.specs.Followed.{IsNoOpening, IsUnopened}
+use Rattle.beat_run.specs.Fate.{payload_of_fate}
+use Rattle.beat_run.specs.Followed.{IsUnopened}
 use Rattle.beat_run.specs.Following.{FollowsAll, FollowsSome, HasFollowed, HasStopped}
-use Rattle.beat_run.specs.Harvest.{AreWhole, Harvest, IsHarvest, IsReading, IsWhole, Missed, Read, events_from, events_of, member_of, members_in, missed_in, row_of, rows_in, settled_in, told_in}
-use Rattle.beat_run.specs.Kept.{AreTold, HasFate, ToldEvent, drop_of, dropped_among, payloads_in}
-use Rattle.beat_run.specs.Lives.{SeesTruncations}
-use Rattle.beat_run.specs.Run.{StopsIn, StopsLast, counted}
+use Rattle.beat_run.specs.Harvest.{AreWhole, Harvest, IsHarvest, IsWhole, Missed, Read, events_from, events_of, member_of, missed_in, row_of, rows_in, settled_in, told_in}
+use Rattle.beat_run.specs.Kept.{AreTold, HasFate, ToldEvent, dropped_among, payloads_in}
+use Rattle.beat_run.specs.Run.{StopsLast, counted}
 use Rattle.beat_run.specs.Serving.{HasServed, HasSettled}
 use Rattle.beat_run.specs.Unbuilt.{StopsUnopened}
 use Rattle.beat_run.proofs.Openings.{unopened_itself}

@@ -1,7 +1,7 @@
 -- The rows of files that were followed in byte order of their keys.
-use Rattle.std.proofs.Common.{◌≡◌, inl, inr, ℕ, List, [], ◌∷◌, ◌++◌, Option, Some, None, Result, Ok, Err, sym, subst}
+use Rattle.std.proofs.Common.{inl, inr, ℕ, List, [], ◌∷◌, ◌++◌, Option, Result, Ok, Err, sym, subst}
 use Rattle.event_tree.specs.declared.settings.Settings.{Settings}
-use Rattle.outside.specs.Folders.{FolderHistory}
+use Rattle.outside.specs.Folders.{Event, FolderHistory}
 use Rattle.prospect.specs.Members.{IsBefore as IsMemberBefore, IsInOrder as AreMembersInOrder}
 use Rattle.prospect.specs.declared.member.Member.{Member}
 use Rattle.report.specs.declared.status.Status.{Status}
@@ -30,13 +30,13 @@ front_in_order : (front left : List Member) → AreMembersInOrder (front ++ left
 front_in_order [] left order = tt
 front_in_order (member ∷ front) left order = (front_before member.key front left order.0, front_in_order front left order.1)
 
-follows_in_order : (settings : Settings) (told : FolderHistory) (evidence : Evidence) (So : List Member → List Harvest → Type 0) (after : Option FolderHistory) →
+follows_in_order : (settings : Settings) (told : FolderHistory) (evidence : Evidence) (So : List Member → List Harvest → List Event → Type 0) (after : Option FolderHistory) →
     (follows : Follows settings told evidence So after) → IsInOrder (rows_in follows.harvests)
 follows_in_order settings told evidence So after follows =
     let P : List Member → Type 0 = λ l. AreMembersInOrder l in
     rows_in_order follows.harvests (front_in_order (members_in follows.harvests) follows.left (subst P follows.in_order follows.are_members.in_order))
 
-notes_in_order : (settings : Settings) (told : FolderHistory) (evidence : Evidence) (noted : Noted) (So : List Member → List Harvest → Type 0) (after : Option FolderHistory) →
+notes_in_order : (settings : Settings) (told : FolderHistory) (evidence : Evidence) (noted : Noted) (So : List Member → List Harvest → List Event → Type 0) (after : Option FolderHistory) →
     NotesRows settings told evidence noted So after → IsInOrder noted.rows.items
 notes_in_order settings told evidence noted So after notes =
     let P : List Row → Type 0 = λ l. IsInOrder l in

@@ -1,5 +1,5 @@
 -- What stands in the sink once a run has printed.
-use Rattle.std.proofs.Common.{◌≡◌, ℕ, List, [], ◌++◌, take, Option, Some, None, Ok, Err, IfSome, inr, refl}
+use Rattle.std.proofs.Common.{ℕ, List, Option, Some, None, Ok, Err, IfSome}
 use Rattle.outside.specs.declared.failed.Failed.{Failed}
 use Rattle.report.specs.Report.{status_bytes}
 use Rattle.report.specs.Writing.{WritesAll}

@@ -64,16 +64,3 @@ pub settles_weaker : (key path : List ℕ) (settled waiting same : List Waiting)
     SettlesFirst key path settled waiting Left progress → SettlesFirst key path settled same Other progress
 settles_weaker key path settled waiting same progress Left Other is weaker first =
     record { front = first.front; left = first.left; parts = sym is ∙ first.parts; done = first.done; so = weaker first.left first.so }
-
--- the row by what the tracker answers
-row_at : List ℕ → List ℕ → Epoch × ℕ → Row
-row_at key path place = record { key = key; path = path; epoch = place.0; offset = place.1 }
-
-pub row_is : (key path : List ℕ) (epoch : Epoch) (offset end : ℕ) (result : Option (Epoch × ℕ)) → result ≡ Some (epoch, offset) → result ≡ Some (EPOCH, end) →
-    ◌≡◌ {A = Option Row} (Some (record { key = key; path = path; epoch = epoch; offset = offset })) (Some (record { key = key; path = path; epoch = EPOCH; offset = end }))
-unfolding row_at
-row_is key path epoch offset end result given answered =
-    ap (λ (o : Option (Epoch × ℕ)). Some (row_at key path (unwrap_or o (EPOCH, end)))) (sym given ∙ answered)
-
-pub row_there : {P : Type 0} (result : Option (Epoch × ℕ)) (answer : Epoch × ℕ) → result ≡ None → result ≡ Some answer → P
-row_there result answer none given = absurd cc

@@ -1,8 +1,6 @@
 -- A file that was opened, read and closed, as one more that was followed.
-use Rattle.std.proofs.Common.{◌≡◌, ℕ, ◌+◌, List, [], ◌∷◌, ◌++◌, length, map, min, slice_get, Option, Some, None, IfSome, Result, Ok, Err, MatchResult, refl, sym, ◌∙◌, ap, subst, append_assoc, append-nil, arith, All}
-use Rattle.std.proofs.lemmas.List.{map-append}
+use Rattle.std.proofs.Common.{◌≡◌, ℕ, ◌+◌, List, [], ◌∷◌, ◌++◌, length, map, min, slice_get, Option, Some, None, IfSome, Result, Ok, Err, MatchResult, refl, sym, ◌∙◌, ap, subst, append_assoc, append-nil, arith}
 use Rattle.wire_base.specs.Extent.{Extent}
-use Rattle.wire_base.specs.declared.row.Row.{Row}
 use Rattle.line_cutter.specs.declared.line.Line.{Line}
 use Rattle.line_cutter.specs.Lines.{complete_lines}
 use Rattle.outside.specs.declared.history.Look.{Look}
@@ -22,16 +20,16 @@ use Rattle.beat_run.specs.declared.waiting.Waiting.{Waiting}
 use Rattle.beat_run.specs.Events.{AreLineEvents, Event as LineEvent, dropped_by, dropped_in, end_of, fate_of_line, lines_bytes, payloads_of, settlements_in, waiting_of}
 use Rattle.beat_run.specs.Fate.{DroppedBy, Fate, ShippedAs, cause_of_fate}
 use Rattle.beat_run.specs.Following.{FollowsAll, FollowsSome, HasFollowed}
-use Rattle.beat_run.specs.Harvest.{Harvest, IsReading, Read, Reading, events_of, row_of, settled_in, told_in}
-use Rattle.beat_run.specs.Kept.{AreTold, ToldEvent, drop_of, dropped_among, line_rule, payloads_in, spans_of}
+use Rattle.beat_run.specs.Harvest.{Harvest, IsReading, Read, Reading, row_of, settled_in, told_in}
+use Rattle.beat_run.specs.Kept.{AreTold, ToldEvent, drop_of, dropped_among, line_rule, payloads_in}
 use Rattle.beat_run.specs.Lives.{IsFrontOfLife}
 use Rattle.beat_run.specs.Opening.{IsOpened}
 use Rattle.beat_run.specs.Progress.{IsDoneBy}
 use Rattle.beat_run.specs.Reading.{bytes_read}
 use Rattle.beat_run.specs.Serving.{HasServed, HasSettled}
-use Rattle.beat_run.specs.Shipping.{IsCovered, IsFileStopped, IsFileWhole, IsSeen}
+use Rattle.beat_run.specs.Shipping.{IsFileStopped, IsFileWhole, IsSeen}
 use Rattle.beat_run.proofs.EventLines.{acknowledged_are, spans_adjoin}
-use Rattle.beat_run.proofs.Harvests.{GoOnGiving, one_more, payloads-append, stopped_more}
+use Rattle.beat_run.proofs.Harvests.{GoOnGiving, one_more, stopped_more}
 use Rattle.beat_run.proofs.Keeping.{ArePartition, IsHeadMessage, in_life, lines_are, lines_of, none_behind, told-append, told_events, told_of, told_payloads, told_spans, waiting_spans}
 
 -- the laws of events

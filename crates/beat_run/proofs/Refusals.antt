@@ -1,5 +1,5 @@
 -- A run that goes on was not refused.
-use Rattle.std.proofs.Common.{◌≡◌, ◌⊎◌, inl, inr, ℕ, ◌<◌, List, length, take, Option, Some, None, IfSome, IsSomeAnd}
+use Rattle.std.proofs.Common.{inl, inr, ℕ, ◌<◌, List, length, take, Option, Some, None, IfSome, IsSomeAnd}
 use Rattle.beat_config.specs.Document.{AreSettingsOf, IsFirstFault}
 use Rattle.beat_config.specs.declared.settings_error.SettingsError.{SettingsError}
 use Rattle.command_line.specs.Words.{IsNoCommand}

@@ -1,12 +1,11 @@
 -- What a run did, from its scan on.
-use Rattle.std.proofs.Common.{◌≡◌, ◌⊎◌, inl, inr, ℕ, List, [], ◌∷◌, ◌++◌, length, map, min, Option, Some, None, IfSome, IfOk, OnOk, Result, Ok, Err, MatchResult, refl, sym, ◌∙◌, ap, subst, append-nil}
+use Rattle.std.proofs.Common.{◌≡◌, inl, inr, ℕ, List, [], ◌∷◌, length, map, Option, Some, None, IfSome, OnOk, Result, Ok, Err, MatchResult, refl, sym, ◌∙◌, ap, subst, append-nil}
 use Rattle.std.specs.List.{AllByRecursion}
 use Rattle.event_tree.specs.declared.settings.Settings.{Settings}
 use Rattle.event_tree.specs.declared.input_rule.InputRule.{InputRule}
 use Rattle.outside.specs.Folders.{Event, FolderHistory, Listed, ListingFailed, Opened, NotThere, OpeningFailed, Closed}
 use Rattle.outside.specs.Talks.{Talk}
 use Rattle.outside.specs.Wires.{Outcome}
-use Rattle.prospect.specs.Members.{globs_of}
 use Rattle.prospect.specs.Scan.{FindsTooMany, IsListing, Listing, OnlyListed, RefusedAs, Scans, event_of, with_events}
 use Rattle.prospect.specs.declared.member.Member.{Member}
 use Rattle.prospect.specs.declared.scan_error.ScanError.{ScanError}
@@ -19,11 +18,11 @@ use Rattle.beat_run.specs.declared.noted.Noted.{Noted}
 use Rattle.beat_run.specs.Acknowledged.{AcknowledgeInAll, AreAcknowledged, SendOnly}
 use Rattle.beat_run.specs.Ends.{StandsForScan}
 use Rattle.beat_run.specs.Evidence.{Evidence}
-use Rattle.beat_run.specs.Followed.{IsNoOpening, IsUnopened}
-use Rattle.beat_run.specs.Following.{FollowsAll, FollowsSome, HasFollowed, HasStopped}
-use Rattle.beat_run.specs.Harvest.{AreWhole, Harvest, IsHarvest, events_from, members_in, missed_in, rows_in, settled_in, told_in}
-use Rattle.beat_run.specs.Kept.{ToldEvent, payloads_in}
-use Rattle.beat_run.specs.Run.{AreKept, Drains, Follows, IsFollowedBy, IsUnnoted, NotesNothing, NotesRows, SendsNothing, StopsIn}
+use Rattle.beat_run.specs.Followed.{IsNoOpening}
+use Rattle.beat_run.specs.Following.{FollowsAll, FollowsSome, HasFollowed}
+use Rattle.beat_run.specs.Harvest.{Harvest, events_from, members_in, settled_in, told_in}
+use Rattle.beat_run.specs.Kept.{payloads_in}
+use Rattle.beat_run.specs.Run.{AreKept, IsFollowedBy, IsUnnoted, SendsNothing}
 use Rattle.beat_run.specs.Serving.{HasServed, HasSettled}
 use Rattle.beat_run.specs.Unbuilt.{StopsUnopened}
 use Rattle.beat_run.proofs.Harvests.{whole_settled}
@@ -111,6 +110,7 @@ drained_so link_told settings told evidence members between after link noted sca
           trace = follows.followed.trace ∙ ap (λ (l : List Event). Some (with_events listed l)) (sym (append-nil (events_from (length listed.events) hs)));
           so = record {
             none_left = refl;
+            nothing_else = refl;
             whole = follows.followed.whole;
             shipped_are = follows.followed.shipped;
             acknowledged = counts (payloads_in (told_in hs)) follows.followed.settled;

@@ -75,33 +75,6 @@ blames_any told link_faults timeout moments start outcomes faults link (TooMany 
 blames_any told link_faults timeout moments start outcomes faults link NoMemory parted = tt
 blames_any told link_faults timeout moments start outcomes faults link (Unbuilt what) parted = tt
 
--- a reading blames no peer
-pub reading_blames : {L : Type 0} (told : L → Option Talk) (link_faults : L → ℕ) (timeout : ℕ) (moments : Option (List ℕ)) (start outcomes : Option (List Outcome)) (faults : ℕ) (link : Option L) (before now : ℕ) (status : Status) →
-    IsReadingEnd before now status → Blames told link_faults timeout moments start outcomes faults link status
-reading_blames told link_faults timeout moments start outcomes faults link before now Done ends = tt
-reading_blames told link_faults timeout moments start outcomes faults link before now Usage ends = tt
-reading_blames told link_faults timeout moments start outcomes faults link before now (SettingsFault fault) ends = tt
-reading_blames told link_faults timeout moments start outcomes faults link before now (RegistryBad area at) ends = tt
-reading_blames told link_faults timeout moments start outcomes faults link before now DiskFault ends = tt
-reading_blames told link_faults timeout moments start outcomes faults link before now FolderFault ends = tt
-reading_blames told link_faults timeout moments start outcomes faults link before now (Unreachable worker failures) ends = absurd ends
-reading_blames told link_faults timeout moments start outcomes faults link before now OutFault ends = tt
-reading_blames told link_faults timeout moments start outcomes faults link before now SourceFault ends = tt
-reading_blames told link_faults timeout moments start outcomes faults link before now (TooMany what path) ends = tt
-reading_blames told link_faults timeout moments start outcomes faults link before now NoMemory ends = tt
-reading_blames told link_faults timeout moments start outcomes faults link before now (Unbuilt what) ends = tt
-
--- a worker that stands well gave up for another reason
-pub parts_well : {L : Type 0} (told : L → Option Talk) (link_faults : L → ℕ) (timeout : ℕ) (moments : Option (List ℕ)) (start : Option (List Outcome)) (count first : ℕ) (outcomes : Option (List Outcome)) (links faults : ℕ) (link : Option L) (status : Status) →
-    Blames told link_faults timeout moments start outcomes faults link status → IsStanding told start count first outcomes links faults link → IsParted told link_faults timeout moments start count first outcomes links faults link status
-parts_well told link_faults timeout moments start count first outcomes links faults link status blamed is = record {
-  refused = same_refused start outcomes is.none_came;
-  tells = is.tells;
-  opened = is.opened;
-  counted = is.counted;
-  blamed = blamed;
-}
-
 pub standing_served : {L : Type 0} (told : L → Option Talk) (link_faults : L → ℕ) (timeout : ℕ) (moments : Option (List ℕ)) (start : Option (List Outcome)) (count first : ℕ) (outcomes : Option (List Outcome)) (links faults : ℕ) (link after : L) (frames : List ℕ) (number : ℕ) (result : Result (Unit {0}) Status) →
     IsSomeWindow frames number → (IsSome (told link) → IsSome (told after)) →
     ((earlier payloads : List (List ℕ)) → HasSettled told (Some link) earlier → IsWindowOf payloads frames number →
@@ -126,15 +99,6 @@ standing_served told link_faults timeout moments start count first outcomes link
   counted = is.counted;
   blamed = blames_any told link_faults timeout moments start outcomes faults (Some after) status (fails is.settled.payloads window.payloads is.settled.settled window.window);
 }
-
--- by what became of a settling, which the wire does not see
-pub standing_so : {L : Type 0} (told : L → Option Talk) (link_faults : L → ℕ) (timeout : ℕ) (moments : Option (List ℕ)) (start : Option (List Outcome)) (count first : ℕ) (outcomes : Option (List Outcome)) (links faults : ℕ) (link : Option L) (result : Result (Unit {0}) Status) →
-    IfErr result (λ status. status ≡ NoMemory) → IsStanding told start count first outcomes links faults link →
-    MatchResult result (λ _. IsStanding told start count first outcomes links faults link) (IsParted told link_faults timeout moments start count first outcomes links faults link)
-standing_so told link_faults timeout moments start count first outcomes links faults link (Ok done) ends is = is
-standing_so told link_faults timeout moments start count first outcomes links faults link (Err status) ends is =
-    let P : Status → Type 0 = λ s. IsParted told link_faults timeout moments start count first outcomes links faults link s in
-    subst P (sym ends) (parts_well told link_faults timeout moments start count first outcomes links faults link NoMemory tt is)
 
 pub none_there : {L : Type 0} (link : Option L) → is_some link ≡ false → link ≡ None
 none_there None none = refl

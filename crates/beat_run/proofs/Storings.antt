@@ -1,12 +1,12 @@
 -- The rows that area A holds as a run ends.
-use Rattle.std.proofs.Common.{◌≡◌, ◌⊎◌, inl, inr, ℕ, ◌≤◌, List, [], ◌∷◌, ◌++◌, length, Option, Some, None, Result, Ok, Err, IfSome, refl, subst, sym, ◌∙◌, ap, arith, append-nil}
+use Rattle.std.proofs.Common.{◌≡◌, ◌⊎◌, inl, inr, ℕ, ◌≤◌, List, [], ◌∷◌, Option, Some, None, Result, Ok, Err, IfSome, refl, subst, sym, ◌∙◌, ap, arith, append-nil}
 use Rattle.event_tree.specs.declared.settings.Settings.{Settings}
 use Rattle.outside.specs.Files.{File}
-use Rattle.outside.specs.Folders.{FolderHistory}
+use Rattle.outside.specs.Folders.{Event, FolderHistory}
 use Rattle.outside.specs.declared.history.Look.{Look}
 use Rattle.prospect.specs.declared.member.Member.{Member}
 use Rattle.registry_log.specs.Area.{area_bytes}
-use Rattle.registry_log.specs.Starting.{Holds, IsPartStarted}
+use Rattle.registry_log.specs.Starting.{IsPartStarted}
 use Rattle.report.specs.declared.status.Lack.TheVariants.{Byte, Life, Key, Follow, Generate}
 use Rattle.report.specs.declared.status.Status.{Status}
 use Rattle.report.specs.declared.status.Status.TheVariants.{Done, Usage, Settings as SettingsFault, RegistryBad, DiskFault, FolderFault, Unreachable, OutFault, SourceFault, TooMany, NoMemory, Unbuilt}
@@ -17,7 +17,7 @@ use Rattle.beat_run.specs.Evidence.{Evidence}
 use Rattle.beat_run.specs.Followed.{IsUnopened}
 use Rattle.beat_run.specs.Harvest.{AreWhole, Harvest, Missed, Read, rows_in}
 use Rattle.beat_run.specs.Named.{IsNamed}
-use Rattle.beat_run.specs.Run.{Drains, Follows, IsFollowedBy, NotesNothing, NotesRows, SendsNothing, StopsHarvest, StopsIn, StopsLast}
+use Rattle.beat_run.specs.Run.{Drains, Follows, IsFollowedBy, NotesRows, SendsNothing, StopsHarvest, StopsIn, StopsLast}
 use Rattle.beat_run.specs.Stored.{HasNoOtherRow, HoldsNoRow, IsStored, IsStoredBy, LeavesKept, MissesRows, StoresKept}
 use Rattle.beat_run.specs.Unbuilt.{StopsFor, StopsUnopened}
 
@@ -95,8 +95,8 @@ preparing_stops source source_now area area_now (Unbuilt Generate) ends = tt
 
 -- ---- files that were followed so
 
-unfoldable pub follows_so : (settings : Settings) (told : FolderHistory) (evidence : Evidence) (Was Is : List Member → List Harvest → Type 0) (after : Option FolderHistory) →
-    (follows : Follows settings told evidence Was after) → Is follows.left follows.harvests → Follows settings told evidence Is after
+unfoldable pub follows_so : (settings : Settings) (told : FolderHistory) (evidence : Evidence) (Was Is : List Member → List Harvest → List Event → Type 0) (after : Option FolderHistory) →
+    (follows : Follows settings told evidence Was after) → Is follows.left follows.harvests follows.end → Follows settings told evidence Is after
 follows_so settings told evidence Was Is after follows so = record {
   listings = follows.listings;
   listed = follows.listed;
@@ -123,8 +123,8 @@ rows_held rows others old new same holds =
     let P : List Row → Type 0 = λ l. IfSome old (λ _. new ≡ Some (area_bytes 1 l)) in
     subst P same holds.held
 
-notes_stored : (source : Option (List ℕ)) (settings : Settings) (told : FolderHistory) (evidence : Evidence) (noted : Noted) (Was Is : List Member → List Harvest → Type 0) (after : Option FolderHistory) (old new : Option (List ℕ)) (Missing : Type 0) →
-    IsNamed source settings → (notes : NotesRows settings told evidence noted Was after) → Is notes.follows.left notes.follows.harvests → HoldsRows noted.rows.items old new ⊎ Missing →
+notes_stored : (source : Option (List ℕ)) (settings : Settings) (told : FolderHistory) (evidence : Evidence) (noted : Noted) (Was Is : List Member → List Harvest → List Event → Type 0) (after : Option FolderHistory) (old new : Option (List ℕ)) (Missing : Type 0) →
+    IsNamed source settings → (notes : NotesRows settings told evidence noted Was after) → Is notes.follows.left notes.follows.harvests notes.follows.end → HoldsRows noted.rows.items old new ⊎ Missing →
     StoresKept source told evidence Is after old new Missing
 unfolding follows_so
 notes_stored source settings told evidence noted Was Is after old new Missing named notes so (inl holds) = record {
@@ -142,10 +142,10 @@ notes_stored source settings told evidence noted Was Is after old new Missing na
 
 pub done_noted : (source : Option (List ℕ)) (settings : Settings) (told : Option FolderHistory) (evidence : Evidence) (noted : Noted) (after : Option FolderHistory) (before now : ℕ) (old new : Option (List ℕ)) →
     IsNamed source settings → IfSome told (λ history. IsFollowedBy settings history evidence noted after (Ok tt)) → HoldsRows noted.rows.items old new →
-    IfSome told (λ history. IsStored source history evidence after old new ⊥ (HoldsNoRow before now old new Done) (λ left harvests. AreWhole harvests))
+    IfSome told (λ history. IsStored source history evidence after old new ⊥ (HoldsNoRow before now old new Done) (λ left harvests end. AreWhole harvests))
 done_noted source settings None evidence noted after before now old new named follows holds = tt
 done_noted source settings (Some told) evidence noted after before now old new named follows holds =
-    inr (notes_stored source settings told evidence noted (Drains evidence noted.shipped noted.dropped) (λ left harvests. AreWhole harvests) after old new ⊥ named follows.notes follows.notes.follows.so.whole (inl holds))
+    inr (notes_stored source settings told evidence noted (Drains evidence noted.shipped noted.dropped) (λ left harvests end. AreWhole harvests) after old new ⊥ named follows.notes follows.notes.follows.so.whole (inl holds))
 
 -- an area that was started without a row
 started_so : (before now : ℕ) (old new : Option (List ℕ)) (status : Status) → IfSome old (λ _. new ≡ Some (area_bytes 1 [])) → HoldsNoRow before now old new status
@@ -183,7 +183,7 @@ stopped_by : (source : Option (List ℕ)) (settings : Settings) (told : FolderHi
 stopped_by source settings told evidence noted after before now old new status named (inl nothing) holds =
     inl (nothing.unopened, (nothing.sent, (nothing.stops, started_so before now old new status (rows_held noted.rows.items [] old new nothing.unnoted.rows holds))))
 stopped_by source settings told evidence noted after before now old new status named (inr notes) holds =
-    inr (notes_stored source settings told evidence noted (λ left harvests. StopsIn status harvests) (λ left harvests. StopsIn status harvests) after old new (MissesRows before now old new status) named notes notes.follows.so (inl holds))
+    inr (notes_stored source settings told evidence noted (λ left harvests end. StopsIn status harvests) (λ left harvests end. StopsIn status harvests) after old new (MissesRows before now old new status) named notes notes.follows.so (inl holds))
 
 pub stopped_noted : (source : Option (List ℕ)) (settings : Settings) (told : Option FolderHistory) (evidence : Evidence) (noted : Noted) (after : Option FolderHistory) (before now : ℕ) (old new : Option (List ℕ)) (status : Status) →
     IsNamed source settings → IfSome told (λ history. IsFollowedBy settings history evidence noted after (Err status)) → HoldsRows noted.rows.items old new →
@@ -193,7 +193,7 @@ stopped_noted source settings (Some told) evidence noted after before now old ne
 
 -- nothing was opened yet
 unopened_here : (told : FolderHistory) → IsUnopened told (Some told)
-unopened_here told = record { more = []; none = tt; kept = ap (λ (l : List Rattle.outside.specs.Folders.Event). Some (record told { events = l })) (sym (append-nil told.events)) }
+unopened_here told = record { more = []; none = tt; kept = ap (λ (l : List Event). Some (record told { events = l })) (sym (append-nil told.events)) }
 
 pub early_stored : (source : Option (List ℕ)) (told : Option FolderHistory) (evidence : Evidence) (before now : ℕ) (old new : Option (List ℕ)) (status : Status) →
     SendsNothing evidence → StopsUnopened status → new ≡ old → IfSome told (λ history. IsStoredBy source history evidence told before now old new status)
@@ -252,12 +252,12 @@ missed_unopened before now old new (Unbuilt what) is = absurd is
 missed_by : (source : Option (List ℕ)) (settings : Settings) (told : FolderHistory) (evidence : Evidence) (noted : Noted) (after : Option FolderHistory) (before now : ℕ) (old new : Option (List ℕ)) (result : Result (Unit {0}) Status) (status : Status) →
     IsNamed source settings → IsFollowedBy settings told evidence noted after result → MissesRows before now old new status → IsStoredBy source told evidence after before now old new status
 missed_by source settings told evidence noted after before now old new (Ok done) status named notes is =
-    inr (notes_stored source settings told evidence noted (Drains evidence noted.shipped noted.dropped) (λ left harvests. StopsIn status harvests) after old new (MissesRows before now old new status) named notes.notes
+    inr (notes_stored source settings told evidence noted (Drains evidence noted.shipped noted.dropped) (λ left harvests end. StopsIn status harvests) after old new (MissesRows before now old new status) named notes.notes
     (whole_stops status notes.notes.follows.harvests (missing_is_free before now old new status is).unopened notes.notes.follows.so.whole) (inr is))
 missed_by source settings told evidence noted after before now old new (Err met) status named (inl nothing) is =
     inl (nothing.unopened, (nothing.sent, ((missing_is_free before now old new status is).unopened, missed_unopened before now old new status is)))
 missed_by source settings told evidence noted after before now old new (Err met) status named (inr notes) is =
-    inr (notes_stored source settings told evidence noted (λ left harvests. StopsIn met harvests) (λ left harvests. StopsIn status harvests) after old new (MissesRows before now old new status) named notes
+    inr (notes_stored source settings told evidence noted (λ left harvests end. StopsIn met harvests) (λ left harvests end. StopsIn status harvests) after old new (MissesRows before now old new status) named notes
     (free_stops met status notes.follows.harvests (missing_is_free before now old new status is) notes.follows.so) (inr is))
 
 pub all_missing : (source : Option (List ℕ)) (settings : Settings) (told : Option FolderHistory) (evidence : Evidence) (noted : Noted) (after : Option FolderHistory) (before now : ℕ) (old new : Option (List ℕ)) (result : Result (Unit {0}) Status) (status : Status) →
@@ -269,15 +269,15 @@ all_missing source settings (Some told) evidence noted after before now old new 
 -- ---- what was printed in the place of a status
 
 stored_so : (source : Option (List ℕ)) (told : FolderHistory) (evidence : Evidence) (after : Option FolderHistory) (old new : Option (List ℕ))
-    (Missing Other : Type 0) (Unopened So : Type 0) (Was Is : List Member → List Harvest → Type 0) →
-    (Missing → Other) → (Unopened → So) → ((left : List Member) (harvests : List Harvest) → Was left harvests → Is left harvests) →
+    (Missing Other : Type 0) (Unopened So : Type 0) (Was Is : List Member → List Harvest → List Event → Type 0) →
+    (Missing → Other) → (Unopened → So) → ((left : List Member) (harvests : List Harvest) (end : List Event) → Was left harvests end → Is left harvests end) →
     IsStored source told evidence after old new Missing Unopened Was → IsStored source told evidence after old new Other So Is
 unfolding follows_so
 stored_so source told evidence after old new Missing Other Unopened So Was Is other so then (inl unopened) = inl (unopened.0, (unopened.1.0, so unopened.1.1))
 stored_so source told evidence after old new Missing Other Unopened So Was Is other so then (inr stores) = inr (record {
   settings = stores.settings;
   named = stores.named;
-  follows = follows_so stores.settings told evidence Was Is after stores.follows (then stores.follows.left stores.follows.harvests stores.follows.so);
+  follows = follows_so stores.settings told evidence Was Is after stores.follows (then stores.follows.left stores.follows.harvests stores.follows.end stores.follows.so);
   stored = either stores.stored;
 })
   where
@@ -328,12 +328,12 @@ held_out before now old new (Unbuilt what) (inr started) = inr (inl started)
 
 -- the run was done, and the report was printed
 pub done_stored : (source : Option (List ℕ)) (told : Option FolderHistory) (evidence : Evidence) (after : Option FolderHistory) (before now : ℕ) (old new : Option (List ℕ)) (first last : ℕ) (status : Status) →
-    IsPrintingEnd first last status → IfSome told (λ history. IsStored source history evidence after old new ⊥ (HoldsNoRow before now old new Done) (λ left harvests. AreWhole harvests)) →
+    IsPrintingEnd first last status → IfSome told (λ history. IsStored source history evidence after old new ⊥ (HoldsNoRow before now old new Done) (λ left harvests end. AreWhole harvests)) →
     IfSome told (λ history. IsStoredBy source history evidence after before now old new status)
 done_stored source None evidence after before now old new first last status ends stored = tt
 done_stored source (Some told) evidence after before now old new first last status ends stored =
-    stored_so source told evidence after old new ⊥ (MissesRows before now old new status) (HoldsNoRow before now old new Done) (StopsUnopened status × HoldsNoRow before now old new status) (λ left harvests. AreWhole harvests) (λ left harvests. StopsIn status harvests)
-    (λ none. absurd none) (λ so. (printing_is_free first last status ends, held_then before now old new first last status ends so)) (λ left harvests whole. whole_stops status harvests (printing_is_free first last status ends) whole) stored
+    stored_so source told evidence after old new ⊥ (MissesRows before now old new status) (HoldsNoRow before now old new Done) (StopsUnopened status × HoldsNoRow before now old new status) (λ left harvests end. AreWhole harvests) (λ left harvests end. StopsIn status harvests)
+    (λ none. absurd none) (λ so. (printing_is_free first last status ends, held_then before now old new first last status ends so)) (λ left harvests end whole. whole_stops status harvests (printing_is_free first last status ends) whole) stored
 
 printed_so : (faulted : Type 0) (source : Option (List ℕ)) (told : FolderHistory) (evidence : Evidence) (after : Option FolderHistory) (before now : ℕ) (old new : Option (List ℕ)) (status printed : Status) →
     ((printed ≡ status) ⊎ ((printed ≡ OutFault) × faulted)) →
@@ -344,8 +344,8 @@ printed_so faulted source told evidence after before now old new status printed 
 printed_so faulted source told evidence after before now old new status printed (inr out) is =
     let P : Status → Type 0 = λ s. IsStoredBy source told evidence after before now old new s in
     subst P (sym out.0)
-    (stored_so source told evidence after old new (MissesRows before now old new status) (MissesRows before now old new OutFault) (StopsUnopened status × HoldsNoRow before now old new status) (Unit {0} × HoldsNoRow before now old new OutFault) (λ left harvests. StopsIn status harvests) (λ left harvests. StopsIn OutFault harvests)
-    (misses_out before now old new status) (λ so. (tt, held_out before now old new status so.1)) (λ left harvests stops. free_stops status OutFault harvests out_is_free stops) is)
+    (stored_so source told evidence after old new (MissesRows before now old new status) (MissesRows before now old new OutFault) (StopsUnopened status × HoldsNoRow before now old new status) (Unit {0} × HoldsNoRow before now old new OutFault) (λ left harvests end. StopsIn status harvests) (λ left harvests end. StopsIn OutFault harvests)
+    (misses_out before now old new status) (λ so. (tt, held_out before now old new status so.1)) (λ left harvests end stops. free_stops status OutFault harvests out_is_free stops) is)
 
 pub printed_stored : (faulted : Type 0) (source : Option (List ℕ)) (told : Option FolderHistory) (evidence : Evidence) (after : Option FolderHistory) (before now : ℕ) (old new : Option (List ℕ)) (status printed : Status) →
     ((printed ≡ status) ⊎ ((printed ≡ OutFault) × faulted)) →
@@ -367,7 +367,7 @@ none_left rows (Some old) (Some new) none left =
     let P : List Row → Type 0 = λ r. IsPartStarted 1 r old new in
     inr (subst P none left)
 
-rows_left : (source : Option (List ℕ)) (settings : Settings) (told : FolderHistory) (evidence : Evidence) (noted : Noted) (So : List Member → List Harvest → Type 0) (after : Option FolderHistory) (old new : Option (List ℕ)) →
+rows_left : (source : Option (List ℕ)) (settings : Settings) (told : FolderHistory) (evidence : Evidence) (noted : Noted) (So : List Member → List Harvest → List Event → Type 0) (after : Option FolderHistory) (old new : Option (List ℕ)) →
     IsNamed source settings → NotesRows settings told evidence noted So after → Leaves noted.rows.items old new → LeavesKept source told evidence after old new
 unfolding follows_so
 rows_left source settings told evidence noted So after old new named notes left =
@@ -375,7 +375,7 @@ rows_left source settings told evidence noted So after old new named notes left 
     record {
       settings = settings;
       named = named;
-      follows = follows_so settings told evidence So (λ left harvests. Unit {0}) after notes.follows tt;
+      follows = follows_so settings told evidence So (λ left harvests end. Unit {0}) after notes.follows tt;
       area_left = subst P notes.rows left;
     }
 
@@ -383,7 +383,7 @@ left_by : (source : Option (List ℕ)) (settings : Settings) (told : FolderHisto
     IsNamed source settings → IsFollowedBy settings told evidence noted after result → Leaves noted.rows.items old new → HasNoOtherRow source told evidence after old new
 left_by source settings told evidence noted after old new (Ok done) named notes left = inr (rows_left source settings told evidence noted (Drains evidence noted.shipped noted.dropped) after old new named notes.notes left)
 left_by source settings told evidence noted after old new (Err status) named (inl nothing) left = inl (nothing.unopened, none_left noted.rows.items old new nothing.unnoted.rows left)
-left_by source settings told evidence noted after old new (Err status) named (inr notes) left = inr (rows_left source settings told evidence noted (λ left harvests. StopsIn status harvests) after old new named notes left)
+left_by source settings told evidence noted after old new (Err status) named (inr notes) left = inr (rows_left source settings told evidence noted (λ left harvests end. StopsIn status harvests) after old new named notes left)
 
 pub noted_left : (source : Option (List ℕ)) (settings : Settings) (told : Option FolderHistory) (evidence : Evidence) (noted : Noted) (after : Option FolderHistory) (old new : Option (List ℕ)) (result : Result (Unit {0}) Status) →
     IsNamed source settings → IfSome told (λ history. IsFollowedBy settings history evidence noted after result) → Leaves noted.rows.items old new →

@@ -14,7 +14,7 @@ use Rattle.beat_run.specs.declared.noted.Noted.{Noted}
 use Rattle.beat_run.specs.Acknowledged.{AcknowledgeInAll, Place, SendOnly}
 use Rattle.beat_run.specs.Evidence.{Evidence}
 use Rattle.beat_run.specs.Followed.{IsNoOpening, IsUnopened}
-use Rattle.beat_run.specs.Harvest.{AreWhole, Harvest, IsHarvest, IsWhole, Missed, Read, events_from, members_in, missed_in, rows_in, settled_in, told_in}
+use Rattle.beat_run.specs.Harvest.{AreWhole, Harvest, IsHarvest, Missed, Read, events_from, members_in, missed_in, rows_in, settled_in, told_in}
 use Rattle.beat_run.specs.Kept.{AreApart, AreSettled, dropped_among, payloads_in}
 use Rattle.beat_run.specs.Unbuilt.{StopsFor, StopsUnopened}
 
@@ -30,7 +30,7 @@ abbrev pub SendsNothing : Evidence → Type 0
 SendsNothing evidence = IfSome evidence.outcomes (SendOnly [])
 
 -- the scan was whole, and these files were followed, of which the last may have been cut short; so is what is left to follow
-pub record Follows (settings : Settings) (told : FolderHistory) (evidence : Evidence) (So : List Member → List Harvest → Type 0) (after : Option FolderHistory) : Type 0 where
+pub record Follows (settings : Settings) (told : FolderHistory) (evidence : Evidence) (So : List Member → List Harvest → List Event → Type 0) (after : Option FolderHistory) : Type 0 where
   pub listings : List Listing
   pub listed : FolderHistory
   pub scanned : AreListed (globs_of settings.inputs) told listings (Some listed)
@@ -44,7 +44,7 @@ pub record Follows (settings : Settings) (told : FolderHistory) (evidence : Evid
   pub end : List Event
   pub none_opened : AllByRecursion IsNoOpening end
   pub trace : after ≡ Some (with_events listed (events_from (length listed.events) harvests ++ end))
-  pub so : So left harvests
+  pub so : So left harvests end
 
 -- by the last file that was followed
 abbrev pub StopsHarvest : Status → Harvest → Type 0
@@ -68,17 +68,18 @@ pub record StopsIn (status : Status) (harvests : List Harvest) : Type 0 where
 abbrev pub counted : ℕ → ℕ
 counted number = min number (2 ^ 64 - 1)
 
--- each file was read to its end, and so many events were shipped and dropped; the shipped ones are as many as all payloads
+-- each file was read to its end, nothing else was done, and so many events were shipped and dropped; the shipped ones are as many as all payloads
 -- that were acknowledged
-pub record Drains (evidence : Evidence) (shipped dropped : ℕ) (left : List Member) (harvests : List Harvest) : Type 0 where
+pub record Drains (evidence : Evidence) (shipped dropped : ℕ) (left : List Member) (harvests : List Harvest) (end : List Event) : Type 0 where
   pub none_left : left ≡ []
+  pub nothing_else : end ≡ []
   pub whole : AreWhole harvests
   pub shipped_are : shipped ≡ counted (length (payloads_in (told_in harvests)))
   pub acknowledged : IfSome evidence.outcomes (λ list. AcknowledgeInAll list (length (payloads_in (told_in harvests))))
   pub dropped_are : dropped ≡ counted (dropped_among (told_in harvests))
 
 -- and the rows of those files are noted
-pub record NotesRows (settings : Settings) (told : FolderHistory) (evidence : Evidence) (noted : Noted) (So : List Member → List Harvest → Type 0) (after : Option FolderHistory) : Type 0 where
+pub record NotesRows (settings : Settings) (told : FolderHistory) (evidence : Evidence) (noted : Noted) (So : List Member → List Harvest → List Event → Type 0) (after : Option FolderHistory) : Type 0 where
   pub follows : Follows settings told evidence So after
   pub rows : noted.rows.items ≡ rows_in follows.harvests
 
@@ -105,4 +106,4 @@ pub record NotesNothing (told : FolderHistory) (evidence : Evidence) (noted : No
 abbrev pub IsFollowedBy : Settings → FolderHistory → Evidence → Noted → Option FolderHistory → Result (Unit {0}) Status → Type 0
 IsFollowedBy settings told evidence noted after (Ok done) = NotesDrained settings told evidence noted after
 IsFollowedBy settings told evidence noted after (Err status) =
-    NotesNothing told evidence noted status after ⊎ NotesRows settings told evidence noted (λ left harvests. StopsIn status harvests) after
+    NotesNothing told evidence noted status after ⊎ NotesRows settings told evidence noted (λ left harvests end. StopsIn status harvests) after

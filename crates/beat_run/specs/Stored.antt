@@ -3,7 +3,7 @@
 use Rattle.std.specs.Prelude.{◌≡◌, ◌⊎◌, List, [], ◌++◌, ℕ, Option, Some, IfSome}
 use Rattle.event_tree.specs.declared.settings.Settings.{Settings}
 use Rattle.outside.specs.Counts.{Rose}
-use Rattle.outside.specs.Folders.{FolderHistory}
+use Rattle.outside.specs.Folders.{Event, FolderHistory}
 use Rattle.prospect.specs.declared.member.Member.{Member}
 use Rattle.registry_log.specs.Area.{area_bytes}
 use Rattle.registry_log.specs.Starting.{IsPartStarted}
@@ -28,7 +28,7 @@ MissesRows before now old new OutFault = Rose before now ⊎ (new ≡ old)
 MissesRows before now old new _ = ⊥
 
 -- the files were followed so, and the area holds their rows, or they are missing
-pub record StoresKept (source : Option (List ℕ)) (told : FolderHistory) (evidence : Evidence) (So : List Member → List Harvest → Type 0) (after : Option FolderHistory) (old new : Option (List ℕ)) (Missing : Type 0) : Type 0 where
+pub record StoresKept (source : Option (List ℕ)) (told : FolderHistory) (evidence : Evidence) (So : List Member → List Harvest → List Event → Type 0) (after : Option FolderHistory) (old new : Option (List ℕ)) (Missing : Type 0) : Type 0 where
   pub settings : Settings
   pub named : IsNamed source settings
   pub follows : Follows settings told evidence So after
@@ -41,21 +41,21 @@ HoldsNoRow before now old new OutFault = (new ≡ old) ⊎ (IfSome old (λ _. ne
 HoldsNoRow before now old new _ = (new ≡ old) ⊎ IfSome old (λ _. new ≡ Some (area_bytes 1 []))
 
 -- no file was opened, nothing was sent, and that is so; or files were followed, and their rows are right and stored or missing
-abbrev pub IsStored : Option (List ℕ) → FolderHistory → Evidence → Option FolderHistory → Option (List ℕ) → Option (List ℕ) → Type 0 → Type 0 → (List Member → List Harvest → Type 0) → Type 0
+abbrev pub IsStored : Option (List ℕ) → FolderHistory → Evidence → Option FolderHistory → Option (List ℕ) → Option (List ℕ) → Type 0 → Type 0 → (List Member → List Harvest → List Event → Type 0) → Type 0
 IsStored source told evidence after old new Missing Unopened So =
     (IsUnopened told after × (SendsNothing evidence × Unopened)) ⊎ StoresKept source told evidence So after old new Missing
 
 -- by the status, and by the area's count of faults before and now
 abbrev pub IsStoredBy : Option (List ℕ) → FolderHistory → Evidence → Option FolderHistory → ℕ → ℕ → Option (List ℕ) → Option (List ℕ) → Status → Type 0
 IsStoredBy source told evidence after before now old new status =
-    IsStored source told evidence after old new (MissesRows before now old new status) (StopsUnopened status × HoldsNoRow before now old new status) (λ left harvests. StopsIn status harvests)
+    IsStored source told evidence after old new (MissesRows before now old new status) (StopsUnopened status × HoldsNoRow before now old new status) (λ left harvests end. StopsIn status harvests)
 
 -- the rows of the files that were followed are right, and the area has no others: it is blank still, or its gate is not
 -- open, or it holds those rows
 pub record LeavesKept (source : Option (List ℕ)) (told : FolderHistory) (evidence : Evidence) (after : Option FolderHistory) (old new : Option (List ℕ)) : Type 0 where
   pub settings : Settings
   pub named : IsNamed source settings
-  pub follows : Follows settings told evidence (λ left harvests. Unit {0}) after
+  pub follows : Follows settings told evidence (λ left harvests end. Unit {0}) after
   pub area_left : IfSome old (λ held. IfSome new (IsPartStarted 1 (rows_in follows.harvests) held))
 
 -- no file was opened, and the area is as it was, or has no row; or files were followed, and the area has no rows but the

@@ -1,16 +1,19 @@
 -- What the definition of the command comes to at plain words.
-use Rattle.std.proofs.Common.{◌≡◌, ◌≢◌, refl, sym, subst, ap₂, ◌∙◌, ◌==◌, ◌&&◌, cond, is_some, List, ℕ, Bool, [], ◌∷◌, ◌++◌, codes, Some, None, true, false, inl, inr, arith}
+use Rattle.std.proofs.Common.{◌≡◌, refl, sym, subst, ap₂, ◌∙◌, ◌==◌, ◌&&◌, cond, is_some, List, ℕ, Bool, [], ◌∷◌, ◌++◌, codes, Option, Some, None, IsSomeAnd, true, false, inl, inr, arith}
+use Rattle.std.proofs.lemmas.Bool.{false≢true}
 use Rattle.std.specs.Str.{bytes_eq}
 use Rattle.clap.specs.Faults.{check_fault, defaults_fault, entered_fault, fault_of, settle_fault, turn_fault, walk_fault}
 use Rattle.clap.specs.Kinds.{Kinds, or_else}
 use Rattle.clap.specs.Lexer.{strip_byte}
 use Rattle.clap.specs.Simple.{Shape, built, entered, matches_of}
-use Rattle.clap.specs.Walk.{Walk, finished, idle, nothing_held, pushed, settled, walk_from, walked}
+use Rattle.clap.specs.Walk.{Walk, finished, first_of, idle, nothing_held, pushed, settled, walk_from, walked}
 use Rattle.clap.specs.declared.error.kind.ErrorKind.TheVariants as kind
 use Rattle.clap.proofs.OnLiterals.{clap_on_literals}
 use Rattle.command_line.specs.Command.{beat_command}
-use Rattle.command_line.specs.Words.{AsksFor, IsCommand, IsNoCommand}
+use Rattle.command_line.specs.LineCount.{IsLineCount}
+use Rattle.command_line.specs.Words.{AsksFor, IsCommand, IsGenerateBy, IsNoCommand}
 use Rattle.command_line.specs.declared.words.Words.{Words}
+use Rattle.wire_base.specs.Decimal.{value_of}
 
 -- ---- words that are taken
 
@@ -41,6 +44,37 @@ joined_asks file = record {
 -- `--config=FILE --once`, whatever FILE is
 pub joined_is_taken : (file : List ℕ) → IsCommand (joined file) (once_over file)
 joined_is_taken file = (joined_has_no_fault file, joined_asks file)
+
+abbrev pub named : List ℕ → List ℕ → List ℕ → List (List ℕ)
+named file folder digits =
+    (codes "--config=" ++ file) ∷ (codes "--data=" ++ folder) ∷ (codes "--generate=" ++ digits) ∷ []
+
+named_has_no_fault : (file folder digits : List ℕ) → fault_of beat_command (named file folder digits) ≡ []
+unfolding clap_on_literals
+named_has_no_fault file folder digits = refl
+
+named_asks : (file folder digits : List ℕ) → IsLineCount digits → AsksFor (matches_of beat_command (named file folder digits)) (record {
+  settings = file;
+  «data» = folder;
+  once = false;
+  generate = Some (value_of digits);
+})
+unfolding clap_on_literals
+named_asks file folder digits count = record {
+  settings = refl;
+  folder = refl;
+  once = (λ yes. absurd (false≢true yes), λ set. cc);
+  generate = (count, refl);
+}
+
+-- `--config=FILE --data=DIR --generate=N`, whatever FILE and DIR are, where N is a number of lines
+pub named_is_taken : (file folder digits : List ℕ) → IsLineCount digits → IsCommand (named file folder digits) (record {
+  settings = file;
+  «data» = folder;
+  once = false;
+  generate = Some (value_of digits);
+})
+named_is_taken file folder digits count = (named_has_no_fault file folder digits, named_asks file folder digits count)
 
 abbrev top : Shape
 top = (built beat_command).top
@@ -118,6 +152,15 @@ apart_is_taken file plain = (apart_has_no_fault file plain (no_dashes file plain
 
 -- ---- words that are refused
 
+-- no words are both taken and refused
+pub not_both : (words : List (List ℕ)) (asked : Words) → IsCommand words asked → IsNoCommand words → ⊥
+not_both words asked taken (inl fault) = fault taken.0
+not_both words asked taken (inr no_count) = go (first_of (codes "generate") (matches_of beat_command words)) taken.1.generate no_count
+  where
+    go : (value : Option (List ℕ)) → IsGenerateBy value asked.generate → IsSomeAnd value (λ digits. ¬ (IsLineCount digits)) → ⊥
+    go None read refused = refused
+    go (Some digits) read refused = refused read.0
+
 nothing : fault_of beat_command [] ≡ kind.MissingRequiredArgument ∷ []
 unfolding clap_on_literals
 nothing = refl
@@ -141,6 +184,11 @@ help = refl
 version : fault_of beat_command (codes "-c" ∷ codes "f" ∷ codes "-V" ∷ []) ≡ kind.UnknownArgument ∷ []
 unfolding clap_on_literals
 version = refl
+
+-- and where N is none
+pub named_is_refused : (file folder digits : List ℕ) → ¬ (IsLineCount digits) → IsNoCommand (named file folder digits)
+unfolding clap_on_literals
+named_is_refused file folder digits no_count = inr no_count
 
 no_lines : IsNoCommand (codes "-c" ∷ codes "f" ∷ codes "--generate" ∷ codes "0" ∷ [])
 unfolding clap_on_literals

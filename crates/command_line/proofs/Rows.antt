@@ -1,5 +1,5 @@
 -- From the getters of clap's matches to its rows.
-use Rattle.std.proofs.Common.{◌≡◌, ◌≢◌, ◌⊎◌, ◌↔◌, ◌∙◌, ap, subst, sym, refl, ℕ, Bool, true, false, IsTrue, List, Option, Some, None, is_some, option_map, MatchOption, IsSomeAnd, codes, [], inr}
+use Rattle.std.proofs.Common.{◌≡◌, ◌↔◌, ◌∙◌, ap, subst, sym, refl, ℕ, Bool, true, false, IsTrue, List, Option, Some, None, option_map, MatchOption, IsSomeAnd, codes, [], inr}
 use Rattle.std.specs.Borrow.{Bor}
 use Rattle.std.specs.Option.{option_eq}
 use Rattle.std.proofs.lemmas.Bool.{false≢true}
@@ -8,7 +8,7 @@ use Rattle.std.specs.Str.{bytes_eq}
 use Rattle.clap.specs.Facts.{Entry}
 use Rattle.clap.specs.Faults.{fault_of}
 use Rattle.clap.specs.Simple.{matches_of}
-use Rattle.clap.specs.Matches.{first_value, found_of, matched_of}
+use Rattle.clap.specs.Matches.{first_value, matched_of}
 use Rattle.clap.specs.Walk.{Row, first_of, row_of, rows_of}
 use Rattle.clap.specs.declared.parser.matches.Found.{Found}
 use Rattle.clap.specs.declared.parser.matches.MatchedArg.{MatchedArg}

@@ -7,15 +7,15 @@ use Rattle.std.specs.Borrow.{Bor}
 use Rattle.std.specs.List.{All, list_all, slice_index_or}
 use Rattle.std.specs.Prelude.{find, option_map, slice_get}
 use Rattle.std.specs.Str.{bytes_eq}
-use Rattle.clap.specs.Built.{IsAuto, IsParsedFrom, IsPlain, SameRules}
+use Rattle.clap.specs.Built.{IsParsedFrom, IsPlain, SameRules}
 use Rattle.clap.specs.Facts.{Entry, EntryPasses, ValuesPass, args_of, groups_of, least_values, unwrap_or_range}
 use Rattle.clap.specs.Kinds.{FailsBy, IsAmong, Kinds}
-use Rattle.clap.specs.Matches.{first_value, found_of, has_subcommand, matched_of}
+use Rattle.clap.specs.Matches.{first_value, found_of, matched_of}
 use Rattle.clap.specs.Simple.{App, IsSimple, app_of, is_ready, is_ready_leaf}
 use Rattle.clap.specs.Texts.{items_of}
 use Rattle.clap.specs.Valid.{IsFreeArg}
 use Rattle.clap.specs.Values.{kind_of}
-use Rattle.clap.specs.Walk.{Rule, rule_of, texts}
+use Rattle.clap.specs.Walk.{Rule, rule_of}
 use Rattle.clap.specs.declared.builder.action.ArgAction.TheVariants.{Count, Set}
 use Rattle.clap.specs.declared.builder.arg.Arg.{Arg}
 use Rattle.clap.specs.declared.builder.command.Command.{Command}
@@ -24,7 +24,6 @@ use Rattle.clap.specs.declared.builder.command.Command.TheViews.{out-Command}
 use Rattle.clap.specs.declared.error.Error.{Error}
 use Rattle.clap.specs.declared.error.kind.ErrorKind.TheVariants.{OutOfMemory}
 use Rattle.clap.specs.declared.parser.matches.ArgMatches.{ArgMatches}
-use Rattle.clap.specs.declared.parser.matches.Found.{Found}
 use Rattle.clap.specs.declared.parser.matches.MatchedArg.{MatchedArg}
 use Rattle.clap.proofs.CallerLemmas.{default_present, entry_by_id, required_has_value, same_rules_by_id}
 use Rattle.clap.proofs.SimpleLemmas.{ready_simple, simple_groups}

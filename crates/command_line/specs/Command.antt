@@ -25,7 +25,7 @@ data_option = record (new_rule (codes "data")) {
 abbrev pub once_flag : Rule
 once_flag = record (new_rule (codes "once")) { long = Some (codes "once"); action = Some SetTrue }
 
--- `--generate N`, of which clap reads a text
+-- `--generate N`, read by clap as any text: its own reader of numbers would also take `+5` and `007`
 abbrev pub generate_option : Rule
 generate_option = record (new_rule (codes "generate")) {
   long = Some (codes "generate");

@@ -40,7 +40,9 @@ abbrev pub IsCommand : List (List ℕ) → Words → Type 0
 IsCommand words asked =
     (fault_of beat_command words ≡ []) × AsksFor (matches_of beat_command words) asked
 
--- the command refuses the words: clap finds a fault, or the value of `--generate` is no such number
+-- the command refuses the words: clap finds a fault in them (a word that the command does not know or
+-- a request for help, an argument given twice or without its value, no `--config`), or the value of
+-- `--generate` is no such number
 abbrev pub IsNoCommand : List (List ℕ) → Type 0
 IsNoCommand words =
     (fault_of beat_command words ≢ []) ⊎ HasNoCount (matches_of beat_command words)

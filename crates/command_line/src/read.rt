@@ -12,8 +12,10 @@ use std::alloc::Global;
 use wire_base::{NoMemory, Text};
 
 /// What the words ask for; `None` exactly where the command refuses them. The program's name is none of the words.
+/// An `Err` is want of memory.
 pub fn read_words(alloc: Global, words: &[Text]) -> Result<Option<Words>, NoMemory>
-    ensures { IfOk result (λ found. MatchOption found (IsNoCommand words.now) (IsCommand words.now)) }
+    ensures asked_exactly_where_taken { IfOk result (λ found.
+        MatchOption found (IsNoCommand words.now) (IsCommand words.now)) }
 {
     let words = words_as_str(alloc, words)?;
     match parse(alloc, words.as_slice()) {
@@ -54,7 +56,7 @@ fn words_of(alloc: Global, matches: &ArgMatches) -> Result<Option<Words>, NoMemo
     }))
 }
 
-// By the words, and not by a default.
+// Whether the argument has its value from the words, and not from a default.
 fn is_in_words(matches: &ArgMatches, id: &str) -> bool
     ensures { IsTrue result ↔ (source_of id.now (rows_of (found_of matches.now)) ≡ Some ValueSource.CommandLine) }
 {

@@ -1,5 +1,5 @@
 -- What a scan has found, with one path or one input more.
-use Rattle.std.proofs.Common.{◌≡◌, ◌⊎◌, inl, inr, ⊎_elim, ℕ, zero, suc, ◌+◌, ◌<◌, Bool, true, false, cond, List, [], ◌∷◌, ◌++◌, length, map, take, get_or, Option, Some, None, IsSome, refl, sym, ap, ◌∙◌, subst, rules, arith, lit<}
+use Rattle.std.proofs.Common.{◌≡◌, ◌⊎◌, inl, inr, ⊎_elim, ℕ, zero, suc, ◌+◌, ◌<◌, Bool, true, false, cond, List, [], ◌∷◌, ◌++◌, length, map, take, get_or, Option, Some, IsSome, refl, sym, ap, ◌∙◌, subst, rules, arith, lit<}
 use Rattle.std.specs.Prelude.{Contains}
 use Rattle.outside.specs.declared.entry.Entry.{Entry}
 use Rattle.std.specs.BTreeMap.{get, is_at, Updates}
@@ -61,6 +61,7 @@ adds_paths inputs paths more old between new first second = record {
   where
     left : (key path : List ℕ) → IsFoundBy inputs paths key path → IsFoundBy inputs (paths ++ more) key path
     left key path found = found_among inputs inputs paths (paths ++ more) key path (λ input c. c) (λ one c. Contains-append_left paths more one c) found
+
     right : (key path : List ℕ) → IsFoundBy inputs more key path → IsFoundBy inputs (paths ++ more) key path
     right key path found = found_among inputs inputs more (paths ++ more) key path (λ input c. c) (λ one c. Contains-append_right paths more one c) found
 
@@ -80,6 +81,7 @@ adds_inputs inputs more paths old between new first second = record {
   where
     left : (key path : List ℕ) → IsFoundBy inputs paths key path → IsFoundBy (inputs ++ more) paths key path
     left key path found = found_among inputs (inputs ++ more) paths paths key path (λ input c. Contains-append_left inputs more input c) (λ one c. c) found
+
     right : (key path : List ℕ) → IsFoundBy more paths key path → IsFoundBy (inputs ++ more) paths key path
     right key path found = found_among more (inputs ++ more) paths paths key path (λ input c. Contains-append_right inputs more input c) (λ one c. c) found
 
@@ -105,10 +107,12 @@ adds_covered input path old new covered updates = record {
   where
     here : IsFoundBy (input ∷ []) (path ∷ []) (path_key input.id path) path
     here = record { input = input; one_of = contains_one input; member = record { among = contains_one path; covered = covered; key = refl } }
+
     at : (key one : List ℕ) → (is_at (compare (path_key input.id path)) key ≡ true) × (path ≡ one) → IsFoundBy (input ∷ []) (path ∷ []) key one
     at key one new =
         subst (λ (p : List ℕ). IsFoundBy (input ∷ []) (path ∷ []) key p) new.1
         (subst (λ (k : List ℕ). IsFoundBy (input ∷ []) (path ∷ []) k path) (tells_apart exact_bytes (path_key input.id path) key new.0) here)
+
     there : IsSome (get compare new (path_key input.id path))
     there = subst (λ (o : Option (List ℕ)). IsSome o) (sym updates.1) (search rules)
 

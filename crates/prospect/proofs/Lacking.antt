@@ -1,5 +1,5 @@
 -- The lacking keys of the inputs, with one input more.
-use Rattle.std.proofs.Common.{◌≡◌, ℕ, ◌+◌, ◌<◌, List, [], ◌∷◌, ◌++◌, length, take, get_or, refl, sym, ap, ◌∙◌, append_assoc, append-nil, arith}
+use Rattle.std.proofs.Common.{◌≡◌, ℕ, ◌+◌, ◌<◌, List, [], ◌∷◌, ◌++◌, length, take, get_or, sym, ap, ◌∙◌, append_assoc, append-nil, arith}
 use Rattle.std.proofs.lemmas.List.{take_more, length-take}
 use Rattle.event_tree.specs.declared.input_rule.InputRule.{InputRule}
 use Rattle.prospect.specs.Lacks.{lacks_of_input, lacks_of_inputs}

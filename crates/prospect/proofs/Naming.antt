@@ -1,5 +1,5 @@
 -- What a scan hands out of what it has found.
-use Rattle.std.proofs.Common.{◌≡◌, ◌≢◌, ◌⊎◌, inl, inr, ⊎_elim, ℕ, zero, suc, ◌+◌, ◌<◌, ◌≤◌, List, [], ◌∷◌, ◌++◌, length, map, take, get_or, All, Any, Contains, Option, Some, None, IfSome, IsSome, slice_get, codes, refl, sym, ◌∙◌, ap, subst, arith, lit<, length-append}
+use Rattle.std.proofs.Common.{◌≡◌, ⊎_elim, ℕ, zero, suc, ◌+◌, ◌<◌, ◌≤◌, List, [], ◌∷◌, ◌++◌, length, map, take, get_or, All, Any, Contains, Option, Some, None, IfSome, IsSome, slice_get, refl, sym, ◌∙◌, ap, subst, arith, length-append}
 use Rattle.std.specs.BTreeMap.{get, is_at, IsOrdered}
 use Rattle.std.specs.Cmp.Lexicographic.{nat_list_cmp_total}
 use Rattle.std.specs.List.{AllByRecursion, AllZip}
@@ -20,7 +20,7 @@ use Rattle.prospect.specs.declared.member.Member.{Member}
 use Rattle.prospect.specs.declared.listings.TheConstants.{MAX_FILES}
 use Rattle.prospect.specs.declared.scan_error.ScanError.{ScanError}
 use Rattle.prospect.specs.declared.scan_error.ScanError.TheVariants.{Failed, NoMemory, TooMany}
-use Rattle.prospect.specs.Collecting.{Adds, FirstTooMany, Found, globs_in, IsFoundBy, IsReadOf, Lists, member_of, members_of, ShowPaths}
+use Rattle.prospect.specs.Collecting.{Adds, FirstTooMany, Found, globs_in, IsReadOf, Lists, member_of, members_of, ShowPaths}
 use Rattle.prospect.specs.Members.{AreMembers, compare, globs_of, HasKey, HaveShortIds, IsBefore, IsCovered, IsInOrder, IsInRange, IsMember, path_key}
 use Rattle.prospect.specs.Scan.{AreListed, FindsTooMany, RefusedAs, Scans, TellsPath}
 use Rattle.prospect.proofs.Adding.{contains_none}
@@ -101,17 +101,22 @@ are_members inputs read paths none found zip empty added ordered = record {
   where
     Named : Member → Type 0
     Named member = Any (λ input. IsMember paths input.id input.paths member) inputs
+
     Every : InputRule → Type 0
     Every input = All (λ path. IsCovered input.paths path → HasKey (members_of found.entries) (path_key input.id path)) paths
+
     EveryRead : InputGlobs → Type 0
     EveryRead one = (path : List ℕ) → Contains paths path → IsCovered one.globs.items path → IsSome (get compare found (path_key one.id path))
+
     nothing : (key path : List ℕ) → get compare none key ≡ Some path → ⊥
     nothing key path is = none-some path (sym (ap (λ (entries : List (List ℕ × List ℕ)). lookup (is_at (compare key)) entries) empty) ∙ is)
+
     named : (e : List ℕ × List ℕ) → get compare found e.0 ≡ Some e.1 → Named (member_of e)
     named e is = ⊎_elim
         (λ before. absurd (nothing e.0 e.1 before))
         (λ by. any_rule (λ input. IsMember paths input.id input.paths (member_of e)) (λ one. IsMember paths one.id one.globs.items (member_of e)) (λ input one same is. member_of_rule paths (member_of e) input one same is) inputs read zip by.input by.one_of by.member)
         (added.only e.0 e.1 is)
+
     step : (input : InputRule) (one : InputGlobs) → IsReadOf input one → EveryRead one → Every input
     step input one same every = λ k d within covered.
         let path : List ℕ = get_or paths k d in

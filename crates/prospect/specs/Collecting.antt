@@ -1,5 +1,5 @@
 -- What is found on the way through a scan, one listing after the other (this project's profile).
-use Rattle.std.specs.Prelude.{◌≡◌, ◌⊎◌, ℕ, List, [], ◌∷◌, flat_map, map, slice_get, All, Contains, Option, Some, IfSome, IsSome}
+use Rattle.std.specs.Prelude.{◌≡◌, ◌⊎◌, ℕ, List, flat_map, map, slice_get, All, Contains, Option, Some, IfSome, IsSome}
 use Rattle.std.specs.BTreeMap.{BTreeMap, get}
 use Rattle.event_tree.specs.declared.input_rule.InputRule.{InputRule}
 use Rattle.outside.specs.Folders.{FolderHistory}

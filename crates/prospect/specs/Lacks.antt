@@ -1,5 +1,5 @@
 -- Which keys of valid settings ask for what is not built (this project's profile).
-use Rattle.std.specs.Prelude.{◌≡◌, ℕ, ◌+◌, Bool, true, false, not, ◌==◌, List, [], ◌∷◌, ◌++◌, length, All, Contains, codes, decimal}
+use Rattle.std.specs.Prelude.{◌≡◌, ℕ, ◌+◌, Bool, true, false, ◌==◌, List, [], ◌∷◌, ◌++◌, length, All, Contains, codes, decimal}
 use Rattle.std.specs.Ordering.{is_lt}
 use Rattle.event_tree.specs.declared.group_rule.GroupRule.{GroupRule}
 use Rattle.event_tree.specs.declared.group_rule.GroupRule.TheVariants.{Single, Count, Pattern}

@@ -16,3 +16,6 @@ pub use lack::first_lack;
 pub use listings::{MAX_FILES, scan};
 pub use member::Member;
 pub use scan_error::ScanError;
+
+#[cfg(test)]
+mod tests;

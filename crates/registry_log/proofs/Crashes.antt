@@ -1,5 +1,5 @@
 -- What a crash leaves at any moment of several calls, from what it leaves in each of them.
-use Rattle.std.proofs.Common.{◌≡◌, ◌≢◌, ◌⊎◌, inl, inr, ⊎_elim, ℕ, ◌≤◌, List, [], ◌∷◌, length, Option, Some, None, IfSome, sym, ◌∙◌, ap, subst, arith}
+use Rattle.std.proofs.Common.{◌≡◌, inl, inr, ⊎_elim, ℕ, List, ◌∷◌, length, Option, Some, None, IfSome, sym, ◌∙◌, ap, subst, arith}
 use Rattle.outside.specs.DiskImages.{Elapses, Follows, LeavesOnly, Only, Torn}
 use Rattle.outside.specs.DiskReads.{written}
 use Rattle.outside.specs.Moments.{started, goes_on}
@@ -33,9 +33,9 @@ module _ {D : Type 0} (moment : D → ℕ) (images_since : D → ℕ → List �
   changed old new None before_images images Step stays here only time follows = tt
   changed old new (Some before) before_images images Step stays here only time follows =
       goes_on moment images_since old old new (Step before) images
-        (started moment images_since old (Step before) (λ image left. let S : List ℕ → Type 0 = λ l. Step l image in subst S (sym (same_bytes before image (only image (here image left)))) (stays image)))
-        time
-        (λ image is. let from = follows image is in let S : List ℕ → Type 0 = λ l. Step l image in subst S (sym (same_bytes before from.0 (only from.0 from.1))) from.2)
+      (started moment images_since old (Step before) (λ image left. let S : List ℕ → Type 0 = λ l. Step l image in subst S (sym (same_bytes before image (only image (here image left)))) (stays image)))
+      time
+      (λ image is. let from = follows image is in let S : List ℕ → Type 0 = λ l. Step l image in subst S (sym (same_bytes before from.0 (only from.0 from.1))) from.2)
 
   -- and the sync behind it
   pub changed_and_synced : (old mid new : D) (contents : Option (List ℕ)) (before_images images later : List ℕ → Type 0) (Step : List ℕ → List ℕ → Type 0) → ((area : List ℕ) → Step area area)
@@ -46,7 +46,7 @@ module _ {D : Type 0} (moment : D → ℕ) (images_since : D → ℕ → List �
   changed_and_synced old mid new None before_images images later Step stays here only time follows synced less = tt
   changed_and_synced old mid new (Some before) before_images images later Step stays here only time follows synced less =
       goes_on moment images_since old mid new (Step before) later (changed old mid (Some before) before_images images Step stays here only time follows) synced
-        (λ image is. let from = follows image (less image is) in let S : List ℕ → Type 0 = λ l. Step l image in subst S (sym (same_bytes before from.0 (only from.0 from.1))) from.2)
+      (λ image is. let from = follows image (less image is) in let S : List ℕ → Type 0 = λ l. Step l image in subst S (sym (same_bytes before from.0 (only from.0 from.1))) from.2)
 
   -- ---- the steps of starting an area, of which `old` is the disk as it was and `bytes` are to stand there in the end
   module _ (old : D) (contents : Option (List ℕ)) (bytes : List ℕ) where
@@ -70,7 +70,7 @@ module _ {D : Type 0} (moment : D → ℕ) (images_since : D → ℕ → List �
   once_written old mid new (Some before) (Some area) bytes so_far is leaves =
       let gate = lone_gate area is.0 is.1 in
       behind old mid new _ so_far (weaker mid new _ _ leaves
-        (λ image torn. let T : List ℕ → Type 0 = λ l. Torn 1 (length bytes) l image in inl (inr (inr (torn_behind gate.0 (length bytes) image gate.1 (subst T gate.2 torn))))))
+      (λ image torn. let T : List ℕ → Type 0 = λ l. Torn 1 (length bytes) l image in inl (inr (inr (torn_behind gate.0 (length bytes) image gate.1 (subst T gate.2 torn))))))
 
   pub once_opened : (old mid new : D) (contents alone full : Option (List ℕ)) (bytes : List ℕ) → LeavesPartWritten old contents bytes mid → IfSome contents (λ before. Holds (λ area. IsClosed area × IsBlank area) alone)
       → IfSome alone (λ before. full ≡ Some (written before 1 bytes))
@@ -82,7 +82,7 @@ module _ {D : Type 0} (moment : D → ℕ) (images_since : D → ℕ → List �
       let gate = lone_gate area is.0 is.1 in
       let all_is : all ≡ gate.0 ∷ bytes = same_bytes _ _ writes ∙ ap (λ (l : List ℕ). written l 1 bytes) gate.2 ∙ written_behind gate.0 bytes in
       behind old mid new _ so_far (weaker mid new _ _ leaves
-        (λ image torn. let T : List ℕ → Type 0 = λ l. Torn 0 1 l image in opening gate.0 bytes before image (subst T all_is torn)))
+      (λ image torn. let T : List ℕ → Type 0 = λ l. Torn 0 1 l image in opening gate.0 bytes before image (subst T all_is torn)))
 
 pub left_alone : (contents closed alone : Option (List ℕ)) → IfSome contents (λ before. Holds IsClosed closed) → (Holds IsClosed closed → Holds (λ area. IsClosed area × IsBlank area) alone)
     → IfSome contents (λ before. Holds (λ area. IsClosed area × IsBlank area) alone)

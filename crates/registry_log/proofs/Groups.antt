@@ -1,5 +1,5 @@
 -- Records that are written operation by operation are those of the groups, and each body fits in its record.
-use Rattle.std.proofs.Common.{◌≡◌, ◌⊎◌, inl, inr, ℕ, ◌+◌, ◌≤◌, Bool, true, false, if◌then◌else◌, nat_le, leb, List, [], ◌∷◌, ◌++◌, All, length, take, drop, Some, refl, sym, ap, ◌∙◌, subst, arith, codes, append-nil, append_assoc, length-append}
+use Rattle.std.proofs.Common.{◌≡◌, inl, inr, ℕ, ◌+◌, ◌≤◌, Bool, true, false, if◌then◌else◌, nat_le, List, [], ◌∷◌, ◌++◌, All, length, take, drop, Some, refl, sym, ap, ◌∙◌, subst, arith, codes, append-nil, append_assoc, length-append}
 use Rattle.std.proofs.lemmas.Bool.Decides.{leb_tells}
 use Rattle.std.proofs.lemmas.List.Concat.{flat_map-append}
 use Rattle.std.proofs.lemmas.List.{drop_more, take_all}
@@ -13,7 +13,7 @@ use Rattle.wire_base.specs.declared.row.Row.{Row}
 use Rattle.registry_frame.specs.Body.{body_bytes, operation_bytes}
 use Rattle.registry_log.specs.declared.area_text.TheConstants.{MAX_BODY}
 use Rattle.registry_log.specs.Area.{sets}
-use Rattle.registry_log.specs.Records.{fit_in_a_record, grouped, groups, record_bytes, record_of, records_behind, records_bytes}
+use Rattle.registry_log.specs.Records.{fit_in_a_record, grouped, groups, record_bytes, records_behind, records_bytes}
 
 -- a body without its last bracket
 abbrev draft : Op → List Op → List ℕ
@@ -38,11 +38,11 @@ pub groups_written : (first : Op) (group ops : List Op) → records_behind (draf
 groups_written first group [] = sym (append-nil (record_bytes (first ∷ group)))
 groups_written first group (op ∷ ops) =
     let same : nat_le (length (draft first group) + length (operation_bytes op) + 2) MAX_BODY ≡ fit_in_a_record (first ∷ group ++ op ∷ []) =
-      ap (λ (n : ℕ). nat_le n MAX_BODY) (sym (length_more first group op)) in
+    ap (λ (n : ℕ). nat_le n MAX_BODY) (sym (length_more first group op)) in
     let alone : records_behind (codes "[" ++ operation_bytes op) ops ≡ flat_map record_bytes (grouped (op ∷ []) ops) =
-      ap (λ (l : List ℕ). records_behind (codes "[" ++ l) ops) (sym (append-nil (operation_bytes op))) ∙ groups_written op [] ops in
+    ap (λ (l : List ℕ). records_behind (codes "[" ++ l) ops) (sym (append-nil (operation_bytes op))) ∙ groups_written op [] ops in
     let together : records_behind (draft first group ++ codes "," ++ operation_bytes op) ops ≡ flat_map record_bytes (grouped (first ∷ group ++ op ∷ []) ops) =
-      ap (λ (l : List ℕ). records_behind l ops) (sym (draft_more first group op)) ∙ groups_written first (group ++ op ∷ []) ops in
+    ap (λ (l : List ℕ). records_behind l ops) (sym (draft_more first group op)) ∙ groups_written first (group ++ op ∷ []) ops in
     by_test _ _ same (first ∷ group) (grouped (first ∷ group ++ op ∷ []) ops) (grouped (op ∷ []) ops) _ _ together alone
 
 -- ---- each body fits
@@ -77,7 +77,7 @@ all_fit first group [] fits short = All-cons FitsIn (first ∷ group) [] fits (A
 all_fit first group (op ∷ ops) fits short =
     let rest = All-tail IsShort op ops short in
     fits_by_test (fit_in_a_record (first ∷ group ++ op ∷ [])) (first ∷ group) _ _
-      (λ is. all_fit first (group ++ op ∷ []) ops (test_true _ _ is) rest) fits (all_fit op [] ops (alone_fits op (All-head IsShort op ops short)) rest)
+    (λ is. all_fit first (group ++ op ∷ []) ops (test_true _ _ is) rest) fits (all_fit op [] ops (alone_fits op (All-head IsShort op ops short)) rest)
 
 pub groups_fit : (ops : List Op) → All IsShort ops → All FitsIn (groups ops)
 groups_fit [] short = All-nil FitsIn
@@ -94,7 +94,7 @@ first_written [] row body at is = cc at
 first_written (first ∷ rows) row body at is =
     let same : first ≡ row = cc at in
     let begun : body ≡ draft (Set first) [] =
-      is ∙ ap (λ (r : Row). codes "[" ++ operation_bytes (Set r)) (sym same) ∙ ap (λ (l : List ℕ). codes "[" ++ l) (sym (append-nil (operation_bytes (Set first)))) in
+    is ∙ ap (λ (r : Row). codes "[" ++ operation_bytes (Set r)) (sym same) ∙ ap (λ (l : List ℕ). codes "[" ++ l) (sym (append-nil (operation_bytes (Set first)))) in
     ap (λ (l : List ℕ). records_behind l (sets rows)) begun ∙ groups_written (Set first) [] (sets rows)
 
 pub next_row : (rows : List Row) (i : ℕ) (row : Row) → slice_get rows i ≡ Some row → sets (drop i rows) ≡ Set row ∷ sets (drop (i + 1) rows)

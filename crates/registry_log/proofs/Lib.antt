@@ -2,3 +2,4 @@ mod Crashes
 mod Gates
 mod Groups
 mod Printed
+mod Worked

@@ -16,6 +16,7 @@ record_of body = codes "{" ++ padded 7 (length body) ++ codes " " ++ body ++ cod
 abbrev pub record_bytes : List Op → List ℕ
 record_bytes ops = record_of (body_bytes ops)
 
+-- their body is not too long for one record
 abbrev pub fit_in_a_record : List Op → Bool
 fit_in_a_record ops = nat_le (length (body_bytes ops)) MAX_BODY
 

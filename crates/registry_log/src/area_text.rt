@@ -1,5 +1,4 @@
-ghost use Rattle.std.specs.Prelude.{◌≡◌, ◌≤◌, ◌++◌, ◌∷◌, All, IfOk, OnOk, length, string_bytes, codes, List};
-ghost use Rattle.ship_core.specs.Rows.{AreRows};
+ghost use Rattle.std.specs.Prelude.{◌≡◌, ◌≤◌, ◌++◌, ◌∷◌, All, IfOk, OnOk, length, codes, List};
 ghost use Rattle.registry_frame.specs.Body.{body_bytes, operation_bytes};
 ghost use Rattle.registry_log.specs.Area.{area_bytes, sets};
 ghost use Rattle.registry_log.specs.Records.{groups, record_of, records_behind, records_bytes};
@@ -52,11 +51,7 @@ impl AreaText {
 }
 
 /// All of the area behind its first gate.
-pub(crate) fn area_text(
-    alloc: Global,
-    generation: u64,
-    rows: &Rows,
-) -> Result<Vec<u8>, NoMemory>
+pub(crate) fn area_text(alloc: Global, generation: u64, rows: &Rows) -> Result<Vec<u8>, NoMemory>
     ensures spelled { IfOk result (λ text. 0x7B ∷ text.items ≡ area_bytes generation rows.now) }
     ensures bodies_fit { IfOk result (λ text. All (λ ops. length (body_bytes ops) ≤ MAX_BODY) (groups (sets rows.now))) }
 {

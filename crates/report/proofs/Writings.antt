@@ -49,9 +49,11 @@ continues_at_first old text = record { whole = λ result after writes. writes }
 pub continues_then : (old : Option (List ℕ)) (text : List ℕ) (now between : Option (List ℕ)) (left a b : List ℕ) →
     Continues old text now left → left ≡ a ++ b → WritesAll now a (Ok tt) between → Continues old text between b
 continues_then old text now between left a b was parts first =
-    record { whole = λ result after second.
-      let P : List ℕ → Type 0 = λ l. WritesAll now l result after in
-      was.whole result after (subst P (sym parts) (writes_then now between after a b result first second)) }
+    record {
+      whole = λ result after second.
+          let P : List ℕ → Type 0 = λ l. WritesAll now l result after in
+          was.whole result after (subst P (sym parts) (writes_then now between after a b result first second));
+    }
 
 pub continues_failed : (old : Option (List ℕ)) (text : List ℕ) (now after : Option (List ℕ)) (left a b : List ℕ) (failed : Failed)
     (result : Result (Unit {0}) Failed) → IsErr result → Continues old text now left → left ≡ a ++ b → WritesAll now a (Err failed) after →

@@ -1,5 +1,5 @@
--- What a run prints (this project's profile): the report, a line for each row of the registry and for each path that was
--- passed over, the counts and the status; or the status line alone. Keys and paths of files stand in it as JSON texts.
+-- What a run prints (this project's profile): the report, with a line for each row of the registry, for each path that
+-- was passed over, for the counts and for the status; or the status line alone. Keys and paths of files are JSON texts.
 use Rattle.std.specs.Prelude.{ℕ, List, [], ◌++◌, codes, decimal}
 use Rattle.std.specs.List.{flat_map}
 use Rattle.std.specs.Fmt.{signed_decimal}
@@ -34,7 +34,8 @@ passed_line passing = codes "passed " ++ (quoted passing.path ++ (codes " " ++ (
 
 -- `shipped N dropped M`
 abbrev pub counts_line : ℕ → ℕ → List ℕ
-counts_line shipped dropped = codes "shipped " ++ (decimal shipped ++ (codes " dropped " ++ (decimal dropped ++ codes "\n")))
+counts_line shipped dropped =
+    codes "shipped " ++ (decimal shipped ++ (codes " dropped " ++ (decimal dropped ++ codes "\n")))
 
 -- a key stands as it is
 abbrev pub settings_text : SettingsError → List ℕ
@@ -48,6 +49,9 @@ settings_text (settings.OutOfRange key value) = codes "out of range " ++ (key ++
 settings_text (settings.BadGlob key fault) = codes "bad glob " ++ key
 settings_text (settings.BadPattern key) = codes "bad pattern " ++ key
 settings_text settings.NoMemory = codes "no memory"
+
+abbrev pub settings_line : List ℕ → List ℕ
+settings_line text = codes "status 3 settings " ++ (text ++ codes "\n")
 
 abbrev pub area_letter : Which → List ℕ
 area_letter A = codes "A"
@@ -66,11 +70,14 @@ lack_text (Key key) = codes "key " ++ key
 lack_text Follow = codes "follow"
 lack_text Generate = codes "generate"
 
+abbrev pub unbuilt_line : List ℕ → List ℕ
+unbuilt_line text = codes "status 13 unbuilt " ++ (text ++ codes "\n")
+
 -- the last line of each end; of a sink that failed nothing is promised
 abbrev pub status_bytes : Status → List ℕ
 status_bytes Done = codes "status 0 done\n"
 status_bytes Usage = codes "status 2 usage: beat_main -c FILE [--once] [--data DIR] [--generate N]\n"
-status_bytes (Settings fault) = codes "status 3 settings " ++ (settings_text fault ++ codes "\n")
+status_bytes (Settings fault) = settings_line (settings_text fault)
 status_bytes (RegistryBad area at) =
     codes "status 4 registry bad area " ++ (area_letter area ++ (codes " at " ++ (decimal at ++ codes "\n")))
 status_bytes DiskFault = codes "status 5 disk fault\n"
@@ -79,9 +86,10 @@ status_bytes (Unreachable worker failures) =
     codes "status 7 unreachable worker " ++ (decimal worker ++ (codes " failures " ++ (decimal failures ++ codes "\n")))
 status_bytes OutFault = []
 status_bytes SourceFault = codes "status 9 source fault\n"
-status_bytes (TooMany what path) = codes "status 10 too many " ++ (full_name what ++ (codes " " ++ (quoted path ++ codes "\n")))
+status_bytes (TooMany what path) =
+    codes "status 10 too many " ++ (full_name what ++ (codes " " ++ (quoted path ++ codes "\n")))
 status_bytes NoMemory = codes "status 12 no memory\n"
-status_bytes (Unbuilt what) = codes "status 13 unbuilt " ++ (lack_text what ++ codes "\n")
+status_bytes (Unbuilt what) = unbuilt_line (lack_text what)
 
 -- the lines of the rows, of the paths that were passed over, of the counts and of the status, in this order
 abbrev pub report_bytes : List Row → List Passing → ℕ → ℕ → Status → List ℕ

@@ -1,7 +1,6 @@
-ghost use Rattle.std.specs.Prelude.{◌≡◌, ◌≤◌, ◌++◌, codes, OnErr};
-ghost use Rattle.std.specs.Fmt.{signed_decimal};
+ghost use Rattle.std.specs.Prelude.{◌≡◌, ◌≤◌, ◌++◌, OnErr};
 ghost use Rattle.outside.specs.Counts.{Rose};
-ghost use Rattle.report.specs.Report.{area_letter, full_name, lack_text, settings_text, status_bytes};
+ghost use Rattle.report.specs.Report.{area_letter, full_name, lack_text, settings_line, settings_text, status_bytes, unbuilt_line};
 ghost use Rattle.report.specs.Writing.{WritesAll};
 
 use crate::part::Part::{Number, Plain, Quoted, Signed};
@@ -12,7 +11,8 @@ use beat_config::SettingsError;
 use outside::{Failed, Sink};
 use wire_base::{Full, Text, Which};
 
-/// Writes the last line. Takes no memory.
+/// Writes the status line, ended by LF (this project's profile); for `OutFault` it writes nothing. Takes
+/// no memory. Where the sink fails, a front of the line is written.
 pub fn status_line<S: Sink>(status: &Status, out: &mut S) -> Result<(), Failed>
     ensures told { WritesAll (S.written out.old) (status_bytes status.now) result (S.written out.new) }
     ensures faults_never_fall { S.faults out.old ≤ S.faults out.new }
@@ -65,7 +65,7 @@ pub fn status_line<S: Sink>(status: &Status, out: &mut S) -> Result<(), Failed>
 }
 
 fn settings_line<S: Sink>(fault: &SettingsError, out: &mut S) -> Result<(), Failed>
-    ensures told { WritesAll (S.written out.old) (codes "status 3 settings " ++ (settings_text fault.now ++ codes "\n")) result (S.written out.new) }
+    ensures told { WritesAll (S.written out.old) (settings_line (settings_text fault.now)) result (S.written out.new) }
     ensures faults_never_fall { S.faults out.old ≤ S.faults out.new }
     ensures failed_only_where_faults_rose { OnErr result (Rose (S.faults out.old) (S.faults out.new)) }
 {
@@ -84,7 +84,7 @@ fn settings_line<S: Sink>(fault: &SettingsError, out: &mut S) -> Result<(), Fail
 }
 
 fn key_line<'a, S: Sink>(fault: &'a [u8], key: &'a Text, out: &mut S) -> Result<(), Failed>
-    ensures told { WritesAll (S.written out.old) (codes "status 3 settings " ++ (fault.now ++ (key.now ++ codes "\n"))) result (S.written out.new) }
+    ensures told { WritesAll (S.written out.old) (settings_line (fault.now ++ key.now)) result (S.written out.new) }
     ensures faults_never_fall { S.faults out.old ≤ S.faults out.new }
     ensures failed_only_where_faults_rose { OnErr result (Rose (S.faults out.old) (S.faults out.new)) }
 {
@@ -100,7 +100,7 @@ fn key_line<'a, S: Sink>(fault: &'a [u8], key: &'a Text, out: &mut S) -> Result<
 }
 
 fn range_line<S: Sink>(key: &Text, value: i64, out: &mut S) -> Result<(), Failed>
-    ensures told { WritesAll (S.written out.old) (codes "status 3 settings out of range " ++ (key.now ++ (codes " " ++ (signed_decimal value ++ codes "\n")))) result (S.written out.new) }
+    ensures told { WritesAll (S.written out.old) (settings_line (settings_text (SettingsError.OutOfRange key.now value))) result (S.written out.new) }
     ensures faults_never_fall { S.faults out.old ≤ S.faults out.new }
     ensures failed_only_where_faults_rose { OnErr result (Rose (S.faults out.old) (S.faults out.new)) }
 {
@@ -117,18 +117,14 @@ fn range_line<S: Sink>(key: &Text, value: i64, out: &mut S) -> Result<(), Failed
 }
 
 fn unbuilt_line<S: Sink>(lack: &Lack, out: &mut S) -> Result<(), Failed>
-    ensures told { WritesAll (S.written out.old) (codes "status 13 unbuilt " ++ (lack_text lack.now ++ codes "\n")) result (S.written out.new) }
+    ensures told { WritesAll (S.written out.old) (unbuilt_line (lack_text lack.now)) result (S.written out.new) }
     ensures faults_never_fall { S.faults out.old ≤ S.faults out.new }
     ensures failed_only_where_faults_rose { OnErr result (Rose (S.faults out.old) (S.faults out.new)) }
 {
     match lack {
         Lack::Byte(at) => write_parts(
             out,
-            &[
-                Plain(b"status 13 unbuilt byte "),
-                Number(*at),
-                Plain(b"\n"),
-            ],
+            &[Plain(b"status 13 unbuilt byte "), Number(*at), Plain(b"\n")],
         ),
         Lack::Life => write_all(out, b"status 13 unbuilt life\n"),
         Lack::Key(key) => write_parts(

@@ -1,8 +1,8 @@
-//! How a run ended, and what it prints: the report and the status line.
+//! How a run ended and what it prints: the report and the status line.
 //!
-//! The text of each line is a definition of `specs/`, made of the values that the line tells; keys and paths stand in it
-//! as JSON texts. A line is written part by part to a sink, so the last line takes no memory. The report is spelled whole
-//! into memory before any of it is printed.
+//! The text of each line is a definition of `specs/`, and each call is told equal to its definition.
+//! Keys and paths of files stand in it as JSON texts. A line is written part by part to a sink, so
+//! the status line takes no memory; the report is spelled whole in memory.
 #![tactic(auto)]
 
 mod escape;
@@ -10,12 +10,15 @@ mod last_line;
 mod page;
 mod part;
 mod passing;
-mod spelled;
 mod status;
+mod text;
 mod write;
 
 pub use last_line::status_line;
 pub use passing::{Passing, Why};
-pub use spelled::report_text;
 pub use status::{Lack, Status};
+pub use text::report_text;
 pub use write::write_all;
+
+#[cfg(test)]
+mod tests;

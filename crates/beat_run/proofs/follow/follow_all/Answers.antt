@@ -1,4 +1,4 @@
-use Rattle.std.proofs.Common.{rules, arith, ◌∙◌}
+use Rattle.std.proofs.Common.{rules, arith}
 use Rattle.beat_run.proofs.Follows.{follows_done, follows_next, follows_none, follows_some}
 use Rattle.beat_run.proofs.GivenMoments.{moments_go_themselves}
 use Rattle.beat_run.proofs.follow.follow_all.Goals as goal

@@ -1,7 +1,6 @@
-use Rattle.std.proofs.Common.{rules, ◌∙◌, List}
 use Rattle.beat_run.proofs.GivenMoments.{moments_go_themselves}
 use Rattle.beat_run.proofs.Runs.{run_followed, scan_refused, too_many}
-use Rattle.beat_run.proofs.Standings.{left_counts, left_fails, left_opened, left_refused, left_tells, nothing_sent, refused_goes, standing_first}
+use Rattle.beat_run.proofs.Standings.{left_counts, left_fails, left_opened, left_refused, left_tells, nothing_sent, standing_first}
 use Rattle.beat_run.proofs.run.follow.Goals as goal
 
 pub returns-in-Err-clause-followed : goal.returns-in-Err-clause-followed

@@ -1,4 +1,4 @@
-use Rattle.std.proofs.Common.{rules, ◌∙◌, ap, Err, sym}
+use Rattle.std.proofs.Common.{rules, ◌∙◌, ap, Err}
 use Rattle.report.specs.declared.status.Status.{Status}
 use Rattle.report.specs.declared.status.Status.TheVariants.{NoMemory}
 use Rattle.beat_run.specs.Evidence.{evidence_of}

@@ -1,4 +1,4 @@
-use Rattle.std.proofs.Common.{rules, ◌∙◌, ℕ, List, take}
+use Rattle.std.proofs.Common.{◌∙◌, take}
 use Rattle.beat_config.specs.Document.{AreSettingsOf, IsFirstFault}
 use Rattle.prospect.specs.Lacks.{IsFirstLack}
 use Rattle.beat_run.specs.declared.settings.TheConstants.{LIMIT}

@@ -1,4 +1,4 @@
-use Rattle.std.proofs.Common.{arith, inl, inr, sym, subst, ◌≡◌, ◌⊎◌, ℕ, List, take, ◌++◌, slice_get, Option, Some, None, IfSome, Vec}
+use Rattle.std.proofs.Common.{arith, ap, ◌∙◌, Err, ◌≡◌, ℕ, List, take, ◌++◌, slice_get, Option, Some, None, IfSome, Vec}
 use Rattle.std.specs.Vec.{with_item}
 use Rattle.std.specs.declared.alloc.Global.{Global}
 use Rattle.outside.specs.Counts.{IsAtEnd}
@@ -6,16 +6,17 @@ use Rattle.outside.specs.Folders.{FolderHistory}
 use Rattle.outside.specs.Wires.{Outcome}
 use Rattle.beat_config.specs.Document.{AreSettingsOf, IsFirstFault}
 use Rattle.prospect.specs.Lacks.{IsFirstLack}
+use Rattle.report.specs.declared.status.Status.{Status}
+use Rattle.report.specs.declared.status.Status.TheVariants.{TooMany, Unreachable, Usage}
 use Rattle.beat_run.specs.declared.ending.Ending.{Ending}
 use Rattle.beat_run.specs.declared.settings.TheConstants.{LIMIT}
 use Rattle.beat_run.specs.Blamed.{FailsBySettings}
-use Rattle.beat_run.specs.Ends.{RefusesArea, RefusesKey, RefusesLack, RefusesSettings, RefusesWords}
+use Rattle.beat_run.specs.Ends.{RefusesKey, RefusesLack, RefusesSettings, RefusesWords}
 use Rattle.beat_run.specs.Evidence.{Evidence, evidence_of}
 use Rattle.beat_run.specs.Printed.{ending_bytes}
 use Rattle.beat_run.specs.Standing.{OnFirst}
 use Rattle.beat_run.specs.Stored.{HasNoOtherRow, IsDone, IsEnded, IsStoredBy}
-use Rattle.beat_run.specs.Untouched.{IsUntouched}
-use Rattle.beat_run.proofs.Endings.{printed_so, stored_still, told_never, told_printed, two_never, two_printed}
+use Rattle.beat_run.proofs.Endings.{printed_so, stored_still, told_never, told_printed, two_never, two_printed, was_met}
 use Rattle.beat_run.proofs.Standings.{first_is, first_set, on_first, wires_stay}
 use Rattle.beat_run.proofs.Storings.{done_stored, printed_stored}
 use Rattle.beat_run.proofs.shipping.ship.Goals as goal
@@ -113,3 +114,23 @@ returns-in-Err-clause-no_other_row_is_stored g c = λ only.
 pub returns-in-Err-clause-stored_rows_are_durable : goal.returns-in-Err-clause-stored_rows_are_durable
 returns-in-Err-clause-stored_rows_are_durable g c =
     stored_still _ c.in-Err.status c.print_status.result _ c.print_status.ensures.printed (rw c.in-Err.is at c.run.ensures.durable_where_stored)
+
+-- ---- which status was met
+
+pub returns-in-Ok-clause-words_for_the_unbuilt_are_refused : goal.returns-in-Ok-clause-words_for_the_unbuilt_are_refused
+returns-in-Ok-clause-words_for_the_unbuilt_are_refused g c = λ lack asks. absurd (rw c.in-Ok.is at c.run.ensures.unbuilt_refused lack asks)
+
+pub returns-in-Err-clause-usage_only_for_other_words : goal.returns-in-Err-clause-usage_only_for_other_words
+returns-in-Err-clause-usage_only_for_other_words g c = λ is.
+    c.run.ensures.usage_only (c.in-Err.is ∙ ap (λ (s : Status). Err s) (was_met _ c.in-Err.status c.print_status.result Usage c.print_status.ensures.printed (λ same. absurd cc) is))
+
+pub returns-in-Err-clause-unreachable_only_where_the_wire_or_a_peer_failed : goal.returns-in-Err-clause-unreachable_only_where_the_wire_or_a_peer_failed
+returns-in-Err-clause-unreachable_only_where_the_wire_or_a_peer_failed g c = λ worker failures is.
+    on_first {A = ℕ × Option (List Outcome)} (λ wire. (g.W.Wire.faults wire, g.W.Wire.outcomes wire)) c.args.wires.now (with_item c.args.wires.now 0 c.run.new.wire) c.index_mut.result.now c.run.new.wire
+    (λ before now. FailsBySettings (g.R.Source.left c.args.settings.now) (evidence_of (g.K.Clock.moments c.args.clock.now) (g.K.Clock.moments c.run.new.clock) before.1 now.1) now.0)
+    (first_is c.args.wires.now.items _ (omega (arith, c.requires)) c.index_mut.ensures.value) (first_set c.args.wires.now c.run.new.wire (omega (arith, c.requires)))
+    (c.run.ensures.unreachable worker failures (c.in-Err.is ∙ ap (λ (s : Status). Err s) (was_met _ c.in-Err.status c.print_status.result (Unreachable worker failures) c.print_status.ensures.printed (λ same. absurd cc) is)))
+
+pub returns-in-Err-clause-too_many_only_where_the_listings_show_more : goal.returns-in-Err-clause-too_many_only_where_the_listings_show_more
+returns-in-Err-clause-too_many_only_where_the_listings_show_more g c = λ what path is.
+    c.run.ensures.too_many what path (c.in-Err.is ∙ ap (λ (s : Status). Err s) (was_met _ c.in-Err.status c.print_status.result (TooMany what path) c.print_status.ensures.printed (λ same. absurd cc) is))

@@ -1,8 +1,8 @@
-use Rattle.std.proofs.Common.{◌≡◌, ◌∙◌, ap, subst, List, ℕ, map, rules, refl}
+use Rattle.std.proofs.Common.{◌∙◌, ap, subst, map}
 use Rattle.std.proofs.lemmas.Result.{IfOk-weaker}
 use Rattle.clap.specs.Faults.{fault_of, is_simple_and_free}
 use Rattle.clap.specs.Kinds.{FailsBy}
-use Rattle.clap.specs.Simple.{App, app_of, is_simple, matches_of}
+use Rattle.clap.specs.Simple.{App, is_simple, matches_of}
 use Rattle.command_line.specs.Command.{beat_command}
 use Rattle.command_line.proofs.Taken.{err_refused, folder_there, ok_taken, settings_there}
 use Rattle.command_line.proofs.command.parse.Goals as goal

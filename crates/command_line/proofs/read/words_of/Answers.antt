@@ -1,8 +1,8 @@
-use Rattle.std.proofs.Common.{rules, ◌≡◌, ◌∙◌, codes, refl, sym, subst, Option, List, ℕ, ap, Some}
+use Rattle.std.proofs.Common.{◌∙◌, codes, sym, subst, Option, List, ℕ, ap, Some}
 use Rattle.clap.specs.Matches.{found_of}
 use Rattle.clap.specs.Walk.{rows_of}
 use Rattle.command_line.specs.Words.{IsGenerateBy}
-use Rattle.command_line.proofs.Rows.{no_count, no_row, some_count, source-rows, value_row}
+use Rattle.command_line.proofs.Rows.{no_count, no_row, some_count, value_row}
 use Rattle.command_line.proofs.read.words_of.Goals as goal
 use Rattle.command_line.proofs.read.words_of.Goals.{in-None, in-Some+in-Some-line_count}
 

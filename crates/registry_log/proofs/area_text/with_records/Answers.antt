@@ -1,4 +1,4 @@
-use Rattle.std.proofs.Common.{◌≡◌, ◌≤◌, ◌∙◌, ℕ, List, length, subst, ◌+◌, ◌∷◌, ◌++◌, ap, sym, codes, drop, take, arith}
+use Rattle.std.proofs.Common.{◌≡◌, ◌≤◌, ◌∙◌, ℕ, List, length, subst, ◌+◌, ◌++◌, ap, sym, codes, drop, arith}
 use Rattle.std.proofs.lemmas.List.Elements.{All-nil}
 use Rattle.registry_frame.specs.Body.{operation_bytes}
 use Rattle.registry_log.specs.Area.{sets}
@@ -14,7 +14,7 @@ IsShortText text = length text ≤ 80_000
 pub loop-i-init : goal.loop-i-init
 loop-i-init c =
     let body : c.into_bytes.result.items ≡ codes "[" ++ operation_bytes (Set c.at.result.now) =
-      rw c.into_bytes.ensures.value (c.in_ok-format.ensures.ok ∙ ap (λ (l : List ℕ). codes "[" ++ l) c.in_ok-first.ensures.spelled) in
+    rw c.into_bytes.ensures.value (c.in_ok-format.ensures.ok ∙ ap (λ (l : List ℕ). codes "[" ++ l) c.in_ok-first.ensures.spelled) in
     record {
       in_range = omega arith;
       written = ap (λ (l : List ℕ). c.args.header.items ++ l) (first_written c.args.rows.now c.at.result.now _ c.at.ensures.at body);
@@ -28,7 +28,7 @@ loop-i-preserved c =
     record {
       in_range = omega arith;
       written = c.in_ok-add.ensures (Set row) (sets (drop (c.loop-i.i + 1) c.args.rows.now)) (c.as_str.ensures.value ∙ c.in_ok-operation.ensures.spelled)
-        ∙ ap (λ (l : List Op). c.loop-i.area.text.items ++ records_behind c.loop-i.area.body.items l) (sym (next_row c.args.rows.now c.loop-i.i row at)) ∙ c.loop-i.invariant.written;
+          ∙ ap (λ (l : List Op). c.loop-i.area.text.items ++ records_behind c.loop-i.area.body.items l) (sym (next_row c.args.rows.now c.loop-i.i row at)) ∙ c.loop-i.invariant.written;
       short = more_short c.args.rows.now c.loop-i.i row at c.loop-i.invariant.short (subst IsShortText c.in_ok-operation.ensures.spelled c.in_ok-operation.ensures.short);
     }
 

@@ -1,4 +1,4 @@
-use Rattle.std.proofs.Common.{◌≡◌, ◌≤◌, ◌++◌, ◌∷◌, All, length, codes, take, drop}
+use Rattle.std.proofs.Common.{◌≡◌, ◌≤◌, ◌++◌, All, length, take, drop}
 use Rattle.registry_frame.specs.Body.{operation_bytes}
 use Rattle.registry_log.specs.Area.{sets}
 use Rattle.registry_log.specs.Records.{records_behind, records_bytes}

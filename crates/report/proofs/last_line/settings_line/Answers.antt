@@ -1,4 +1,4 @@
-use Rattle.std.proofs.Common.{append_assoc, rules, w64}
+use Rattle.std.proofs.Common.{rules, w64}
 use Rattle.std.proofs.lemmas.Int.{to_z-of_z}
 use Rattle.report.proofs.last_line.settings_line.Goals as goal
 
@@ -12,7 +12,7 @@ pub returns-in-BadText-clause-told : goal.returns-in-BadText-clause-told
 returns-in-BadText-clause-told g c = rw c.in-BadText.is c.key_line-in-BadText.ensures.told
 
 pub returns-in-OutOfRange-clause-told : goal.returns-in-OutOfRange-clause-told
-returns-in-OutOfRange-clause-told g c = rw c.in-OutOfRange.is (simp append_assoc (rw (to_z-of_z w64 c.in-OutOfRange.value (search rules)) at c.range_line.ensures.told))
+returns-in-OutOfRange-clause-told g c = rw c.in-OutOfRange.is (rw (to_z-of_z w64 c.in-OutOfRange.value (search rules)) at c.range_line.ensures.told)
 
 pub returns-in-BadPattern-clause-told : goal.returns-in-BadPattern-clause-told
 returns-in-BadPattern-clause-told g c = rw c.in-BadPattern.is c.key_line-in-BadPattern.ensures.told

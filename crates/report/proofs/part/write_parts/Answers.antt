@@ -1,4 +1,4 @@
-use Rattle.std.proofs.Common.{rules, arith}
+use Rattle.std.proofs.Common.{rules}
 use Rattle.report.specs.Part.{part_bytes}
 use Rattle.report.proofs.Eaches.{flat_map_at}
 use Rattle.report.proofs.Writings.{continues_failed, continues_then}

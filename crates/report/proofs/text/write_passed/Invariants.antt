@@ -2,7 +2,7 @@ use Rattle.std.proofs.Common.{◌≤◌, drop}
 use Rattle.std.specs.List.{flat_map}
 use Rattle.report.specs.Report.{passed_line}
 use Rattle.report.proofs.Writings.{Continues}
-use Rattle.report.proofs.spelled.write_passed.Given as goal
+use Rattle.report.proofs.text.write_passed.Given as goal
 
 abbrev pub invariant-loop-passing : goal.invariant-loop-passing
 invariant-loop-passing g l = record {

@@ -2,7 +2,7 @@ use Rattle.std.proofs.Common.{rules}
 use Rattle.report.specs.Report.{file_line}
 use Rattle.report.proofs.Eaches.{flat_map_got}
 use Rattle.report.proofs.Writings.{continues_failed, continues_then}
-use Rattle.report.proofs.spelled.write_rows.Goals as goal
+use Rattle.report.proofs.text.write_rows.Goals as goal
 
 pub returns-in_err-write_row-clause-told : goal.returns-in_err-write_row-clause-told
 returns-in_err-write_row-clause-told g c =

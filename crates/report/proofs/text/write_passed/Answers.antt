@@ -2,7 +2,7 @@ use Rattle.std.proofs.Common.{rules}
 use Rattle.report.specs.Report.{passed_line}
 use Rattle.report.proofs.Eaches.{flat_map_at}
 use Rattle.report.proofs.Writings.{continues_failed, continues_then}
-use Rattle.report.proofs.spelled.write_passed.Goals as goal
+use Rattle.report.proofs.text.write_passed.Goals as goal
 
 pub returns-in_err-write_parts-clause-told : goal.returns-in_err-write_parts-clause-told
 returns-in_err-write_parts-clause-told g c =

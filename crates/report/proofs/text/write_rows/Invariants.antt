@@ -2,7 +2,7 @@ use Rattle.std.proofs.Common.{◌≤◌, drop}
 use Rattle.std.specs.List.{flat_map}
 use Rattle.report.specs.Report.{file_line}
 use Rattle.report.proofs.Writings.{Continues}
-use Rattle.report.proofs.spelled.write_rows.Given as goal
+use Rattle.report.proofs.text.write_rows.Given as goal
 
 abbrev pub invariant-loop-i : goal.invariant-loop-i
 invariant-loop-i g l = record {

@@ -1,0 +1,154 @@
+ghost use Rattle.std.specs.Prelude.{IfOk};
+ghost use Rattle.prospect.specs.Members.{HaveGlobs};
+
+mod asks;
+mod listed_folder;
+
+use crate::*;
+use asks::{Ask, globs, input, settings};
+use event_tree::InputRule;
+use listed_folder::ListedFolder;
+use std::alloc::Global;
+use std::test::Fail;
+use wire_base::Text;
+
+fn inputs(alloc: Global, rules: &[(&str, &[&str])]) -> Result<Vec<InputRule>, Fail>
+    ensures { IfOk result (λ inputs. HaveGlobs inputs.items) }
+{
+    let mut inputs = Vec::new(alloc);
+    for (id, texts) in rules {
+        inputs.push(input(alloc, id, globs(alloc, texts)?, 0, &[])?)?;
+    }
+    Ok(inputs)
+}
+
+fn folder(alloc: Global, paths: &[&str], failing: usize) -> Result<ListedFolder, Fail> {
+    let mut texts = Vec::new(alloc);
+    for path in paths {
+        texts.push(Text::from_bytes(alloc, path.as_bytes())?)?;
+    }
+    Ok(ListedFolder {
+        paths: texts,
+        listings: String::new(alloc),
+        failing,
+        listed: 0,
+        faults: 0,
+    })
+}
+
+const PATHS: [&str; 5] = ["/w/b.log", "/w/x/a.log", "/w/a.log", "/w/a.txt", "/v/a.log"];
+
+const INPUTS: [(&str, &[&str]); 3] = [
+    ("w", &["/w/*.log", "/w/a*"]),
+    ("w-x", &["/w/**/a.log"]),
+    ("none", &["/none/*"]),
+];
+
+#[test]
+fn each_covered_path_is_a_member_once_for_its_input(rt: HostRuntime) -> Result<(), Fail> {
+    let alloc = rt.alloc();
+    let inputs = inputs(alloc, &INPUTS)?;
+    let mut folder = folder(alloc, &PATHS, usize::MAX)?;
+    let members = scan(alloc, &mut folder, &inputs)?;
+    let mut found = String::new(alloc);
+    for member in &members {
+        let (key, path) = (member.key.as_str(), member.path.as_str());
+        writeln!(&mut found, "{key} {path}")?;
+    }
+    // A `-` comes before a `:`.
+    let wanted = "\
+filestream::w-x::path::/w/a.log /w/a.log
+filestream::w-x::path::/w/x/a.log /w/x/a.log
+filestream::w::path::/w/a.log /w/a.log
+filestream::w::path::/w/a.txt /w/a.txt
+filestream::w::path::/w/b.log /w/b.log
+";
+    assert_eq!(rt; found.as_str(), wanted);
+    assert_eq!(rt; folder.listings.as_str(), "/w 1\n/w 1\n/w 9\n/none 1\n");
+    Ok(())
+}
+
+#[test]
+fn failed_listing_ends_the_scan(rt: HostRuntime) -> Result<(), Fail> {
+    let alloc = rt.alloc();
+    let inputs = inputs(alloc, &INPUTS)?;
+    let mut folder = folder(alloc, &PATHS, 2)?;
+    let scanned = scan(alloc, &mut folder, &inputs);
+    assert!(rt; matches!(scanned, Err(ScanError::Failed)));
+    assert_eq!(rt; folder.listings.as_str(), "/w 1\n/w 1\n");
+    Ok(())
+}
+
+#[test]
+fn one_file_above_the_limit_is_too_many(rt: HostRuntime) -> Result<(), Fail> {
+    let alloc = rt.alloc();
+    let inputs = inputs(alloc, &[("w", &["/w/*.log"])])?;
+    let mut folder = folder(alloc, &[], usize::MAX)?;
+    for number in (0..65_536u32).rev() {
+        let path = format!(in alloc; "/w/{number:05}.log")?;
+        folder.paths.push(Text::from_string(path))?;
+    }
+    let count = scan(alloc, &mut folder, &inputs)?.len();
+    folder.paths.push(Text::from_bytes(alloc, b"/w/0.log")?)?;
+    let scanned = scan(alloc, &mut folder, &inputs);
+    let path = match &scanned {
+        Err(ScanError::TooMany { path }) => path.as_str(),
+        _ => "",
+    };
+    assert_eq!(rt; count, 65_536);
+    assert_eq!(rt; path, "/w/65535.log");
+    Ok(())
+}
+
+const LACKS: [(usize, &[(usize, Ask)], Option<&str>); 14] = [
+    (1, &[], None),
+    (1, &[(0, Ask::Fingerprint)], Some("inputs.0.file_identity")),
+    (1, &[(0, Ask::Native)], Some("inputs.0.file_identity")),
+    (1, &[(0, Ask::LineFeed)], Some("inputs.0.line_terminator")),
+    (1, &[(0, Ask::Size)], Some("inputs.0.message_max_bytes")),
+    (1, &[(0, Ask::Include)], Some("inputs.0.include_lines")),
+    (
+        1,
+        &[(0, Ask::Include), (0, Ask::Exclude)],
+        Some("inputs.0.exclude_lines"),
+    ),
+    (
+        2,
+        &[(0, Ask::Multiline), (1, Ask::Native)],
+        Some("inputs.0.multiline"),
+    ),
+    (
+        2,
+        &[(1, Ask::Size), (1, Ask::LineFeed), (0, Ask::Workers)],
+        Some("inputs.1.line_terminator"),
+    ),
+    (
+        11,
+        &[(2, Ask::Native), (10, Ask::Size)],
+        Some("inputs.10.message_max_bytes"),
+    ),
+    (
+        11,
+        &[(1, Ask::Multiline), (10, Ask::Native)],
+        Some("inputs.1.multiline"),
+    ),
+    (
+        1,
+        &[(0, Ask::Workers), (0, Ask::Processors)],
+        Some("output.workers"),
+    ),
+    (1, &[(0, Ask::Processors)], Some("processors")),
+    (0, &[], None),
+];
+
+#[test]
+fn first_lack_is_told_in_byte_order(rt: HostRuntime) -> Result<(), Fail> {
+    let alloc = rt.alloc();
+    for (inputs, asks, wanted) in &LACKS {
+        let settings = settings(alloc, *inputs, asks)?;
+        let found = first_lack(alloc, &settings)?;
+        let key = found.as_ref().map(|key| key.as_str());
+        assert_eq!(rt; key, *wanted);
+    }
+    Ok(())
+}

@@ -1,0 +1,228 @@
+ghost use Rattle.std.specs.Prelude.{◌≡◌, IfOk};
+ghost use Rattle.wire_base.specs.Ranges.{IsKey, IsPath, IsPlace};
+
+use crate::page::Page;
+use crate::*;
+use beat_config::SettingsError;
+use glob_paths::GlobError;
+use ship_core::Rows;
+use std::alloc::Global;
+use std::test::Fail;
+use wire_base::{Epoch, Full, Op, Row, Text, TextError, Which};
+
+const PATH: &str = "/w/\"\u{1}\u{e9}\\.log";
+
+fn text(alloc: Global, text: &str) -> Result<Text, TextError>
+    ensures { IfOk result (λ made. made ≡ text.now) }
+{
+    Text::from_bytes(alloc, text.as_bytes())
+}
+
+#[test]
+fn each_end_has_its_code_and_last_line(rt: HostRuntime) -> Result<(), Fail> {
+    let alloc = rt.alloc();
+    let cases: [(Status, u8, &str); 27] = [
+        (Status::Done, 0, "status 0 done\n"),
+        (
+            Status::Usage,
+            2,
+            "status 2 usage: beat_main -c FILE [--once] [--data DIR] [--generate N]\n",
+        ),
+        (
+            Status::Settings(SettingsError::TooLong),
+            3,
+            "status 3 settings too long\n",
+        ),
+        (
+            Status::Settings(SettingsError::NotToml),
+            3,
+            "status 3 settings not toml\n",
+        ),
+        (
+            Status::Settings(SettingsError::Unknown {
+                key: text(alloc, "a.\"b\"")?,
+            }),
+            3,
+            "status 3 settings unknown a.\"b\"\n",
+        ),
+        (
+            Status::Settings(SettingsError::Missing {
+                key: text(alloc, "a.\"b\"")?,
+            }),
+            3,
+            "status 3 settings missing a.\"b\"\n",
+        ),
+        (
+            Status::Settings(SettingsError::WrongKind {
+                key: text(alloc, "a.\"b\"")?,
+            }),
+            3,
+            "status 3 settings wrong kind a.\"b\"\n",
+        ),
+        (
+            Status::Settings(SettingsError::BadText {
+                key: text(alloc, "a.\"b\"")?,
+            }),
+            3,
+            "status 3 settings bad text a.\"b\"\n",
+        ),
+        (
+            Status::Settings(SettingsError::OutOfRange {
+                key: text(alloc, "a.\"b\"")?,
+                value: -7,
+            }),
+            3,
+            "status 3 settings out of range a.\"b\" -7\n",
+        ),
+        (
+            Status::Settings(SettingsError::BadGlob {
+                key: text(alloc, "a.\"b\"")?,
+                fault: GlobError::Empty,
+            }),
+            3,
+            "status 3 settings bad glob a.\"b\"\n",
+        ),
+        (
+            Status::Settings(SettingsError::BadPattern {
+                key: text(alloc, "a.\"b\"")?,
+            }),
+            3,
+            "status 3 settings bad pattern a.\"b\"\n",
+        ),
+        (
+            Status::RegistryBad {
+                area: Which::A,
+                at: 0,
+            },
+            4,
+            "status 4 registry bad area A at 0\n",
+        ),
+        (
+            Status::RegistryBad {
+                area: Which::B,
+                at: 8,
+            },
+            4,
+            "status 4 registry bad area B at 8\n",
+        ),
+        (Status::DiskFault, 5, "status 5 disk fault\n"),
+        (Status::FolderFault, 6, "status 6 folder fault\n"),
+        (
+            Status::Unreachable {
+                worker: 15,
+                failures: 3,
+            },
+            7,
+            "status 7 unreachable worker 15 failures 3\n",
+        ),
+        (Status::OutFault, 8, ""),
+        (Status::SourceFault, 9, "status 9 source fault\n"),
+        (
+            Status::TooMany {
+                what: Full::Files,
+                path: text(alloc, PATH)?,
+            },
+            10,
+            "status 10 too many files \"/w/\\\"\\u0001\u{e9}\\\\.log\"\n",
+        ),
+        (
+            Status::TooMany {
+                what: Full::Epochs,
+                path: text(alloc, PATH)?,
+            },
+            10,
+            "status 10 too many epochs \"/w/\\\"\\u0001\u{e9}\\\\.log\"\n",
+        ),
+        (
+            Status::TooMany {
+                what: Full::Slots,
+                path: text(alloc, PATH)?,
+            },
+            10,
+            "status 10 too many slots \"/w/\\\"\\u0001\u{e9}\\\\.log\"\n",
+        ),
+        (Status::NoMemory, 12, "status 12 no memory\n"),
+        (
+            Status::Unbuilt {
+                what: Lack::Byte(7),
+            },
+            13,
+            "status 13 unbuilt byte 7\n",
+        ),
+        (
+            Status::Unbuilt { what: Lack::Life },
+            13,
+            "status 13 unbuilt life\n",
+        ),
+        (
+            Status::Unbuilt { what: Lack::Follow },
+            13,
+            "status 13 unbuilt follow\n",
+        ),
+        (
+            Status::Unbuilt {
+                what: Lack::Generate,
+            },
+            13,
+            "status 13 unbuilt generate\n",
+        ),
+        (
+            Status::Unbuilt {
+                what: Lack::Key(text(alloc, "a.\"b\"")?),
+            },
+            13,
+            "status 13 unbuilt key a.\"b\"\n",
+        ),
+    ];
+    for (status, code, line) in cases {
+        let mut page = Page::new(alloc);
+        assert_eq!(rt; status_line(&status, &mut page), Ok(()));
+        assert_eq!(rt; page.into_blob().bytes(), line.as_bytes());
+        assert_eq!(rt; status.code(), code, "at {line}");
+    }
+    Ok(())
+}
+
+fn set(
+    alloc: Global,
+    rows: &mut Rows,
+    key: &str,
+    path: &str,
+    epoch: u32,
+    offset: u64,
+) -> Result<(), Fail>
+    requires key { IsKey key.now }
+    requires path { IsPath path.now }
+    requires offset { IsPlace offset }
+{
+    let row = Row {
+        key: text(alloc, key)?,
+        path: text(alloc, path)?,
+        epoch: Epoch(epoch),
+        offset,
+    };
+    rows.apply(alloc, Op::Set(row))?;
+    Ok(())
+}
+
+#[test]
+fn report_has_rows_passings_counts_and_status_in_order(rt: HostRuntime) -> Result<(), Fail> {
+    let alloc = rt.alloc();
+    let mut rows = Rows::new(alloc);
+    set(alloc, &mut rows, "b", PATH, 7, 22)?;
+    set(alloc, &mut rows, "a\t", "/w/a", 0, 4)?;
+    let passed = [Passing {
+        path: text(alloc, PATH)?,
+        why: Why::Gone,
+    }];
+    let report = report_text(alloc, &rows, &passed, 3, 5, &Status::Done)?;
+    let lines = concat!(
+        "file \"a\\t\" 0 4 \"/w/a\"\n",
+        "file \"b\" 7 22 \"/w/\\\"\\u0001\u{e9}\\\\.log\"\n",
+        "passed \"/w/\\\"\\u0001\u{e9}\\\\.log\" gone\n",
+        "shipped 3 dropped 5\n",
+        "status 0 done\n",
+    );
+    assert_eq!(rt; report.bytes(), lines.as_bytes());
+    Ok(())
+}
