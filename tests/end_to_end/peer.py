@@ -19,8 +19,8 @@ from dataclasses import dataclass
 GLANCE = 0.05
 
 # how often a slow receiver says that it is alive, and the seconds before each time
-SIGNS = 4
-SIGN = 0.4
+SIGNS = 6
+SIGN = 0.5
 
 # the fault of a client that ends, or is ended, before its window is whole
 CUT_OFF = "the connection ended within a window"

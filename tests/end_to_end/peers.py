@@ -8,12 +8,13 @@ from pathlib import Path
 
 import program
 from area import area, row
-from peer import GLANCE, Behaviour, Peer
+from peer import GLANCE, SIGN, SIGNS, Behaviour, Peer
 from shipping import UNREACHABLE, WINDOW, Shipping, end_of, now, numbered_lines
 
-# a timeout, as the settings say it and in seconds
-TIMEOUT = 'timeout = "1s"'
-SECONDS = 1
+# the timeout of a run whose peer is silent, in seconds
+SILENCE = 1
+# that of a run whose peer says that it is alive for longer than that
+LIFE = 2
 
 
 def unused_host():
@@ -103,11 +104,11 @@ class Peers(Shipping):
     # peers that are slow or silent
 
     def ship_to_silent(self, content, peer, *more):
-        """A run that ends by the timeout, and not before; what it wrote."""
+        """A run that ends by the timeout, and not before."""
         began = time.monotonic()
         with peer:
-            ran = self.ship(content, peer, TIMEOUT, *more)
-        self.assertGreaterEqual(time.monotonic() - began, SECONDS)
+            ran = self.ship(content, peer, f'timeout = "{SILENCE}s"', *more)
+        self.assertGreaterEqual(time.monotonic() - began, SILENCE)
         self.assertEqual(peer.connections, 1)
         self.assertEqual(peer.faults, [])
         self.assert_wrote(ran, UNREACHABLE)
@@ -126,10 +127,10 @@ class Peers(Shipping):
         self.assertEqual(self.area.read_bytes(), area(row(self.path, 4)))
 
     def test_signs_of_life_are_waited_for(self):
-        """They come for longer than the timeout, each within it."""
+        """They come for longer than the timeout, each of them within it."""
+        self.assertTrue(SIGN < LIFE < SIGNS * SIGN)
         since = now()
         with Peer(Behaviour.SLOW) as peer:
-            ran = self.ship(b"a\nb\n", peer, TIMEOUT)
-        self.assertGreaterEqual((now() - since).total_seconds(), SECONDS)
+            ran = self.ship(b"a\nb\n", peer, f'timeout = "{LIFE}s"')
         self.assert_events(peer, [(0, "a"), (2, "b")], since)
         self.assert_report(ran, 4, 2)

@@ -60,6 +60,20 @@ fn two_plain_lines_are_sent_in_order_and_stored(rt: HostRuntime) -> Result<(), F
     Ok(())
 }
 
+const SAME_WORDS: [&[&str]; 3] = [
+    &["--once", "-c", "f"],
+    &["--config=f", "--once"],
+    &["--data", "d", "--config", "f", "--once"],
+];
+
+#[test]
+fn words_in_another_order_ask_for_the_same_run(rt: HostRuntime) -> Result<(), Fail> {
+    for words in SAME_WORDS {
+        check(&rt, "other words", Start { words, ..PLAIN }, TWO_LINES)?;
+    }
+    Ok(())
+}
+
 const NO_FILE: Wanted = Wanted {
     printed: "shipped 0 dropped 0\nstatus 0 done\n",
     area: Area::Started(&[]),
