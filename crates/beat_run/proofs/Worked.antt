@@ -1,7 +1,7 @@
--- The file of two plain lines, `a` and `b`. Once the peer has acknowledged both, the row at the file's end is kept, also where
--- two such files were sent in one talk; while it has acknowledged only the first, the row behind the first line is kept, and
--- none behind the second. One payload that was acknowledged settles one event, also of several files.
-use Rattle.std.proofs.Common.{◌≡◌, ◌≢◌, ◌⊎◌, inl, inr, ℕ, zero, suc, ◌+◌, ◌<◌, ◌≤◌, false, List, [], ◌∷◌, ◌++◌, length, get_or, All, Any, Contains, Option, Some, None, slice_get, refl, sym, ◌∙◌, ap, subst, arith, length-append, append-nil, codes}
+-- The file of two plain lines, `a` and `b`. Once the peer has acknowledged both, the row at the file's end is kept, and
+-- so where two such files were sent in one talk. While it has acknowledged the first alone, the row behind the first
+-- line is kept, and none behind the second; and one event is settled, whatever files were read.
+use Rattle.std.proofs.Common.{◌≡◌, ◌≢◌, ◌⊎◌, inl, inr, ℕ, zero, suc, ◌+◌, ◌<◌, ◌≤◌, false, List, [], ◌∷◌, ◌++◌, length, get_or, map, All, Any, Contains, Option, Some, None, slice_get, refl, sym, ◌∙◌, ap, subst, arith, length-append, append-nil, codes}
 use Rattle.std.specs.Char.{encode_utf8}
 use Rattle.std.specs.Fmt.{digits}
 use Rattle.std.specs.List.{AllByRecursion}
@@ -95,19 +95,6 @@ first_payload path = payload path (codes "0") (codes "a")
 abbrev second_payload : List ℕ → List ℕ
 second_payload path = payload path (codes "2") (codes "b")
 
--- the two are shipped so
-record AreShipped (path : List ℕ) : Type 0 where
-  first : fate_of path 0 (codes "a") 5 ≡ ShippedAs (first_payload path)
-  second : fate_of path 2 (codes "b") 5 ≡ ShippedAs (second_payload path)
-
-a_shipped : AreShipped a_log
-unfolding payload_of_event payload_of_value date_of moment_text text_of escape digits
-a_shipped = record { first = refl; second = refl }
-
-b_shipped : AreShipped b_log
-unfolding payload_of_event payload_of_value date_of moment_text text_of escape digits
-b_shipped = record { first = refl; second = refl }
-
 abbrev first_line : Line
 first_line = record { span = record { start = 0; end = 2 }; head = codes "a"; full = 1 }
 
@@ -130,22 +117,27 @@ one_is_shortest one front (next ∷ left) same some size =
     absurd (omega (arith, size, length-append front (next ∷ left), ap (λ (l : List Line). length l) same))
 
 natural : (line : Line) (behind : List Line) → lines_from line_rule life line.span.start ≡ line ∷ behind → IsNaturalEvent line_rule event_rule life line.span.start line.span.end
-natural line behind lines = record {
-  row = line ∷ [];
-  natural = record { behind = behind; lines_are = lines; event = refl; shortest = one_is_shortest line };
-  ends = refl;
-}
+natural line behind lines =
+    record { row = line ∷ []; natural = record { behind = behind; lines_are = lines; event = refl; shortest = one_is_shortest line }; ends = refl }
 
 has_fate : (path one : List ℕ) (line : Line) (behind : List Line) → lines_from line_rule life line.span.start ≡ line ∷ behind →
     fate_of path line.span.start (message_of event_rule (line ∷ [])) 5 ≡ ShippedAs one → HasFate moments path life line.span (ShippedAs one)
 has_fate path one line behind lines is =
     record { row = line ∷ []; behind = behind; lines = lines; ends = refl; now = 5; in_range = omega arith; given = (0, omega arith, refl); is = sym is }
 
-are_told : (path : List ℕ) → AreShipped path → AreTold moments path life (both_events path)
-are_told path shipped = record {
+are_told : (path : List ℕ) → fate_of path 0 (codes "a") 5 ≡ ShippedAs (first_payload path) → fate_of path 2 (codes "b") 5 ≡ ShippedAs (second_payload path) → AreTold moments path life (both_events path)
+are_told path first second = record {
   partition = (refl, inl (natural first_line (second_line ∷ []) refl), (refl, inl (natural second_line [] refl), tt));
-  fates = (has_fate path (first_payload path) first_line (second_line ∷ []) refl shipped.first, (has_fate path (second_payload path) second_line [] refl shipped.second, tt));
+  fates = (has_fate path (first_payload path) first_line (second_line ∷ []) refl first, (has_fate path (second_payload path) second_line [] refl second, tt));
 }
+
+a_told : AreTold moments a_log life (both_events a_log)
+unfolding payload_of_event payload_of_value date_of moment_text text_of escape digits
+a_told = are_told a_log refl refl
+
+b_told : AreTold moments b_log life (both_events b_log)
+unfolding payload_of_event payload_of_value date_of moment_text text_of escape digits
+b_told = are_told b_log refl refl
 
 -- ---- what was done with it
 
@@ -162,8 +154,7 @@ whole path number = Read (member path) (reading number (both_events path) [])
 
 is_reading : (files : List File) (path : List ℕ) (number : ℕ) (settled behind : List ToldEvent) → slice_get files number ≡ Some file →
     AreTold moments path life (settled ++ behind) → IsReading files moments path (reading number settled behind)
-is_reading files path number settled behind is told =
-    record { file_is = is; front = λ sees. refl; told = told; told_in_life = λ sees. told }
+is_reading files path number settled behind is told = record { file_is = is; front = λ sees. refl; told = told; told_in_life = λ sees. told }
 
 is_whole : (path : List ℕ) (number : ℕ) → IsWholeReading (reading number (both_events path) [])
 is_whole path number = record {
@@ -244,44 +235,30 @@ abbrev glob : List ℕ
 glob = codes "/w/*"
 
 abbrev input : InputRule
-input = record {
-  id = codes "w";
-  paths = glob ∷ [];
-  file_identity = Path;
-  check_interval = 10000;
-  clean_removed = false;
-  close_inactive = 300000;
-  lines = line_rule;
-  include_lines = [];
-  exclude_lines = [];
-  multiline = event_rule;
-}
+input =
+    record { id = codes "w"; paths = glob ∷ []; file_identity = Path; check_interval = 10000; clean_removed = false; close_inactive = 300000; lines = line_rule; include_lines = []; exclude_lines = []; multiline = event_rule }
 
 abbrev settings : Settings
-settings = record {
-  inputs = input ∷ [];
-  output = record { hosts = []; workers = 1; bulk_max_size = 2048; timeout = 60000; attempts = 3 };
-  processors = [];
-  events = 3200;
-  lanes = 1;
-}
+settings =
+    record { inputs = input ∷ []; output = record { hosts = []; workers = 1; bulk_max_size = 2048; timeout = 60000; attempts = 3 }; processors = []; events = 3200; lanes = 1 }
 
-abbrev shown : ℕ → List ℕ → Shown
-shown number path = record { entry = record { path = path; size = 4; native = None; changed = record { 0 = 0 } }; file = number; life = 0 }
+abbrev folder : List (List ℕ) → FolderHistory
+folder paths = record { files = map (λ path. file) paths; events = [] }
 
-abbrev folder : List File → FolderHistory
-folder files = record { files = files; events = [] }
+abbrev shown_from : ℕ → List (List ℕ) → List Shown
+shown_from number [] = []
+shown_from number (path ∷ paths) =
+    record { entry = record { path = path; size = 4; native = None; changed = record { 0 = 0 } }; file = number; life = 0 } ∷ shown_from (suc number) paths
 
-abbrev listing : List Shown → Listing
-listing all = record { glob = glob; shown = all }
+abbrev listing : List (List ℕ) → Listing
+listing paths = record { glob = glob; shown = shown_from 0 paths }
 
--- the folder was listed once
-abbrev listed : List File → List Shown → FolderHistory
-listed files all = record { files = files; events = event_of (listing all) ∷ [] }
+-- the folder was listed once, and then these files were followed
+abbrev listed : List (List ℕ) → FolderHistory
+listed paths = with_events (folder paths) (event_of (listing paths) ∷ [])
 
--- and then these files were followed
-abbrev followed : List File → List Shown → List Harvest → FolderHistory
-followed files all harvests = with_events (listed files all) (events_from 1 harvests)
+abbrev followed : List (List ℕ) → List Harvest → FolderHistory
+followed paths harvests = with_events (listed paths) (events_from 1 harvests)
 
 abbrev evidence : List (List ℕ) → ℕ → Evidence
 evidence sent number = record { moments = moments; outcomes = Some (outcomes_of sent number) }
@@ -313,13 +290,13 @@ are_members paths members in_order only every = record {
       (All-from_recursion (HasMember members) paths every, tt);
 }
 
-follows : (files : List File) (all : List Shown) (harvests : List Harvest) (number : ℕ) (So : List Member → List Harvest → Type 0) →
-    AreMembers (input ∷ []) (paths_of (listing all ∷ [])) (members_in harvests) → AllByRecursion (IsHarvest files moments) harvests →
+follows : (paths : List (List ℕ)) (harvests : List Harvest) (number : ℕ) (So : List Member → List Harvest → Type 0) →
+    AreMembers (input ∷ []) (paths_of (listing paths ∷ [])) (members_in harvests) → AllByRecursion (IsHarvest (folder paths).files moments) harvests →
     AreKept (Some (outcomes_of (payloads_in (told_in harvests)) number)) harvests → So [] harvests →
-    Follows settings (folder files) (evidence (payloads_in (told_in harvests)) number) So (Some (followed files all harvests))
-follows files all harvests number So are each kept so = record {
-  listings = listing all ∷ [];
-  listed = listed files all;
+    Follows settings (folder paths) (evidence (payloads_in (told_in harvests)) number) So (Some (followed paths harvests))
+follows paths harvests number So are each kept so = record {
+  listings = listing paths ∷ [];
+  listed = listed paths;
   scanned = record { one_for_each_glob = refl; kept = refl };
   members = members_in harvests;
   are_members = are;
@@ -330,24 +307,20 @@ follows files all harvests number So are each kept so = record {
   kept = kept;
   end = [];
   none_opened = tt;
-  trace = ap (λ events. Some (with_events (listed files all) events)) (sym (append-nil (events_from 1 harvests)));
+  trace = ap (λ events. Some (with_events (listed paths) events)) (sym (append-nil (events_from 1 harvests)));
   so = so;
 }
 
 -- ---- one file, `/w/a.log`
 
-abbrev a_alone : List Shown
-a_alone = shown 0 a_log ∷ []
-
 a_named : AreMembers (input ∷ []) (a_log ∷ []) (member a_log ∷ [])
-a_named = are_members (a_log ∷ []) (member a_log ∷ []) (tt, tt)
-    (is_named (a_log ∷ []) a_log (0, omega arith, refl) a_covered, tt)
-    ((λ covered. (0, member a_log, omega arith, refl, refl)), tt)
+a_named =
+    are_members (a_log ∷ []) (member a_log ∷ []) (tt, tt) (is_named (a_log ∷ []) a_log (0, omega arith, refl) a_covered, tt) ((λ covered. (0, member a_log, omega arith, refl, refl)), tt)
 
 -- both payloads are acknowledged, and the row is at the end of the file
-pub two_plain_lines : Follows settings (folder (file ∷ [])) (evidence a_payloads 2) (Drains (evidence a_payloads 2) 2 0) (Some (followed (file ∷ []) a_alone (whole a_log 0 ∷ [])))
-two_plain_lines = follows (file ∷ []) a_alone (whole a_log 0 ∷ []) 2 (Drains (evidence a_payloads 2) 2 0) a_named
-    (is_reading (file ∷ []) a_log 0 (both_events a_log) [] refl (are_told a_log a_shipped), tt)
+pub two_plain_lines : Follows settings (folder (a_log ∷ [])) (evidence a_payloads 2) (Drains (evidence a_payloads 2) 2 0) (Some (followed (a_log ∷ []) (whole a_log 0 ∷ [])))
+two_plain_lines = follows (a_log ∷ []) (whole a_log 0 ∷ []) 2 (Drains (evidence a_payloads 2) 2 0) a_named
+    (is_reading (file ∷ []) a_log 0 (both_events a_log) [] refl a_told, tt)
     (are_kept (whole a_log 0 ∷ []) 2 a_window both_acknowledged)
     (record {
       none_left = refl;
@@ -357,41 +330,36 @@ two_plain_lines = follows (file ∷ []) a_alone (whole a_log 0 ∷ []) 2 (Drains
       dropped_are = refl;
     })
 
-two_plain_lines_offset : (row_of (member a_log) (reading 0 (both_events a_log) [])).offset ≡ 4
-two_plain_lines_offset = refl
-
--- only the first is acknowledged, and the row is behind its line
+-- the first alone is acknowledged, and the row is at the end of its line
 abbrev first_settled : Reading
 first_settled = reading 0 (first_event a_log ∷ []) (second_event a_log ∷ [])
 
-pub first_line_kept : Follows settings (folder (file ∷ [])) (evidence a_payloads 1) (λ left harvests. StopsIn (Unreachable 0 3) harvests) (Some (followed (file ∷ []) a_alone (Read (member a_log) first_settled ∷ [])))
-first_line_kept = follows (file ∷ []) a_alone (Read (member a_log) first_settled ∷ []) 1 (λ left harvests. StopsIn (Unreachable 0 3) harvests) a_named
-    (is_reading (file ∷ []) a_log 0 (first_event a_log ∷ []) (second_event a_log ∷ []) refl (are_told a_log a_shipped), tt)
+pub first_line_kept : Follows settings (folder (a_log ∷ [])) (evidence a_payloads 1) (λ left harvests. StopsIn (Unreachable 0 3) harvests) (Some (followed (a_log ∷ []) (Read (member a_log) first_settled ∷ [])))
+first_line_kept = follows (a_log ∷ []) (Read (member a_log) first_settled ∷ []) 1 (λ left harvests. StopsIn (Unreachable 0 3) harvests) a_named
+    (is_reading (file ∷ []) a_log 0 (first_event a_log ∷ []) (second_event a_log ∷ []) refl a_told, tt)
     (are_kept (Read (member a_log) first_settled ∷ []) 1 a_window first_acknowledged)
     (record { whole = []; last = Read (member a_log) first_settled ∷ []; are = refl; each = tt; stops = tt })
 
-first_line_offset : (row_of (member a_log) first_settled).offset ≡ 2
-first_line_offset = refl
+offsets : ((row_of (member a_log) (reading 0 (both_events a_log) [])).offset ≡ 4) × ((row_of (member a_log) first_settled).offset ≡ 2)
+offsets = (refl, refl)
 
 -- ---- two files, `/w/a.log` and `/w/b.log`, whose four payloads have places of their own in one talk
 
-abbrev both_files : List Harvest
-both_files = whole a_log 0 ∷ whole b_log 1 ∷ []
+abbrev both : List (List ℕ)
+both = a_log ∷ b_log ∷ []
 
-abbrev both_shown : List Shown
-both_shown = shown 0 a_log ∷ shown 1 b_log ∷ []
+abbrev both_whole : List Harvest
+both_whole = whole a_log 0 ∷ whole b_log 1 ∷ []
 
-both_named : AreMembers (input ∷ []) (a_log ∷ b_log ∷ []) (member a_log ∷ member b_log ∷ [])
-both_named = are_members (a_log ∷ b_log ∷ []) (member a_log ∷ member b_log ∷ []) ((refl, tt), (tt, tt))
-    (is_named (a_log ∷ b_log ∷ []) a_log (0, omega arith, refl) a_covered, (is_named (a_log ∷ b_log ∷ []) b_log (1, omega arith, refl) b_covered, tt))
+both_named : AreMembers (input ∷ []) both (member a_log ∷ member b_log ∷ [])
+both_named = are_members both (member a_log ∷ member b_log ∷ []) ((refl, tt), (tt, tt))
+    (is_named both a_log (0, omega arith, refl) a_covered, (is_named both b_log (1, omega arith, refl) b_covered, tt))
     ((λ covered. (0, member a_log, omega arith, refl, refl)), ((λ covered. (1, member b_log, omega arith, refl, refl)), tt))
 
-pub two_files_kept : Follows settings (folder (file ∷ file ∷ [])) (evidence all_payloads 4) (Drains (evidence all_payloads 4) 4 0) (Some (followed (file ∷ file ∷ []) both_shown both_files))
-two_files_kept = follows (file ∷ file ∷ []) both_shown both_files 4 (Drains (evidence all_payloads 4) 4 0) both_named (
-  is_reading (file ∷ file ∷ []) a_log 0 (both_events a_log) [] refl (are_told a_log a_shipped),
-  (is_reading (file ∷ file ∷ []) b_log 1 (both_events b_log) [] refl (are_told b_log b_shipped), tt),
-)
-    (are_kept both_files 4 all_window all_acknowledged)
+pub two_files_kept : Follows settings (folder both) (evidence all_payloads 4) (Drains (evidence all_payloads 4) 4 0) (Some (followed both both_whole))
+two_files_kept = follows both both_whole 4 (Drains (evidence all_payloads 4) 4 0) both_named
+    (is_reading (file ∷ file ∷ []) a_log 0 (both_events a_log) [] refl a_told, (is_reading (file ∷ file ∷ []) b_log 1 (both_events b_log) [] refl b_told, tt))
+    (are_kept both_whole 4 all_window all_acknowledged)
     (record {
       none_left = refl;
       whole = (is_whole a_log 0, (is_whole b_log 1, tt));
@@ -400,7 +368,7 @@ two_files_kept = follows (file ∷ file ∷ []) both_shown both_files 4 (Drains 
       dropped_are = refl;
     })
 
--- ---- one payload is acknowledged
+-- ---- both lines are sent, and the first alone is acknowledged
 
 abbrev one_acknowledged : List Outcome
 one_acknowledged = outcomes_of a_payloads 1
@@ -430,40 +398,44 @@ only_first one place is =
     let stands = only_one (first_payload a_log) one place.index (subst S payloads is.stands) in
     (is_first place finished.0 stands.0, stands.1)
 
--- so there is one place, which one event takes
-record AreFirst (places : List Place) (number : ℕ) : Type 0 where
+-- the payloads differ in the last digit of their offsets
+payloads_differ : first_payload a_log ≡ second_payload a_log → ⊥
+payloads_differ same =
+    let digit : 48 ≡ 50 = ap (λ (l : List ℕ). get_or l 114 0) same in
+    absurd (omega (arith, digit))
+
+-- settled events that are shipped take its place, and none of them is the second line's
+record TakeFirst (told : List ToldEvent) (places : List Place) : Type 0 where
   each : AllByRecursion (λ place. place ≡ first_place) places
-  as_many : length places ≡ number
+  as_many : length places ≡ length (payloads_in told)
+  others : AllByRecursion (λ event. event.fate ≢ ShippedAs (second_payload a_log)) told
 
-taken_by : (fate : Fate) (told : List ToldEvent) (places : List Place) → ((later : List Place) → AreSettled (Some one_acknowledged) told later → AreFirst later (length (payloads_in told))) →
-    SettlesAs (Some one_acknowledged) fate (AreSettled (Some one_acknowledged) told) places → AreFirst places (length (payloads_in (record { span = first_line.span; fate = fate } ∷ told)))
-taken_by (DroppedBy rule) told places others settled = others places settled
-taken_by (ShippedAs one) told places others settled =
-    let behind = others settled.later settled.behind in
-    let P : List Place → Type 0 = λ l. AreFirst l (suc (length (payloads_in told))) in
-    subst P (sym settled.are) (record { each = ((only_first one settled.place settled.acknowledged).0, behind.each); as_many = ap suc behind.as_many })
+taken_by : (span : Extent) (fate : Fate) (told : List ToldEvent) (places : List Place) → ((later : List Place) → AreSettled (Some one_acknowledged) told later → TakeFirst told later) →
+    SettlesAs (Some one_acknowledged) fate (AreSettled (Some one_acknowledged) told) places → TakeFirst (record { span = span; fate = fate } ∷ told) places
+taken_by span (DroppedBy rule) told places behind settled =
+    let later = behind places settled in
+    record { each = later.each; as_many = later.as_many; others = ((λ same. absurd cc), later.others) }
+taken_by span (ShippedAs one) told places behind settled =
+    let first = only_first one settled.place settled.acknowledged in
+    let later = behind settled.later settled.behind in
+    subst (TakeFirst (record { span = span; fate = ShippedAs one } ∷ told)) (sym settled.are)
+    (record { each = (first.0, later.each); as_many = ap suc later.as_many; others = ((λ same. payloads_differ (first.1 ∙ cc)), later.others) })
 
-taken : (told : List ToldEvent) (places : List Place) → AreSettled (Some one_acknowledged) told places → AreFirst places (length (payloads_in told))
-taken [] places settled = subst (λ (l : List Place). AreFirst l 0) (sym settled) (record { each = tt; as_many = refl })
-taken (one ∷ told) places settled = taken_by one.fate told places (taken told) settled
+taken : (told : List ToldEvent) (places : List Place) → AreSettled (Some one_acknowledged) told places → TakeFirst told places
+taken [] places settled = subst (TakeFirst []) (sym settled) (record { each = tt; as_many = refl; others = tt })
+taken (one ∷ told) places settled = taken_by one.span one.fate told places (taken told) settled
 
 one_place : (places : List Place) → AllByRecursion (λ place. place ≡ first_place) places → AreApart places → length places ≤ 1
 one_place [] each apart = omega arith
 one_place (place ∷ []) each apart = omega arith
 one_place (place ∷ next ∷ places) each apart = absurd (apart.0 (0, omega arith, each.1.0 ∙ sym each.0))
 
--- it settles one event, also of several files whose events have equal payloads
+-- one event is settled, also where several files have events with equal payloads
 pub one_place_settles_one_event : (harvests : List Harvest) → AreKept (Some one_acknowledged) harvests → length (payloads_in (settled_in harvests)) ≤ 1
 one_place_settles_one_event harvests kept =
     let first = taken (settled_in harvests) kept.places kept.settled in
     let few = one_place kept.places first.each kept.apart in
     omega (arith, few, first.as_many)
-
--- the payloads differ in the last digit of their offsets
-payloads_differ : first_payload a_log ≡ second_payload a_log → ⊥
-payloads_differ same =
-    let digit : 48 ≡ 50 = ap (λ (l : List ℕ). get_or l 114 0) same in
-    absurd (omega (arith, digit))
 
 -- ---- what events the file can have
 
@@ -493,6 +465,7 @@ only_moment (suc k) now within is = absurd (omega (arith, within))
 
 -- an event behind the first line, up to whatever end, is shipped as the second payload
 second_is : (span : Extent) (fate : Fate) → HasFate moments a_log life span fate → span.start ≡ 2 → 2 < span.end → fate ≡ ShippedAs (second_payload a_log)
+unfolding payload_of_event payload_of_value date_of moment_text text_of escape digits
 second_is span fate is start some =
     let L : ℕ → Type 0 = λ n. lines_from line_rule life n ≡ is.row ++ is.behind in
     let E : ℕ → Type 0 = λ n. row_end n is.row ≡ span.end in
@@ -502,20 +475,8 @@ second_is span fate is start some =
     ∙ ap (λ (n : ℕ). fate_of a_log n (message_of event_rule is.row) is.now) start
     ∙ ap (λ (l : List Line). fate_of a_log 2 (message_of event_rule l) is.now) row
     ∙ ap (λ (n : ℕ). fate_of a_log 2 (codes "b") n) now
-    ∙ a_shipped.second
 
 -- ---- a row that is refused
-
-not_settled : (Behind : List Place → Type 0) (fate : Fate) (places : List Place) → fate ≡ ShippedAs (second_payload a_log) → SettlesAs (Some one_acknowledged) fate Behind places → ⊥
-not_settled Behind fate places is settled =
-    let S : Fate → Type 0 = λ f. SettlesAs (Some one_acknowledged) f Behind places in
-    let takes = subst S is settled in
-    payloads_differ (only_first (second_payload a_log) takes.place takes.acknowledged).1
-
--- whatever becomes of the first event, the others are settled
-behind_settled : (outcomes : Option (List Outcome)) (fate : Fate) (Behind : List Place → Type 0) (places : List Place) → SettlesAs outcomes fate Behind places → (later : List Place) × Behind later
-behind_settled outcomes (DroppedBy rule) Behind places settled = (places, settled)
-behind_settled outcomes (ShippedAs one) Behind places settled = (settled.later, settled.behind)
 
 none_behind_first : (settled behind others : List ToldEvent) (places : List Place) → AreTold moments a_log life (settled ++ behind) → 2 < last_end 0 (spans_of settled) →
     AreSettled (Some one_acknowledged) (settled ++ others) places → ⊥
@@ -528,14 +489,11 @@ none_behind_first (one ∷ two ∷ settled) behind others places told beyond are
     let N : ℕ → Type 0 = λ n. IsNaturalEvent line_rule event_rule life n two.span.end in
     let next = one_end second_line [] 2 two.span.end refl (subst N end (not_flushed one.span.end two.span.end told.partition.2.1)) in
     let fate = second_is two.span two.fate told.fates.1.0 (told.partition.2.0 ∙ end) (omega (arith, next)) in
-    let later = behind_settled (Some one_acknowledged) one.fate (AreSettled (Some one_acknowledged) (two ∷ (settled ++ others))) places are in
-    not_settled (AreSettled (Some one_acknowledged) (settled ++ others)) two.fate later.0 fate later.1
+    (taken (one ∷ two ∷ (settled ++ others)) places are).others.1.0 fate
 
--- only the first payload is acknowledged, so no row that ends behind the first line is kept, whatever events are told of the file
--- and whatever other files were read behind it
+-- no row that ends behind the first line is kept, whatever events are told of the file, and whatever was read behind it
 pub second_line_refused : (files : List File) (key : List ℕ) (one : Reading) (harvests : List Harvest) → bytes_read one.file one.looks ≡ life → IsReading files moments a_log one →
     2 < (row_of (record { key = key; path = a_log }) one).offset → AreKept (Some one_acknowledged) (Read (record { key = key; path = a_log }) one ∷ harvests) → ⊥
 second_line_refused files key one harvests read is beyond kept =
     let T : List ℕ → Type 0 = λ bytes. AreTold moments a_log bytes (one.settled ++ one.behind) in
-    let P : List ToldEvent → Type 0 = λ told. AreSettled (Some one_acknowledged) told kept.places in
     none_behind_first one.settled one.behind (settled_in harvests) kept.places (subst T read is.told) beyond kept.settled
