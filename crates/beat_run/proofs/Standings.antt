@@ -16,7 +16,6 @@ use Rattle.lumber_frame.specs.Settled.{IsSettled}
 use Rattle.report.specs.declared.status.Status.{Status}
 use Rattle.report.specs.declared.status.Status.TheVariants.{Done, Usage, Settings as SettingsFault, RegistryBad, DiskFault, FolderFault, Unreachable, OutFault, SourceFault, TooMany, NoMemory, Unbuilt}
 use Rattle.beat_run.specs.Acknowledged.{AcknowledgeInAll, AreAcknowledged, FailsFor, IsFailure, SendOnly, SendsFront, SendsNothingElse}
-use Rattle.beat_run.specs.Ends.{IsReadingEnd}
 use Rattle.beat_run.specs.Serving.{HasFailed, HasServed, HasSettled, IsSomeWindow, IsWindowOf, Serves, Settles}
 use Rattle.beat_run.specs.TimedOut.{IsTimedOut}
 use Rattle.beat_run.specs.Standing.{Blames, GoesOn, GoesOnRefused, HasParted, IsParted, IsFailedConnection, IsStanding, OnFirst, Tells, WasRefused, outcomes_since, with_link}

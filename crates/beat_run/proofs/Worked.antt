@@ -31,7 +31,7 @@ use Rattle.outside.specs.declared.history.Question.TheVariants.{Length, ReadAt}
 use Rattle.outside.specs.declared.history.Shown.{Shown}
 use Rattle.outside.specs.declared.history.Sight.{Sight}
 use Rattle.outside.specs.Files.{File}
-use Rattle.outside.specs.Folders.{FolderHistory}
+use Rattle.outside.specs.Folders.{Event, FolderHistory}
 use Rattle.outside.specs.Talks.{Talk}
 use Rattle.outside.specs.Wires.{Outcome, Finished}
 use Rattle.lumber_frame.specs.declared.frame.Frame.TheVariants.{Ack}
@@ -290,9 +290,9 @@ are_members paths members in_order only every = record {
       (All-from_recursion (HasMember members) paths every, tt);
 }
 
-follows : (paths : List (List ℕ)) (harvests : List Harvest) (number : ℕ) (So : List Member → List Harvest → Type 0) →
+follows : (paths : List (List ℕ)) (harvests : List Harvest) (number : ℕ) (So : List Member → List Harvest → List Event → Type 0) →
     AreMembers (input ∷ []) (paths_of (listing paths ∷ [])) (members_in harvests) → AllByRecursion (IsHarvest (folder paths).files moments) harvests →
-    AreKept (Some (outcomes_of (payloads_in (told_in harvests)) number)) harvests → So [] harvests →
+    AreKept (Some (outcomes_of (payloads_in (told_in harvests)) number)) harvests → So [] harvests [] →
     Follows settings (folder paths) (evidence (payloads_in (told_in harvests)) number) So (Some (followed paths harvests))
 follows paths harvests number So are each kept so = record {
   listings = listing paths ∷ [];
@@ -324,6 +324,7 @@ two_plain_lines = follows (a_log ∷ []) (whole a_log 0 ∷ []) 2 (Drains (evide
     (are_kept (whole a_log 0 ∷ []) 2 a_window both_acknowledged)
     (record {
       none_left = refl;
+      nothing_else = refl;
       whole = (is_whole a_log 0, tt);
       shipped_are = refl;
       acknowledged = record { acknowledged = a_payloads; acknowledges = both_acknowledged; others = 0; together = refl; by_others = refl };
@@ -334,8 +335,8 @@ two_plain_lines = follows (a_log ∷ []) (whole a_log 0 ∷ []) 2 (Drains (evide
 abbrev first_settled : Reading
 first_settled = reading 0 (first_event a_log ∷ []) (second_event a_log ∷ [])
 
-pub first_line_kept : Follows settings (folder (a_log ∷ [])) (evidence a_payloads 1) (λ left harvests. StopsIn (Unreachable 0 3) harvests) (Some (followed (a_log ∷ []) (Read (member a_log) first_settled ∷ [])))
-first_line_kept = follows (a_log ∷ []) (Read (member a_log) first_settled ∷ []) 1 (λ left harvests. StopsIn (Unreachable 0 3) harvests) a_named
+pub first_line_kept : Follows settings (folder (a_log ∷ [])) (evidence a_payloads 1) (λ left harvests end. StopsIn (Unreachable 0 3) harvests) (Some (followed (a_log ∷ []) (Read (member a_log) first_settled ∷ [])))
+first_line_kept = follows (a_log ∷ []) (Read (member a_log) first_settled ∷ []) 1 (λ left harvests end. StopsIn (Unreachable 0 3) harvests) a_named
     (is_reading (file ∷ []) a_log 0 (first_event a_log ∷ []) (second_event a_log ∷ []) refl a_told, tt)
     (are_kept (Read (member a_log) first_settled ∷ []) 1 a_window first_acknowledged)
     (record { whole = []; last = Read (member a_log) first_settled ∷ []; are = refl; each = tt; stops = tt })
@@ -362,6 +363,7 @@ two_files_kept = follows both both_whole 4 (Drains (evidence all_payloads 4) 4 0
     (are_kept both_whole 4 all_window all_acknowledged)
     (record {
       none_left = refl;
+      nothing_else = refl;
       whole = (is_whole a_log 0, (is_whole b_log 1, tt));
       shipped_are = refl;
       acknowledged = record { acknowledged = all_payloads; acknowledges = all_acknowledged; others = 0; together = refl; by_others = refl };
