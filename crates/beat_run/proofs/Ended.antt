@@ -1,5 +1,5 @@
 -- What a run ends with, by what it noted, what it tells of that, and what it stored.
-use Rattle.std.proofs.Common.{◌≡◌, inl, ℕ, List, Option, Some, None, Result, Ok, Err, IfErr, IfSome, IsErrOf, refl, sym, ◌∙◌, subst}
+use Rattle.std.proofs.Common.{◌≡◌, inl, ℕ, List, Option, Some, None, Result, Ok, Err, IfErr, IfOk, IfSome, IsErrOf, refl, sym, ◌∙◌, subst}
 use Rattle.event_tree.specs.declared.settings.Settings.{Settings}
 use Rattle.outside.specs.DiskImages.{Only}
 use Rattle.outside.specs.Folders.{FolderHistory}
@@ -134,3 +134,10 @@ pub only_later : (old between : Option (List ℕ)) (images later : List ℕ → 
 only_later old between images later kept less only =
     let P : Option (List ℕ) → Type 0 = λ o. Only o later in
     subst P (sym kept) (λ image is. only image (less image is))
+
+-- the area held this before it was looked at, and holds the rows that are told
+pub stored_from : (result : Result Ending Status) (old between new : Option (List ℕ)) → between ≡ old → IfOk result (λ ending. IfSome between (λ _. new ≡ Some (area_bytes 1 ending.rows))) →
+    IfOk result (λ ending. IfSome old (λ _. new ≡ Some (area_bytes 1 ending.rows)))
+stored_from result old between new kept stored =
+    let P : Option (List ℕ) → Type 0 = λ o. IfOk result (λ ending. IfSome o (λ _. new ≡ Some (area_bytes 1 ending.rows))) in
+    subst P kept stored

@@ -1,5 +1,5 @@
 -- What a run did, from its scan on.
-use Rattle.std.proofs.Common.{◌≡◌, inl, inr, ℕ, List, [], ◌∷◌, length, map, Option, Some, None, IfSome, OnOk, Result, Ok, Err, MatchResult, refl, sym, ◌∙◌, ap, subst, append-nil}
+use Rattle.std.proofs.Common.{◌≡◌, ◌≤◌, inl, inr, ℕ, List, [], ◌∷◌, length, map, Option, Some, None, IfSome, OnOk, Result, Ok, Err, MatchResult, refl, sym, ◌∙◌, ap, subst, append-nil}
 use Rattle.std.specs.List.{AllByRecursion}
 use Rattle.event_tree.specs.declared.settings.Settings.{Settings}
 use Rattle.event_tree.specs.declared.input_rule.InputRule.{InputRule}
@@ -86,9 +86,9 @@ begins link_told inputs told members after moments link noted scans unnoted sett
 
 -- by the scan and the files that were followed
 drained_so : {L : Type 0} (link_told : L → Option Talk) (settings : Settings) (told : FolderHistory) (evidence : Evidence) (members : List Member) (between after : Option FolderHistory) (link : Option L) (noted : Noted) →
-    (scans : Scans settings.inputs told members between) → FollowsAll link_told (listed_of settings.inputs told members between scans) evidence.moments link noted [] members after →
+    length members ≤ 65536 → (scans : Scans settings.inputs told members between) → FollowsAll link_told (listed_of settings.inputs told members between scans) evidence.moments link noted [] members after →
     EndsAcknowledged link_told link evidence → EndsCounted link_told link evidence → IsFollowedBy settings told evidence noted after (Ok tt)
-drained_so link_told settings told evidence members between after link noted scans follows ends counts =
+drained_so link_told settings told evidence members between after link noted few scans follows ends counts =
     let hs : List Harvest = follows.more in
     let listed = listed_of settings.inputs told members between scans in
     let P : List (List ℕ) → Type 0 = λ l. HasServed link_told link l (payloads_in (told_in hs)) in
@@ -100,6 +100,7 @@ drained_so link_told settings told evidence members between after link noted sca
           scanned = record { one_for_each_glob = scans.listed.one_for_each_glob; kept = refl };
           members = members;
           are_members = scans.members_are;
+          few = few;
           harvests = hs;
           left = [];
           in_order = follows.are ∙ sym (append-nil (members_in hs));
@@ -123,9 +124,9 @@ drained_so link_told settings told evidence members between after link noted sca
     }
 
 stopped_so : {L : Type 0} (link_told : L → Option Talk) (settings : Settings) (told : FolderHistory) (evidence : Evidence) (members : List Member) (between after : Option FolderHistory) (link : Option L) (noted : Noted) (status : Status) →
-    (scans : Scans settings.inputs told members between) → FollowsSome link_told (listed_of settings.inputs told members between scans) evidence.moments link noted [] members after status →
+    length members ≤ 65536 → (scans : Scans settings.inputs told members between) → FollowsSome link_told (listed_of settings.inputs told members between scans) evidence.moments link noted [] members after status →
     EndsAcknowledged link_told link evidence → IsFollowedBy settings told evidence noted after (Err status)
-stopped_so link_told settings told evidence members between after link noted status scans follows ends =
+stopped_so link_told settings told evidence members between after link noted status few scans follows ends =
     let hs : List Harvest = follows.more in
     inr (record {
       follows = record {
@@ -134,6 +135,7 @@ stopped_so link_told settings told evidence members between after link noted sta
         scanned = record { one_for_each_glob = scans.listed.one_for_each_glob; kept = refl };
         members = members;
         are_members = scans.members_are;
+        few = few;
         harvests = hs;
         left = follows.left;
         in_order = follows.are;
@@ -153,21 +155,21 @@ FollowsBy link_told listed moments link noted members after result =
     MatchResult result (λ _. FollowsAll link_told listed moments link noted [] members after) (FollowsSome link_told listed moments link noted [] members after)
 
 followed_by : {L : Type 0} (link_told : L → Option Talk) (settings : Settings) (told : FolderHistory) (evidence : Evidence) (members : List Member) (between after : Option FolderHistory) (link : Option L) (noted : Noted) (result : Result (Unit {0}) Status) →
-    (scans : Scans settings.inputs told members between) → FollowsBy link_told (listed_of settings.inputs told members between scans) evidence.moments link noted members after result →
+    length members ≤ 65536 → (scans : Scans settings.inputs told members between) → FollowsBy link_told (listed_of settings.inputs told members between scans) evidence.moments link noted members after result →
     EndsAcknowledged link_told link evidence → OnOk result (EndsCounted link_told link evidence) → IsFollowedBy settings told evidence noted after result
-followed_by link_told settings told evidence members between after link noted (Ok done) scans follows ends counts = drained_so link_told settings told evidence members between after link noted scans follows ends counts
-followed_by link_told settings told evidence members between after link noted (Err status) scans follows ends counts = stopped_so link_told settings told evidence members between after link noted status scans follows ends
+followed_by link_told settings told evidence members between after link noted (Ok done) few scans follows ends counts = drained_so link_told settings told evidence members between after link noted few scans follows ends counts
+followed_by link_told settings told evidence members between after link noted (Err status) few scans follows ends counts = stopped_so link_told settings told evidence members between after link noted status few scans follows ends
 
 pub run_followed : {L : Type 0} (link_told : L → Option Talk) (settings : Settings) (inputs : List InputRule) → inputs ≡ settings.inputs → (told : Option FolderHistory) (evidence : Evidence) (members : List Member) (between after : Option FolderHistory) (first link : Option L) (before noted : Noted) (older : Option (List ℕ)) (result : Result (Unit {0}) Status) →
-    IfSome told (λ history. Scans inputs history members between) → IsUnnoted before → HasSettled link_told first [] →
+    length members ≤ 65536 → IfSome told (λ history. Scans inputs history members between) → IsUnnoted before → HasSettled link_told first [] →
     ((listed : FolderHistory) → HasFollowed link_told listed older first before [] between → FollowsBy link_told listed evidence.moments link noted members after result) →
     EndsAcknowledged link_told link evidence → OnOk result (EndsCounted link_told link evidence) →
     IfSome told (λ history. IsFollowedBy settings history evidence noted after result)
-run_followed link_told settings inputs same None evidence members between after first link before noted older result scans unnoted settled follows ends counts = tt
-run_followed link_told settings inputs same (Some told) evidence members between after first link before noted older result scans unnoted settled follows ends counts =
+run_followed link_told settings inputs same None evidence members between after first link before noted older result few scans unnoted settled follows ends counts = tt
+run_followed link_told settings inputs same (Some told) evidence members between after first link before noted older result few scans unnoted settled follows ends counts =
     let S : List InputRule → Type 0 = λ l. Scans l told members between in
     let here : Scans settings.inputs told members between = subst S same scans in
-    followed_by link_told settings told evidence members between after link noted result here
+    followed_by link_told settings told evidence members between after link noted result few here
     (follows (listed_of settings.inputs told members between here) (begins link_told settings.inputs told members between older first before here unnoted settled)) ends counts
 
 -- ---- a scan that failed

@@ -68,7 +68,7 @@ printing_is_free before now (SettingsFault fault) ends = tt
 printing_is_free before now (RegistryBad area at) ends = tt
 printing_is_free before now DiskFault ends = tt
 printing_is_free before now FolderFault ends = tt
-printing_is_free before now (Unreachable worker failures) ends = tt
+printing_is_free before now (Unreachable worker failures) ends = absurd ends
 printing_is_free before now OutFault ends = tt
 printing_is_free before now SourceFault ends = tt
 printing_is_free before now (TooMany what path) ends = tt
@@ -82,7 +82,7 @@ preparing_stops source source_now area area_now (SettingsFault fault) ends = tt
 preparing_stops source source_now area area_now (RegistryBad which at) ends = tt
 preparing_stops source source_now area area_now DiskFault ends = tt
 preparing_stops source source_now area area_now FolderFault ends = tt
-preparing_stops source source_now area area_now (Unreachable worker failures) ends = tt
+preparing_stops source source_now area area_now (Unreachable worker failures) ends = absurd ends
 preparing_stops source source_now area area_now OutFault ends = tt
 preparing_stops source source_now area area_now SourceFault ends = tt
 preparing_stops source source_now area area_now (TooMany what path) ends = tt
@@ -103,6 +103,7 @@ follows_so settings told evidence Was Is after follows so = record {
   scanned = follows.scanned;
   members = follows.members;
   are_members = follows.are_members;
+  few = follows.few;
   harvests = follows.harvests;
   left = follows.left;
   in_order = follows.in_order;
@@ -154,28 +155,28 @@ started_so before now old new Usage started = inr started
 started_so before now old new (SettingsFault fault) started = inr started
 started_so before now old new (RegistryBad area at) started = inr started
 started_so before now old new DiskFault started = inr (inl started)
-started_so before now old new FolderFault started = inr started
+started_so before now old new FolderFault started = started
 started_so before now old new (Unreachable worker failures) started = inr started
 started_so before now old new OutFault started = inr (inl started)
 started_so before now old new SourceFault started = inr started
-started_so before now old new (TooMany what path) started = inr started
+started_so before now old new (TooMany what path) started = started
 started_so before now old new NoMemory started = inr started
 started_so before now old new (Unbuilt what) started = inr started
 
 -- an area that is as it was
-kept_so : (before now : ℕ) (old new : Option (List ℕ)) (status : Status) → new ≡ old → HoldsNoRow before now old new status
-kept_so before now old new Done kept = inl kept
-kept_so before now old new Usage kept = inl kept
-kept_so before now old new (SettingsFault fault) kept = inl kept
-kept_so before now old new (RegistryBad area at) kept = inl kept
-kept_so before now old new DiskFault kept = inl kept
-kept_so before now old new FolderFault kept = inl kept
-kept_so before now old new (Unreachable worker failures) kept = inl kept
-kept_so before now old new OutFault kept = inl kept
-kept_so before now old new SourceFault kept = inl kept
-kept_so before now old new (TooMany what path) kept = inl kept
-kept_so before now old new NoMemory kept = inl kept
-kept_so before now old new (Unbuilt what) kept = inl kept
+kept_so : (before now source source_now area area_now : ℕ) (old new : Option (List ℕ)) (status : Status) → IsPreparingEnd source source_now area area_now status → new ≡ old → HoldsNoRow before now old new status
+kept_so before now source source_now area area_now old new Done ends kept = absurd ends
+kept_so before now source source_now area area_now old new Usage ends kept = inl kept
+kept_so before now source source_now area area_now old new (SettingsFault fault) ends kept = inl kept
+kept_so before now source source_now area area_now old new (RegistryBad which at) ends kept = inl kept
+kept_so before now source source_now area area_now old new DiskFault ends kept = inl kept
+kept_so before now source source_now area area_now old new FolderFault ends kept = absurd ends
+kept_so before now source source_now area area_now old new (Unreachable worker failures) ends kept = absurd ends
+kept_so before now source source_now area area_now old new OutFault ends kept = absurd ends
+kept_so before now source source_now area area_now old new SourceFault ends kept = inl kept
+kept_so before now source source_now area area_now old new (TooMany what path) ends kept = absurd ends
+kept_so before now source source_now area area_now old new NoMemory ends kept = inl kept
+kept_so before now source source_now area area_now old new (Unbuilt what) ends kept = inl kept
 
 stopped_by : (source : Option (List ℕ)) (settings : Settings) (told : FolderHistory) (evidence : Evidence) (noted : Noted) (after : Option FolderHistory) (before now : ℕ) (old new : Option (List ℕ)) (status : Status) →
     IsNamed source settings → IsFollowedBy settings told evidence noted after (Err status) → HoldsRows noted.rows.items old new →
@@ -195,10 +196,11 @@ stopped_noted source settings (Some told) evidence noted after before now old ne
 unopened_here : (told : FolderHistory) → IsUnopened told (Some told)
 unopened_here told = record { more = []; none = tt; kept = ap (λ (l : List Event). Some (record told { events = l })) (sym (append-nil told.events)) }
 
-pub early_stored : (source : Option (List ℕ)) (told : Option FolderHistory) (evidence : Evidence) (before now : ℕ) (old new : Option (List ℕ)) (status : Status) →
-    SendsNothing evidence → StopsUnopened status → new ≡ old → IfSome told (λ history. IsStoredBy source history evidence told before now old new status)
-early_stored source None evidence before now old new status sends stops kept = tt
-early_stored source (Some told) evidence before now old new status sends stops kept = inl (unopened_here told, (sends, (stops, kept_so before now old new status kept)))
+pub early_stored : (source : Option (List ℕ)) (told : Option FolderHistory) (evidence : Evidence) (before now first last area area_now : ℕ) (old new : Option (List ℕ)) (status : Status) →
+    SendsNothing evidence → IsPreparingEnd first last area area_now status → new ≡ old → IfSome told (λ history. IsStoredBy source history evidence told before now old new status)
+early_stored source None evidence before now first last area area_now old new status sends ends kept = tt
+early_stored source (Some told) evidence before now first last area area_now old new status sends ends kept =
+    inl (unopened_here told, (sends, (preparing_stops first last area area_now status ends, kept_so before now first last area area_now old new status ends kept)))
 
 -- ---- the area could not be started
 
@@ -312,15 +314,13 @@ held_out before now old new (SettingsFault fault) (inr started) = inr (inl start
 held_out before now old new (RegistryBad area at) (inl kept) = inl kept
 held_out before now old new (RegistryBad area at) (inr started) = inr (inl started)
 held_out before now old new DiskFault held = held
-held_out before now old new FolderFault (inl kept) = inl kept
-held_out before now old new FolderFault (inr started) = inr (inl started)
+held_out before now old new FolderFault started = inr (inl started)
 held_out before now old new (Unreachable worker failures) (inl kept) = inl kept
 held_out before now old new (Unreachable worker failures) (inr started) = inr (inl started)
 held_out before now old new OutFault held = held
 held_out before now old new SourceFault (inl kept) = inl kept
 held_out before now old new SourceFault (inr started) = inr (inl started)
-held_out before now old new (TooMany what path) (inl kept) = inl kept
-held_out before now old new (TooMany what path) (inr started) = inr (inl started)
+held_out before now old new (TooMany what path) started = inr (inl started)
 held_out before now old new NoMemory (inl kept) = inl kept
 held_out before now old new NoMemory (inr started) = inr (inl started)
 held_out before now old new (Unbuilt what) (inl kept) = inl kept

@@ -291,15 +291,16 @@ are_members paths members in_order only every = record {
 }
 
 follows : (paths : List (List ℕ)) (harvests : List Harvest) (number : ℕ) (So : List Member → List Harvest → List Event → Type 0) →
-    AreMembers (input ∷ []) (paths_of (listing paths ∷ [])) (members_in harvests) → AllByRecursion (IsHarvest (folder paths).files moments) harvests →
+    AreMembers (input ∷ []) (paths_of (listing paths ∷ [])) (members_in harvests) → length (members_in harvests) ≤ 65536 → AllByRecursion (IsHarvest (folder paths).files moments) harvests →
     AreKept (Some (outcomes_of (payloads_in (told_in harvests)) number)) harvests → So [] harvests [] →
     Follows settings (folder paths) (evidence (payloads_in (told_in harvests)) number) So (Some (followed paths harvests))
-follows paths harvests number So are each kept so = record {
+follows paths harvests number So are few each kept so = record {
   listings = listing paths ∷ [];
   listed = listed paths;
   scanned = record { one_for_each_glob = refl; kept = refl };
   members = members_in harvests;
   are_members = are;
+  few = few;
   harvests = harvests;
   left = [];
   in_order = sym (append-nil (members_in harvests));
@@ -319,7 +320,7 @@ a_named =
 
 -- both payloads are acknowledged, and the row is at the end of the file
 pub two_plain_lines : Follows settings (folder (a_log ∷ [])) (evidence a_payloads 2) (Drains (evidence a_payloads 2) 2 0) (Some (followed (a_log ∷ []) (whole a_log 0 ∷ [])))
-two_plain_lines = follows (a_log ∷ []) (whole a_log 0 ∷ []) 2 (Drains (evidence a_payloads 2) 2 0) a_named
+two_plain_lines = follows (a_log ∷ []) (whole a_log 0 ∷ []) 2 (Drains (evidence a_payloads 2) 2 0) a_named (omega arith)
     (is_reading (file ∷ []) a_log 0 (both_events a_log) [] refl a_told, tt)
     (are_kept (whole a_log 0 ∷ []) 2 a_window both_acknowledged)
     (record {
@@ -336,7 +337,7 @@ abbrev first_settled : Reading
 first_settled = reading 0 (first_event a_log ∷ []) (second_event a_log ∷ [])
 
 pub first_line_kept : Follows settings (folder (a_log ∷ [])) (evidence a_payloads 1) (λ left harvests end. StopsIn (Unreachable 0 3) harvests) (Some (followed (a_log ∷ []) (Read (member a_log) first_settled ∷ [])))
-first_line_kept = follows (a_log ∷ []) (Read (member a_log) first_settled ∷ []) 1 (λ left harvests end. StopsIn (Unreachable 0 3) harvests) a_named
+first_line_kept = follows (a_log ∷ []) (Read (member a_log) first_settled ∷ []) 1 (λ left harvests end. StopsIn (Unreachable 0 3) harvests) a_named (omega arith)
     (is_reading (file ∷ []) a_log 0 (first_event a_log ∷ []) (second_event a_log ∷ []) refl a_told, tt)
     (are_kept (Read (member a_log) first_settled ∷ []) 1 a_window first_acknowledged)
     (record { whole = []; last = Read (member a_log) first_settled ∷ []; are = refl; each = tt; stops = tt })
@@ -358,7 +359,7 @@ both_named = are_members both (member a_log ∷ member b_log ∷ []) ((refl, tt)
     ((λ covered. (0, member a_log, omega arith, refl, refl)), ((λ covered. (1, member b_log, omega arith, refl, refl)), tt))
 
 pub two_files_kept : Follows settings (folder both) (evidence all_payloads 4) (Drains (evidence all_payloads 4) 4 0) (Some (followed both both_whole))
-two_files_kept = follows both both_whole 4 (Drains (evidence all_payloads 4) 4 0) both_named
+two_files_kept = follows both both_whole 4 (Drains (evidence all_payloads 4) 4 0) both_named (omega arith)
     (is_reading (file ∷ file ∷ []) a_log 0 (both_events a_log) [] refl a_told, (is_reading (file ∷ file ∷ []) b_log 1 (both_events b_log) [] refl b_told, tt))
     (are_kept both_whole 4 all_window all_acknowledged)
     (record {

@@ -4,13 +4,14 @@ use Rattle.report.specs.Report.{report_bytes, status_bytes}
 use Rattle.report.specs.declared.status.Status.{Status}
 use Rattle.report.specs.declared.status.Status.TheVariants.{Done, OutFault}
 use Rattle.beat_run.specs.declared.ending.Ending.{Ending}
+use Rattle.beat_run.specs.Ends.{IsRunEnd}
 
 abbrev pub ending_bytes : Ending → List ℕ
 ending_bytes ending = report_bytes ending.rows ending.passed.items ending.shipped ending.dropped Done
 
--- a text that a run may print
+-- a text that a run may print: a report, or the last line of a run that is not done
 abbrev pub IsPrintable : List ℕ → Type 0
-IsPrintable text = ((ending : Ending) × (text ≡ ending_bytes ending)) ⊎ ((status : Status) × (text ≡ status_bytes status))
+IsPrintable text = ((ending : Ending) × (text ≡ ending_bytes ending)) ⊎ ((status : Status) × (IsRunEnd status × (text ≡ status_bytes status)))
 
 -- a front of such a text stands behind what the sink held
 pub record HoldsFront (written : List ℕ) (after : Option (List ℕ)) : Type 0 where

@@ -1,11 +1,12 @@
 -- What a run did (Filebeat reference, filestream input; this project's profile): it listed the root of each glob once, and
 -- followed the files that the globs cover one after the other in byte order of their keys. Each was read and closed, or was
 -- gone; and the events of all of them together are settled by the places of their payloads.
-use Rattle.std.specs.Prelude.{◌≡◌, ◌⊎◌, ℕ, ◌-◌, ◌^◌, min, List, [], ◌∷◌, ◌++◌, length, Option, Some, IfSome, Result, Ok, Err}
+use Rattle.std.specs.Prelude.{◌≡◌, ◌⊎◌, ℕ, ◌≤◌, ◌-◌, ◌^◌, min, List, [], ◌∷◌, ◌++◌, length, Option, Some, IfSome, Result, Ok, Err}
 use Rattle.std.specs.List.{AllByRecursion}
 use Rattle.event_tree.specs.declared.settings.Settings.{Settings}
 use Rattle.outside.specs.Folders.{Event, FolderHistory}
 use Rattle.outside.specs.Wires.{Outcome}
+use Rattle.prospect.specs.declared.listings.TheConstants.{MAX_FILES}
 use Rattle.prospect.specs.declared.member.Member.{Member}
 use Rattle.prospect.specs.Members.{AreMembers, globs_of}
 use Rattle.prospect.specs.Scan.{AreListed, Listing, paths_of, with_events}
@@ -36,6 +37,7 @@ pub record Follows (settings : Settings) (told : FolderHistory) (evidence : Evid
   pub scanned : AreListed (globs_of settings.inputs) told listings (Some listed)
   pub members : List Member
   pub are_members : AreMembers settings.inputs (paths_of listings) members
+  pub few : length members ≤ MAX_FILES
   pub harvests : List Harvest
   pub left : List Member
   pub in_order : members ≡ members_in harvests ++ left

@@ -8,7 +8,7 @@ use Rattle.prospect.specs.declared.member.Member.{Member}
 use Rattle.registry_log.specs.Area.{area_bytes}
 use Rattle.registry_log.specs.Starting.{IsPartStarted}
 use Rattle.report.specs.declared.status.Status.{Status}
-use Rattle.report.specs.declared.status.Status.TheVariants.{DiskFault, OutFault, NoMemory}
+use Rattle.report.specs.declared.status.Status.TheVariants.{DiskFault, FolderFault, OutFault, TooMany, NoMemory}
 use Rattle.beat_run.specs.declared.ending.Ending.{Ending}
 use Rattle.beat_run.specs.Evidence.{Evidence}
 use Rattle.beat_run.specs.Followed.{IsUnopened}
@@ -34,10 +34,13 @@ pub record StoresKept (source : Option (List ℕ)) (told : FolderHistory) (evide
   pub follows : Follows settings told evidence So after
   pub stored : IfSome old (λ _. new ≡ Some (area_bytes 1 (rows_in follows.harvests))) ⊎ Missing
 
--- the area is as it was, or was started without a row; where it failed it may have counted a fault in place of either
+-- the area is as it was, or was started without a row, as it is where a listing failed or showed too many files; where it
+-- failed it may have counted a fault in place of either
 abbrev pub HoldsNoRow : ℕ → ℕ → Option (List ℕ) → Option (List ℕ) → Status → Type 0
 HoldsNoRow before now old new DiskFault = (new ≡ old) ⊎ (IfSome old (λ _. new ≡ Some (area_bytes 1 [])) ⊎ Rose before now)
 HoldsNoRow before now old new OutFault = (new ≡ old) ⊎ (IfSome old (λ _. new ≡ Some (area_bytes 1 [])) ⊎ Rose before now)
+HoldsNoRow before now old new FolderFault = IfSome old (λ _. new ≡ Some (area_bytes 1 []))
+HoldsNoRow before now old new (TooMany what path) = IfSome old (λ _. new ≡ Some (area_bytes 1 []))
 HoldsNoRow before now old new _ = (new ≡ old) ⊎ IfSome old (λ _. new ≡ Some (area_bytes 1 []))
 
 -- no file was opened, nothing was sent, and that is so; or files were followed, and their rows are right and stored or missing
@@ -79,3 +82,9 @@ pub record IsDone (source : Option (List ℕ)) (told : FolderHistory) (evidence 
   pub ending : Ending
   pub ended : IsEnded source told evidence after old new ending
   pub reported : IfSome written (λ bytes. printed ≡ Some (bytes ++ ending_bytes ending))
+
+-- the area holds the rows that the report tells
+pub record StoresReported (written : List ℕ) (area printed : Option (List ℕ)) : Type 0 where
+  pub ending : Ending
+  pub stored : area ≡ Some (area_bytes 1 ending.rows)
+  pub reported : printed ≡ Some (written ++ ending_bytes ending)

@@ -9,7 +9,7 @@ use Rattle.outside.specs.Files.{File}
 use Rattle.beat_run.specs.declared.lines.TheConstants.{LINE}
 use Rattle.report.specs.declared.status.Lack.TheVariants.{Byte, Life}
 use Rattle.report.specs.declared.status.Status.{Status}
-use Rattle.report.specs.declared.status.Status.TheVariants.{FolderFault, Unbuilt}
+use Rattle.report.specs.declared.status.Status.TheVariants.{FolderFault, Unreachable, Unbuilt}
 use Rattle.beat_run.specs.Lines.{IsPlainByte}
 use Rattle.beat_run.specs.Reading.{GoesOnReaching, NoneShorter, bytes_read}
 
@@ -77,8 +77,9 @@ StopsFor (Unbuilt Life) file looks = IsShortened (length (bytes_read file looks)
 StopsFor FolderFault file looks = IsSendable (bytes_read file looks) × NoneShorter 0 looks
 StopsFor _ file looks = Unit {0}
 
--- neither comes where no file was opened
+-- neither comes where no file was opened, nor does a peer that could not be reached
 abbrev pub StopsUnopened : Status → Type 0
 StopsUnopened (Unbuilt (Byte at)) = ⊥
 StopsUnopened (Unbuilt Life) = ⊥
+StopsUnopened (Unreachable worker failures) = ⊥
 StopsUnopened _ = Unit {0}

@@ -66,6 +66,7 @@ pub fn run<X: Wait, F: Folder, W: Wire, D: Disk, K: Clock, R: Source>(
         (λ _. IsStored (R.left source.old) told (evidence_of (K.moments clock.old) (K.moments clock.new) (W.outcomes wire.old) (W.outcomes wire.new)) (F.told folder.new) (D.contents area.old) (D.contents area.new) ⊥ (HoldsNoRow (D.faults area.old) (D.faults area.new) (D.contents area.old) (D.contents area.new) Status.Done) (λ left harvests end. AreWhole harvests))
         (IsStoredBy (R.left source.old) told (evidence_of (K.moments clock.old) (K.moments clock.new) (W.outcomes wire.old) (W.outcomes wire.new)) (F.told folder.new) (D.faults area.old) (D.faults area.new) (D.contents area.old) (D.contents area.new))) }
     ensures no_other_row { Only (D.contents area.old) (D.images area.old) → IfSome (F.told folder.old) (λ told. HasNoOtherRow (R.left source.old) told (evidence_of (K.moments clock.old) (K.moments clock.new) (W.outcomes wire.old) (W.outcomes wire.new)) (F.told folder.new) (D.contents area.old) (D.contents area.new)) }
+    ensures stored { IfOk result (λ ending. IfSome (D.contents area.old) (λ _. D.contents area.new ≡ Some (area_bytes GENERATION ending.rows))) }
     ensures durable { IfOk result (λ _. Only (D.contents area.new) (D.images area.new)) }
     ensures durable_where_stored { IfErr result (λ status. HasStored status → Only (D.contents area.new) (D.images area.new)) }
     ensures area_kept { IfErr result (λ status. IsRefusal status → D.contents area.new ≡ D.contents area.old) }
@@ -107,6 +108,7 @@ fn follow_and_store<X: Wait, F: Folder, W: Wire, D: Disk, K: Clock>(
         (IsStoredBy source told (evidence_of (K.moments clock.old) (K.moments clock.new) (W.outcomes wire.old) (W.outcomes wire.new)) (F.told folder.new) faults (D.faults area.new) held (D.contents area.new))) }
     ensures no_other_row { (source held : Option (List ℕ)) → IsNamed source settings.now → D.contents area.old ≡ held → Only (D.contents area.old) (D.images area.old) → IfSome (F.told folder.old) (λ told.
         HasNoOtherRow source told (evidence_of (K.moments clock.old) (K.moments clock.new) (W.outcomes wire.old) (W.outcomes wire.new)) (F.told folder.new) held (D.contents area.new)) }
+    ensures stored { IfOk result (λ ending. IfSome (D.contents area.old) (λ _. D.contents area.new ≡ Some (area_bytes GENERATION ending.rows))) }
     ensures durable { IfOk result (λ _. Only (D.contents area.new) (D.images area.new)) }
     ensures durable_where_stored { IfErr result (λ status. HasStored status → Only (D.contents area.new) (D.images area.new)) }
     ensures wire_goes_on { GoesOn (W.outcomes wire.old) (W.outcomes wire.new) }

@@ -12,7 +12,7 @@ ghost use Rattle.beat_run.specs.Ends.{HasStored, IsPrintingEnd, IsRefusal, IsRun
 ghost use Rattle.beat_run.specs.Evidence.{evidence_of};
 ghost use Rattle.beat_run.specs.Printed.{IsPrinted, ending_bytes};
 ghost use Rattle.beat_run.specs.Standing.{GoesOn, OnFirst};
-ghost use Rattle.beat_run.specs.Stored.{HasNoOtherRow, IsDone, IsStoredBy};
+ghost use Rattle.beat_run.specs.Stored.{HasNoOtherRow, IsDone, IsStoredBy, StoresReported};
 ghost use Rattle.beat_run.specs.Untouched.{IsRefused, IsUntouched};
 ghost use Rattle.beat_run.specs.declared.settings.TheConstants.{LIMIT};
 
@@ -72,6 +72,7 @@ where
     // What a run that is not refused has done, and what the area holds then.
     ensures done_only_where_every_file_was_drained { result ≡ Status.Done → IfSome (F.told folder.old) (λ told. OnFirst W.outcomes wires.old wires.new (λ before outcomes.
         IsDone (R.left settings.old) told (evidence_of (K.moments clock.old) (K.moments clock.new) before outcomes) (F.told folder.new) (D.contents area_a.old) (D.contents area_a.new) (S.written out.old) (S.written out.new))) }
+    ensures reported_rows_are_stored { result ≡ Status.Done → IfSome (D.contents area_a.old) (λ _. IfSome (S.written out.old) (λ written. StoresReported written (D.contents area_a.new) (S.written out.new))) }
     ensures stored_rows_are_kept { IfSome (F.told folder.old) (λ told. OnFirst W.outcomes wires.old wires.new (λ before outcomes.
         IsStoredBy (R.left settings.old) told (evidence_of (K.moments clock.old) (K.moments clock.new) before outcomes) (F.told folder.new) (D.faults area_a.old) (D.faults area_a.new) (D.contents area_a.old) (D.contents area_a.new) result)) }
     ensures no_other_row_is_stored { Only (D.contents area_a.old) (D.images area_a.old) → IfSome (F.told folder.old) (λ told. OnFirst W.outcomes wires.old wires.new (λ before outcomes.

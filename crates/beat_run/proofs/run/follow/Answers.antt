@@ -16,7 +16,7 @@ returns-clause-followed g c =
     let left = c.follow_all-met.ensures.standing (g.K.Clock.moments c.args.clock.now) (g.W.Wire.outcomes c.args.wire.now) (g.W.Wire.open_links c.args.wire.now) (g.W.Wire.faults c.args.wire.now) (moments_go_themselves (g.K.Clock.moments c.args.clock.now))
     (standing_first g.W.Link.Link.told (g.W.Wire.outcomes c.args.wire.now) (g.W.Wire.open_links c.args.wire.now) (g.W.Wire.faults c.args.wire.now) c.new-worker.result.link c.new-worker.ensures.unlinked c.new-worker.ensures.settled) in
     run_followed g.W.Link.Link.told c.args.settings.now c.as_slice.result.now c.as_slice.ensures _ _ c.in-Ok.members.items _ _ c.new-worker.result.link c.follow_all-met.new.worker.link c.args.noted.now c.follow_all-met.new.noted _ c.follow_all-met.result
-    (rw c.in-Ok.is at c.scan.ensures.scanned) c.requires.unnoted c.new-worker.ensures.settled
+    (rw c.in-Ok.is at c.scan.ensures.few) (rw c.in-Ok.is at c.scan.ensures.scanned) c.requires.unnoted c.new-worker.ensures.settled
     (λ listed. rw c.deref.ensures.value at c.follow_all-met.ensures.followed (g.K.Clock.moments c.args.clock.now) listed (moments_go_themselves (g.K.Clock.moments c.args.clock.now)))
     (λ payloads all served. c.end.ensures.acknowledged _ payloads all (left_refused g.W.Link.Link.told g.W.Link.Link.faults _ _ (g.W.Wire.outcomes c.args.wire.now) (g.W.Wire.open_links c.args.wire.now) (g.W.Wire.faults c.args.wire.now) (g.W.Wire.outcomes c.follow_all-met.new.wire) _ _ _ c.follow_all-met.result left) (left_tells g.W.Link.Link.told g.W.Link.Link.faults _ _ (g.W.Wire.outcomes c.args.wire.now) (g.W.Wire.open_links c.args.wire.now) (g.W.Wire.faults c.args.wire.now) (g.W.Wire.outcomes c.follow_all-met.new.wire) _ _ _ c.follow_all-met.result left) served)
     (left_counts g.W.Link.Link.told g.W.Link.Link.faults _ _ (g.W.Wire.outcomes c.args.wire.now) (g.W.Wire.open_links c.args.wire.now) (g.W.Wire.faults c.args.wire.now) (g.W.Wire.outcomes c.follow_all-met.new.wire) (g.W.Wire.outcomes c.end.new.wire) _ _ _ c.follow_all-met.result left c.end.ensures.counted)

@@ -2,11 +2,11 @@ use Rattle.std.proofs.Common.{◌∙◌, take}
 use Rattle.beat_config.specs.Document.{AreSettingsOf, IsFirstFault}
 use Rattle.prospect.specs.Lacks.{IsFirstLack}
 use Rattle.beat_run.specs.declared.settings.TheConstants.{LIMIT}
-use Rattle.beat_run.proofs.Ended.{fails_so, only_later, shows_so}
+use Rattle.beat_run.proofs.Ended.{fails_so, only_later, shows_so, stored_from}
 use Rattle.beat_run.proofs.Endings.{harvest_asks, not_stored_preparing, same_error, told_never, two_never}
 use Rattle.beat_run.proofs.Refusals.{never_refused}
 use Rattle.beat_run.proofs.Standings.{nothing_sent}
-use Rattle.beat_run.proofs.Storings.{early_stored, left_alone, preparing_stops}
+use Rattle.beat_run.proofs.Storings.{early_stored, left_alone}
 use Rattle.beat_run.proofs.run.run.Goals as goal
 
 -- ---- the run was refused
@@ -16,8 +16,8 @@ returns-in-Err-clause-usage_only g c = λ is. c.prepare.ensures.usage_only (c.in
 
 pub returns-in-Err-clause-rows : goal.returns-in-Err-clause-rows
 returns-in-Err-clause-rows g c =
-    early_stored _ _ _ (g.D.Disk.faults c.args.area.now) (g.D.Disk.faults c.prepare.new.area) _ _ c.in-Err.status (nothing_sent (g.W.Wire.outcomes c.args.wire.now))
-    (preparing_stops _ _ _ _ c.in-Err.status (rw c.in-Err.is at c.prepare.ensures.ends)) c.prepare.ensures.contents_kept
+    early_stored _ _ _ (g.D.Disk.faults c.args.area.now) (g.D.Disk.faults c.prepare.new.area) _ _ _ _ _ _ c.in-Err.status (nothing_sent (g.W.Wire.outcomes c.args.wire.now))
+    (rw c.in-Err.is at c.prepare.ensures.ends) c.prepare.ensures.contents_kept
 
 pub returns-in-Err-clause-no_other_row : goal.returns-in-Err-clause-no_other_row
 returns-in-Err-clause-no_other_row g c = λ only. left_alone _ _ _ _ _ c.prepare.ensures.contents_kept
@@ -66,3 +66,6 @@ pub returns-clause-too_many : goal.returns-clause-too_many
 returns-clause-too_many g c = λ what path is.
     let found = c.follow_and_store.ensures.too_many what path is in
     (found.0, shows_so _ c.in-Ok.settings _ path _ (rw c.in-Ok.is at c.prepare.ensures.settings) found.1)
+
+pub returns-clause-stored : goal.returns-clause-stored
+returns-clause-stored g c = stored_from c.follow_and_store.result _ _ _ c.prepare.ensures.contents_kept c.follow_and_store.ensures.stored

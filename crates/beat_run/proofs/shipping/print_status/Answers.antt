@@ -6,4 +6,4 @@ pub returns-in-Ok-clause-told : goal.returns-in-Ok-clause-told
 returns-in-Ok-clause-told g c = status_printed _ c.args.status _ c.requires.without_report (rw c.in-Ok.is at c.status_line.ensures.told)
 
 pub returns-in-Err-clause-told : goal.returns-in-Err-clause-told
-returns-in-Err-clause-told g c = front_printed _ _ _ _ (inr (c.args.status, refl)) (rw c.in-Err.is at c.status_line.ensures.told)
+returns-in-Err-clause-told g c = front_printed _ _ _ _ (inr (c.args.status, (c.requires.without_report, refl))) (rw c.in-Err.is at c.status_line.ensures.told)

@@ -6,6 +6,7 @@ use Rattle.outside.specs.Folders.{FolderHistory}
 use Rattle.outside.specs.Wires.{Outcome}
 use Rattle.beat_config.specs.Document.{AreSettingsOf, IsFirstFault}
 use Rattle.prospect.specs.Lacks.{IsFirstLack}
+use Rattle.registry_log.specs.Area.{area_bytes}
 use Rattle.report.specs.declared.status.Status.{Status}
 use Rattle.report.specs.declared.status.Status.TheVariants.{TooMany, Unreachable, Usage}
 use Rattle.beat_run.specs.declared.ending.Ending.{Ending}
@@ -15,7 +16,7 @@ use Rattle.beat_run.specs.Ends.{RefusesKey, RefusesLack, RefusesSettings, Refuse
 use Rattle.beat_run.specs.Evidence.{Evidence, evidence_of}
 use Rattle.beat_run.specs.Printed.{ending_bytes}
 use Rattle.beat_run.specs.Standing.{OnFirst}
-use Rattle.beat_run.specs.Stored.{HasNoOtherRow, IsDone, IsEnded, IsStoredBy}
+use Rattle.beat_run.specs.Stored.{HasNoOtherRow, IsDone, IsEnded, IsStoredBy, StoresReported}
 use Rattle.beat_run.proofs.Endings.{printed_so, stored_still, told_never, told_printed, two_never, two_printed, was_met}
 use Rattle.beat_run.proofs.Standings.{first_is, first_set, on_first, wires_stay}
 use Rattle.beat_run.proofs.Storings.{done_stored, printed_stored}
@@ -134,3 +135,15 @@ returns-in-Err-clause-unreachable_only_where_the_wire_or_a_peer_failed g c = λ 
 pub returns-in-Err-clause-too_many_only_where_the_listings_show_more : goal.returns-in-Err-clause-too_many_only_where_the_listings_show_more
 returns-in-Err-clause-too_many_only_where_the_listings_show_more g c = λ what path is.
     c.run.ensures.too_many what path (c.in-Err.is ∙ ap (λ (s : Status). Err s) (was_met _ c.in-Err.status c.print_status.result (TooMany what path) c.print_status.ensures.printed (λ same. absurd cc) is))
+
+-- ---- the report and the area
+
+stores_reported : (old written area printed : Option (List ℕ)) (ending : Ending) → IfSome old (λ _. area ≡ Some (area_bytes 1 ending.rows)) → IfSome written (λ bytes. printed ≡ Some (bytes ++ ending_bytes ending)) →
+    IfSome old (λ _. IfSome written (λ bytes. StoresReported bytes area printed))
+stores_reported None written area printed ending stored reported = tt
+stores_reported (Some old) None area printed ending stored reported = tt
+stores_reported (Some old) (Some written) area printed ending stored reported = record { ending = ending; stored = stored; reported = reported }
+
+pub returns-in-Ok-clause-reported_rows_are_stored : goal.returns-in-Ok-clause-reported_rows_are_stored
+returns-in-Ok-clause-reported_rows_are_stored g c = λ done.
+    stores_reported _ (g.S.Sink.written c.args.out.now) _ _ c.in-Ok.ending (rw c.in-Ok.is at c.run.ensures.stored) (c.print_report.ensures.printed done)
