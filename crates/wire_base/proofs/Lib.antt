@@ -1,1 +1,3 @@
+pub mod ByteOrder
 mod Decimals
+pub mod Keyed

@@ -11,7 +11,7 @@ use Rattle.wire_base.specs.declared.row.Op.{Op}
 use Rattle.wire_base.specs.declared.row.Op.TheVariants.{Set, Remove}
 use Rattle.wire_base.specs.declared.note.Begin.{Begin as BeginOf}
 use Rattle.wire_base.specs.declared.note.Note.{Note}
-use Rattle.wire_base.specs.declared.note.Note.TheVariants.{Begin, Announce, Settle, Rename, Forget}
+use Rattle.wire_base.specs.declared.note.Note.TheVariants.{Begin, Announce, Settle, Rename, Seen, Forget}
 
 -- a place or a size in a file
 abbrev pub IsPlace : ℕ → Type 0
@@ -36,6 +36,7 @@ pub record IsRow (row : Row) : Type 0 where
   pub key : IsKey row.key
   pub path : IsPath row.path
   pub offset : IsPlace row.offset
+  pub changed : IsMoment row.changed
 
 abbrev pub IsOp : Op → Type 0
 IsOp (Set row) = IsRow row
@@ -48,8 +49,9 @@ pub record IsBegin (begin : BeginOf) : Type 0 where
   pub base : IsPlace begin.base
 
 abbrev pub IsNote : Note → Type 0
-IsNote (Begin slot key path epoch base) = IsKey key × IsPath path × IsPlace base
+IsNote (Begin slot key path epoch base changed) = IsKey key × IsPath path × IsPlace base × IsMoment changed
 IsNote (Announce slot epoch) = Unit {0}
 IsNote (Settle slot epoch span cause) = IsPlace span.end
 IsNote (Rename slot scan path) = IsPath path
+IsNote (Seen slot changed) = IsMoment changed
 IsNote (Forget slot epoch end) = IsPlace end

@@ -1,4 +1,4 @@
-use crate::{Epoch, RuleNo, Slot, Span, Text};
+use crate::{Epoch, Moment, RuleNo, Slot, Span, Text};
 
 /// How a file that a scan shows begins.
 #[derive(Debug, Drop, PartialEq, Eq)]
@@ -33,6 +33,8 @@ pub enum Note {
         path: Text,
         epoch: Epoch,
         base: u64,
+        /// That of the row with which the run began, or 0 where there was none.
+        changed: Moment,
     },
     Announce {
         slot: Slot,
@@ -48,6 +50,11 @@ pub enum Note {
         slot: Slot,
         scan: u64,
         path: Text,
+    },
+    /// A scan listed the file with this moment of change.
+    Seen {
+        slot: Slot,
+        changed: Moment,
     },
     Forget {
         slot: Slot,

@@ -1,4 +1,7 @@
-use crate::{Epoch, Text};
+ghost use Rattle.std.specs.Prelude.{◌≡◌, IfOk};
+
+use crate::{Epoch, Moment, NoMemory, Text};
+use std::alloc::Global;
 
 /// The longest key, in bytes.
 pub const MAX_KEY: usize = 8_192;
@@ -13,6 +16,22 @@ pub struct Row {
     pub path: Text,
     pub epoch: Epoch,
     pub offset: u64,
+    /// The greatest moment of change with which a scan listed the file; 0 where no scan told one.
+    pub changed: Moment,
+}
+
+impl Row {
+    pub fn copy(&self, alloc: Global) -> Result<Row, NoMemory>
+        ensures { IfOk result (λ row. row ≡ self.now) }
+    {
+        Ok(Row {
+            key: self.key.copy(alloc)?,
+            path: self.path.copy(alloc)?,
+            epoch: self.epoch,
+            offset: self.offset,
+            changed: self.changed,
+        })
+    }
 }
 
 /// One change of the registry.

@@ -43,3 +43,17 @@ fn blob_keeps_its_bytes_and_want_of_memory_has_a_text(rt: HostRuntime) -> Result
     assert_eq!(rt; shown.as_str(), "out of memory");
     Ok(())
 }
+
+#[test]
+fn a_copied_row_is_the_same(rt: HostRuntime) -> Result<(), Fail> {
+    let alloc = rt.alloc();
+    let row = Row {
+        key: Text::from_bytes(alloc, b"filestream::w::path::/w/a.log")?,
+        path: Text::from_bytes(alloc, b"/w/a.log")?,
+        epoch: Epoch(1),
+        offset: 6,
+        changed: Moment(5),
+    };
+    assert_eq!(rt; row.copy(alloc)?, row);
+    Ok(())
+}
