@@ -1,0 +1,5 @@
+mod Between
+mod Characters
+mod Finding
+mod Reading
+pub mod Worked
