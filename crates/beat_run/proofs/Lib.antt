@@ -1,5 +1,5 @@
 mod Appending
-mod ByteOrder
+mod Crashes
 mod Ended
 mod Endings
 mod EventLines

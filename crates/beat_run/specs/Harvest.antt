@@ -51,13 +51,14 @@ events_from place [] = []
 events_from place (harvest ∷ harvests) =
     events_of place harvest ++ events_from (place + length (events_of place harvest)) harvests
 
--- the row of a file that was read: its offset ends the last of its settled events
+-- the row of a file that was read: its offset ends the last of its settled events; no moment of a last change is noted yet
 abbrev pub row_of : Member → Reading → Row
 row_of member reading = record {
   key = member.key;
   path = member.path;
   epoch = record { 0 = 0 };
   offset = last_end 0 (spans_of reading.settled);
+  changed = record { 0 = 0 };
 }
 
 abbrev pub rows_in : List Harvest → List Row

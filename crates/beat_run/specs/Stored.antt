@@ -53,20 +53,24 @@ abbrev pub IsStoredBy : Option (List ℕ) → FolderHistory → Evidence → Opt
 IsStoredBy source told evidence after before now old new status =
     IsStored source told evidence after old new (MissesRows before now old new status) (StopsUnopened status × HoldsNoRow before now old new status) (λ left harvests end. StopsIn status harvests)
 
--- the rows of the files that were followed are right, and the area has no others: it is blank still, or its gate is not
--- open, or it holds those rows
-pub record LeavesKept (source : Option (List ℕ)) (told : FolderHistory) (evidence : Evidence) (after : Option FolderHistory) (old new : Option (List ℕ)) : Type 0 where
+-- what a read gives as the run ends is of this kind, and so is what a crash at any moment of the run leaves
+abbrev pub IsAlways : Option (List ℕ) → ((List ℕ → Type 0) → Type 0) → (List ℕ → Type 0) → Type 0
+IsAlways new OnlyLeaves Kind = IfSome new Kind × OnlyLeaves Kind
+
+-- the rows of the files that were followed are right, and the area never has others: it is as it was, is blank, has a gate
+-- that is not open, or holds those rows
+pub record LeavesKept (source : Option (List ℕ)) (told : FolderHistory) (evidence : Evidence) (after : Option FolderHistory) (old new : Option (List ℕ)) (OnlyLeaves : (List ℕ → Type 0) → Type 0) : Type 0 where
   pub settings : Settings
   pub named : IsNamed source settings
   pub follows : Follows settings told evidence (λ left harvests end. Unit {0}) after
-  pub area_left : IfSome old (λ held. IfSome new (IsPartStarted 1 (rows_in follows.harvests) held))
+  pub area_left : IfSome old (λ held. IsAlways new OnlyLeaves (IsPartStarted 1 (rows_in follows.harvests) held))
 
--- no file was opened, and the area is as it was, or has no row; or files were followed, and the area has no rows but the
+-- no file was opened, and the area never has a row that it had not; or files were followed, and it never has rows but the
 -- right ones
-abbrev pub HasNoOtherRow : Option (List ℕ) → FolderHistory → Evidence → Option FolderHistory → Option (List ℕ) → Option (List ℕ) → Type 0
-HasNoOtherRow source told evidence after old new =
-    (IsUnopened told after × IfSome old (λ held. IfSome new (λ holds. (holds ≡ held) ⊎ IsPartStarted 1 [] held holds)))
-    ⊎ LeavesKept source told evidence after old new
+abbrev pub HasNoOtherRow : Option (List ℕ) → FolderHistory → Evidence → Option FolderHistory → Option (List ℕ) → Option (List ℕ) → ((List ℕ → Type 0) → Type 0) → Type 0
+HasNoOtherRow source told evidence after old new OnlyLeaves =
+    (IsUnopened told after × IfSome old (λ held. IsAlways new OnlyLeaves (IsPartStarted 1 [] held)))
+    ⊎ LeavesKept source told evidence after old new OnlyLeaves
 
 -- the files that the settings name were followed to their ends, and the area holds the rows of what was found
 pub record IsEnded (source : Option (List ℕ)) (told : FolderHistory) (evidence : Evidence) (after : Option FolderHistory) (old new : Option (List ℕ)) (ending : Ending) : Type 0 where

@@ -8,7 +8,7 @@ ghost use Rattle.beat_run.specs.Events.{settlements_in};
 ghost use Rattle.beat_run.specs.Progress.{IsDoneBy};
 ghost use Rattle.beat_run.specs.declared.waiting.Waiting.{Waiting};
 
-use crate::progress::{EPOCH, Progress};
+use crate::progress::{CHANGED, EPOCH, Progress};
 use prospect::Member;
 use std::alloc::Global;
 use wire_base::{NoMemory, Row, Text};
@@ -45,7 +45,7 @@ impl Noted {
         requires in_range { IsInRange member.now }
         ensures rows_in_range { All IsRow self.old.rows.items → All IsRow self.new.rows.items }
         ensures one_more { vec_len self.new.rows ≤ vec_len self.old.rows + 1 }
-        ensures begun { OnOk result (self.new.rows.items ≡ self.old.rows.items ++ record { key = member.now.key; path = member.now.path; epoch = EPOCH; offset = 0 } ∷ []) }
+        ensures begun { OnOk result (self.new.rows.items ≡ self.old.rows.items ++ record { key = member.now.key; path = member.now.path; epoch = EPOCH; offset = 0; changed = CHANGED } ∷ []) }
         ensures missed_kept { self.new.missed ≡ self.old.missed }
         ensures shipped_kept { self.new.shipped ≡ self.old.shipped }
         ensures dropped_kept { self.new.dropped ≡ self.old.dropped }
@@ -56,6 +56,7 @@ impl Noted {
             path: member.path.copy(alloc)?,
             epoch: EPOCH,
             offset: 0,
+            changed: CHANGED,
         };
         self.rows.push(row)?;
         Ok(())

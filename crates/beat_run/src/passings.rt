@@ -1,12 +1,12 @@
-ghost use Rattle.std.specs.Prelude.{◌≡◌, ◌≤◌, length, IfOk, IfErr, OnOk};
-ghost use Rattle.std.specs.List.{insert};
-ghost use Rattle.beat_run.specs.Passings.{AreInOrder, ArePassings, gone, with_path};
+ghost use Rattle.std.specs.Prelude.{◌++◌, ◌∷◌, [], ℕ, List, IfOk, IfErr, OnOk};
+ghost use Rattle.wire_base.specs.KeyOrder.{IsAt, IsGap, IsInOrder};
+ghost use Rattle.beat_run.specs.Passings.{ArePassings, path_of};
 
 use report::{Passing, Why};
 use std::alloc::Global;
 use wire_base::{NoMemory, Text};
 
-/// The passings of these paths, in byte order, each once.
+/// The passings of these paths, which were gone, in byte order, each once.
 pub fn passings_of(alloc: Global, missed: Vec<Text>) -> Result<Vec<Passing>, NoMemory>
     ensures { IfOk result (λ passed. ArePassings missed.items passed.items) }
 {
@@ -19,8 +19,8 @@ pub fn passings_of(alloc: Global, missed: Vec<Text>) -> Result<Vec<Passing>, NoM
 
 // Puts the path in its place, where it is not there yet.
 fn put(passed: &mut Vec<Passing>, path: Text) -> Result<(), NoMemory>
-    requires { AreInOrder passed.old.items }
-    ensures { OnOk result (passed.new.items ≡ with_path path passed.old.items) }
+    requires { IsInOrder path_of passed.old.items }
+    ensures { (missed : List (List ℕ)) → ArePassings missed passed.old.items → OnOk result (ArePassings (missed ++ path ∷ []) passed.new.items) }
 {
     match place(passed, &path) {
         Ok(_) => Ok(()),
@@ -39,10 +39,9 @@ fn put(passed: &mut Vec<Passing>, path: Text) -> Result<(), NoMemory>
 
 // Where the path stands, or where it belongs.
 fn place(passed: &[Passing], path: &Text) -> Result<usize, usize>
-    requires { AreInOrder passed.now }
-    ensures there { IfOk result (λ place. with_path path.now passed.now ≡ passed.now) }
-    ensures within { IfErr result (λ place. place ≤ length passed.now) }
-    ensures missing { IfErr result (λ place. insert passed.now place (gone path.now) ≡ with_path path.now passed.now) }
+    requires { IsInOrder path_of passed.now }
+    ensures there { IfOk result (IsAt path_of passed.now path.now) }
+    ensures missing { IfErr result (IsGap path_of passed.now path.now) }
 {
     passed.binary_search_by(|one| one.path.cmp(path))
 }

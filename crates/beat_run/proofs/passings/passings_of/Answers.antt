@@ -3,7 +3,7 @@ use Rattle.std.proofs.lemmas.List.{map-id}
 use Rattle.std.proofs.lemmas.Iterator.Adapters.{YieldsList-from_vec}
 use Rattle.std.proofs.lemmas.Iterator.Consumers.{YieldsList-end}
 use Rattle.beat_run.specs.Passings.{ArePassings}
-use Rattle.beat_run.proofs.Placings.{none_missed, one_missed}
+use Rattle.beat_run.proofs.Placings.{none_missed}
 use Rattle.beat_run.proofs.passings.passings_of.Goals as goal
 
 pub loop-path-init : goal.loop-path-init
@@ -13,7 +13,7 @@ pub put-requires : goal.put-requires
 put-requires c = c.loop-path.invariant.in_order
 
 pub loop-path-preserved : goal.loop-path-preserved
-loop-path-preserved c = one_missed c.loop-path.yielded c.in-Some.path _ _ c.in_ok-put.ensures c.loop-path.invariant
+loop-path-preserved c = c.in_ok-put.ensures c.loop-path.yielded c.loop-path.invariant
 
 pub returns : goal.returns
 returns c =
