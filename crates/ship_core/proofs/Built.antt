@@ -6,24 +6,24 @@ use Rattle.std.specs.Ordering.{is_eq}
 use Rattle.std.specs.declared.cmp.Ordering.{Ordering}
 use Rattle.std.specs.declared.cmp.Ordering.TheVariants.{Less, Equal, Greater}
 use Rattle.std.proofs.lemmas.Bool.{cases_lt, eq-eqb}
+use Rattle.wire_base.proofs.ByteOrder.{same_key, compare_same}
+use Rattle.wire_base.proofs.Keyed.{in_order-with, in_order-without, find-with, find-with_not, find-without, find-without_not}
+use Rattle.wire_base.specs.KeyOrder.{compare}
 use Rattle.wire_base.specs.declared.row.Row.{Row}
 use Rattle.wire_base.specs.declared.note.Note.{Note}
-use Rattle.wire_base.specs.declared.note.Note.TheVariants.{Begin, Announce, Settle, Rename, Forget}
-use Rattle.ship_core.specs.Rows.{compare, IsInOrder, find}
-use Rattle.ship_core.specs.Replay.{with_row, without_key}
+use Rattle.wire_base.specs.declared.note.Note.TheVariants.{Begin, Announce, Settle, Rename, Seen, Forget}
+use Rattle.ship_core.specs.Rows.{key_of, IsInOrder, find}
+use Rattle.ship_core.specs.Replay.{with_row, without_row}
 use Rattle.ship_core.specs.Orderly.{AreOrderly}
 use Rattle.ship_core.specs.RowOver.{Start, slot_of, start_of, notes_of, start_over, is_gone, row_of, row_over}
 use Rattle.ship_core.specs.RowsOver.{slot_for, slots_for, row_of_greatest, row_among, row_for, AreRowsOver}
-use Rattle.ship_core.proofs.Order.{same_key, compare_same}
-use Rattle.ship_core.proofs.Edits.{in_order-with, in_order-without}
-use Rattle.ship_core.proofs.Found.{find-with, find-with_not, find-without, find-without_not}
 use Rattle.ship_core.proofs.Members.{Within, first_there, later_there, there_cases, none_there, there_passed, passed_there, there_given, given_there}
 use Rattle.ship_core.proofs.Reordered.{one_start, first_member}
 
 -- ---- one key after another
 
 put : List ℕ → Option Row → List Row → List Row
-put key None rows = without_key key rows
+put key None rows = without_row key rows
 put key (Some row) rows = with_row row rows
 
 built : List Row → List Note → List (List ℕ) → List Row
@@ -36,18 +36,18 @@ HasKey key o = (row : Row) → o ≡ Some row → row.key ≡ key
 
 put_in_order : (key : List ℕ) (o : Option Row) (rows : List Row) → IsInOrder rows → IsInOrder (put key o rows)
 unfolding put
-put_in_order key None rows ordered = in_order-without key rows ordered
-put_in_order key (Some row) rows ordered = in_order-with row rows ordered
+put_in_order key None rows ordered = in_order-without key_of key rows ordered
+put_in_order key (Some row) rows ordered = in_order-with key_of row rows ordered
 
 put_here : (key : List ℕ) (o : Option Row) (rows : List Row) → HasKey key o → find key (put key o rows) ≡ o
 unfolding put
-put_here key None rows has = find-without key rows
-put_here key (Some row) rows has = ap (λ (k : List ℕ). find k (with_row row rows)) (sym (has row refl)) ∙ find-with row rows
+put_here key None rows has = find-without key_of key rows
+put_here key (Some row) rows has = ap (λ (k : List ℕ). find k (with_row row rows)) (sym (has row refl)) ∙ find-with key_of row rows
 
 put_others : (key other : List ℕ) (o : Option Row) (rows : List Row) → HasKey key o → other ≢ key → find other (put key o rows) ≡ find other rows
 unfolding put
-put_others key other None rows has differs = find-without_not key other rows differs
-put_others key other (Some row) rows has differs = find-with_not row rows other (λ same. differs (same ∙ has row refl))
+put_others key other None rows has differs = find-without_not key_of key other rows differs
+put_others key other (Some row) rows has differs = find-with_not key_of row rows other (λ same. differs (same ∙ has row refl))
 
 built_in_order : (opening : List Row) (notes : List Note) (keys : List (List ℕ)) → IsInOrder opening → IsInOrder (built opening notes keys)
 unfolding built
@@ -80,16 +80,17 @@ module _ (opening : List Row) (notes : List Note) (has : (key : List ℕ) → Ha
 
 -- ---- the keys that a Begin names
 
-key_of : Note → Option (List ℕ)
-key_of (Begin slot key path epoch base) = Some key
-key_of (Announce slot epoch) = None
-key_of (Settle slot epoch span cause) = None
-key_of (Rename slot scan path) = None
-key_of (Forget slot epoch end) = None
+named_key : Note → Option (List ℕ)
+named_key (Begin slot key path epoch base changed) = Some key
+named_key (Announce slot epoch) = None
+named_key (Settle slot epoch span cause) = None
+named_key (Rename slot scan path) = None
+named_key (Seen slot changed) = None
+named_key (Forget slot epoch end) = None
 
 -- a note names the key to a slot exactly where it is a Begin of that slot and key
 slot_named : (key : List ℕ) (note : Note) (slot : ℕ) → slot_for key note ≡ Some slot → (start : Start) × (start_of note ≡ Some start) × (start.key ≡ key) × (slot_of note ≡ slot)
-slot_named key (Begin s named path epoch base) slot e = by_case (compare key named) refl e
+slot_named key (Begin s named path epoch base changed) slot e = by_case (compare key named) refl e
   where
     by_case : (o : Ordering) → compare key named ≡ o → (if is_eq o then Some s.0 else None) ≡ Some slot → (start : Start) × (Some (record { key = named; path = path; epoch = epoch.0; base = base }) ≡ Some start) × (start.key ≡ key) × (s.0 ≡ slot)
     by_case Equal is e = (record { key = named; path = path; epoch = epoch.0; base = base }, refl, sym (same_key key named is), let q : Some s.0 ≡ Some slot = e in cc)
@@ -98,21 +99,23 @@ slot_named key (Begin s named path epoch base) slot e = by_case (compare key nam
 slot_named key (Announce s epoch) slot e = absurd (let q : None ≡ Some slot = e in cc)
 slot_named key (Settle s epoch span cause) slot e = absurd (let q : None ≡ Some slot = e in cc)
 slot_named key (Rename s scan path) slot e = absurd (let q : None ≡ Some slot = e in cc)
+slot_named key (Seen s changed) slot e = absurd (let q : None ≡ Some slot = e in cc)
 slot_named key (Forget s epoch end) slot e = absurd (let q : None ≡ Some slot = e in cc)
 
-named_slot : (key : List ℕ) (note : Note) → key_of note ≡ Some key → slot_for key note ≡ Some (slot_of note)
-unfolding key_of
-named_slot key (Begin s named path epoch base) e =
+named_slot : (key : List ℕ) (note : Note) → named_key note ≡ Some key → slot_for key note ≡ Some (slot_of note)
+unfolding named_key
+named_slot key (Begin s named path epoch base changed) e =
     let same : key ≡ named = let q : Some named ≡ Some key = e in cc in
     rw (compare_same key named same) refl
 named_slot key (Announce s epoch) e = absurd (let q : None ≡ Some key = e in cc)
 named_slot key (Settle s epoch span cause) e = absurd (let q : None ≡ Some key = e in cc)
 named_slot key (Rename s scan path) e = absurd (let q : None ≡ Some key = e in cc)
+named_slot key (Seen s changed) e = absurd (let q : None ≡ Some key = e in cc)
 named_slot key (Forget s epoch end) e = absurd (let q : None ≡ Some key = e in cc)
 
-slot_key : (key : List ℕ) (note : Note) (slot : ℕ) → slot_for key note ≡ Some slot → key_of note ≡ Some key
-unfolding key_of
-slot_key key (Begin s named path epoch base) slot e = by_case (compare key named) refl e
+slot_key : (key : List ℕ) (note : Note) (slot : ℕ) → slot_for key note ≡ Some slot → named_key note ≡ Some key
+unfolding named_key
+slot_key key (Begin s named path epoch base changed) slot e = by_case (compare key named) refl e
   where
     by_case : (o : Ordering) → compare key named ≡ o → (if is_eq o then Some s.0 else None) ≡ Some slot → Some named ≡ Some key
     by_case Equal is e = ap Some (sym (same_key key named is))
@@ -121,6 +124,7 @@ slot_key key (Begin s named path epoch base) slot e = by_case (compare key named
 slot_key key (Announce s epoch) slot e = absurd (let q : None ≡ Some slot = e in cc)
 slot_key key (Settle s epoch span cause) slot e = absurd (let q : None ≡ Some slot = e in cc)
 slot_key key (Rename s scan path) slot e = absurd (let q : None ≡ Some slot = e in cc)
+slot_key key (Seen s changed) slot e = absurd (let q : None ≡ Some slot = e in cc)
 slot_key key (Forget s epoch end) slot e = absurd (let q : None ≡ Some slot = e in cc)
 
 -- ---- a row has its key
@@ -177,17 +181,17 @@ module _ (opening : List Row) (notes : List Note) (orderly : AreOrderly notes) w
   has_key : (key : List ℕ) → HasKey key (row_for opening notes key)
   has_key key = by_slots key (slots_for key notes) (λ x there. there)
 
-  each_key : (key : List ℕ) (slots : List ℕ) → slots_for key notes ≡ slots → find key (built opening notes (filter_map key_of notes)) ≡ row_for opening notes key
+  each_key : (key : List ℕ) (slots : List ℕ) → slots_for key notes ≡ slots → find key (built opening notes (filter_map named_key notes)) ≡ row_for opening notes key
   each_key key [] is =
-      built_elsewhere opening notes has_key (filter_map key_of notes) key absent ∙ sym (ap (row_among opening notes key) is)
+      built_elsewhere opening notes has_key (filter_map named_key notes) key absent ∙ sym (ap (row_among opening notes key) is)
     where
-      absent : Contains (filter_map key_of notes) key → ⊥
+      absent : Contains (filter_map named_key notes) key → ⊥
       absent there =
-          let found = there_given key_of notes key there in
+          let found = there_given named_key notes key there in
           none_there (slot_of found.0) (subst (λ (l : List ℕ). Contains l (slot_of found.0)) is (given_there (slot_for key) notes found.0 (slot_of found.0) found.1 (named_slot key found.0 found.2)))
   each_key key (slot ∷ slots) is =
       let found = there_given (slot_for key) notes slot (subst (λ (l : List ℕ). Contains l slot) (sym is) (first_there slot slots)) in
-      built_here opening notes has_key (filter_map key_of notes) key (given_there key_of notes found.0 key found.1 (slot_key key found.0 slot found.2))
+      built_here opening notes has_key (filter_map named_key notes) key (given_there named_key notes found.0 key found.1 (slot_key key found.0 slot found.2))
 
   pub rows_there : IsInOrder opening → (rows : List Row) × AreRowsOver opening notes rows
-  rows_there ordered = (built opening notes (filter_map key_of notes), record { in_order = built_in_order opening notes (filter_map key_of notes) ordered; each = λ key. each_key key (slots_for key notes) refl })
+  rows_there ordered = (built opening notes (filter_map named_key notes), record { in_order = built_in_order opening notes (filter_map named_key notes) ordered; each = λ key. each_key key (slots_for key notes) refl })

@@ -1,7 +1,4 @@
-mod Edits
-mod Entries
-mod Order
-mod Places
+mod Applied
 mod Covering
 mod Prefixes
 mod MoreNotes
@@ -10,5 +7,4 @@ mod Worked
 mod Living
 mod Members
 mod Reordered
-mod Found
 mod Built

@@ -13,17 +13,17 @@ use Rattle.wire_base.specs.declared.numbers.Epoch.{Epoch}
 use Rattle.wire_base.specs.declared.row.Row.{Row}
 use Rattle.wire_base.specs.declared.note.Cause.{Cause}
 use Rattle.wire_base.specs.declared.note.Note.{Note}
-use Rattle.wire_base.specs.declared.note.Note.TheVariants.{Begin, Announce, Settle, Rename, Forget}
+use Rattle.wire_base.specs.declared.note.Note.TheVariants.{Begin, Announce, Settle, Rename, Seen, Forget}
 use Rattle.ship_core.specs.CoveredEnd.{covered_end}
 use Rattle.ship_core.specs.Orderly.{IsBegun}
-use Rattle.ship_core.specs.RowOver.{Start, Naming, naming_of, newer, slot_of, epoch_of, start_of, span_in, forgets, notes_of, first_start, start_over, greatest_epoch, base_in, spans_in, offset_over, path_over, is_gone, row_of, row_over}
-use Rattle.ship_core.specs.Forward.{GoesOn, RowGoesOn}
+use Rattle.ship_core.specs.RowOver.{Start, Naming, naming_of, newer, slot_of, epoch_of, moment_of, start_of, span_in, forgets, notes_of, first_start, start_over, greatest_epoch, greatest_moment, base_in, spans_in, offset_over, path_over, is_gone, standing_row, row_of, row_over}
+use Rattle.ship_core.specs.Forward.{RowGoesOn}
 use Rattle.ship_core.proofs.Prefixes.{no_nearer}
 
 pub notes_of-append : (slot : ℕ) (notes more : List Note) → notes_of slot (notes ++ more) ≡ notes_of slot notes ++ notes_of slot more
 notes_of-append slot notes more = filter-append (λ note. slot_of note == slot) notes more
 
--- ---- the greatest epoch
+-- ---- the greatest epoch, and the greatest moment
 
 pub fold_max-append : (least : ℕ) (xs ys : List ℕ) → fold max least (xs ++ ys) ≡ fold max (fold max least xs) ys
 fold_max-append least [] ys = refl
@@ -33,12 +33,11 @@ pub fold_max_least : (least : ℕ) (xs : List ℕ) → least ≤ fold max least 
 fold_max_least least [] = omega arith
 fold_max_least least (x ∷ xs) = let h = fold_max_least (max least x) xs in omega (arith, h)
 
-pub greatest_epoch-append : (notes more : List Note) → greatest_epoch (notes ++ more) ≡ fold max (greatest_epoch notes) (filter_map epoch_of more)
-greatest_epoch-append notes more =
-    ap (fold max 0) (filter_map-append epoch_of notes more) ∙ fold_max-append 0 (filter_map epoch_of notes) (filter_map epoch_of more)
+greatest-append : (h : Note → Option ℕ) (notes more : List Note) → fold max 0 (filter_map h (notes ++ more)) ≡ fold max (fold max 0 (filter_map h notes)) (filter_map h more)
+greatest-append h notes more = ap (fold max 0) (filter_map-append h notes more) ∙ fold_max-append 0 (filter_map h notes) (filter_map h more)
 
-epoch_rises : (notes more : List Note) → greatest_epoch notes ≤ greatest_epoch (notes ++ more)
-epoch_rises notes more = rw (greatest_epoch-append notes more) (fold_max_least (greatest_epoch notes) (filter_map epoch_of more))
+greatest_rises : (h : Note → Option ℕ) (notes more : List Note) → fold max 0 (filter_map h notes) ≤ fold max 0 (filter_map h (notes ++ more))
+greatest_rises h notes more = rw (greatest-append h notes more) (fold_max_least (fold max 0 (filter_map h notes)) (filter_map h more))
 
 -- ---- the offset
 
@@ -47,19 +46,25 @@ offset_rises start notes more same =
     rw (same, filter_map-append (span_in (greatest_epoch notes)) notes more)
     (no_nearer (spans_in (greatest_epoch notes) notes) (spans_in (greatest_epoch notes) more) (base_in start (greatest_epoch notes)))
 
-pub place_rises : (start : Start) (notes more : List Note) → GoesOn (greatest_epoch notes) (offset_over start notes) (greatest_epoch (notes ++ more)) (offset_over start (notes ++ more))
+-- the later epoch and offset are not below the earlier ones
+record PlaceGoesOn (epoch offset later_epoch later_offset : ℕ) : Type 0 where
+  pub epoch_kept : epoch ≤ later_epoch
+  pub offset_kept : epoch ≡ later_epoch → offset ≤ later_offset
+
+place_rises : (start : Start) (notes more : List Note) → PlaceGoesOn (greatest_epoch notes) (offset_over start notes) (greatest_epoch (notes ++ more)) (offset_over start (notes ++ more))
 place_rises start notes more = record {
-  epoch_kept = epoch_rises notes more;
+  epoch_kept = greatest_rises epoch_of notes more;
   offset_kept = λ same. offset_rises start notes more (sym same);
 }
 
 -- ---- a row that went stays gone
 
-forgets_still : (note : Note) (epoch offset later_epoch later_offset : ℕ) → GoesOn epoch offset later_epoch later_offset → forgets epoch offset note ≡ true → forgets later_epoch later_offset note ≡ true
-forgets_still (Begin slot key path named base) epoch offset later_epoch later_offset on e = e
+forgets_still : (note : Note) (epoch offset later_epoch later_offset : ℕ) → PlaceGoesOn epoch offset later_epoch later_offset → forgets epoch offset note ≡ true → forgets later_epoch later_offset note ≡ true
+forgets_still (Begin slot key path named base changed) epoch offset later_epoch later_offset on e = e
 forgets_still (Announce slot named) epoch offset later_epoch later_offset on e = e
 forgets_still (Settle slot named span cause) epoch offset later_epoch later_offset on e = e
 forgets_still (Rename slot scan path) epoch offset later_epoch later_offset on e = e
+forgets_still (Seen slot changed) epoch offset later_epoch later_offset on e = e
 forgets_still (Forget slot named end) epoch offset later_epoch later_offset on e =
     by_case (or_cases (nat_lt named.0 epoch) ((named.0 == epoch) && nat_le end offset) e)
   where
@@ -113,10 +118,12 @@ start_still notes more start e = ap first_start (filter_map-append start_of note
 of_start : (start : Start) (notes more : List Note) → RowGoesOn (row_of notes start) (row_of (notes ++ more) start)
 of_start start notes more = by_case (is_gone start notes) (is_gone start (notes ++ more)) (gone_still start notes more)
   where
-    by_case : (b d : Bool) → (b ≡ true → d ≡ true) → RowGoesOn (if b then None else Some (record { key = start.key; path = path_over start notes; epoch = record { 0 = greatest_epoch notes }; offset = offset_over start notes })) (if d then None else Some (record { key = start.key; path = path_over start (notes ++ more); epoch = record { 0 = greatest_epoch (notes ++ more) }; offset = offset_over start (notes ++ more) }))
+    by_case : (b d : Bool) → (b ≡ true → d ≡ true) → RowGoesOn (if b then None else Some (standing_row notes start)) (if d then None else Some (standing_row (notes ++ more) start))
     by_case true d h = rw (h refl) refl
     by_case false true h = tt
-    by_case false false h = place_rises start notes more
+    by_case false false h =
+        let place = place_rises start notes more in
+        record { epoch_kept = place.epoch_kept; offset_kept = place.offset_kept; moment_kept = greatest_rises moment_of notes more }
 
 pub row_goes_on : (slot : ℕ) (notes more : List Note) → IsBegun slot notes → RowGoesOn (row_over slot notes) (row_over slot (notes ++ more))
 row_goes_on slot notes more begun = rw (notes_of-append slot notes more) (by_start (start_over (notes_of slot notes)) refl begun)
@@ -134,18 +141,21 @@ pub this_slot : (slot : ℕ) (notes : List Note) (note : Note) → (slot_of note
 this_slot slot notes note same = notes_of-append slot notes (note ∷ []) ∙ ap (λ (l : List Note). notes_of slot notes ++ l) (rw same refl)
 
 -- what a row is made of
-shown : Start → Bool → List ℕ → ℕ → ℕ → Option Row
-shown start gone path epoch offset =
-    if gone then None else Some (record { key = start.key; path = path; epoch = record { 0 = epoch }; offset = offset })
+shown : Start → Bool → List ℕ → ℕ → ℕ → ℕ → Option Row
+shown start gone path epoch offset changed =
+    if gone then None else Some (record { key = start.key; path = path; epoch = record { 0 = epoch }; offset = offset; changed = record { 0 = changed } })
 
-pub row_same : (start : Start) (first second : List Note) → greatest_epoch first ≡ greatest_epoch second → offset_over start first ≡ offset_over start second → path_over start first ≡ path_over start second → is_gone start first ≡ is_gone start second → row_of first start ≡ row_of second start
+pub row_same : (start : Start) (first second : List Note) → greatest_epoch first ≡ greatest_epoch second → greatest_moment first ≡ greatest_moment second → offset_over start first ≡ offset_over start second → path_over start first ≡ path_over start second → is_gone start first ≡ is_gone start second → row_of first start ≡ row_of second start
 unfolding shown
-row_same start first second epoch offset path gone = λ k. shown start (gone k) (path k) (epoch k) (offset k)
+row_same start first second epoch moment offset path gone = λ k. shown start (gone k) (path k) (epoch k) (offset k) (moment k)
 
 -- a settlement of an older epoch changes nothing of its slot's row
 module _ (slot : Slot) (epoch : Epoch) (span : Extent) (cause : Cause) (notes : List Note) (older : epoch.0 < greatest_epoch notes) where
   same_epoch : greatest_epoch (notes ++ Settle slot epoch span cause ∷ []) ≡ greatest_epoch notes
-  same_epoch = greatest_epoch-append notes (Settle slot epoch span cause ∷ []) ∙ omega arith
+  same_epoch = greatest-append epoch_of notes (Settle slot epoch span cause ∷ []) ∙ omega arith
+
+  same_moment : greatest_moment (notes ++ Settle slot epoch span cause ∷ []) ≡ greatest_moment notes
+  same_moment = greatest-append moment_of notes (Settle slot epoch span cause ∷ [])
 
   same_spans_in : spans_in (greatest_epoch notes) (notes ++ Settle slot epoch span cause ∷ []) ≡ spans_in (greatest_epoch notes) notes
   same_spans_in =
@@ -169,7 +179,7 @@ module _ (slot : Slot) (epoch : Epoch) (span : Extent) (cause : Cause) (notes : 
       ∙ or-false (is_gone start notes)
 
   pub older_row : (start : Start) → row_of (notes ++ Settle slot epoch span cause ∷ []) start ≡ row_of notes start
-  older_row start = row_same start (notes ++ Settle slot epoch span cause ∷ []) notes same_epoch (same_offset start) (same_path start) (same_gone start)
+  older_row start = row_same start (notes ++ Settle slot epoch span cause ∷ []) notes same_epoch same_moment (same_offset start) (same_path start) (same_gone start)
 
 pub older_changes_nothing : (slot : Slot) (epoch : Epoch) (span : Extent) (cause : Cause) (notes : List Note) → epoch.0 < greatest_epoch (notes_of slot.0 notes) → (of : ℕ) → row_over of (notes ++ Settle slot epoch span cause ∷ []) ≡ row_over of notes
 older_changes_nothing slot epoch span cause notes older of = by_slot (cases_eq slot.0 of)

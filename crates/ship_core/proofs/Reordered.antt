@@ -8,10 +8,10 @@ use Rattle.std.proofs.lemmas.List.Elements.{filter_map-append, All-contains, Con
 use Rattle.wire_base.specs.Extent.{Extent}
 use Rattle.wire_base.specs.declared.row.Row.{Row}
 use Rattle.wire_base.specs.declared.note.Note.{Note}
-use Rattle.wire_base.specs.declared.note.Note.TheVariants.{Begin, Announce, Settle, Rename, Forget}
+use Rattle.wire_base.specs.declared.note.Note.TheVariants.{Begin, Announce, Settle, Rename, Seen, Forget}
 use Rattle.ship_core.specs.CoveredEnd.{AreEqualOrApart, AreApart, covered_end}
 use Rattle.ship_core.specs.Orderly.{AreOrderly, MayFollow}
-use Rattle.ship_core.specs.RowOver.{Start, Naming, slot_of, epoch_of, start_of, span_in, naming_of, forgets, notes_of, first_start, start_over, greatest_epoch, base_in, spans_in, offset_over, newer, path_over, is_gone, row_over}
+use Rattle.ship_core.specs.RowOver.{Start, Naming, slot_of, epoch_of, moment_of, start_of, span_in, naming_of, forgets, notes_of, first_start, start_over, greatest_epoch, greatest_moment, base_in, spans_in, offset_over, newer, path_over, is_gone, row_over}
 use Rattle.ship_core.specs.RowsOver.{slot_for, slots_for, row_of_greatest, row_among, row_for}
 use Rattle.ship_core.proofs.InOrder.{follows}
 use Rattle.ship_core.proofs.Members.{Within, first_there, later_there, there_cases, none_there, filter_within, given_within, same_any, same_greatest}
@@ -84,7 +84,7 @@ one_start slot = pairwise start_of slot (λ (a b : Start). a ≡ b) (λ a. refl)
     none_else false y e = let q : None ≡ Some y = e in cc
 
     new : (notes : List Note) (note : Note) → MayFollow notes note → (y : Start) → tells start_of slot note ≡ Some y → (x : Start) → Contains (told start_of slot notes) x → y ≡ x
-    new notes (Begin s key path epoch base) may y e x there = by_case (s.0 == slot) refl e
+    new notes (Begin s key path epoch base changed) may y e x there = by_case (s.0 == slot) refl e
       where
         by_case : (b : Bool) → (s.0 == slot) ≡ b → (if b then Some (record { key = key; path = path; epoch = epoch.0; base = base }) else None) ≡ Some y → y ≡ x
         by_case true is e =
@@ -94,6 +94,7 @@ one_start slot = pairwise start_of slot (λ (a b : Start). a ≡ b) (λ a. refl)
     new notes (Announce s epoch) may y e x there = absurd (none_else (s.0 == slot) y e)
     new notes (Settle s epoch span cause) may y e x there = absurd (none_else (s.0 == slot) y e)
     new notes (Rename s scan path) may y e x there = absurd (none_else (s.0 == slot) y e)
+    new notes (Seen s changed) may y e x there = absurd (none_else (s.0 == slot) y e)
     new notes (Forget s epoch end) may y e x there = absurd (none_else (s.0 == slot) y e)
 
 -- a slot's spans of an epoch are apart
@@ -110,7 +111,7 @@ spans_apart slot epoch = pairwise (span_in epoch) slot AreEqualOrApart (λ a. in
     none_else false y e = let q : None ≡ Some y = e in cc
 
     new : (notes : List Note) (note : Note) → MayFollow notes note → (y : Extent) → tells (span_in epoch) slot note ≡ Some y → (x : Extent) → Contains (told (span_in epoch) slot notes) x → AreEqualOrApart y x
-    new notes (Begin s key path named base) may y e x there = absurd (none_else (s.0 == slot) y e)
+    new notes (Begin s key path named base changed) may y e x there = absurd (none_else (s.0 == slot) y e)
     new notes (Announce s named) may y e x there = absurd (none_else (s.0 == slot) y e)
     new notes (Settle s named span cause) may y e x there = by_case (s.0 == slot) refl (named.0 == epoch) refl e
       where
@@ -122,6 +123,7 @@ spans_apart slot epoch = pairwise (span_in epoch) slot AreEqualOrApart (λ a. in
         by_case true is false at e = absurd (let q : None ≡ Some y = e in cc)
         by_case false is d at e = absurd (let q : None ≡ Some y = e in cc)
     new notes (Rename s scan path) may y e x there = absurd (none_else (s.0 == slot) y e)
+    new notes (Seen s changed) may y e x there = absurd (none_else (s.0 == slot) y e)
     new notes (Forget s named end) may y e x there = absurd (none_else (s.0 == slot) y e)
 
 -- namings of one scan have one path
@@ -133,7 +135,7 @@ one_path slot = pairwise naming_of slot (λ (a b : Naming). a.scan ≡ b.scan �
     none_else false y e = let q : None ≡ Some y = e in cc
 
     new : (notes : List Note) (note : Note) → MayFollow notes note → (y : Naming) → tells naming_of slot note ≡ Some y → (x : Naming) → Contains (told naming_of slot notes) x → y.scan ≡ x.scan → y.path ≡ x.path
-    new notes (Begin s key path epoch base) may y e x there = absurd (none_else (s.0 == slot) y e)
+    new notes (Begin s key path epoch base changed) may y e x there = absurd (none_else (s.0 == slot) y e)
     new notes (Announce s epoch) may y e x there = absurd (none_else (s.0 == slot) y e)
     new notes (Settle s epoch span cause) may y e x there = absurd (none_else (s.0 == slot) y e)
     new notes (Rename s scan path) may y e x there = by_case (s.0 == slot) refl e
@@ -145,6 +147,7 @@ one_path slot = pairwise naming_of slot (λ (a b : Naming). a.scan ≡ b.scan �
             let listed = subst (λ (z : ℕ). All (λ (n : Naming). n.scan ≡ scan → n.path ≡ path) (filter_map naming_of (notes_of z notes))) (eqb-true s.0 slot is) may.1 in
             sym path_is ∙ sym (All-contains (λ (n : Naming). n.scan ≡ scan → n.path ≡ path) (filter_map naming_of (notes_of slot notes)) x listed there (sym same_scan ∙ sym scan_is))
         by_case false is e same_scan = absurd (let q : None ≡ Some y = e in cc)
+    new notes (Seen s changed) may y e x there = absurd (none_else (s.0 == slot) y e)
     new notes (Forget s epoch end) may y e x there = absurd (none_else (s.0 == slot) y e)
 
 -- ---- the first start, and the newest naming
@@ -235,6 +238,10 @@ module _ (first second : List Note) (orderly : AreOrderly second) (there : Withi
   epoch_same = same_greatest (filter_map epoch_of (notes_of slot first)) (filter_map epoch_of (notes_of slot second))
       (given_within epoch_of (notes_of slot first) (notes_of slot second) ours_there) (given_within epoch_of (notes_of slot second) (notes_of slot first) ours_back)
 
+  moment_same : greatest_moment (notes_of slot first) ≡ greatest_moment (notes_of slot second)
+  moment_same = same_greatest (filter_map moment_of (notes_of slot first)) (filter_map moment_of (notes_of slot second))
+      (given_within moment_of (notes_of slot first) (notes_of slot second) ours_there) (given_within moment_of (notes_of slot second) (notes_of slot first) ours_back)
+
   end_same : (epoch place : ℕ) → covered_end (spans_in epoch (notes_of slot first)) place ≡ covered_end (spans_in epoch (notes_of slot second)) place
   end_same epoch place = same_spans (spans_in epoch (notes_of slot first)) (spans_in epoch (notes_of slot second)) (spans_apart slot epoch second orderly)
       (given_within (span_in epoch) (notes_of slot first) (notes_of slot second) ours_there) (given_within (span_in epoch) (notes_of slot second) (notes_of slot first) ours_back) place
@@ -254,7 +261,7 @@ module _ (first second : List Note) (orderly : AreOrderly second) (there : Withi
       ∙ same_any (forgets (greatest_epoch (notes_of slot second)) (offset_over start (notes_of slot second))) (notes_of slot first) (notes_of slot second) ours_there ours_back
 
   pub same_row : row_over slot first ≡ row_over slot second
-  same_row = λ k. option_and_then (λ (start : Start). row_same start (notes_of slot first) (notes_of slot second) epoch_same (offset_same start) (path_same start) (gone_same start) k) (start_same k)
+  same_row = λ k. option_and_then (λ (start : Start). row_same start (notes_of slot first) (notes_of slot second) epoch_same moment_same (offset_same start) (path_same start) (gone_same start) k) (start_same k)
 
 -- ---- the row of a key
 

@@ -2,7 +2,6 @@ pub mod CoveredEnd
 pub mod Forward
 pub mod OneLife
 pub mod Orderly
-pub mod Place
 pub mod Replay
 pub mod RowOver
 pub mod Rows

@@ -4,6 +4,7 @@ use Rattle.std.specs.Prelude.{ℕ, List, ◌∷◌, map}
 use Rattle.wire_base.specs.Extent.{Extent}
 use Rattle.wire_base.specs.declared.numbers.Slot.{Slot}
 use Rattle.wire_base.specs.declared.numbers.Epoch.{Epoch}
+use Rattle.wire_base.specs.declared.numbers.Moment.{Moment}
 use Rattle.wire_base.specs.declared.note.Cause.{Cause}
 use Rattle.wire_base.specs.declared.note.Note.{Note}
 use Rattle.wire_base.specs.declared.note.Note.TheVariants.{Begin, Settle}
@@ -19,5 +20,5 @@ settles slot epoch settled = map (λ s. Settle slot epoch s.span s.cause) settle
 abbrev pub spans_of : List Settlement → List Extent
 spans_of settled = map (λ s. s.span) settled
 
-abbrev pub life_notes : Slot → List ℕ → List ℕ → Epoch → ℕ → List Settlement → List Note
-life_notes slot key path epoch base settled = Begin slot key path epoch base ∷ settles slot epoch settled
+abbrev pub life_notes : Slot → List ℕ → List ℕ → Epoch → ℕ → Moment → List Settlement → List Note
+life_notes slot key path epoch base changed settled = Begin slot key path epoch base changed ∷ settles slot epoch settled

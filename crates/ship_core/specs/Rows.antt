@@ -1,25 +1,19 @@
 -- The rows of the registry: at most one for each key, in byte order of the keys (this project's profile).
-use Rattle.std.specs.Prelude.{◌≡◌, ℕ, All, List, [], ◌∷◌, Option, Some, None, if◌then◌else◌}
-use Rattle.std.specs.Cmp.Lexicographic.{slice_cmp}
-use Rattle.std.specs.Ordering.{nat_cmp, is_eq}
-use Rattle.std.specs.declared.cmp.Ordering.{Ordering}
-use Rattle.std.specs.declared.cmp.Ordering.TheVariants.{Less}
+use Rattle.std.specs.Prelude.{ℕ, All, List, Option}
+use Rattle.wire_base.specs.KeyOrder as entries
 use Rattle.wire_base.specs.declared.row.Row.{Row}
 use Rattle.wire_base.specs.Ranges.{IsRow}
 
--- byte order
-abbrev pub compare : List ℕ → List ℕ → Ordering
-compare = slice_cmp nat_cmp
+abbrev pub key_of : Row → List ℕ
+key_of row = row.key
 
 -- the key comes before each key of the rows
 abbrev pub IsBefore : List ℕ → List Row → Type 0
-IsBefore key [] = Unit {0}
-IsBefore key (row ∷ rows) = (compare key row.key ≡ Less) × IsBefore key rows
+IsBefore = entries.IsBefore key_of
 
 -- each key comes before all later keys
 abbrev pub IsInOrder : List Row → Type 0
-IsInOrder [] = Unit {0}
-IsInOrder (row ∷ rows) = IsBefore row.key rows × IsInOrder rows
+IsInOrder = entries.IsInOrder key_of
 
 -- the rows are in order, and each is within its ranges
 pub record AreRows (rows : List Row) : Type 0 where
@@ -28,5 +22,4 @@ pub record AreRows (rows : List Row) : Type 0 where
 
 -- the row of a key
 abbrev pub find : List ℕ → List Row → Option Row
-find key [] = None
-find key (row ∷ rows) = if is_eq (compare key row.key) then Some row else find key rows
+find = entries.find key_of

@@ -5,16 +5,18 @@ use Rattle.std.specs.List.{filter_map}
 use Rattle.std.specs.Ordering.{is_eq}
 use Rattle.wire_base.specs.declared.row.Row.{Row}
 use Rattle.wire_base.specs.declared.note.Note.{Note}
-use Rattle.wire_base.specs.declared.note.Note.TheVariants.{Begin, Announce, Settle, Rename, Forget}
-use Rattle.ship_core.specs.Rows.{compare, IsInOrder, find}
+use Rattle.wire_base.specs.declared.note.Note.TheVariants.{Begin, Announce, Settle, Rename, Seen, Forget}
+use Rattle.wire_base.specs.KeyOrder.{compare}
+use Rattle.ship_core.specs.Rows.{IsInOrder, find}
 use Rattle.ship_core.specs.RowOver.{row_over}
 
 -- the slot that a Begin gives to the key
 abbrev pub slot_for : List ℕ → Note → Option ℕ
-slot_for key (Begin slot named path epoch base) = if is_eq (compare key named) then Some slot.0 else None
+slot_for key (Begin slot named path epoch base changed) = if is_eq (compare key named) then Some slot.0 else None
 slot_for key (Announce slot epoch) = None
 slot_for key (Settle slot epoch span cause) = None
 slot_for key (Rename slot scan path) = None
+slot_for key (Seen slot changed) = None
 slot_for key (Forget slot epoch end) = None
 
 abbrev pub slots_for : List ℕ → List Note → List ℕ

@@ -2,6 +2,7 @@ ghost use Rattle.std.specs.Prelude.{◌≡◌, ◌≢◌, ◌≤◌, ◌<◌, �
 ghost use Rattle.wire_base.specs.Extent.{Extent};
 ghost use Rattle.wire_base.specs.declared.numbers.Slot.{Slot};
 ghost use Rattle.wire_base.specs.declared.numbers.Epoch.{Epoch};
+ghost use Rattle.wire_base.specs.declared.numbers.Moment.{Moment};
 ghost use Rattle.wire_base.specs.declared.note.Cause.{Cause};
 ghost use Rattle.wire_base.specs.declared.note.Note.{Note};
 ghost use Rattle.wire_base.specs.declared.note.Note.TheVariants.{Settle};
@@ -41,14 +42,15 @@ pub fn covered_end_by_steps()
 /// By spans that were told the covered end closes a prefix of what was told, each span of it settled; and where all that
 /// was told is settled, it is the end of all. A law; it computes nothing.
 pub fn covered_end_closes_a_prefix()
-    ensures prefix { (told spans : List Extent) (base : ℕ) → Adjoin base told → All (Contains told) spans →
-        ClosesPrefix told spans base }
-    ensures all { (told spans : List Extent) (base : ℕ) → Adjoin base told → All (Contains told) spans →
-        All (Contains spans) told → covered_end spans base ≡ last_end base told }
+    ensures prefix { (told spans : List Extent) (base : ℕ) → Adjoin base told →
+        All (Contains told) spans → ClosesPrefix told spans base }
+    ensures all { (told spans : List Extent) (base : ℕ) → Adjoin base told →
+        All (Contains told) spans → All (Contains spans) told →
+        covered_end spans base ≡ last_end base told }
 {}
 
-/// With more notes of any kind the row of a slot that was begun goes back in neither epoch nor offset, and one that went
-/// stays gone. A law; it computes nothing.
+/// With more notes of any kind the row of a slot that was begun goes back in neither epoch, nor offset, nor the moment of
+/// its last change, and one that went stays gone. A law; it computes nothing.
 pub fn no_row_goes_back()
     ensures { (slot : ℕ) (notes more : List Note) → IsBegun slot notes →
         RowGoesOn (row_over slot notes) (row_over slot (notes ++ more)) }
@@ -75,10 +77,12 @@ pub fn order_does_not_matter()
 /// An update sets the row of its key, or takes it away, and changes no other key's; rows in order stay in order. A law; it
 /// computes nothing.
 pub fn update_by_key()
-    ensures set { (row : Row) (rows : List Row) → find row.key (after_op rows (Set row)) ≡ Some row }
+    ensures set { (row : Row) (rows : List Row) →
+        find row.key (after_op rows (Set row)) ≡ Some row }
     ensures others_after_set { (row : Row) (rows : List Row) (key : List ℕ) → key ≢ row.key →
         find key (after_op rows (Set row)) ≡ find key rows }
-    ensures removed { (key : List ℕ) (rows : List Row) → find key (after_op rows (Remove key)) ≡ None }
+    ensures removed { (key : List ℕ) (rows : List Row) →
+        find key (after_op rows (Remove key)) ≡ None }
     ensures others_after_remove { (key other : List ℕ) (rows : List Row) → other ≢ key →
         find other (after_op rows (Remove key)) ≡ find other rows }
     ensures in_order { (rows : List Row) (op : Op) → IsInOrder rows → IsInOrder (after_op rows op) }
@@ -89,8 +93,8 @@ pub fn update_by_key()
 pub fn rows_by_key()
     ensures by_key { (first second : List Row) → IsInOrder first → IsInOrder second →
         ((key : List ℕ) → find key first ≡ find key second) → first ≡ second }
-    ensures there_is_one { (opening : List Row) (notes : List Note) → IsInOrder opening → AreOrderly notes →
-        (rows : List Row) × AreRowsOver opening notes rows }
+    ensures there_is_one { (opening : List Row) (notes : List Note) → IsInOrder opening →
+        AreOrderly notes → (rows : List Row) × AreRowsOver opening notes rows }
     ensures no_other { (opening : List Row) (notes : List Note) (first second : List Row) →
         AreRowsOver opening notes first → AreRowsOver opening notes second → first ≡ second }
 {}
@@ -106,13 +110,25 @@ pub fn orderly_by_one_more()
         MayFollow front note }
 {}
 
-/// A file that begins once and keeps its life is done up to the covered end of its base, and its notes are orderly where
-/// its settled spans are apart, as spans are that adjoin each other. A law; it computes nothing.
+/// A file that begins once and keeps its life is done up to the covered end of its base, and its row has what its Begin
+/// told besides; its notes are orderly where its settled spans are apart, as spans are that adjoin each other. A law; it
+/// computes nothing.
 pub fn one_life()
-    ensures place { (slot : Slot) (key path : List ℕ) (epoch : Epoch) (base : ℕ) (settled : List Settlement) →
-        place_over slot.0 (life_notes slot key path epoch base settled) ≡
+    ensures row { (slot : Slot) (key path : List ℕ) (epoch : Epoch) (base : ℕ) (changed : Moment)
+        (settled : List Settlement) →
+        row_over slot.0 (life_notes slot key path epoch base changed settled) ≡ Some (record {
+          key = key;
+          path = path;
+          epoch = epoch;
+          offset = covered_end (spans_of settled) base;
+          changed = changed;
+        }) }
+    ensures place { (slot : Slot) (key path : List ℕ) (epoch : Epoch) (base : ℕ) (changed : Moment)
+        (settled : List Settlement) →
+        place_over slot.0 (life_notes slot key path epoch base changed settled) ≡
         Some (epoch, covered_end (spans_of settled) base) }
-    ensures orderly { (slot : Slot) (key path : List ℕ) (epoch : Epoch) (base : ℕ) (settled : List Settlement) →
-        AreApart (spans_of settled) → AreOrderly (life_notes slot key path epoch base settled) }
+    ensures orderly { (slot : Slot) (key path : List ℕ) (epoch : Epoch) (base : ℕ)
+        (changed : Moment) (settled : List Settlement) → AreApart (spans_of settled) →
+        AreOrderly (life_notes slot key path epoch base changed settled) }
     ensures apart { (place : ℕ) (spans : List Extent) → Adjoin place spans → AreApart spans }
 {}

@@ -4,7 +4,7 @@
 //! their keys, and `apply` makes one change of it. What notes make of a row is a definition of `specs/`: the greatest
 //! epoch that a note of the slot names, the place from which that epoch began, and from there on the spans that adjoin
 //! each other and were settled for that epoch. That is the *covered end*: it closes a prefix, and is never just some
-//! end that was settled.
+//! end that was settled. A row keeps besides the greatest moment of change with which its file was listed.
 //!
 //! The laws say what follows for any notes or for orderly ones: what a covered end is, that it closes a prefix of the
 //! events that were told, that no row goes back, that a row which went stays gone, and that the order in which notes

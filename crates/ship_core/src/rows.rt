@@ -1,9 +1,9 @@
 ghost use Rattle.std.specs.Prelude.{◌≡◌, ◌≢◌, ◌<◌, ℕ, All, Contains, List, [], length, IfOk, IfErr, OnOk, OnErr, IfSome, IfNone, slice_get, Some};
 ghost use Rattle.std.specs.Option.{option_copied};
+ghost use Rattle.wire_base.specs.KeyOrder.{IsAt, IsGap};
 ghost use Rattle.wire_base.specs.Ranges.{IsOp, IsRow};
-ghost use Rattle.ship_core.specs.Rows.{AreRows, IsInOrder, find};
-ghost use Rattle.ship_core.specs.Replay.{after_op, with_row, without_key};
-ghost use Rattle.ship_core.specs.Place.{IsAt, IsGap};
+ghost use Rattle.ship_core.specs.Rows.{AreRows, IsInOrder, find, key_of};
+ghost use Rattle.ship_core.specs.Replay.{after_op, with_row, without_row};
 
 use std::alloc::Global;
 use std::marker::Model;
@@ -56,7 +56,8 @@ impl Rows {
     /// `None` exactly where no row has the key.
     pub fn get(&self, key: &[u8]) -> Option<&Row>
         ensures found { option_copied result ≡ find key.now self.now }
-        ensures has_the_key { IfSome result (λ row. (row.now.key ≡ key.now) × Contains self.now row.now) }
+        ensures has_the_key { IfSome result (λ row. row.now.key ≡ key.now) }
+        ensures is_a_row { IfSome result (λ row. Contains self.now row.now) }
         ensures none_has_it { IfNone result (All (λ row. row.key ≢ key.now) self.now) }
         ensures in_range { IfSome result (λ row. IsRow row.now) }
         ensures rows { AreRows self.now }
@@ -97,7 +98,7 @@ impl Rows {
     }
 
     fn remove(&mut self, key: &[u8])
-        ensures removed { self.new ≡ without_key key.now self.old }
+        ensures removed { self.new ≡ without_row key.now self.old }
         ensures rows { AreRows self.new }
     {
         if let Ok(i) = place(&self.rows, key) {
@@ -111,7 +112,7 @@ impl Rows {
     {
         let mut rows = Vec::new(alloc);
         for row in &self.rows {
-            rows.push(copy_row(alloc, row)?)?;
+            rows.push(row.copy(alloc)?)?;
         }
         Ok(Rows { rows })
     }
@@ -120,19 +121,8 @@ impl Rows {
 // Where the key's row stands, or where it belongs.
 fn place(rows: &[Row], key: &[u8]) -> Result<usize, usize>
     requires { IsInOrder rows.now }
-    ensures found { IfOk result (IsAt rows.now key.now) }
-    ensures absent { IfErr result (IsGap rows.now key.now) }
+    ensures found { IfOk result (IsAt key_of rows.now key.now) }
+    ensures absent { IfErr result (IsGap key_of rows.now key.now) }
 {
     rows.binary_search_by(|row| row.key.bytes().cmp(key))
-}
-
-fn copy_row(alloc: Global, row: &Row) -> Result<Row, NoMemory>
-    ensures { IfOk result (λ copy. copy ≡ row.now) }
-{
-    Ok(Row {
-        key: row.key.copy(alloc)?,
-        path: row.path.copy(alloc)?,
-        epoch: row.epoch,
-        offset: row.offset,
-    })
 }

@@ -4,7 +4,7 @@ ghost use Rattle.wire_base.specs.Ranges.{IsKey, IsPlace};
 use crate::Rows;
 use std::alloc::Global;
 use std::test::Fail;
-use wire_base::{Epoch, Op, Row, Text};
+use wire_base::{Epoch, Moment, Op, Row, Text};
 
 fn set(alloc: Global, rows: &mut Rows, key: &[u8], offset: u64) -> Result<(), Fail>
     requires key { IsKey key.now }
@@ -15,6 +15,7 @@ fn set(alloc: Global, rows: &mut Rows, key: &[u8], offset: u64) -> Result<(), Fa
         path: Text::from_bytes(alloc, b"/w/a.log")?,
         epoch: Epoch(0),
         offset,
+        changed: Moment(5),
     };
     rows.apply(alloc, Op::Set(row))?;
     Ok(())

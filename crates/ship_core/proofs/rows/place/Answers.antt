@@ -1,7 +1,8 @@
 use Rattle.std.proofs.Common.{rules}
 use Rattle.std.proofs.lemmas.Fn.{always_returns_same}
-use Rattle.ship_core.specs.Rows.{compare}
-use Rattle.ship_core.proofs.Entries.{found, absent}
+use Rattle.wire_base.proofs.Keyed.{found, absent}
+use Rattle.wire_base.specs.KeyOrder.{compare}
+use Rattle.ship_core.specs.Rows.{key_of}
 use Rattle.ship_core.proofs.rows.place.Goals as goal
 
 -- the closure compares a row's key with the key
@@ -9,10 +10,10 @@ pub returns-clause-found : goal.returns-clause-found
 returns-clause-found c =
     let facts = c.binary_search_by.ensures in
     let by_key = facts.position (λ row. compare row.key c.args.key.now) (always_returns_same _ _ _ (λ a r f called. search rules)) in
-    found c.args.rows.now c.requires c.args.key.now c.binary_search_by.result facts.bound by_key
+    found key_of c.args.rows.now c.requires c.args.key.now c.binary_search_by.result facts.bound by_key
 
 pub returns-clause-absent : goal.returns-clause-absent
 returns-clause-absent c =
     let facts = c.binary_search_by.ensures in
     let by_key = facts.position (λ row. compare row.key c.args.key.now) (always_returns_same _ _ _ (λ a r f called. search rules)) in
-    absent c.args.rows.now c.requires c.args.key.now c.binary_search_by.result facts.bound by_key
+    absent key_of c.args.rows.now c.requires c.args.key.now c.binary_search_by.result facts.bound by_key
