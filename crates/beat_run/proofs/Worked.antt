@@ -386,7 +386,7 @@ only_one x y (suc k) is = absurd cc
 one_reading : (talk : List Piece) (p q : List (List ℕ)) → Acknowledges talk p → Acknowledges talk q → p ≡ q
 one_reading talk p q first second =
     let same = are_once (out_bytes talk) first.windows second.windows first.sent second.sent in
-    first.are ∙ ap (λ ws. payloads_by (answers ws talk 0 (acknowledgements (in_bytes talk))) 1 ws) same ∙ sym second.are
+    first.are ∙ ap (λ ws. payloads_by (answers ws talk [] 0 (acknowledgements (in_bytes talk))) 1 ws) same ∙ sym second.are
 
 is_first : (place : Place) → place.outcome ≡ 0 → place.index ≡ 0 → place ≡ first_place
 is_first place outcome index = ap (λ n. record { outcome = n; index = place.index }) outcome ∙ ap (λ n. record { outcome = 0; index = n }) index
