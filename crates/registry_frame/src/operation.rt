@@ -1,10 +1,10 @@
 ghost use Rattle.std.specs.Prelude.{◌≡◌, ◌≤◌, IfOk, length, string_bytes};
 ghost use Rattle.event_json.specs.Json.{quoted};
 ghost use Rattle.wire_base.specs.Ranges.{IsKey, IsOp, IsRow};
-ghost use Rattle.registry_frame.specs.Body.{operation_bytes};
+ghost use Rattle.registry_frame.specs.Body.{moment_bytes, operation_bytes};
 
 use std::alloc::Global;
-use wire_base::{NoMemory, Op, Row, Text};
+use wire_base::{Moment, NoMemory, Op, Row, Text};
 
 /// No operation within its ranges has a longer text, in bytes.
 pub const MAX_OPERATION: usize = 80_000;
@@ -27,13 +27,25 @@ pub fn set_text(alloc: Global, row: &Row) -> Result<String, NoMemory>
     ensures spelled { IfOk result (λ text. string_bytes text ≡ operation_bytes (Op.Set row.now)) }
     ensures short { IfOk result (λ text. length (string_bytes text) ≤ MAX_OPERATION) }
 {
+    let moment = moment_text(alloc, row.changed)?;
     let epoch = row.epoch.0;
     let offset = row.offset;
     let key = quoted_text(alloc, &row.key)?;
     let path = quoted_text(alloc, &row.path)?;
     Ok(format!(in alloc;
-        "{{\"epoch\":{epoch},\"key\":{key},\"offset\":{offset},\"op\":\"set\",\"path\":{path}}}"
+        "{{{moment}\"epoch\":{epoch},\"key\":{key},\"offset\":{offset},\"op\":\"set\",\"path\":{path}}}"
     )?)
+}
+
+// The field of a row's moment of change, with the comma behind it; empty for a row that has none.
+fn moment_text(alloc: Global, changed: Moment) -> Result<String, NoMemory>
+    ensures { IfOk result (λ text. string_bytes text ≡ moment_bytes changed.0) }
+{
+    let moment = changed.0;
+    if moment == 0 {
+        return Ok(String::new(alloc));
+    }
+    Ok(format!(in alloc; "\"changed\":{moment},")?)
 }
 
 fn remove_text(alloc: Global, key: &Text) -> Result<String, NoMemory>

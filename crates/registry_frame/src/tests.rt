@@ -1,15 +1,23 @@
 ghost use Rattle.std.specs.Prelude.{IfOk};
-ghost use Rattle.wire_base.specs.Ranges.{IsKey, IsOp, IsPath, IsPlace};
+ghost use Rattle.wire_base.specs.Ranges.{IsKey, IsMoment, IsOp, IsPath, IsPlace};
 
 use crate::body;
 use std::alloc::Global;
 use std::test::Fail;
-use wire_base::{Epoch, Op, Row, Text};
+use wire_base::{Epoch, MAX_MOMENT, MAX_PLACE, Moment, Op, Row, Text};
 
-fn set(alloc: Global, key: &[u8], epoch: u32, offset: u64, path: &[u8]) -> Result<Op, Fail>
+fn set(
+    alloc: Global,
+    key: &[u8],
+    path: &[u8],
+    epoch: u32,
+    offset: u64,
+    changed: u64,
+) -> Result<Op, Fail>
     requires key { IsKey key.now }
     requires path { IsPath path.now }
     requires offset { IsPlace offset }
+    requires changed { IsMoment (record { 0 = changed }) }
     ensures { IfOk result IsOp }
 {
     Ok(Op::Set(Row {
@@ -17,6 +25,7 @@ fn set(alloc: Global, key: &[u8], epoch: u32, offset: u64, path: &[u8]) -> Resul
         path: Text::from_bytes(alloc, path)?,
         epoch: Epoch(epoch),
         offset,
+        changed: Moment(changed),
     }))
 }
 
@@ -30,24 +39,29 @@ fn remove(alloc: Global, key: &[u8]) -> Result<Op, Fail>
 #[test]
 fn bodies_have_one_spelling(rt: HostRuntime) -> Result<(), Fail> {
     let alloc = rt.alloc();
-    let plain = set(alloc, b"filestream::w::path::/w/a.log", 0, 4, b"/w/a.log")?;
+    let key = b"filestream::w::path::/w/a.log";
+    let plain = set(alloc, key, b"/w/a.log", 0, 4, 0)?;
+    let changed = set(alloc, key, b"/w/a.log", 0, 6, 5)?;
     let escaped = set(
         alloc,
         b"k",
-        u32::MAX,
-        (1 << 63) - 1,
         b"/\"\\\x01\x1f\n\t\x7f\xc3\xa9",
+        u32::MAX,
+        MAX_PLACE,
+        MAX_MOMENT,
     )?;
     let removed = remove(alloc, b"a\"b")?;
-    let one = body(alloc, &[plain])?;
-    let others = body(alloc, &[escaped, removed])?;
     assert_eq!(rt;
-        one.bytes(),
+        body(alloc, &[plain])?.bytes(),
         b"[{\"epoch\":0,\"key\":\"filestream::w::path::/w/a.log\",\"offset\":4,\"op\":\"set\",\"path\":\"/w/a.log\"}]".as_slice()
     );
     assert_eq!(rt;
-        others.bytes(),
-        b"[{\"epoch\":4294967295,\"key\":\"k\",\"offset\":9223372036854775807,\"op\":\"set\",\"path\":\"/\\\"\\\\\\u0001\\u001f\\n\\t\x7f\xc3\xa9\"},{\"key\":\"a\\\"b\",\"op\":\"remove\"}]".as_slice()
+        body(alloc, &[changed])?.bytes(),
+        b"[{\"changed\":5,\"epoch\":0,\"key\":\"filestream::w::path::/w/a.log\",\"offset\":6,\"op\":\"set\",\"path\":\"/w/a.log\"}]".as_slice()
+    );
+    assert_eq!(rt;
+        body(alloc, &[escaped, removed])?.bytes(),
+        b"[{\"changed\":250000000000000,\"epoch\":4294967295,\"key\":\"k\",\"offset\":9223372036854775807,\"op\":\"set\",\"path\":\"/\\\"\\\\\\u0001\\u001f\\n\\t\x7f\xc3\xa9\"},{\"key\":\"a\\\"b\",\"op\":\"remove\"}]".as_slice()
     );
     Ok(())
 }
