@@ -1,11 +1,13 @@
 -- What a run ends with, by what it noted, what it tells of that, and what it stored.
-use Rattle.std.proofs.Common.{◌≡◌, ℕ, List, Option, Some, None, Result, Ok, Err, IfErr, IfOk, IfSome, IsErrOf, IsSome, sym, ◌∙◌, subst}
+use Rattle.std.proofs.Common.{◌≡◌, ℕ, List, Option, Some, None, Result, Ok, Err, IfErr, IfOk, IfSome, IsErrOf, IsSome, Vec, ap, sym, ◌∙◌, subst}
+use Rattle.std.specs.declared.alloc.Global.{Global}
 use Rattle.event_tree.specs.declared.settings.Settings.{Settings}
 use Rattle.outside.specs.DiskImages.{Only}
 use Rattle.outside.specs.Folders.{FolderHistory}
 use Rattle.prospect.specs.Scan.{FindsTooMany}
 use Rattle.registry_log.specs.Area.{area_bytes}
 use Rattle.registry_log.specs.Starting.{Holds, IsPartStarted}
+use Rattle.report.specs.declared.passing.Passing.{Passing}
 use Rattle.report.specs.declared.status.Status.{Status}
 use Rattle.report.specs.declared.status.Status.TheVariants.{Done, Unreachable}
 use Rattle.ship_core.specs.Rows.{IsInOrder}
@@ -17,7 +19,6 @@ use Rattle.beat_run.specs.Blamed.{FailsBySettings, ShowsTooMany}
 use Rattle.beat_run.specs.Evidence.{Evidence}
 use Rattle.beat_run.specs.Harvest.{AreWhole, rows_in}
 use Rattle.beat_run.specs.Named.{IsNamed}
-use Rattle.beat_run.specs.Passings.{ArePassings}
 use Rattle.beat_run.specs.Run.{Drains, IsFollowedBy}
 use Rattle.beat_run.specs.Stored.{HasNoOtherRow, HoldsNoRow, IsEnded, IsStored, IsStoredBy}
 use Rattle.beat_run.proofs.Orders.{noted_in_order}
@@ -104,21 +105,22 @@ drains_as evidence shipped dropped told_shipped told_dropped left harvests end s
 }
 
 pub ended_so : (source : Option (List ℕ)) (settings : Settings) (told : Option FolderHistory) (evidence : Evidence) (noted : Noted) (ending : Ending) (after : Option FolderHistory) (old new : Option (List ℕ)) →
-    IsNamed source settings → IfSome told (λ history. IsFollowedBy settings history evidence noted after (Ok tt)) → Tells noted ending.rows → ArePassings noted.missed.items ending.passed.items →
+    IsNamed source settings → IfSome told (λ history. IsFollowedBy settings history evidence noted after (Ok tt)) → Tells noted ending.rows → ending.passed ≡ noted.missed →
     ending.shipped ≡ noted.shipped → ending.dropped ≡ noted.dropped → HoldsRows ending.rows old new → IfSome told (λ history. IsEnded source history evidence after old new ending)
 unfolding follows_so
 ended_so source settings None evidence noted ending after old new named follows tells passed shipped dropped holds = tt
 ended_so source settings (Some told) evidence noted ending after old new named follows tells passed shipped dropped holds =
-    let M : List (List ℕ) → Type 0 = λ l. ArePassings l ending.passed.items in
     let rows : ending.rows ≡ rows_in follows.notes.follows.harvests = tells (noted_in_order settings told evidence noted after (Ok tt) follows) ∙ follows.notes.rows in
     record {
-      settings = settings;
-      named = named;
-      follows = follows_so settings told evidence (Drains evidence noted.shipped noted.dropped) (Drains evidence ending.shipped ending.dropped) after follows.notes.follows
-          (drains_as evidence noted.shipped noted.dropped ending.shipped ending.dropped _ _ _ shipped dropped follows.notes.follows.so);
+      drained = record {
+        settings = settings;
+        named = named;
+        follows = follows_so settings told evidence (Drains evidence noted.shipped noted.dropped) (Drains evidence ending.shipped ending.dropped) after follows.notes.follows
+            (drains_as evidence noted.shipped noted.dropped ending.shipped ending.dropped _ _ _ shipped dropped follows.notes.follows.so);
+        stored = rows_held ending.rows (rows_in follows.notes.follows.harvests) old new rows holds;
+      };
       rows = rows;
-      passed = subst M follows.missed passed;
-      stored = rows_held ending.rows (rows_in follows.notes.follows.harvests) old new rows holds;
+      passed = ap (λ (v : Vec Passing Global). v.items) passed ∙ follows.missed;
     }
 
 -- ---- whom a status blames

@@ -17,7 +17,6 @@ mod Orders
 mod Partings
 mod Payloads
 mod PieceReads
-mod Placings
 mod Printings
 mod Progresses
 mod Readings

@@ -1,4 +1,4 @@
-ghost use Rattle.std.specs.Prelude.{◌≡◌, ℕ, ◌<◌, ◌≤◌, ◌⊎◌, ◌++◌, List, drop, length, take, vec_len, Option, Some, IfSome, IsSome};
+ghost use Rattle.std.specs.Prelude.{◌≡◌, ℕ, ◌<◌, ◌≤◌, ◌⊎◌, List, drop, length, take, vec_len, Option, IfSome, IsSome};
 ghost use Rattle.outside.specs.Counts.{IsAtEnd, Rose};
 ghost use Rattle.outside.specs.DiskImages.{LeavesOnly, Only};
 ghost use Rattle.outside.specs.Wires.{Outcome};
@@ -10,7 +10,8 @@ ghost use Rattle.beat_run.specs.Asked.{AskFor, AskForOnce, IsAsked};
 ghost use Rattle.beat_run.specs.Blamed.{FailsBySettings, ShowsTooMany};
 ghost use Rattle.beat_run.specs.Ends.{HasStored, IsPrintingEnd, IsRefusal, IsRunEnd, IsToCome, RefusesArea, RefusesKey, RefusesLack, RefusesSettings, RefusesWords};
 ghost use Rattle.beat_run.specs.Evidence.{MomentsGoOn, evidence_of};
-ghost use Rattle.beat_run.specs.Printed.{IsPrinted, ending_bytes};
+ghost use Rattle.report.specs.Report.{IsReport};
+ghost use Rattle.beat_run.specs.Printed.{IsPrinted, Prints};
 ghost use Rattle.beat_run.specs.Standing.{GoesOn, OnFirst};
 ghost use Rattle.beat_run.specs.Stored.{HasNoOtherRow, IsDone, IsStoredBy, StoresReported};
 ghost use Rattle.beat_run.specs.Untouched.{IsRefused, IsUntouched};
@@ -174,7 +175,8 @@ where
 fn print_report<S: Sink>(alloc: Global, ending: &Ending, out: &mut S) -> Status
     ensures ends { IsPrintingEnd (S.faults out.old) (S.faults out.new) result }
     ensures printed { result ≡ Status.Done → IfSome (S.written out.old) (λ written.
-        S.written out.new ≡ Some (written ++ ending_bytes ending.now)) }
+        Prints (IsReport ending.now.rows ending.now.passed.items ending.now.shipped
+        ending.now.dropped Status.Done) written (S.written out.new)) }
     ensures told { IfSome (S.written out.old) (λ written.
         IsPrinted written (S.written out.new) result) }
 {

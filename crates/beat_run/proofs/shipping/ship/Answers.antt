@@ -1,4 +1,4 @@
-use Rattle.std.proofs.Common.{arith, ap, ◌∙◌, Err, ◌≡◌, ℕ, List, take, ◌++◌, slice_get, Option, Some, None, IfSome, Vec}
+use Rattle.std.proofs.Common.{arith, ap, subst, ◌∙◌, Err, ◌≡◌, ℕ, List, take, slice_get, Option, Some, None, IfSome, Vec}
 use Rattle.std.specs.Vec.{with_item}
 use Rattle.std.specs.declared.alloc.Global.{Global}
 use Rattle.outside.specs.Counts.{IsAtEnd}
@@ -8,14 +8,18 @@ use Rattle.outside.specs.Wires.{Outcome}
 use Rattle.beat_config.specs.Document.{AreSettingsOf, IsFirstFault}
 use Rattle.prospect.specs.Lacks.{IsFirstLack}
 use Rattle.registry_log.specs.Area.{area_bytes}
+use Rattle.report.specs.Report.{IsReport}
+use Rattle.report.specs.declared.passing.Passing.{Passing}
 use Rattle.report.specs.declared.status.Status.{Status}
-use Rattle.report.specs.declared.status.Status.TheVariants.{TooMany, Unreachable, Usage}
+use Rattle.report.specs.declared.status.Status.TheVariants.{Done, TooMany, Unreachable, Usage}
+use Rattle.wire_base.specs.declared.row.Row.{Row}
 use Rattle.beat_run.specs.declared.ending.Ending.{Ending}
 use Rattle.beat_run.specs.declared.settings.TheConstants.{LIMIT}
 use Rattle.beat_run.specs.Blamed.{FailsBySettings}
 use Rattle.beat_run.specs.Ends.{RefusesKey, RefusesLack, RefusesSettings, RefusesWords}
 use Rattle.beat_run.specs.Evidence.{Evidence, evidence_of}
-use Rattle.beat_run.specs.Printed.{ending_bytes}
+use Rattle.beat_run.specs.Harvest.{rows_in}
+use Rattle.beat_run.specs.Printed.{Prints}
 use Rattle.beat_run.specs.Standing.{OnFirst}
 use Rattle.beat_run.specs.Stored.{HasNoOtherRow, IsDone, IsEnded, IsStoredBy, StoresReported}
 use Rattle.beat_run.proofs.Endings.{never_to_come, never_to_come_printing, not_refused_printing, printed_so, refused_still, stored_still, told_never, told_printed, two_never, two_printed, was_met}
@@ -100,10 +104,13 @@ returns-in-Err-clause-links_finished g c =
 
 -- the report of a run that is done
 done_so : (source : Option (List ℕ)) (told : Option FolderHistory) (evidence : Evidence) (after : Option FolderHistory) (old new : Option (List ℕ)) (ending : Ending) (written printed : Option (List ℕ)) →
-    IfSome told (λ history. IsEnded source history evidence after old new ending) → IfSome written (λ bytes. printed ≡ Some (bytes ++ ending_bytes ending)) →
+    IfSome told (λ history. IsEnded source history evidence after old new ending) → IfSome written (λ bytes. Prints (IsReport ending.rows ending.passed.items ending.shipped ending.dropped Done) bytes printed) →
     IfSome told (λ history. IsDone source history evidence after old new written printed)
 done_so source None evidence after old new ending written printed ended reported = tt
-done_so source (Some told) evidence after old new ending written printed ended reported = record { ending = ending; ended = ended; reported = reported }
+done_so source (Some told) evidence after old new ending written printed ended reported =
+    let R : List Row → Type 0 = λ l. IfSome written (λ bytes. Prints (IsReport l ending.passed.items ending.shipped ending.dropped Done) bytes printed) in
+    let P : List Passing → Type 0 = λ l. IfSome written (λ bytes. Prints (IsReport (rows_in ended.drained.follows.harvests) l ending.shipped ending.dropped Done) bytes printed) in
+    record { shipped = ending.shipped; dropped = ending.dropped; drained = ended.drained; reported = subst P ended.passed (subst R ended.rows reported) }
 
 pub returns-in-Ok-clause-done_only_where_every_file_was_drained : goal.returns-in-Ok-clause-done_only_where_every_file_was_drained
 returns-in-Ok-clause-done_only_where_every_file_was_drained g c = λ done.
@@ -160,11 +167,13 @@ returns-in-Err-clause-neither_stopped_nor_without_native_numbers g c =
 
 -- ---- the report and the area
 
-stores_reported : (old written area printed : Option (List ℕ)) (ending : Ending) → IfSome old (λ _. area ≡ Some (area_bytes 1 ending.rows)) → IfSome written (λ bytes. printed ≡ Some (bytes ++ ending_bytes ending)) →
+stores_reported : (old written area printed : Option (List ℕ)) (ending : Ending) → IfSome old (λ _. area ≡ Some (area_bytes 1 ending.rows)) →
+    IfSome written (λ bytes. Prints (IsReport ending.rows ending.passed.items ending.shipped ending.dropped Done) bytes printed) →
     IfSome old (λ _. IfSome written (λ bytes. StoresReported bytes area printed))
 stores_reported None written area printed ending stored reported = tt
 stores_reported (Some old) None area printed ending stored reported = tt
-stores_reported (Some old) (Some written) area printed ending stored reported = record { ending = ending; stored = stored; reported = reported }
+stores_reported (Some old) (Some written) area printed ending stored reported =
+    record { rows = ending.rows; passed = ending.passed.items; shipped = ending.shipped; dropped = ending.dropped; stored = stored; reported = reported }
 
 pub returns-in-Ok-clause-reported_rows_are_stored : goal.returns-in-Ok-clause-reported_rows_are_stored
 returns-in-Ok-clause-reported_rows_are_stored g c = λ done.
