@@ -1,18 +1,19 @@
--- What acknowledgements say, one after the other.
-use Rattle.std.proofs.Common.{◌≡◌, ℕ, zero, suc, ◌+◌, ◌-◌, ◌<◌, ◌≤◌, ◌&&◌, Bool, true, false, cond, eqb, leb, max, List, [], ◌∷◌, ◌++◌, length, get_or, take, drop, map, sum_by, refl, sym, ap, ◌∙◌, append_assoc, arith, inl, inr, add-one}
+-- What the code reads of bytes, windows and acknowledgements, one after the other.
+use Rattle.std.proofs.Common.{◌≡◌, ℕ, zero, suc, ◌+◌, ◌-◌, ◌<◌, ◌≤◌, ◌&&◌, Bool, true, false, cond, eqb, leb, max, List, [], ◌∷◌, ◌++◌, length, get_or, set, replicate, take, drop, map, sum_by, refl, sym, ap, ◌∙◌, append_assoc, arith, inl, inr, add-one}
 use Rattle.std.specs.Int.{w32, from_be_bytes, to_be_bytes}
 use Rattle.std.proofs.Math.Seq.{drop-cons}
 use Rattle.std.proofs.lemmas.List.Sums.{sum_by-cons}
 use Rattle.std.proofs.lemmas.Bool.{eqb-true, le-leb}
 use Rattle.std.proofs.lemmas.Bool.Decides.{leb_tells, eqb_tells}
-use Rattle.std.proofs.lemmas.List.{length-append, length-drop, drop-drop, get_or-map, take_all}
+use Rattle.std.proofs.lemmas.List.{length-append, length-drop, length-take, drop_more, drop-drop, get_or-map, get_or-replicate, get_or-set_other, get_or-set_same, get_or-take, take_all}
 use Rattle.std.proofs.lemmas.Nat.{from_be_bytes-to_be_bytes_4}
 use Rattle.wire_base.specs.declared.talk.Piece.{Piece}
 use Rattle.lumber_frame.specs.declared.frame.Frame.TheVariants.{Ack}
 use Rattle.lumber_frame.specs.Frame.{BeginsWithFrame, frame_bytes}
 use Rattle.lumber_frame.specs.Talk.{out_before}
 use Rattle.lumber_frame.specs.Window.{numbered, window_bytes}
-use Rattle.lumber_frame.specs.Acknowledged.{Answer, acknowledgements, answers, count_at, greatest, payloads_by, whole_within}
+use Rattle.lumber_frame.specs.Acknowledged.{Answer, acknowledgements, answers, asked, count_at, greatest, oldest_open, payloads_by, whole_within}
+use Rattle.lumber_frame.proofs.Asking.{answers_next, answers_stop, asked_most, greatest_elsewhere, greatest_here, whole_most}
 use Rattle.lumber_frame.proofs.Frames.{IsBytes, within}
 use Rattle.lumber_frame.proofs.Readings.{ack_front}
 
@@ -73,23 +74,12 @@ length-window payloads = omega (arith, length-numbered 1 payloads)
 pub whole_more : (windows : List (List (List ℕ))) (i out : ℕ) → i < length windows → whole_within (drop i windows) out ≡ cond (leb (length (window_bytes (get_or windows i []))) out) (suc (whole_within (drop (i + 1) windows) (out - length (window_bytes (get_or windows i []))))) 0
 whole_more windows i out there = rw (add-one, drop-cons windows i [] there) refl
 
--- ---- the greatest number
-
 above : (a b : ℕ) → b < a → leb a b ≡ false
 above a b more =
     elim (leb_tells a b) [
       | inl is ↦ absurd (omega (arith, is.1))
       | inr is ↦ is.0
     ]
-
--- one more acknowledgement that is no fault
-pub greatest_more : (windows : List (List (List ℕ))) (talk : List Piece) (place n : ℕ) (ns : List ℕ) (window : ℕ) → n ≤ count_at windows (whole_within windows (out_before talk place))
-    → greatest window (answers windows talk place (n ∷ ns)) ≡ cond (eqb (whole_within windows (out_before talk place)) window) (max n (greatest window (answers windows talk (place + 6) ns))) (greatest window (answers windows talk (place + 6) ns))
-greatest_more windows talk place n ns window few = rw (le-leb n (count_at windows (whole_within windows (out_before talk place))) few) refl
-
--- behind a fault there are none
-pub greatest_stops : (windows : List (List (List ℕ))) (talk : List Piece) (place n : ℕ) (ns : List ℕ) (window : ℕ) → count_at windows (whole_within windows (out_before talk place)) < n → greatest window (answers windows talk place (n ∷ ns)) ≡ 0
-greatest_stops windows talk place n ns window many = rw (above n (count_at windows (whole_within windows (out_before talk place))) many) refl
 
 -- ---- what the code reads of a list of windows
 
@@ -121,31 +111,88 @@ count_is windows (suc before) window some is =
 rest_is : (bytes : List ℕ) (place : ℕ) → take (length bytes - place) (drop place bytes) ≡ drop place bytes
 rest_is bytes place = take_all (length bytes - place) (drop place bytes) (omega (arith, length-drop place bytes))
 
--- what one more acknowledgement makes of the greatest number so far
-pub record IsMost (asked window n most more : ℕ) : Type 0 where
-  pub where_asked : asked ≡ window → more ≡ max most n
-  pub elsewhere : (asked ≡ window → ⊥) → more ≡ most
+-- the greatest numbers that were given so far, each under its window's number, and what is still to come
+pub record AreGreatest (windows : List (List (List ℕ))) (talk : List Piece) (received : List ℕ) (place : ℕ) (mosts : List ℕ) : Type 0 where
+  pub given : List Answer
+  pub total : answers windows talk given place (acknowledgements (drop place received)) ≡ answers windows talk [] 0 (acknowledgements received)
+  pub are : (window : ℕ) → window ≤ length windows → get_or mosts window 0 ≡ greatest window given
+
+-- none so far
+pub greatest_start : (windows : List (List (List ℕ))) (talk : List Piece) (received mosts : List ℕ) → mosts ≡ replicate (length windows + 1) 0 → AreGreatest windows talk received 0 mosts
+greatest_start windows talk received mosts none =
+    record { given = []; total = refl; are = λ window few. ap (λ (ns : List ℕ). get_or ns window 0) none ∙ get_or-replicate (length windows + 1) window 0 0 (omega arith) }
 
 -- one turn of the loop over the acknowledgements
-pub greatest_step : (windows : List (List (List ℕ))) (talk : List Piece) (received : List ℕ) (place n window most more total : ℕ)
+pub greatest_step : (windows : List (List (List ℕ))) (talk : List Piece) (received : List ℕ) (place n : ℕ) (mosts more : List ℕ) (so_far : AreGreatest windows talk received place mosts)
     → acknowledgements (take (length received - place) (drop place received)) ≡ n ∷ acknowledgements (drop 6 (take (length received - place) (drop place received)))
-    → n ≤ count_at windows (whole_within windows (out_before talk place))
-    → IsMost (whole_within windows (out_before talk place)) window n most more
-    → max most (greatest window (answers windows talk place (acknowledgements (drop place received)))) ≡ total
-    → max more (greatest window (answers windows talk (place + 6) (acknowledgements (drop (place + 6) received)))) ≡ total
-greatest_step windows talk received place n window most more total reads few is so_far =
+    → n ≤ count_at windows (asked windows so_far.given (out_before talk place))
+    → length mosts ≡ length windows + 1
+    → more ≡ set mosts (asked windows so_far.given (out_before talk place)) (max (get_or mosts (asked windows so_far.given (out_before talk place)) 0) n)
+    → AreGreatest windows talk received (place + 6) more
+greatest_step windows talk received place n mosts more so_far reads few each is =
+    let given = so_far.given in
+    let window = asked windows given (out_before talk place) in
+    let others = acknowledgements (drop (place + 6) received) in
+    let within : window ≤ length windows = omega (arith, asked_most windows given (out_before talk place), whole_most windows (out_before talk place)) in
+    let numbers = numbers_at received place n reads in
+    record {
+      given = given ++ record { window = window; number = n } ∷ [];
+      total = sym (answers_next windows talk given place n others few) ∙ ap (λ (ns : List ℕ). answers windows talk given place ns) (sym numbers) ∙ so_far.total;
+      are = λ other there.
+          let old = so_far.are other there in
+          let at = ap (λ (ns : List ℕ). get_or ns other 0) is in
+          elim (eqb_tells window other) [
+            | inl same ↦
+                let new = get_or-set_same mosts window (max (get_or mosts window 0) n) 0 (omega (arith, each, within)) in
+                omega (arith, at, new, old, greatest_here window n given, ap (λ (w : ℕ). get_or (set mosts window (max (get_or mosts window 0) n)) w 0) same.1, ap (λ (w : ℕ). get_or mosts w 0) same.1, ap (λ (w : ℕ). greatest w given) same.1, ap (λ (w : ℕ). greatest w (given ++ record { window = window; number = n } ∷ [])) same.1)
+            | inr apart ↦
+                let new = get_or-set_other mosts window other (max (get_or mosts window 0) n) 0 (λ same. apart.1 (sym same)) in
+                omega (arith, at, new, old, greatest_elsewhere other window n given apart.1)
+          ];
+    }
+  where
+    numbers_at : (received : List ℕ) (place n : ℕ) → acknowledgements (take (length received - place) (drop place received)) ≡ n ∷ acknowledgements (drop 6 (take (length received - place) (drop place received))) → acknowledgements (drop place received) ≡ n ∷ acknowledgements (drop (place + 6) received)
+    numbers_at received place n reads =
+        let rest = rest_is received place in
+        sym (ap acknowledgements rest) ∙ reads ∙ ap (λ (bytes : List ℕ). n ∷ acknowledgements (drop 6 bytes)) rest ∙ ap (λ (bytes : List ℕ). n ∷ acknowledgements bytes) (drop-drop 6 place received)
+
+-- the loop ends at a fault
+pub greatest_stop : (windows : List (List (List ℕ))) (talk : List Piece) (received : List ℕ) (place n : ℕ) (mosts : List ℕ) (so_far : AreGreatest windows talk received place mosts)
+    → acknowledgements (take (length received - place) (drop place received)) ≡ n ∷ acknowledgements (drop 6 (take (length received - place) (drop place received)))
+    → count_at windows (asked windows so_far.given (out_before talk place)) < n
+    → (window : ℕ) → window ≤ length windows → get_or mosts window 0 ≡ greatest window (answers windows talk [] 0 (acknowledgements received))
+greatest_stop windows talk received place n mosts so_far reads many window there =
     let rest = rest_is received place in
-    let numbers : acknowledgements (drop place received) ≡ n ∷ acknowledgements (drop (place + 6) received) = sym (ap acknowledgements rest) ∙ reads ∙ ap (λ (bytes : List ℕ). n ∷ acknowledgements (drop 6 bytes)) rest ∙ ap (λ (bytes : List ℕ). n ∷ acknowledgements bytes) (drop-drop 6 place received) in
-    let whole = ap (λ (ns : List ℕ). greatest window (answers windows talk place ns)) numbers in
-    let more_is = greatest_more windows talk place n (acknowledgements (drop (place + 6) received)) window few in
-    elim (eqb_tells (whole_within windows (out_before talk place)) window) [
-      | inl same ↦
-          let chosen = ap (λ (b : Bool). cond b (max n (greatest window (answers windows talk (place + 6) (acknowledgements (drop (place + 6) received))))) (greatest window (answers windows talk (place + 6) (acknowledgements (drop (place + 6) received))))) same.0 in
-          omega (arith, so_far, whole, more_is, chosen, is.where_asked same.1)
-      | inr other ↦
-          let chosen = ap (λ (b : Bool). cond b (max n (greatest window (answers windows talk (place + 6) (acknowledgements (drop (place + 6) received))))) (greatest window (answers windows talk (place + 6) (acknowledgements (drop (place + 6) received))))) other.0 in
-          omega (arith, so_far, whole, more_is, chosen, is.elsewhere other.1)
-    ]
+    let numbers : acknowledgements (drop place received) ≡ n ∷ acknowledgements (drop 6 (take (length received - place) (drop place received))) = sym (ap acknowledgements rest) ∙ reads in
+    let stop = answers_stop windows talk so_far.given place n (acknowledgements (drop 6 (take (length received - place) (drop place received)))) many in
+    so_far.are window there ∙ ap (greatest window) (sym stop ∙ ap (λ (ns : List ℕ). answers windows talk so_far.given place ns) (sym numbers) ∙ so_far.total)
+
+-- or where no other acknowledgement is there
+pub greatest_end : (windows : List (List (List ℕ))) (talk : List Piece) (received : List ℕ) (place : ℕ) (mosts : List ℕ) (so_far : AreGreatest windows talk received place mosts)
+    → acknowledgements (take (length received - place) (drop place received)) ≡ []
+    → (window : ℕ) → window ≤ length windows → get_or mosts window 0 ≡ greatest window (answers windows talk [] 0 (acknowledgements received))
+greatest_end windows talk received place mosts so_far none window there =
+    let rest = rest_is received place in
+    so_far.are window there ∙ ap (greatest window) (ap (λ (ns : List ℕ). answers windows talk so_far.given place ns) (sym none ∙ ap acknowledgements rest) ∙ so_far.total)
+
+-- the windows that are out, from the next on
+out_more : (windows : List (List (List ℕ))) (whole before : ℕ) (window : List (List ℕ)) → before < whole → whole ≤ length windows → get_or windows before [] ≡ window → drop before (take whole windows) ≡ window ∷ drop (before + 1) (take whole windows)
+out_more windows whole before window less within is =
+    drop_more (take whole windows) before [] (omega (arith, length-take whole windows)) ∙ ap (λ (w : List (List ℕ)). w ∷ drop (before + 1) (take whole windows)) (get_or-take whole windows before [] less ∙ is)
+
+-- the next was not acknowledged in full
+pub oldest_here : (given : List Answer) (windows : List (List (List ℕ))) (whole before : ℕ) (window : List (List ℕ)) → before < whole → whole ≤ length windows → get_or windows before [] ≡ window → greatest (before + 1) given < length window → before + 1 ≡ oldest_open given before (drop before (take whole windows))
+oldest_here given windows whole before window less within is fewer =
+    let number : before + 1 ≡ suc before = omega arith in
+    let test = above (length window) (greatest (suc before) given) (omega (arith, fewer, ap (λ (k : ℕ). greatest k given) number)) in
+    number ∙ sym (ap (oldest_open given before) (out_more windows whole before window less within is) ∙ ap (λ (b : Bool). cond b (oldest_open given (suc before) (drop (before + 1) (take whole windows))) (suc before)) test)
+
+-- the next was
+pub oldest_full : (given : List Answer) (windows : List (List (List ℕ))) (whole before : ℕ) (window : List (List ℕ)) → before < whole → whole ≤ length windows → get_or windows before [] ≡ window → length window ≤ greatest (before + 1) given → oldest_open given (before + 1) (drop (before + 1) (take whole windows)) ≡ oldest_open given before (drop before (take whole windows))
+oldest_full given windows whole before window less within is full =
+    let number : before + 1 ≡ suc before = omega arith in
+    let test = le-leb (length window) (greatest (suc before) given) (omega (arith, full, ap (λ (k : ℕ). greatest k given) number)) in
+    ap (λ (k : ℕ). oldest_open given k (drop (before + 1) (take whole windows))) number ∙ sym (ap (oldest_open given before) (out_more windows whole before window less within is) ∙ ap (λ (b : Bool). cond b (oldest_open given (suc before) (drop (before + 1) (take whole windows))) (suc before)) test)
 
 -- one turn of the loop over the windows
 pub payloads_step : (given : List Answer) (windows : List (List (List ℕ))) (i most : ℕ) (window old new total : List (List ℕ)) → i < length windows → get_or windows i [] ≡ window

@@ -4,8 +4,8 @@ use Rattle.std.specs.Int.{w32, from_be_bytes}
 use Rattle.std.specs.List.{All, AllByRecursion, flat_map}
 use Rattle.std.proofs.Math.Seq.{get_or-append_seam}
 use Rattle.std.proofs.lemmas.Bool.{eqb-true}
-use Rattle.std.proofs.lemmas.Bool.Decides.{eqb_tells, leb_tells}
-use Rattle.std.proofs.lemmas.List.{length-append, append-nil, drop_at, get_or_append_left, get_or_past}
+use Rattle.std.proofs.lemmas.Bool.Decides.{eqb_tells}
+use Rattle.std.proofs.lemmas.List.{length-append, length-take, append-nil, drop_at, take_at, take-append-le, get_or_append_left, get_or_past}
 use Rattle.std.proofs.lemmas.List.Concat.{flat_map-append}
 use Rattle.std.proofs.lemmas.List.Elements.{recursion_from_All}
 use Rattle.wire_base.specs.declared.talk.Piece.{Piece}
@@ -13,17 +13,18 @@ use Rattle.lumber_frame.specs.declared.frame.Frame.TheVariants.{Ack}
 use Rattle.lumber_frame.specs.Frame.{BeginsWithFrame, frame_bytes}
 use Rattle.lumber_frame.specs.Talk.{in_bytes, out_bytes, out_before}
 use Rattle.lumber_frame.specs.Window.{window_bytes, AreWindows, IsWindow}
-use Rattle.lumber_frame.specs.Acknowledged.{acknowledgements, answers, count_at, whole_within}
+use Rattle.lumber_frame.specs.Acknowledged.{Answer, acknowledgements, answers, asked, count_at}
 use Rattle.lumber_frame.specs.Settled.{IsSettled, ack_bytes}
 use Rattle.lumber_frame.specs.PeerFault.{BeginsNoAcknowledgement, HasPeerFault, IsAboveCount}
 use Rattle.lumber_frame.proofs.Frames.{IsBytes, byte_stays, spelled}
 use Rattle.lumber_frame.proofs.Readings.{ack_front}
 use Rattle.lumber_frame.proofs.WindowBytes.{are_once}
+use Rattle.lumber_frame.proofs.Asking.{answers_next, asked_most, faultless_next, whole_most}
 use Rattle.lumber_frame.proofs.Answering.{both, unless}
 use Rattle.lumber_frame.proofs.Settling.{none_in_nothing, numbers_read, windows_are}
-use Rattle.lumber_frame.proofs.Staying.{in_append, before_stays, before_most, whole_most, count_stays, numbers_more, numbers_fit}
+use Rattle.lumber_frame.proofs.Staying.{in_append, answers_stay, asked_stays, before_stays, before_most, count_stays, numbers_more, numbers_fit}
 use Rattle.lumber_frame.proofs.GoingOn.{GoesOn, all_both, goes_on}
-use Rattle.lumber_frame.proofs.OneMoreWindow.{IsSent, count_last, faultless_then, length-acks, received_first, sent_first, sent_then, small_too, whole_then}
+use Rattle.lumber_frame.proofs.OneMoreWindow.{IsSent, asked_then, count_last, faultless_then, length-acks, received_first, sent_first, sent_then, small_too}
 
 -- ---- bytes that begin no acknowledgement
 
@@ -150,8 +151,9 @@ met_above talk sent heard windows payloads numbers bytes number settled is out s
     let fits : AllByRecursion (λ n. n < 2 ^ 32) (old ++ number ∷ []) = all_both (λ n. n < 2 ^ 32) old (number ∷ []) (small_then talk windows payloads numbers settled is few) (small, tt) in
     let read : acknowledgements (in_bytes (talk ++ more)) ≡ old ++ number ∷ others =
     ap acknowledgements (spelled_out ∙ ap (λ (ns : List ℕ). ack_bytes ns ++ bytes) joined) ∙ numbers_read (old ++ number ∷ []) bytes fits ∙ append_assoc old (number ∷ []) others in
-    let whole = whole_then talk more windows payloads settled window (6 * index) (omega (arith, length-append settled.numbers numbers)) in
-    let count = ap (count_at all) whole ∙ count_last windows payloads in
+    let each = recursion_from_All (λ n. n ≤ length payloads) numbers few in
+    let taken : take index (acknowledgements (in_bytes (talk ++ more))) ≡ old = ap (take index) read ∙ take_at old (number ∷ others) index refl in
+    let asks = ap (λ (ns : List ℕ). asked all (answers all (talk ++ more) [] 0 ns) (out_before (talk ++ more) (6 * index))) taken ∙ asked_then talk more windows payloads numbers settled window each (6 * index) (omega (arith, length-append settled.numbers numbers)) in
     let fault : HasPeerFault (talk ++ more) = record {
       windows = all;
       sent = windows_then talk more windows payloads settled window;
@@ -159,7 +161,8 @@ met_above talk sent heard windows payloads numbers bytes number settled is out s
         index,
         record {
           there = omega (arith, ap length read, length-append old (number ∷ others));
-          above = omega (arith, count, many, ap (λ (ns : List ℕ). slice_index ns index) read, get_or-append_seam old number others 0);
+          earlier = ap (λ (ns : List ℕ). length (answers all (talk ++ more) [] 0 ns)) taken ∙ faultless_then talk more windows payloads numbers settled window each;
+          above = omega (arith, ap (count_at all) asks, count_last windows payloads, many, ap (λ (ns : List ℕ). slice_index ns index) read, get_or-append_seam old number others 0);
         },
       );
     } in
@@ -168,43 +171,38 @@ met_above talk sent heard windows payloads numbers bytes number settled is out s
 -- ---- there is no fault
 
 -- where each acknowledgement has an answer, none is above the count
-few_each : (windows : List (List (List ℕ))) (talk : List Piece) (place : ℕ) (numbers : List ℕ) (index : ℕ) → length (answers windows talk place numbers) ≡ length numbers → index < length numbers → get_or numbers index 0 ≤ count_at windows (whole_within windows (out_before talk (place + 6 * index)))
-few_each windows talk place [] index faultless there = absurd (omega arith)
-few_each windows talk place (number ∷ numbers) zero faultless there =
+pub few_each : (windows : List (List (List ℕ))) (talk : List Piece) (given : List Answer) (place : ℕ) (numbers : List ℕ) (index : ℕ) → length (answers windows talk given place numbers) ≡ length given + length numbers → index < length numbers → get_or numbers index 0 ≤ count_at windows (asked windows (answers windows talk given place (take index numbers)) (out_before talk (place + 6 * index)))
+few_each windows talk given place [] index faultless there = absurd (omega arith)
+few_each windows talk given place (number ∷ numbers) zero faultless there =
     let here : place + 6 * 0 ≡ place = omega arith in
-    elim (leb_tells number (count_at windows (whole_within windows (out_before talk place)))) [
-      | inl is ↦ omega (arith, is.1, ap (λ (p : ℕ). count_at windows (whole_within windows (out_before talk p))) here)
-      | inr is ↦
-          let none = rw (is.0) at faultless in
-          absurd (omega (arith, none))
-    ]
-few_each windows talk place (number ∷ numbers) (suc index) faultless there =
+    let first = faultless_next windows talk given place number numbers faultless in
+    omega (arith, first.0, ap (λ (p : ℕ). count_at windows (asked windows given (out_before talk p))) here)
+few_each windows talk given place (number ∷ numbers) (suc index) faultless there =
+    let window = asked windows given (out_before talk place) in
+    let more = given ++ record { window = window; number = number } ∷ [] in
     let next : place + 6 + 6 * index ≡ place + 6 * suc index = omega arith in
-    elim (leb_tells number (count_at windows (whole_within windows (out_before talk place)))) [
-      | inl is ↦
-          let all = rw (is.0) at faultless in
-          omega (arith, few_each windows talk (place + 6) numbers index (omega (arith, all)) (omega arith), ap (λ (p : ℕ). count_at windows (whole_within windows (out_before talk p))) next)
-      | inr is ↦
-          let none = rw (is.0) at faultless in
-          absurd (omega (arith, none))
-    ]
+    let first = faultless_next windows talk given place number numbers faultless in
+    let taken = answers_next windows talk given place number (take index numbers) first.0 in
+    let front = answers windows talk more (place + 6) (take index numbers) in
+    omega (arith, few_each windows talk more (place + 6) numbers index first.1 (omega arith), ap (λ (p : ℕ). count_at windows (asked windows front (out_before talk p))) next, ap (λ (all : List Answer). count_at windows (asked windows all (out_before talk (place + 6 * suc index)))) taken)
 
 -- where each acknowledgement has an answer, and another may begin behind them
-no_fault : (talk : List Piece) (windows : List (List (List ℕ))) (numbers bytes : List ℕ) → AreWindows (out_bytes talk) windows → in_bytes talk ≡ ack_bytes numbers ++ bytes → AllByRecursion (λ number. number < 2 ^ 32) numbers → acknowledgements bytes ≡ [] → length (answers windows talk 0 numbers) ≡ length numbers → (BeginsNoAcknowledgement bytes → ⊥) → HasPeerFault talk → ⊥
+pub no_fault : (talk : List Piece) (windows : List (List (List ℕ))) (numbers bytes : List ℕ) → AreWindows (out_bytes talk) windows → in_bytes talk ≡ ack_bytes numbers ++ bytes → AllByRecursion (λ number. number < 2 ^ 32) numbers → acknowledgements bytes ≡ [] → length (answers windows talk [] 0 numbers) ≡ length numbers → (BeginsNoAcknowledgement bytes → ⊥) → HasPeerFault talk → ⊥
 no_fault talk windows numbers bytes sent received small cut faultless begins fault =
     let same = are_once (out_bytes talk) fault.windows windows fault.sent sent in
     let behind = behind_is (in_bytes talk) numbers bytes received small cut in
     elim (fault.fault) [
       | inl high ↦
           let index = high.0 in
-          let few = few_each windows talk 0 numbers index faultless (omega (arith, high.1.there, ap length behind.0)) in
+          let few = few_each windows talk [] 0 numbers index (omega (arith, faultless)) (omega (arith, high.1.there, ap length behind.0)) in
           let place : 0 + 6 * index ≡ 6 * index = omega arith in
-          let count = ap (λ (ws : List (List (List ℕ))). count_at ws (whole_within ws (out_before talk (6 * index)))) same in
-          absurd (omega (arith, high.1.above, few, count, ap (λ (p : ℕ). count_at windows (whole_within windows (out_before talk p))) place, ap (λ (ns : List ℕ). slice_index ns index) behind.0))
+          let read = ap (λ (ns : List ℕ). count_at fault.windows (asked fault.windows (answers fault.windows talk [] 0 (take index ns)) (out_before talk (6 * index)))) behind.0 in
+          let count = ap (λ (ws : List (List (List ℕ))). count_at ws (asked ws (answers ws talk [] 0 (take index numbers)) (out_before talk (6 * index)))) same in
+          absurd (omega (arith, high.1.above, few, count, read, ap (λ (p : ℕ). count_at windows (asked windows (answers windows talk [] 0 (take index numbers)) (out_before talk p))) place, ap (λ (ns : List ℕ). slice_index ns index) behind.0))
       | inr none ↦ begins (subst (λ (tail : List ℕ). BeginsNoAcknowledgement tail) behind.1 none)
     ]
 
-none_begins : BeginsNoAcknowledgement [] → ⊥
+pub none_begins : BeginsNoAcknowledgement [] → ⊥
 none_begins (inl first) = absurd (omega (arith, first.there))
 none_begins (inr second) = absurd (omega (arith, second.0))
 
@@ -246,11 +244,17 @@ above_stays talk more windows on index high =
     let place = 6 * index in
     let behind = numbers_more (in_bytes talk) (in_bytes more) in
     let read = ap acknowledgements (in_append talk more) ∙ behind.1 in
+    let front = take index numbers in
+    let given = answers windows talk [] 0 front in
+    let taken : take index (acknowledgements (in_bytes (talk ++ more))) ≡ front = ap (take index) read ∙ take-append-le index numbers behind.0 (omega (arith, high.there)) in
+    let stay = answers_stay windows on.others talk more [] 0 front on.within (omega (arith, length-take index numbers, high.there, numbers_fit (in_bytes talk))) in
+    let old : answers all (talk ++ more) [] 0 (take index (acknowledgements (in_bytes (talk ++ more)))) ≡ given = ap (answers all (talk ++ more) [] 0) taken ∙ stay in
     let before = before_stays talk more place (omega (arith, high.there, numbers_fit (in_bytes talk))) in
-    let whole = ap (whole_within all) before ∙ on.within (out_before talk place) (before_most talk place) in
-    let count = ap (count_at all) whole ∙ count_stays windows on.others (whole_within windows (out_before talk place)) (whole_most windows (out_before talk place)) in
+    let asks = ap (λ (those : List Answer). asked all those (out_before (talk ++ more) place)) old ∙ ap (asked all given) before ∙ asked_stays windows on.others given (out_before talk place) (on.within (out_before talk place) (before_most talk place)) in
+    let count = ap (count_at all) asks ∙ count_stays windows on.others (asked windows given (out_before talk place)) (omega (arith, asked_most windows given (out_before talk place), whole_most windows (out_before talk place))) in
     record {
       there = omega (arith, high.there, ap length read, length-append numbers behind.0);
+      earlier = ap length old ∙ high.earlier;
       above = omega (arith, high.above, count, ap (λ (ns : List ℕ). slice_index ns index) read, get_or_append_left numbers behind.0 0 index high.there);
     }
 

@@ -8,7 +8,8 @@ use Rattle.lumber_frame.specs.Talk.{in_bytes, out_bytes}
 use Rattle.lumber_frame.specs.Window.{window_bytes, AreWindows, IsWindow}
 use Rattle.lumber_frame.specs.Acknowledged.{Answer, Acknowledges, acknowledgements, answers, greatest, payloads_by, whole_within}
 use Rattle.lumber_frame.specs.Settled.{IsSettled}
-use Rattle.lumber_frame.proofs.Staying.{in_append, out_append, whole_stays, none_within, answers_stay, answers_more, numbers_more, numbers_fit, greatest-append, payloads_stay}
+use Rattle.lumber_frame.proofs.Staying.{in_append, out_append, whole_stays, none_within, answers_stay, numbers_more, numbers_fit, payloads_stay}
+use Rattle.lumber_frame.proofs.Asking.{answers_more, greatest-append}
 use Rattle.lumber_frame.proofs.WindowsThere.{windows_there}
 use Rattle.lumber_frame.proofs.Settling.{windows_are, numbers_are}
 
@@ -34,7 +35,7 @@ pub record GoesOn (talk more : List Piece) (windows : List (List (List ℕ))) : 
   pub later : List Answer
   pub sent : AreWindows (out_bytes (talk ++ more)) (windows ++ others)
   pub within : (out : ℕ) → out ≤ length (out_bytes talk) → whole_within (windows ++ others) out ≡ whole_within windows out
-  pub are : answers (windows ++ others) (talk ++ more) 0 (acknowledgements (in_bytes (talk ++ more))) ≡ answers windows talk 0 (acknowledgements (in_bytes talk)) ++ later
+  pub are : answers (windows ++ others) (talk ++ more) [] 0 (acknowledgements (in_bytes (talk ++ more))) ≡ answers windows talk [] 0 (acknowledgements (in_bytes talk)) ++ later
 
 pub goes_on : (talk more : List Piece) (windows : List (List (List ℕ))) → AreWindows (out_bytes talk) windows → GoesOn talk more windows
 goes_on talk more windows first =
@@ -42,32 +43,32 @@ goes_on talk more windows first =
     let all = windows ++ others.0 in
     let numbers = acknowledgements (in_bytes talk) in
     let behind = numbers_more (in_bytes talk) (in_bytes more) in
-    let later = answers_more all (talk ++ more) 0 numbers behind.0 in
+    let later = answers_more all (talk ++ more) [] 0 numbers behind.0 in
     let within : (out : ℕ) → out ≤ length (out_bytes talk) → whole_within all out ≡ whole_within windows out = λ out few.
     whole_stays windows others.0 first.rest out
     (none_within others.0 first.rest (out_bytes more) others.1.rest others.1.each first.cut others.1.whole)
     (omega (arith, few, ap (λ (bytes : List ℕ). length bytes) first.whole)) in
-    let old = answers_stay windows others.0 talk more 0 numbers within (omega (arith, numbers_fit (in_bytes talk))) in
+    let old = answers_stay windows others.0 talk more [] 0 numbers within (omega (arith, numbers_fit (in_bytes talk))) in
     record {
       others = others.0;
       later = later.0;
       sent = subst (λ (bytes : List ℕ). AreWindows bytes all) (sym (out_append talk more)) (windows_more (out_bytes talk) (out_bytes more) windows others.0 first others.1);
       within = within;
-      are = ap (λ (bytes : List ℕ). answers all (talk ++ more) 0 (acknowledgements bytes)) (in_append talk more) ∙ ap (λ (ns : List ℕ). answers all (talk ++ more) 0 ns) behind.1 ∙ later.1 ∙ ap (λ (front : List Answer). front ++ later.0) old;
+      are = ap (λ (bytes : List ℕ). answers all (talk ++ more) [] 0 (acknowledgements bytes)) (in_append talk more) ∙ ap (λ (ns : List ℕ). answers all (talk ++ more) [] 0 ns) behind.1 ∙ later.1 ∙ ap (λ (front : List Answer). front ++ later.0) old;
     }
 
 -- no window's greatest number falls
-greater : (talk more : List Piece) (windows : List (List (List ℕ))) (on : GoesOn talk more windows) (window : ℕ) → greatest window (answers windows talk 0 (acknowledgements (in_bytes talk))) ≤ greatest window (answers (windows ++ on.others) (talk ++ more) 0 (acknowledgements (in_bytes (talk ++ more))))
+pub greater : (talk more : List Piece) (windows : List (List (List ℕ))) (on : GoesOn talk more windows) (window : ℕ) → greatest window (answers windows talk [] 0 (acknowledgements (in_bytes talk))) ≤ greatest window (answers (windows ++ on.others) (talk ++ more) [] 0 (acknowledgements (in_bytes (talk ++ more))))
 greater talk more windows on window =
-    omega (arith, ap (greatest window) on.are, greatest-append window (answers windows talk 0 (acknowledgements (in_bytes talk))) on.later)
+    omega (arith, ap (greatest window) on.are, greatest-append window (answers windows talk [] 0 (acknowledgements (in_bytes talk))) on.later)
 
 -- what was acknowledged stays so
 pub stays : (talk more : List Piece) (payloads : List (List ℕ)) → Acknowledges talk payloads → (later : List (List ℕ)) × Acknowledges (talk ++ more) later × All (Contains later) payloads
 stays talk more payloads first =
     let windows = first.windows in
     let on = goes_on talk more windows first.sent in
-    let given = answers windows talk 0 (acknowledgements (in_bytes talk)) in
-    let now = answers (windows ++ on.others) (talk ++ more) 0 (acknowledgements (in_bytes (talk ++ more))) in (
+    let given = answers windows talk [] 0 (acknowledgements (in_bytes talk)) in
+    let now = answers (windows ++ on.others) (talk ++ more) [] 0 (acknowledgements (in_bytes (talk ++ more))) in (
       payloads_by now 1 (windows ++ on.others),
       record { windows = windows ++ on.others; sent = on.sent; are = refl },
       subst (λ (acknowledged : List (List ℕ)). All (Contains (payloads_by now 1 (windows ++ on.others))) acknowledged) (sym first.are) (payloads_stay given now 1 windows on.others (greater talk more windows on)),
@@ -90,8 +91,8 @@ all_first given number (window ∷ windows) others full =
 pub settled_stays : (talk more : List Piece) (windows : List (List (List ℕ))) → IsSettled talk windows → (later : List (List ℕ)) × Acknowledges (talk ++ more) (flat_map (λ window. window) windows ++ later)
 settled_stays talk more windows settled =
     let on = goes_on talk more windows (windows_are talk windows settled) in
-    let now = answers (windows ++ on.others) (talk ++ more) 0 (acknowledgements (in_bytes (talk ++ more))) in
+    let now = answers (windows ++ on.others) (talk ++ more) [] 0 (acknowledgements (in_bytes (talk ++ more))) in
     let all = all_first now 1 windows on.others (λ i.
     let next : 1 + i ≡ suc i = omega arith in
-    omega (arith, greater talk more windows on (suc i), settled.in_full (suc i), ap (λ (ns : List ℕ). greatest (suc i) (answers windows talk 0 ns)) (numbers_are talk windows settled), ap (λ (k : ℕ). greatest k now) next)) in
+    omega (arith, greater talk more windows on (suc i), settled.in_full (suc i), ap (λ (ns : List ℕ). greatest (suc i) (answers windows talk [] 0 ns)) (numbers_are talk windows settled), ap (λ (k : ℕ). greatest k now) next)) in
     (all.0, record { windows = windows ++ on.others; sent = on.sent; are = sym all.1 })

@@ -12,11 +12,12 @@ use Rattle.lumber_frame.specs.declared.frame.Frame.TheVariants.{Ack}
 use Rattle.lumber_frame.specs.Frame.{frame_bytes}
 use Rattle.lumber_frame.specs.Talk.{in_bytes, out_bytes, out_before}
 use Rattle.lumber_frame.specs.Window.{window_bytes, IsWindow}
-use Rattle.lumber_frame.specs.Acknowledged.{Answer, answers, count_at, greatest, whole_within}
+use Rattle.lumber_frame.specs.Acknowledged.{Answer, answers, asked, count_at, greatest, whole_within}
 use Rattle.lumber_frame.specs.Settled.{IsSettled, ack_bytes}
 use Rattle.lumber_frame.proofs.Answering.{length-window}
 use Rattle.lumber_frame.proofs.GoingOn.{all_both}
-use Rattle.lumber_frame.proofs.Staying.{in_append, out_append, before_most, whole_stays, count_stays, answers_stay, greatest-append}
+use Rattle.lumber_frame.proofs.Staying.{in_append, out_append, before_most, whole_stays, count_stays, answers_stay}
+use Rattle.lumber_frame.proofs.Asking.{answers_next, answers_through, asked_last, greatest-append}
 use Rattle.wire_base.specs.declared.talk.Piece.TheVariants.{Out, In}
 
 -- ---- places
@@ -42,8 +43,8 @@ before_behind (In bytes ∷ talk) more place =
 
 -- ---- windows
 
--- all windows are within their bytes
-whole_all : (windows : List (List (List ℕ))) (out : ℕ) → out ≡ length (flat_map window_bytes windows) → whole_within windows out ≡ length windows
+-- all windows are within their bytes, and within more
+pub whole_all : (windows : List (List (List ℕ))) (out : ℕ) → length (flat_map window_bytes windows) ≤ out → whole_within windows out ≡ length windows
 whole_all [] out is = refl
 whole_all (window ∷ windows) out is =
     let size = length-append (window_bytes window) (flat_map window_bytes windows) in
@@ -67,23 +68,6 @@ count_last windows payloads = ap length (get_or-append_seam windows payloads [] 
 
 -- ---- answers
 
--- behind acknowledgements without a fault come the answers of the others
-answers_through : (windows : List (List (List ℕ))) (talk : List Piece) (place : ℕ) (numbers more : List ℕ) → length (answers windows talk place numbers) ≡ length numbers → answers windows talk place (numbers ++ more) ≡ answers windows talk place numbers ++ answers windows talk (place + 6 * length numbers) more
-answers_through windows talk place [] more faultless =
-    let here : place ≡ place + 6 * 0 = omega arith in
-    ap (λ (p : ℕ). answers windows talk p more) here
-answers_through windows talk place (number ∷ numbers) more faultless =
-    elim (leb_tells number (count_at windows (whole_within windows (out_before talk place)))) [
-      | inl is ↦
-          let all = rw (is.0) at faultless in
-          let others = answers_through windows talk (place + 6) numbers more (omega (arith, all)) in
-          let next : place + 6 + 6 * length numbers ≡ place + 6 * suc (length numbers) = omega arith in
-          rw (is.0, others, next) refl
-      | inr is ↦
-          let none = rw (is.0) at faultless in
-          absurd (omega (arith, none))
-    ]
-
 -- each number for one window
 for_window : ℕ → List ℕ → List Answer
 for_window window [] = []
@@ -94,14 +78,18 @@ unfolding for_window
 length-for_window window [] = refl
 length-for_window window (number ∷ numbers) = ap suc (length-for_window window numbers)
 
--- acknowledgements that come when all windows are out are for the last
-answers_last : (windows : List (List (List ℕ))) (talk : List Piece) (place last most : ℕ) (numbers : List ℕ) → ((later : ℕ) → place ≤ later → whole_within windows (out_before talk later) ≡ last) → count_at windows last ≡ most → AllByRecursion (λ number. number ≤ most) numbers → answers windows talk place numbers ≡ for_window last numbers
+-- where all windows are out and each but the last was acknowledged in full, acknowledgements are for the last
+answers_last : (windows : List (List (List ℕ))) (talk : List Piece) (given : List Answer) (place last most : ℕ) (numbers : List ℕ) → ((later : ℕ) → place ≤ later → whole_within windows (out_before talk later) ≡ last) → ((window : ℕ) → window < last → count_at windows window ≤ greatest window given) → count_at windows last ≡ most → AllByRecursion (λ number. number ≤ most) numbers → answers windows talk given place numbers ≡ given ++ for_window last numbers
 unfolding for_window
-answers_last windows talk place last most [] whole count few = refl
-answers_last windows talk place last most (number ∷ numbers) whole count few =
-    let others = answers_last windows talk (place + 6) last most numbers (λ later behind. whole later (omega arith)) count few.1 in
-    let here : whole_within windows (out_before talk place) ≡ last = whole place (omega arith) in
-    rw (here, count, le-leb number most few.0, others) refl
+answers_last windows talk given place last most [] whole full count few = sym (append-nil given)
+answers_last windows talk given place last most (number ∷ numbers) whole full count few =
+    let here = whole place (omega arith) in
+    let asks : asked windows given (out_before talk place) ≡ last = asked_last windows given (out_before talk place) (λ window less. full window (omega (arith, less, here))) ∙ here in
+    let answer : Answer = record { window = last; number = number } in
+    let others = answers_last windows talk (given ++ answer ∷ []) (place + 6) last most numbers (λ later behind. whole later (omega arith)) (λ window less. omega (arith, full window less, greatest-append window given (answer ∷ []))) count few.1 in
+    answers_next windows talk given place number numbers (omega (arith, ap (count_at windows) asks, count, few.0))
+    ∙ ap (λ (w : ℕ). answers windows talk (given ++ record { window = w; number = number } ∷ []) (place + 6) numbers) asks
+    ∙ others ∙ append_assoc given (answer ∷ []) (for_window last numbers)
 
 -- no number is given for another window
 greatest_elsewhere : (window last : ℕ) (numbers : List ℕ) → (last ≡ window → ⊥) → greatest window (for_window last numbers) ≡ 0
@@ -187,26 +175,41 @@ whole_then talk more windows payloads settled window later behind =
     let windows_out = whole_all all (out_before (talk ++ more) later) (omega (arith, out, window.first (later - length (in_bytes talk)), bytes_all)) in
     omega (arith, windows_out, length-append windows (payloads ∷ []))
 
+-- each window but the last was acknowledged in full
+full_before : (talk : List Piece) (windows : List (List (List ℕ))) (payloads : List (List ℕ)) (settled : IsSettled talk windows) (window : ℕ) → window < suc (length windows) → count_at (windows ++ payloads ∷ []) window ≤ greatest window (answers windows talk [] 0 settled.numbers)
+full_before talk windows payloads settled window less = omega (arith, count_stays windows (payloads ∷ []) window (omega (arith, less)), settled.in_full window)
+
 -- the answers then are the old ones, and those for the new window
-answers_then : (talk more : List Piece) (windows : List (List (List ℕ))) (payloads : List (List ℕ)) (numbers : List ℕ) → (settled : IsSettled talk windows) → IsSent more payloads → AllByRecursion (λ number. number ≤ length payloads) numbers → answers (windows ++ payloads ∷ []) (talk ++ more) 0 (settled.numbers ++ numbers) ≡ answers windows talk 0 settled.numbers ++ for_window (suc (length windows)) numbers
+answers_then : (talk more : List Piece) (windows : List (List (List ℕ))) (payloads : List (List ℕ)) (numbers : List ℕ) → (settled : IsSettled talk windows) → IsSent more payloads → AllByRecursion (λ number. number ≤ length payloads) numbers → answers (windows ++ payloads ∷ []) (talk ++ more) [] 0 (settled.numbers ++ numbers) ≡ answers windows talk [] 0 settled.numbers ++ for_window (suc (length windows)) numbers
 answers_then talk more windows payloads numbers settled window few =
     let all = windows ++ payloads ∷ [] in
     let old = settled.numbers in
+    let given = answers windows talk [] 0 old in
     let last = suc (length windows) in
     let received : length (in_bytes talk) ≡ 6 * length old = ap length settled.received ∙ length-acks old in
     let within : (out : ℕ) → out ≤ length (out_bytes talk) → whole_within all out ≡ whole_within windows out = λ out most.
     whole_stays windows (payloads ∷ []) [] out (none_out payloads) (omega (arith, most, ap length settled.sent, length-append (flat_map window_bytes windows) [])) in
-    let before = answers_stay windows (payloads ∷ []) talk more 0 old within (omega (arith, received)) in
-    let through = answers_through all (talk ++ more) 0 old numbers (ap length before ∙ settled.faultless) in
+    let before = answers_stay windows (payloads ∷ []) talk more [] 0 old within (omega (arith, received)) in
+    let through = answers_through all (talk ++ more) [] 0 old numbers (omega (arith, ap length before, settled.faultless)) in
     let whole : (later : ℕ) → 0 + 6 * length old ≤ later → whole_within all (out_before (talk ++ more) later) ≡ last = λ later behind.
     whole_then talk more windows payloads settled window later (omega (arith, behind)) in
-    let now = answers_last all (talk ++ more) (0 + 6 * length old) last (length payloads) numbers whole (count_last windows payloads) few in
-    through ∙ ap (λ (front : List Answer). front ++ answers all (talk ++ more) (0 + 6 * length old) numbers) before ∙ ap (λ (tail : List Answer). answers windows talk 0 old ++ tail) now
+    through ∙ ap (λ (front : List Answer). answers all (talk ++ more) front (0 + 6 * length old) numbers) before
+    ∙ answers_last all (talk ++ more) given (0 + 6 * length old) last (length payloads) numbers whole (full_before talk windows payloads settled) (count_last windows payloads) few
+
+-- one more acknowledgement asks of the new window
+pub asked_then : (talk more : List Piece) (windows : List (List (List ℕ))) (payloads : List (List ℕ)) (numbers : List ℕ) → (settled : IsSettled talk windows) → IsSent more payloads → AllByRecursion (λ number. number ≤ length payloads) numbers → (later : ℕ) → 6 * length settled.numbers ≤ later → asked (windows ++ payloads ∷ []) (answers (windows ++ payloads ∷ []) (talk ++ more) [] 0 (settled.numbers ++ numbers)) (out_before (talk ++ more) later) ≡ suc (length windows)
+asked_then talk more windows payloads numbers settled window few later behind =
+    let all = windows ++ payloads ∷ [] in
+    let given = answers windows talk [] 0 settled.numbers in
+    let new = for_window (suc (length windows)) numbers in
+    let are = answers_then talk more windows payloads numbers settled window few in
+    let whole = whole_then talk more windows payloads settled window later behind in
+    asked_last all (answers all (talk ++ more) [] 0 (settled.numbers ++ numbers)) (out_before (talk ++ more) later) (λ w less. omega (arith, full_before talk windows payloads settled w (omega (arith, less, whole)), ap (greatest w) are, greatest-append w given new)) ∙ whole
 
 -- and each acknowledgement has one
-pub faultless_then : (talk more : List Piece) (windows : List (List (List ℕ))) (payloads : List (List ℕ)) (numbers : List ℕ) → (settled : IsSettled talk windows) → IsSent more payloads → AllByRecursion (λ number. number ≤ length payloads) numbers → length (answers (windows ++ payloads ∷ []) (talk ++ more) 0 (settled.numbers ++ numbers)) ≡ length (settled.numbers ++ numbers)
+pub faultless_then : (talk more : List Piece) (windows : List (List (List ℕ))) (payloads : List (List ℕ)) (numbers : List ℕ) → (settled : IsSettled talk windows) → IsSent more payloads → AllByRecursion (λ number. number ≤ length payloads) numbers → length (answers (windows ++ payloads ∷ []) (talk ++ more) [] 0 (settled.numbers ++ numbers)) ≡ length (settled.numbers ++ numbers)
 faultless_then talk more windows payloads numbers settled window few =
-    let given = answers windows talk 0 settled.numbers in
+    let given = answers windows talk [] 0 settled.numbers in
     let new = for_window (suc (length windows)) numbers in
     omega (arith, ap length (answers_then talk more windows payloads numbers settled window few), length-append given new, length-for_window (suc (length windows)) numbers, settled.faultless, length-append settled.numbers numbers)
 
@@ -243,16 +246,16 @@ greatest_below last most (number ∷ numbers) some below =
     ]
 
 -- the new window then has not its count, where all numbers are below it
-pub below_then : (talk more : List Piece) (windows : List (List (List ℕ))) (payloads : List (List ℕ)) (numbers : List ℕ) → (settled : IsSettled talk windows) → IsSent more payloads → AllByRecursion (λ number. number < length payloads) numbers → greatest (suc (length windows)) (answers (windows ++ payloads ∷ []) (talk ++ more) 0 (settled.numbers ++ numbers)) < length payloads
+pub below_then : (talk more : List Piece) (windows : List (List (List ℕ))) (payloads : List (List ℕ)) (numbers : List ℕ) → (settled : IsSettled talk windows) → IsSent more payloads → AllByRecursion (λ number. number < length payloads) numbers → greatest (suc (length windows)) (answers (windows ++ payloads ∷ []) (talk ++ more) [] 0 (settled.numbers ++ numbers)) < length payloads
 below_then talk more windows payloads numbers settled window below =
     let last = suc (length windows) in
-    let given = answers windows talk 0 settled.numbers in
+    let given = answers windows talk [] 0 settled.numbers in
     let are = answers_then talk more windows payloads numbers settled window (below_too (length payloads) numbers below) in
     omega (arith, ap (greatest last) are, greatest-append last given (for_window last numbers), settled.in_full last, count_past windows last (omega arith), greatest_below last (length payloads) numbers window.is.some below)
 
 one_more : (talk more : List Piece) (windows : List (List (List ℕ))) (payloads : List (List ℕ)) (numbers : List ℕ) → IsSettled talk windows → IsAnswered more payloads numbers → IsSettled (talk ++ more) (windows ++ payloads ∷ [])
 one_more talk more windows payloads numbers settled answered =
-    let given = answers windows talk 0 settled.numbers in
+    let given = answers windows talk [] 0 settled.numbers in
     let are = answers_then talk more windows payloads numbers settled answered.window answered.few in
     let full = full_then windows payloads given numbers settled.in_full answered.few answered.full in
     record {

@@ -51,14 +51,14 @@ numbers_are talk windows settled = ap acknowledgements settled.received ∙ numb
 -- what is settled is acknowledged
 pub settled_is : (talk : List Piece) (windows : List (List (List ℕ))) → IsSettled talk windows → Acknowledges talk (flat_map (λ window. window) windows)
 settled_is talk windows settled =
-    let given = answers windows talk 0 settled.numbers in
+    let given = answers windows talk [] 0 settled.numbers in
     let all = all_given given 1 windows (λ i.
     let next : 1 + i ≡ suc i = omega arith in
     ap (λ (k : ℕ). greatest k given) next ∙ settled.in_full (suc i)) in
     record {
       windows = windows;
       sent = windows_are talk windows settled;
-      are = sym all ∙ ap (λ (ns : List ℕ). payloads_by (answers windows talk 0 ns) 1 windows) (sym (numbers_are talk windows settled));
+      are = sym all ∙ ap (λ (ns : List ℕ). payloads_by (answers windows talk [] 0 ns) 1 windows) (sym (numbers_are talk windows settled));
     }
 
 -- nothing is settled in a talk of nothing

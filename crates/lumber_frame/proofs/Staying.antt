@@ -1,5 +1,5 @@
 -- What stays of a talk when it goes on: where bytes stand in it, and what its acknowledgements say.
-use Rattle.std.proofs.Common.{◌≡◌, ℕ, zero, suc, ◌+◌, ◌*◌, ◌-◌, ◌<◌, ◌≤◌, Bool, true, false, cond, eqb, leb, ltb, max, ◌&&◌, List, [], ◌∷◌, ◌++◌, length, take, drop, refl, sym, ap, ◌∙◌, append_assoc, arith, inl, inr}
+use Rattle.std.proofs.Common.{◌≡◌, ℕ, zero, suc, ◌+◌, ◌*◌, ◌-◌, ◌<◌, ◌≤◌, Bool, true, false, cond, eqb, ltb, ◌&&◌, List, [], ◌∷◌, ◌++◌, length, take, drop, refl, sym, ap, ◌∙◌, append_assoc, arith, inl, inr}
 use Rattle.std.specs.List.{All, AllByRecursion, Contains, flat_map}
 use Rattle.std.specs.Int.{w32, from_be_bytes}
 use Rattle.std.proofs.lemmas.Bool.Decides.{leb_tells}
@@ -9,7 +9,8 @@ use Rattle.wire_base.specs.declared.talk.Piece.{Piece}
 use Rattle.wire_base.specs.declared.talk.Piece.TheVariants.{Out, In}
 use Rattle.lumber_frame.specs.Talk.{in_bytes, out_bytes, out_before}
 use Rattle.lumber_frame.specs.Window.{window_bytes, IsWindow, BeginsWithWindow}
-use Rattle.lumber_frame.specs.Acknowledged.{Answer, acknowledgements, answers, count_at, greatest, payloads_by, whole_within}
+use Rattle.lumber_frame.specs.Acknowledged.{Answer, acknowledgements, answers, asked, count_at, greatest, oldest_open, payloads_by, whole_within}
+use Rattle.lumber_frame.proofs.Asking.{asked_most, whole_most}
 
 -- ---- two choices by one test
 
@@ -51,16 +52,6 @@ before_most (In bytes ∷ talk) place = else_most (ltb place (length bytes)) (ou
 
 -- ---- windows
 
-then_most : (test : Bool) (x most : ℕ) → x ≤ most → cond test (suc x) 0 ≤ suc most
-then_most true x most few = omega arith
-then_most false x most few = omega arith
-
--- no more windows are out than there are
-pub whole_most : (windows : List (List (List ℕ))) (out : ℕ) → whole_within windows out ≤ length windows
-whole_most [] out = omega arith
-whole_most (window ∷ windows) out =
-    then_most (leb (length (window_bytes window)) out) (whole_within windows (out - length (window_bytes window))) (length windows) (whole_most windows (out - length (window_bytes window)))
-
 -- windows behind these bytes are none within them
 pub whole_stays : (windows others : List (List (List ℕ))) (rest : List ℕ) (out : ℕ) → ((n : ℕ) → n ≤ length rest → whole_within others n ≡ 0) → out ≤ length (flat_map window_bytes windows ++ rest) → whole_within (windows ++ others) out ≡ whole_within windows out
 whole_stays [] others rest out none few = none out few
@@ -95,25 +86,21 @@ count_stays windows others (suc before) there = ap length (get_or_append_left wi
 
 -- ---- answers
 
--- the answers of acknowledgements that came stay
-pub answers_stay : (windows others : List (List (List ℕ))) (talk more : List Piece) (place : ℕ) (numbers : List ℕ) → ((out : ℕ) → out ≤ length (out_bytes talk) → whole_within (windows ++ others) out ≡ whole_within windows out) → place + 6 * length numbers ≤ length (in_bytes talk) → answers (windows ++ others) (talk ++ more) place numbers ≡ answers windows talk place numbers
-answers_stay windows others talk more place [] stays there = refl
-answers_stay windows others talk more place (number ∷ numbers) stays there =
-    let before = before_stays talk more place (omega arith) in
-    let whole = ap (whole_within (windows ++ others)) before ∙ stays (out_before talk place) (before_most talk place) in
-    let count = ap (count_at (windows ++ others)) whole ∙ count_stays windows others (whole_within windows (out_before talk place)) (whole_most windows (out_before talk place)) in
-    let later = answers_stay windows others talk more (place + 6) numbers stays (omega arith) in
-    rw (count, whole, later) refl
+-- the window that is asked stays
+pub asked_stays : (windows others : List (List (List ℕ))) (given : List Answer) (out : ℕ) → whole_within (windows ++ others) out ≡ whole_within windows out → asked (windows ++ others) given out ≡ asked windows given out
+asked_stays windows others given out stays =
+    ap (λ (n : ℕ). oldest_open given 0 (take n (windows ++ others))) stays ∙ ap (oldest_open given 0) (take-append-le (whole_within windows out) windows others (whole_most windows out))
 
--- more acknowledgements give more answers
-pub answers_more : (windows : List (List (List ℕ))) (talk : List Piece) (place : ℕ) (numbers more : List ℕ) → (later : List Answer) × (answers windows talk place (numbers ++ more) ≡ answers windows talk place numbers ++ later)
-answers_more windows talk place [] more = (answers windows talk place more, refl)
-answers_more windows talk place (number ∷ numbers) more =
-    let others = answers_more windows talk (place + 6) numbers more in
-    elim (leb_tells number (count_at windows (whole_within windows (out_before talk place)))) [
-      | inl is ↦ (others.0, rw (is.0, others.1) refl)
-      | inr is ↦ ([], rw (is.0) refl)
-    ]
+-- the answers of acknowledgements that came stay
+pub answers_stay : (windows others : List (List (List ℕ))) (talk more : List Piece) (given : List Answer) (place : ℕ) (numbers : List ℕ) → ((out : ℕ) → out ≤ length (out_bytes talk) → whole_within (windows ++ others) out ≡ whole_within windows out) → place + 6 * length numbers ≤ length (in_bytes talk) → answers (windows ++ others) (talk ++ more) given place numbers ≡ answers windows talk given place numbers
+answers_stay windows others talk more given place [] stays there = refl
+answers_stay windows others talk more given place (number ∷ numbers) stays there =
+    let out = out_before talk place in
+    let window = asked windows given out in
+    let asks = ap (asked (windows ++ others) given) (before_stays talk more place (omega arith)) ∙ asked_stays windows others given out (stays out (before_most talk place)) in
+    let count = ap (count_at (windows ++ others)) asks ∙ count_stays windows others window (omega (arith, asked_most windows given out, whole_most windows out)) in
+    let later = answers_stay windows others talk more (given ++ record { window = window; number = number } ∷ []) (place + 6) numbers stays (omega arith) in
+    rw (count, asks, later) refl
 
 -- what is acknowledged in bytes stays, whatever follows
 pub numbers_more : (bytes more : List ℕ) → (later : List ℕ) × (acknowledgements (bytes ++ more) ≡ acknowledgements bytes ++ later)
@@ -144,15 +131,6 @@ numbers_fit (v ∷ k ∷ a ∷ b ∷ c ∷ d ∷ bytes) = either (eqb v 0x32 && 
     either : (test : Bool) (number : ℕ) (numbers : List ℕ) (size : ℕ) → 6 * length numbers ≤ size → 6 * length (cond test (number ∷ numbers) []) ≤ suc (suc (suc (suc (suc (suc size)))))
     either true number numbers size few = omega arith
     either false number numbers size few = omega arith
-
--- the greatest number of two lists of answers
-pub greatest-append : (window : ℕ) (given more : List Answer) → greatest window (given ++ more) ≡ max (greatest window given) (greatest window more)
-greatest-append window [] more = omega arith
-greatest-append window (answer ∷ given) more = either (eqb answer.window window) answer.number (greatest window given) (greatest window more) (greatest window (given ++ more)) (greatest-append window given more)
-  where
-    either : (test : Bool) (number a b all : ℕ) → all ≡ max a b → cond test (max number all) all ≡ max (cond test (max number a) a) b
-    either true number a b all is = omega arith
-    either false number a b all is = is
 
 -- ---- payloads
 

@@ -38,13 +38,13 @@ fewer_acknowledged talk sent heard windows payloads numbers bytes settled is out
     let small = all_both (λ number. number < 2 ^ 32) settled.numbers numbers settled.small (small_too (length payloads) numbers is.few (below_too (length payloads) numbers each)) in
     let spelled = received_then talk more windows numbers bytes settled (received_first sent heard (ack_bytes numbers ++ bytes) silent received) in
     let read = (behind_is (in_bytes (talk ++ more)) old bytes spelled small (few_read bytes short)).0 in
-    let given = answers all (talk ++ more) 0 old in
+    let given = answers all (talk ++ more) [] 0 old in
     let acknowledged = payloads_by given 1 all in
     let last : 1 + length windows ≡ suc (length windows) = omega arith in
     let fewer = fewer_given given 1 windows payloads (omega (arith, ap (λ (k : ℕ). greatest k given) last, below_then talk more windows payloads numbers settled window each)) in
     let acknowledges : Acknowledges (talk ++ more) acknowledged = record {
       windows = all;
       sent = windows_then talk more windows payloads settled window;
-      are = ap (λ (ns : List ℕ). payloads_by (answers all (talk ++ more) 0 ns) 1 all) (sym read);
+      are = ap (λ (ns : List ℕ). payloads_by (answers all (talk ++ more) [] 0 ns) 1 all) (sym read);
     } in
     (acknowledged, subst (λ (pieces : List Piece). Acknowledges pieces acknowledged) (sym (append_assoc talk sent heard)) acknowledges, fewer)

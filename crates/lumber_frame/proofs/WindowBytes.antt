@@ -79,7 +79,7 @@ numbered_once sequence (a ∷ p) (b ∷ q) x y small counts each_p each_q same =
     (cc, others.1)
 
 -- no window's bytes begin another's
-window_once : (p q : List (List ℕ)) (x y : List ℕ) → IsWindow p → IsWindow q → window_bytes p ++ x ≡ window_bytes q ++ y → (p ≡ q) × (x ≡ y)
+pub window_once : (p q : List (List ℕ)) (x y : List ℕ) → IsWindow p → IsWindow q → window_bytes p ++ x ≡ window_bytes q ++ y → (p ≡ q) × (x ≡ y)
 window_once p q x y is_p is_q same =
     let first = sym (append_assoc (frame_bytes (Window (length p))) (numbered 1 p) x) ∙ same ∙ append_assoc (frame_bytes (Window (length q))) (numbered 1 q) y in
     let once = one_form (Window (length p)) (Window (length q)) (numbered 1 p ++ x) (numbered 1 q ++ y) is_p.few is_q.few first in

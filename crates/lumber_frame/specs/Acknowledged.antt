@@ -1,6 +1,7 @@
--- What a peer acknowledged (Lumberjack v2): of each window the payloads up to the greatest number that was given for it.
--- A number is given for the last window that was wholly out before the acknowledgement's first byte came; it is a peer's
--- fault where it is above that window's count (above 0 where none was out), and behind the first fault nothing counts.
+-- What a talk acknowledges (Lumberjack v2; this project's profile for several windows in flight). An acknowledgement
+-- asks of the oldest window that was wholly out before its first byte came and that the earlier ones did not acknowledge
+-- in full, or of the last that was out where each is; the greatest number that was given for a window counts. A number
+-- above that window's count (or above 0 where none was out) is a fault, and behind the first fault nothing counts.
 use Rattle.std.specs.Prelude.{◌≡◌, ℕ, zero, suc, ◌+◌, ◌-◌, max, List, [], ◌∷◌, ◌++◌, length, take, slice_index_or, nat_le, ◌==◌, ◌&&◌, if◌then◌else◌}
 use Rattle.std.specs.Int.{w32, from_be_bytes}
 use Rattle.wire_base.specs.declared.talk.Piece.{Piece}
@@ -29,19 +30,30 @@ pub record Answer : Type 0 where
   pub window : ℕ
   pub number : ℕ
 
--- the answers of acknowledgements, the first of which begins at this place, up to the first fault
-abbrev pub answers : List (List (List ℕ)) → List Piece → ℕ → List ℕ → List Answer
-answers windows talk place [] = []
-answers windows talk place (number ∷ numbers) =
-    if nat_le number (count_at windows (whole_within windows (out_before talk place)))
-    then record { window = whole_within windows (out_before talk place); number = number } ∷ answers windows talk (place + 6) numbers
-    else []
-
 -- the greatest number that was given for a window, 0 where none was
 abbrev pub greatest : ℕ → List Answer → ℕ
 greatest window [] = 0
 greatest window (answer ∷ others) =
     if answer.window == window then max answer.number (greatest window others) else greatest window others
+
+-- of windows behind `before` others, the number of the first that was not acknowledged in full, or of the last
+abbrev pub oldest_open : List Answer → ℕ → List (List (List ℕ)) → ℕ
+oldest_open given before [] = before
+oldest_open given before (window ∷ windows) =
+    if nat_le (length window) (greatest (suc before) given) then oldest_open given (suc before) windows else suc before
+
+-- the window that an acknowledgement asks of behind the answers that were given, where so many bytes were out; 0 for none
+abbrev pub asked : List (List (List ℕ)) → List Answer → ℕ → ℕ
+asked windows given out = oldest_open given 0 (take (whole_within windows out) windows)
+
+-- the answers that were given, and behind them those of acknowledgements up to the first fault; the first begins at this
+-- place
+abbrev pub answers : List (List (List ℕ)) → List Piece → List Answer → ℕ → List ℕ → List Answer
+answers windows talk given place [] = given
+answers windows talk given place (number ∷ numbers) =
+    if nat_le number (count_at windows (asked windows given (out_before talk place)))
+    then answers windows talk (given ++ record { window = asked windows given (out_before talk place); number = number } ∷ []) (place + 6) numbers
+    else given
 
 -- the acknowledged payloads of the windows, the first of which has this number
 abbrev pub payloads_by : List Answer → ℕ → List (List (List ℕ)) → List (List ℕ)
@@ -52,4 +64,4 @@ payloads_by given window (payloads ∷ windows) = take (greatest window given) p
 pub record Acknowledges (talk : List Piece) (payloads : List (List ℕ)) : Type 0 where
   pub windows : List (List (List ℕ))
   pub sent : AreWindows (out_bytes talk) windows
-  pub are : payloads ≡ payloads_by (answers windows talk 0 (acknowledgements (in_bytes talk))) 1 windows
+  pub are : payloads ≡ payloads_by (answers windows talk [] 0 (acknowledgements (in_bytes talk))) 1 windows

@@ -1,6 +1,8 @@
 pub mod Acknowledged
 pub mod Fault
 pub mod Frame
+pub mod InFlight
+pub mod LastAsked
 pub mod PeerFault
 pub mod Reading
 pub mod Settled

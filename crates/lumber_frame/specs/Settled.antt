@@ -1,6 +1,6 @@
 -- A talk that owes nothing (Lumberjack v2): whole windows were sent and nothing else, whole acknowledgements were
 -- received and nothing else, none of them a fault, and the greatest number that was given for a window is its count.
-use Rattle.std.specs.Prelude.{◌≡◌, ℕ, ◌<◌, ◌^◌, List, length}
+use Rattle.std.specs.Prelude.{◌≡◌, ℕ, ◌<◌, ◌^◌, List, [], length}
 use Rattle.std.specs.List.{AllByRecursion, flat_map}
 use Rattle.wire_base.specs.declared.talk.Piece.{Piece}
 use Rattle.lumber_frame.specs.declared.frame.Frame.TheVariants.{Ack}
@@ -20,5 +20,5 @@ pub record IsSettled (talk : List Piece) (windows : List (List (List ℕ))) : Ty
   pub numbers : List ℕ
   pub small : AllByRecursion (λ number. number < 2 ^ 32) numbers
   pub received : in_bytes talk ≡ ack_bytes numbers
-  pub faultless : length (answers windows talk 0 numbers) ≡ length numbers
-  pub in_full : (window : ℕ) → greatest window (answers windows talk 0 numbers) ≡ count_at windows window
+  pub faultless : length (answers windows talk [] 0 numbers) ≡ length numbers
+  pub in_full : (window : ℕ) → greatest window (answers windows talk [] 0 numbers) ≡ count_at windows window

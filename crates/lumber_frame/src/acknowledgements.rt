@@ -1,8 +1,8 @@
-ghost use Rattle.std.specs.Prelude.{◌≡◌, ◌+◌, ◌-◌, List, [], ◌++◌, ◌∷◌, ◌<◌, ◌≤◌, ◌^◌, length, map, take, drop, IfOk, OnOk, MatchOption};
+ghost use Rattle.std.specs.Prelude.{◌≡◌, ℕ, ◌+◌, ◌-◌, List, [], ◌++◌, ◌∷◌, ◌<◌, ◌≤◌, ◌^◌, length, map, take, drop, slice_index, vec_len, IfOk, OnOk, MatchOption};
 ghost use Rattle.std.specs.Option.{SomeIff};
 ghost use Rattle.lumber_frame.specs.Talk.{out_bytes};
 ghost use Rattle.lumber_frame.specs.Window.{window_bytes};
-ghost use Rattle.lumber_frame.specs.Acknowledged.{Acknowledges, acknowledgements, answers, count_at, greatest, whole_within};
+ghost use Rattle.lumber_frame.specs.Acknowledged.{Acknowledges, Answer, acknowledgements, answers, count_at, greatest, oldest_open, whole_within};
 
 use crate::frame::{FrameRead, FrameView};
 use crate::read::read_frame;
@@ -19,33 +19,56 @@ pub fn acknowledged(alloc: Global, talk: &[Piece]) -> Result<Vec<Blob>, NoMemory
     let out = out_of(alloc, talk)?;
     let received = in_of(alloc, talk)?;
     let windows = windows_of(alloc, &out)?;
+    let mosts = greatest_numbers(alloc, &windows, talk, &received)?;
     let mut payloads = Vec::new(alloc);
     for (before, window) in windows.iter().enumerate() {
-        let most = greatest(&windows, talk, &received, before + 1);
-        append_front(alloc, &mut payloads, window, most as usize)?;
+        append_front(alloc, &mut payloads, window, mosts[before + 1] as usize)?;
     }
     Ok(payloads)
 }
 
-// The greatest number that was given for the window of this number, from 1 on.
-fn greatest(windows: &[Vec<Blob>], talk: &[Piece], received: &[u8], window: usize) -> u32
+// The greatest number that was given for each window, by its number from 1 on; 0 stands for none.
+fn greatest_numbers(
+    alloc: Global,
+    windows: &[Vec<Blob>],
+    talk: &[Piece],
+    received: &[u8],
+) -> Result<Vec<u32>, NoMemory>
     requires { length (out_bytes talk.now) < 2 ^ 64 }
-    ensures { result ≡ greatest window
-        (answers (map (λ w. w.items) windows.now) talk.now 0 (acknowledgements received.now)) }
+    ensures each { IfOk result (λ mosts. vec_len mosts ≡ length windows.now + 1) }
+    ensures greatest { IfOk result (λ mosts. (window : ℕ) → window ≤ length windows.now →
+        slice_index mosts.items window ≡ greatest window
+        (answers (map (λ w. w.items) windows.now) talk.now [] 0 (acknowledgements received.now))) }
 {
-    let mut most = 0;
+    let mut mosts = vec![in alloc; 0; windows.len() + 1]?;
     let mut place = 0;
     while let Some(number) = acknowledgement_at(&received[place..]) {
-        let asked = whole_within(windows, out_before(talk, place));
+        let whole = whole_within(windows, out_before(talk, place));
+        let asked = oldest_open(windows, &mosts, whole);
         if number as usize > count_at(windows, asked) {
-            return most;
+            return Ok(mosts);
         }
-        if asked == window {
-            most = most.max(number);
-        }
+        mosts[asked] = mosts[asked].max(number);
         place += 6;
     }
-    most
+    Ok(mosts)
+}
+
+// Of so many windows, the number of the first that was not acknowledged in full, or of the last.
+fn oldest_open(windows: &[Vec<Blob>], mosts: &[u32], whole: usize) -> usize
+    requires whole { whole ≤ length windows.now }
+    requires each { length mosts.now ≡ length windows.now + 1 }
+    ensures most { result ≤ whole }
+    ensures oldest { (given : List Answer) → ((window : ℕ) → window ≤ length windows.now →
+        slice_index mosts.now window ≡ greatest window given) →
+        result ≡ oldest_open given 0 (take whole (map (λ w. w.items) windows.now)) }
+{
+    for before in 0..whole {
+        if (mosts[before + 1] as usize) < windows[before].len() {
+            return before + 1;
+        }
+    }
+    whole
 }
 
 // The number of the acknowledgement that the bytes begin with.
@@ -65,7 +88,8 @@ fn acknowledgement_at(bytes: &[u8]) -> Option<u32>
 
 // How many windows end within the first `out` bytes.
 fn whole_within(windows: &[Vec<Blob>], out: usize) -> usize
-    ensures { result ≡ whole_within (map (λ w. w.items) windows.now) out }
+    ensures most { result ≤ length windows.now }
+    ensures whole { result ≡ whole_within (map (λ w. w.items) windows.now) out }
 {
     let mut whole = 0;
     let mut left = out;

@@ -1,4 +1,4 @@
-ghost use Rattle.std.specs.Prelude.{◌≡◌, ℕ, All, Contains, ◌≤◌, ◌<◌, ◌^◌, List, [], ◌∷◌, ◌++◌, flat_map, length};
+ghost use Rattle.std.specs.Prelude.{◌≡◌, ◌⊎◌, ◌↔◌, ℕ, All, Contains, ◌≤◌, ◌<◌, ◌^◌, List, [], ◌∷◌, ◌++◌, flat_map, length};
 ghost use Rattle.lumber_frame.specs.declared.frame.Frame.{Frame};
 ghost use Rattle.lumber_frame.specs.declared.frame.Frame.TheVariants.{Ack};
 ghost use Rattle.lumber_frame.specs.declared.frame.FrameRead.{FrameRead};
@@ -7,7 +7,9 @@ ghost use Rattle.lumber_frame.specs.Fault.{IsBadAt};
 ghost use Rattle.wire_base.specs.declared.talk.Piece.{Piece};
 ghost use Rattle.lumber_frame.specs.Talk.{in_bytes, out_bytes};
 ghost use Rattle.lumber_frame.specs.Window.{IsWindow, window_bytes};
-ghost use Rattle.lumber_frame.specs.Acknowledged.{Acknowledges};
+ghost use Rattle.lumber_frame.specs.Acknowledged.{Acknowledges, Answer, asked, count_at, greatest, whole_within};
+ghost use Rattle.lumber_frame.specs.InFlight.{HasOneInFlight};
+ghost use Rattle.lumber_frame.specs.LastAsked.{AcknowledgesByLast, HasFaultByLast};
 ghost use Rattle.lumber_frame.specs.Reading.{Reads, IsWholeOf};
 ghost use Rattle.lumber_frame.specs.Settled.{IsSettled, ack_bytes};
 ghost use Rattle.lumber_frame.specs.PeerFault.{BeginsNoAcknowledgement, HasPeerFault};
@@ -34,6 +36,35 @@ pub fn answers_stay()
 /// A talk acknowledges one list of payloads. A law; it computes nothing.
 pub fn one_reading()
     ensures { (talk : List Piece) (p q : List (List ℕ)) → Acknowledges talk p → Acknowledges talk q → p ≡ q }
+{}
+
+/// An acknowledgement asks of the oldest window that was wholly out and that was not acknowledged in full, or of the last
+/// that was out where each was. A law; it computes nothing.
+pub fn the_oldest_is_asked()
+    ensures within { (windows : List (List (List ℕ))) (given : List Answer) (out : ℕ) →
+        asked windows given out ≤ whole_within windows out }
+    ensures earlier_are_in_full { (windows : List (List (List ℕ))) (given : List Answer) (out window : ℕ) →
+        window < asked windows given out → count_at windows window ≤ greatest window given }
+    ensures not_in_full_or_last { (windows : List (List (List ℕ))) (given : List Answer) (out : ℕ) →
+        (asked windows given out ≡ whole_within windows out) ⊎
+        (greatest (asked windows given out) given < count_at windows (asked windows given out)) }
+{}
+
+/// In a talk with one window in flight an acknowledgement asks of the last window that was wholly out: the talk
+/// acknowledges the same, and has the same faults, as where each asks of that one. A law; it computes nothing.
+pub fn one_in_flight_asks_the_last()
+    ensures acknowledged { (talk : List Piece) (payloads : List (List ℕ)) → HasOneInFlight talk →
+        (Acknowledges talk payloads ↔ AcknowledgesByLast talk payloads) }
+    ensures faults { (talk : List Piece) → HasOneInFlight talk → (HasPeerFault talk ↔ HasFaultByLast talk) }
+{}
+
+/// One window is in flight in a talk of nothing, and where one more window is sent and any bytes are received behind a
+/// settled talk that had one in flight. A law; it computes nothing.
+pub fn one_window_at_a_time()
+    ensures nothing { HasOneInFlight [] }
+    ensures one_more { (talk sent heard : List Piece) (windows : List (List (List ℕ))) (payloads : List (List ℕ)) →
+        HasOneInFlight talk → IsSettled talk windows → IsWindow payloads →
+        out_bytes sent ≡ window_bytes payloads → out_bytes heard ≡ [] → HasOneInFlight ((talk ++ sent) ++ heard) }
 {}
 
 /// In a talk of nothing no window is owed. A law; it computes nothing.

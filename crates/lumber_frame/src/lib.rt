@@ -27,7 +27,8 @@ pub use frame::{Frame, FrameRead, FrameView};
 pub use laws::{
     a_fault_is_met, a_fault_stays, a_window_is_settled, a_window_is_unanswered, acknowledged_stays,
     answers_stay, no_acknowledgement_begins, no_fault_is_met, nothing_is_settled, one_form,
-    one_reading, settled_is_acknowledged, settled_stays_acknowledged, written_is_read,
+    one_in_flight_asks_the_last, one_reading, one_window_at_a_time, settled_is_acknowledged,
+    settled_stays_acknowledged, the_oldest_is_asked, written_is_read,
 };
 pub use read::read_frame;
 pub use write::{ack_frame, json_head, window_head};

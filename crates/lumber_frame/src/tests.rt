@@ -58,11 +58,12 @@ fn window_bytes(rt: HostRuntime) -> Result<(), Fail> {
     Ok(())
 }
 
-/// A window of the payloads `a`, `b` and `c`, of 39 bytes, and one of `d` and `e`, of 28 bytes.
-const WINDOWS: [u8; 67] = [
-    0x32, 0x57, 0, 0, 0, 3, 0x32, 0x4a, 0, 0, 0, 1, 0, 0, 0, 1, 0x61, 0x32, 0x4a, 0, 0, 0, 2, 0, 0,
-    0, 1, 0x62, 0x32, 0x4a, 0, 0, 0, 3, 0, 0, 0, 1, 0x63, 0x32, 0x57, 0, 0, 0, 2, 0x32, 0x4a, 0, 0,
-    0, 1, 0, 0, 0, 1, 0x64, 0x32, 0x4a, 0, 0, 0, 2, 0, 0, 0, 1, 0x65,
+/// A window of the payloads `a` and `b`, of 28 bytes, one of `c`, of 17 bytes, and one of `d` and
+/// `e`, of 28 bytes.
+const WINDOWS: [u8; 73] = [
+    0x32, 0x57, 0, 0, 0, 2, 0x32, 0x4a, 0, 0, 0, 1, 0, 0, 0, 1, 0x61, 0x32, 0x4a, 0, 0, 0, 2, 0, 0,
+    0, 1, 0x62, 0x32, 0x57, 0, 0, 0, 1, 0x32, 0x4a, 0, 0, 0, 1, 0, 0, 0, 1, 0x63, 0x32, 0x57, 0, 0,
+    0, 2, 0x32, 0x4a, 0, 0, 0, 1, 0, 0, 0, 1, 0x64, 0x32, 0x4a, 0, 0, 0, 2, 0, 0, 0, 1, 0x65,
 ];
 
 #[derive(Clone, Copy)]
@@ -110,15 +111,15 @@ fn told(alloc: Global, steps: &[Step]) -> Result<Vec<u8>, NoMemory> {
 #[test]
 fn talks_acknowledge(rt: HostRuntime) -> Result<(), Fail> {
     use Step::*;
-    let cases: [(&[Step], &[u8]); 16] = [
+    let cases: [(&[Step], &[u8]); 20] = [
         (&[], b""),
-        (&[Out(39)], b""),
-        (&[Out(39), Ack(2)], b"ab"),
+        (&[Out(28)], b""),
+        (&[Out(28), Ack(1)], b"a"),
         // Too early, and too early by its first byte.
-        (&[Ack(1), Out(39), Ack(1)], b""),
+        (&[Ack(1), Out(28), Ack(1)], b""),
         (
             &[
-                Out(38),
+                Out(27),
                 In(0x32),
                 Out(1),
                 In(0x41),
@@ -129,18 +130,17 @@ fn talks_acknowledge(rt: HostRuntime) -> Result<(), Fail> {
             ],
             b"",
         ),
-        (&[Ack(0), Out(39), Ack(1)], b"a"),
+        (&[Ack(0), Out(28), Ack(1)], b"a"),
         // Repeated and lower: the greatest counts.
-        (&[Out(39), Ack(2), Ack(2), Ack(1)], b"ab"),
-        (&[Out(39), Ack(1), Ack(3)], b"abc"),
+        (&[Out(28), Ack(2), Ack(2), Ack(1)], b"ab"),
+        (&[Out(28), Ack(1), Ack(2)], b"ab"),
         // Too high, and behind it.
-        (&[Out(39), Ack(4), Ack(3)], b""),
-        (&[Out(67), Ack(3)], b""),
+        (&[Out(28), Ack(3), Ack(2)], b""),
         // Cut across pieces, and not whole yet.
         (
             &[
                 Out(20),
-                Out(19),
+                Out(8),
                 In(0x32),
                 In(0x41),
                 In(0),
@@ -150,13 +150,27 @@ fn talks_acknowledge(rt: HostRuntime) -> Result<(), Fail> {
             ],
             b"ab",
         ),
-        (&[Out(39), Ack(2), In(0x32), In(0x41), In(0)], b"ab"),
+        (&[Out(28), Ack(1), In(0x32), In(0x41), In(0)], b"a"),
         // Behind a frame that is no acknowledgement.
-        (&[Out(39), Ack(1), In(0x32), In(0x57), Ack(3)], b"a"),
-        // The last window that is wholly out is asked.
-        (&[Out(39), Ack(3), Out(28), Ack(1)], b"abcd"),
-        (&[Out(67), Ack(2)], b"de"),
-        (&[Out(66), Ack(2)], b"ab"),
+        (&[Out(28), Ack(1), In(0x32), In(0x57), Ack(2)], b"a"),
+        // One window at a time.
+        (&[Out(28), Ack(2), Out(17), Ack(1)], b"abc"),
+        // Two windows are out: the oldest that is not acknowledged in full is asked.
+        (&[Out(45), Ack(1)], b"a"),
+        (&[Out(45), Ack(1), Ack(2)], b"ab"),
+        (&[Out(45), Ack(1), Ack(2), Ack(1)], b"abc"),
+        (&[Out(44), Ack(2), Ack(1)], b"ab"),
+        // Both are acknowledged in full: a further 1 is no fault, a further 2 is one.
+        (
+            &[Out(45), Ack(1), Ack(2), Ack(1), Ack(1), Out(28), Ack(1)],
+            b"abcd",
+        ),
+        (
+            &[Out(45), Ack(1), Ack(2), Ack(1), Ack(2), Out(28), Ack(1)],
+            b"abc",
+        ),
+        // Above the count of the oldest.
+        (&[Out(45), Ack(3), Ack(1)], b""),
     ];
     for (steps, expected) in cases {
         assert_eq!(rt; told(rt.alloc(), steps)?.as_slice(), expected);

@@ -5,8 +5,8 @@ use Rattle.wire_base.specs.declared.blob.Blob.{Blob}
 use Rattle.lumber_frame.proofs.Answering.{item_of, whole_stops, whole_next}
 use Rattle.lumber_frame.proofs.acknowledgements.whole_within.Goals as goal
 
-pub returns-in_default : goal.returns-in_default
-returns-in_default c =
+pub returns-in_default-clause-whole : goal.returns-in_default-clause-whole
+returns-in_default-clause-whole c =
     let f = λ (w : Vec Blob Global). w.items in
     let item = item_of f c.args.windows.now c.loop-window.window-index c.window-item.result c.loop-window-test.true c.window-item.is in
     let size = ap (λ w. length (window_bytes w)) c.deref.ensures.value in
