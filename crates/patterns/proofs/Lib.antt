@@ -1,1 +1,4 @@
+mod Between
+mod Characters
+mod Finding
 mod Reading

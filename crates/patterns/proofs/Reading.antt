@@ -11,6 +11,9 @@ use Rattle.regex_syntax.specs.Verdict.{Reads, Refuses}
 use Rattle.regex_syntax.specs.declared.Config.{Config}
 use Rattle.regex_syntax.specs.declared.error.ErrorKind.{ErrorKind}
 use Rattle.regex_syntax.specs.declared.error.ErrorKind.TheVariants.{OutOfMemory}
+use Rattle.regex_syntax.specs.Captures.{SameCaptures}
+use Rattle.regex_hir.specs.Meaning.{meaning}
+use Rattle.patterns.specs.Matching.{IsReadAs}
 use Rattle.patterns.specs.Pattern.{is_within, is_pattern}
 
 within_of : (limit : ℕ) (found : Option (Nested Re × Names)) (P : Nested Re × Names → Type 0)
@@ -33,3 +36,13 @@ unfolding Refuses is_pattern
 refused_pattern config text kind (inl memory) other = absurd (other memory)
 refused_pattern config text kind (inr (inl none)) other = ap (is_within config.nest_limit) none
 refused_pattern config text kind (inr (inr deep)) other = beyond_of config.nest_limit (read config (chars text)) deep.1
+
+read_from : (found : Option (Nested Re × Names)) (P : Nested Re × Names → Type 0) (tree : Re) →
+    ((x : Nested Re × Names) → P x → SameCaptures tree x.0.value) → IsSomeAnd found P → IsSomeAnd found (λ (x, names). SameCaptures tree x.value)
+read_from None P tree same h = absurd h
+read_from (Some x) P tree same h = same x h
+
+-- the tree that the parser makes matches as what the grammar reads
+pub read_as : (config : Config) (text : List ℕ) (hir : Hir) (names : Names) → Reads config text hir names → IsReadAs config text (meaning hir)
+unfolding Reads
+read_as config text hir names h = read_from (read config (chars text)) _ (meaning hir) (λ x p. p.1) h

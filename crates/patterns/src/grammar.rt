@@ -1,5 +1,6 @@
 ghost use Rattle.std.specs.Prelude.{◌≡◌, is_some, map, option_map, string_bytes, IfOk, IfSome};
 ghost use Rattle.regex_syntax.specs.Verdict.{Reads};
+ghost use Rattle.regex_syntax.specs.WellFormed.{IsWellFormed};
 ghost use Rattle.patterns.specs.Pattern.{is_pattern, is_line_pattern, is_text_pattern, line_config, text_config};
 
 use regex_syntax::{Config, ErrorKind, Parsed};
@@ -39,6 +40,8 @@ pub(crate) fn read(alloc: Global, text: &str, config: &Config) -> Result<Option<
     ensures pattern { IfOk result (λ found. is_some found ≡ is_pattern config.now text.now) }
     ensures tree { IfOk result (λ found. IfSome found (λ parsed.
         Reads config.now text.now parsed.hir (map (option_map string_bytes) parsed.names.items))) }
+    ensures formed { IfOk result (λ found. IfSome found (λ parsed.
+        IsWellFormed config.now.utf8 parsed.hir)) }
 {
     match regex_syntax::parse(alloc, text, config) {
         Ok(parsed) => Ok(Some(parsed)),
