@@ -17,7 +17,7 @@ pub returns-in-Err-clause-no_other_row : goal.returns-in-Err-clause-no_other_row
 returns-in-Err-clause-no_other_row g c = λ source held named is only.
     rows_left source c.args.settings.now _ _ c.follow-met.new.noted c.follow-met.new.noted.rows.items _ held _ (LeavesOnly g.D.Disk.moment g.D.Disk.images_since c.args.area.now c.args.area.now) c.follow-met.result named c.follow-met.ensures.followed (λ order. search rules)
     (left_as_before _ held _ (LeavesOnly g.D.Disk.moment g.D.Disk.images_since c.args.area.now c.args.area.now) is
-    (λ bytes told. untouched g.D.Disk.moment g.D.Disk.images_since c.args.area.now _ _ (g.met.D.Disk.only_now c.args.area.now) only _ bytes (is ∙ told)))
+    (λ bytes told. untouched g.D.Disk.moment g.D.Disk.images_since c.args.area.now _ _ (g.met.D.Disk.only_now c.args.area.now) only c.follow-met.new.noted.rows.items bytes (is ∙ told)))
 
 pub returns-in-Err-store-clause-rows : goal.returns-in-Err-store-clause-rows
 returns-in-Err-store-clause-rows g c = λ source held faults named is few.
