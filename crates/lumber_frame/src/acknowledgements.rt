@@ -75,7 +75,8 @@ fn oldest_open(windows: &[Vec<Blob>], mosts: &[u32], whole: usize) -> usize
 fn acknowledgement_at(bytes: &[u8]) -> Option<u32>
     ensures { MatchOption result
         (acknowledgements bytes.now ≡ [])
-        (λ number. (6 ≤ length bytes.now) × (acknowledgements bytes.now ≡ number ∷ acknowledgements (drop 6 bytes.now))) }
+        (λ number. (6 ≤ length bytes.now) ×
+        (acknowledgements bytes.now ≡ number ∷ acknowledgements (drop 6 bytes.now))) }
 {
     match read_frame(bytes) {
         FrameRead::Whole {
@@ -105,7 +106,8 @@ fn whole_within(windows: &[Vec<Blob>], out: usize) -> usize
 
 // How many bytes are left behind the window's, where so many are there.
 fn after_window(window: &[Blob], out: usize) -> Option<usize>
-    ensures { SomeIff result (length (window_bytes window.now) ≤ out) (out - length (window_bytes window.now)) }
+    ensures { SomeIff result (length (window_bytes window.now) ≤ out)
+        (out - length (window_bytes window.now)) }
 {
     if out < 6 {
         return None;

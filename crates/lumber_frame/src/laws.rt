@@ -35,7 +35,8 @@ pub fn answers_stay()
 
 /// A talk acknowledges one list of payloads. A law; it computes nothing.
 pub fn one_reading()
-    ensures { (talk : List Piece) (p q : List (List ℕ)) → Acknowledges talk p → Acknowledges talk q → p ≡ q }
+    ensures { (talk : List Piece) (p q : List (List ℕ)) → Acknowledges talk p →
+        Acknowledges talk q → p ≡ q }
 {}
 
 /// An acknowledgement asks of the oldest window that was wholly out and that was not acknowledged in full, or of the last
@@ -43,7 +44,8 @@ pub fn one_reading()
 pub fn the_oldest_is_asked()
     ensures within { (windows : List (List (List ℕ))) (given : List Answer) (out : ℕ) →
         asked windows given out ≤ whole_within windows out }
-    ensures earlier_are_in_full { (windows : List (List (List ℕ))) (given : List Answer) (out window : ℕ) →
+    ensures earlier_are_in_full { (windows : List (List (List ℕ))) (given : List Answer)
+        (out window : ℕ) →
         window < asked windows given out → count_at windows window ≤ greatest window given }
     ensures not_in_full_or_last { (windows : List (List (List ℕ))) (given : List Answer) (out : ℕ) →
         (asked windows given out ≡ whole_within windows out) ⊎
@@ -55,16 +57,19 @@ pub fn the_oldest_is_asked()
 pub fn one_in_flight_asks_the_last()
     ensures acknowledged { (talk : List Piece) (payloads : List (List ℕ)) → HasOneInFlight talk →
         (Acknowledges talk payloads ↔ AcknowledgesByLast talk payloads) }
-    ensures faults { (talk : List Piece) → HasOneInFlight talk → (HasPeerFault talk ↔ HasFaultByLast talk) }
+    ensures faults { (talk : List Piece) → HasOneInFlight talk →
+        (HasPeerFault talk ↔ HasFaultByLast talk) }
 {}
 
 /// One window is in flight in a talk of nothing, and where one more window is sent and any bytes are received behind a
 /// settled talk that had one in flight. A law; it computes nothing.
 pub fn one_window_at_a_time()
     ensures nothing { HasOneInFlight [] }
-    ensures one_more { (talk sent heard : List Piece) (windows : List (List (List ℕ))) (payloads : List (List ℕ)) →
+    ensures one_more { (talk sent heard : List Piece) (windows : List (List (List ℕ)))
+        (payloads : List (List ℕ)) →
         HasOneInFlight talk → IsSettled talk windows → IsWindow payloads →
-        out_bytes sent ≡ window_bytes payloads → out_bytes heard ≡ [] → HasOneInFlight ((talk ++ sent) ++ heard) }
+        out_bytes sent ≡ window_bytes payloads → out_bytes heard ≡ [] →
+        HasOneInFlight ((talk ++ sent) ++ heard) }
 {}
 
 /// In a talk of nothing no window is owed. A law; it computes nothing.
@@ -75,7 +80,8 @@ pub fn nothing_is_settled()
 /// One more window is settled by pieces of it and then acknowledgements of it, none above its count and one of them its
 /// count. A law; it computes nothing.
 pub fn a_window_is_settled()
-    ensures { (talk sent heard : List Piece) (windows : List (List (List ℕ))) (payloads : List (List ℕ))
+    ensures { (talk sent heard : List Piece) (windows : List (List (List ℕ)))
+        (payloads : List (List ℕ))
         (numbers : List ℕ) → IsSettled talk windows → IsWindow payloads →
         out_bytes sent ≡ window_bytes payloads → in_bytes sent ≡ [] →
         out_bytes heard ≡ [] → in_bytes heard ≡ ack_bytes numbers →
@@ -92,14 +98,16 @@ pub fn settled_is_acknowledged()
 /// What a talk acknowledges it acknowledges still, whatever is sent and received afterwards. A law; it computes nothing.
 pub fn acknowledged_stays()
     ensures { (talk more : List Piece) (payloads : List (List ℕ)) → Acknowledges talk payloads →
-        (later : List (List ℕ)) × Acknowledges (talk ++ more) later × All (Contains later) payloads }
+        (later : List (List ℕ)) × Acknowledges (talk ++ more) later ×
+        All (Contains later) payloads }
 {}
 
 /// The payloads of windows that were acknowledged in full are the first of what the talk acknowledges, whatever is sent
 /// and received afterwards. A law; it computes nothing.
 pub fn settled_stays_acknowledged()
     ensures { (talk more : List Piece) (windows : List (List (List ℕ))) → IsSettled talk windows →
-        (later : List (List ℕ)) × Acknowledges (talk ++ more) (flat_map (λ window. window) windows ++ later) }
+        (later : List (List ℕ)) ×
+        Acknowledges (talk ++ more) (flat_map (λ window. window) windows ++ later) }
 {}
 
 /// Bytes begin no acknowledgement exactly where there is none that they begin, however they go on. A law; it computes
@@ -108,7 +116,8 @@ pub fn no_acknowledgement_begins()
     ensures none { (bytes more : List ℕ) (number used : ℕ) → BeginsNoAcknowledgement bytes →
         ¬ (BeginsWithFrame (bytes ++ more) (Ack number) used) }
     ensures only { (bytes : List ℕ) → All (λ byte. byte < 256) bytes →
-        ((more : List ℕ) (number used : ℕ) → ¬ (BeginsWithFrame (bytes ++ more) (Ack number) used)) →
+        ((more : List ℕ) (number used : ℕ) →
+        ¬ (BeginsWithFrame (bytes ++ more) (Ack number) used)) →
         BeginsNoAcknowledgement bytes }
 {}
 
@@ -117,36 +126,43 @@ pub fn no_acknowledgement_begins()
 /// the count, whatever follows it. A law; it computes nothing.
 pub fn a_fault_is_met()
     ensures no_acknowledgement { (talk sent heard : List Piece) (windows : List (List (List ℕ)))
-        (payloads : List (List ℕ)) (numbers bytes : List ℕ) → IsSettled talk windows → IsWindow payloads →
+        (payloads : List (List ℕ)) (numbers bytes : List ℕ) → IsSettled talk windows →
+        IsWindow payloads →
         out_bytes sent ≡ window_bytes payloads → in_bytes sent ≡ [] →
         out_bytes heard ≡ [] → in_bytes heard ≡ ack_bytes numbers ++ bytes →
         All (λ number. number ≤ length payloads) numbers → BeginsNoAcknowledgement bytes →
         HasPeerFault ((talk ++ sent) ++ heard) }
     ensures above_the_count { (talk sent heard : List Piece) (windows : List (List (List ℕ)))
-        (payloads : List (List ℕ)) (numbers bytes : List ℕ) (number : ℕ) → IsSettled talk windows → IsWindow payloads →
+        (payloads : List (List ℕ)) (numbers bytes : List ℕ) (number : ℕ) → IsSettled talk windows →
+        IsWindow payloads →
         out_bytes sent ≡ window_bytes payloads → in_bytes sent ≡ [] →
         out_bytes heard ≡ [] → in_bytes heard ≡ ack_bytes (numbers ++ number ∷ []) ++ bytes →
-        All (λ number. number ≤ length payloads) numbers → number < 2 ^ 32 → length payloads < number →
+        All (λ number. number ≤ length payloads) numbers → number < 2 ^ 32 →
+        length payloads < number →
         HasPeerFault ((talk ++ sent) ++ heard) }
 {}
 
 /// A settled talk has no peer's fault, and neither has one that goes on by one more window and by acknowledgements none
 /// above its count, behind which another may have begun. A law; it computes nothing.
 pub fn no_fault_is_met()
-    ensures settled { (talk : List Piece) (windows : List (List (List ℕ))) → IsSettled talk windows →
+    ensures settled { (talk : List Piece) (windows : List (List (List ℕ))) →
+        IsSettled talk windows →
         ¬ (HasPeerFault talk) }
     ensures waiting { (talk sent heard : List Piece) (windows : List (List (List ℕ)))
-        (payloads : List (List ℕ)) (numbers bytes : List ℕ) → IsSettled talk windows → IsWindow payloads →
+        (payloads : List (List ℕ)) (numbers bytes : List ℕ) → IsSettled talk windows →
+        IsWindow payloads →
         out_bytes sent ≡ window_bytes payloads → in_bytes sent ≡ [] →
         out_bytes heard ≡ [] → in_bytes heard ≡ ack_bytes numbers ++ bytes →
-        All (λ number. number ≤ length payloads) numbers → length bytes < 6 → ¬ (BeginsNoAcknowledgement bytes) →
+        All (λ number. number ≤ length payloads) numbers → length bytes < 6 →
+        ¬ (BeginsNoAcknowledgement bytes) →
         ¬ (HasPeerFault ((talk ++ sent) ++ heard)) }
 {}
 
 /// One more window behind a settled talk is not acknowledged in full by acknowledgements below its count, behind which
 /// another may have begun. A law; it computes nothing.
 pub fn a_window_is_unanswered()
-    ensures { (talk sent heard : List Piece) (windows : List (List (List ℕ))) (payloads : List (List ℕ))
+    ensures { (talk sent heard : List Piece) (windows : List (List (List ℕ)))
+        (payloads : List (List ℕ))
         (numbers bytes : List ℕ) → IsSettled talk windows → IsWindow payloads →
         out_bytes sent ≡ window_bytes payloads → in_bytes sent ≡ [] →
         out_bytes heard ≡ [] → in_bytes heard ≡ ack_bytes numbers ++ bytes →

@@ -14,7 +14,8 @@ use wire_base::MAX_PAYLOAD;
 pub fn read_frame<'a>(bytes: &'a [u8]) -> FrameRead<'a>
     ensures exact { Reads bytes.now result }
     ensures within { IfWhole result (λ _ used. used ≤ length bytes.now) }
-    ensures every_frame { (frame : Frame) (used : ℕ) → BeginsWithFrame bytes.now frame used → IsWholeOf result frame used }
+    ensures every_frame { (frame : Frame) (used : ℕ) → BeginsWithFrame bytes.now frame used →
+        IsWholeOf result frame used }
     ensures bad { (at : ℕ) → (result ≡ FrameRead.Bad at) ↔ IsBadAt bytes.now at }
     ensures short { (result ≡ FrameRead.Short) ↔ IsShort bytes.now }
 {
@@ -68,7 +69,8 @@ fn read_json<'a>(bytes: &'a [u8]) -> FrameRead<'a>
 // The number in the four bytes from `at` on, the highest first, where they are there.
 fn number_at(bytes: &[u8], at: usize) -> Option<u32>
     requires { at + 4 < 2 ^ 64 }
-    ensures { SomeIff result (at + 4 ≤ length bytes.now) (from_be_bytes w32 (slice_range bytes.now at (at + 4))) }
+    ensures { SomeIff result (at + 4 ≤ length bytes.now)
+        (from_be_bytes w32 (slice_range bytes.now at (at + 4))) }
 {
     if bytes.len() < at + 4 {
         return None;

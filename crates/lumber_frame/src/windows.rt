@@ -10,7 +10,8 @@ use wire_base::{Blob, NoMemory};
 
 /// The whole windows that the bytes begin with.
 pub fn windows_of(alloc: Global, bytes: &[u8]) -> Result<Vec<Vec<Blob>>, NoMemory>
-    ensures { IfOk result (λ windows. AreWindows bytes.now (map (λ window. window.items) windows.items)) }
+    ensures { IfOk result (λ windows. AreWindows bytes.now
+        (map (λ window. window.items) windows.items)) }
 {
     let mut windows = Vec::new(alloc);
     let mut rest = bytes;
@@ -43,7 +44,8 @@ fn numbered_at<'a>(
     bytes: &'a [u8],
 ) -> Result<Option<(Vec<Blob>, &'a [u8])>, NoMemory>
     ensures { IfOk result (λ found. MatchOption found
-        ((payloads : List (List ℕ)) (rest : List ℕ) → IsNumbered 1 count bytes.now payloads rest → ⊥)
+        ((payloads : List (List ℕ)) (rest : List ℕ) → IsNumbered 1 count bytes.now payloads rest →
+        ⊥)
         (λ numbered. IsNumbered 1 count bytes.now numbered.0.items numbered.1.now)) }
 {
     let mut payloads = Vec::new(alloc);
@@ -61,7 +63,8 @@ fn numbered_at<'a>(
 // The count of the window frame that the bytes begin with, and what follows it.
 fn window_frame_at<'a>(bytes: &'a [u8]) -> Option<(u32, &'a [u8])>
     ensures { MatchOption result
-        ((count : ℕ) (rest : List ℕ) → count < 2 ^ 32 → bytes.now ≢ frame_bytes (Window count) ++ rest)
+        ((count : ℕ) (rest : List ℕ) → count < 2 ^ 32 →
+        bytes.now ≢ frame_bytes (Window count) ++ rest)
         (λ found. bytes.now ≡ frame_bytes (Window found.0) ++ found.1.now) }
 {
     match read_frame(bytes) {
@@ -76,8 +79,10 @@ fn window_frame_at<'a>(bytes: &'a [u8]) -> Option<(u32, &'a [u8])>
 // The payload of the JSON frame of this sequence that the bytes begin with, and what follows it.
 fn json_at<'a>(sequence: u32, bytes: &'a [u8]) -> Option<(&'a [u8], &'a [u8])>
     ensures { MatchOption result
-        ((payload rest : List ℕ) → IsFrame (Json sequence payload) → bytes.now ≢ frame_bytes (Json sequence payload) ++ rest)
-        (λ found. IsFrame (Json sequence found.0.now) × (bytes.now ≡ frame_bytes (Json sequence found.0.now) ++ found.1.now)) }
+        ((payload rest : List ℕ) → IsFrame (Json sequence payload) →
+        bytes.now ≢ frame_bytes (Json sequence payload) ++ rest)
+        (λ found. IsFrame (Json sequence found.0.now) ×
+        (bytes.now ≡ frame_bytes (Json sequence found.0.now) ++ found.1.now)) }
 {
     match read_frame(bytes) {
         FrameRead::Whole {
