@@ -3,7 +3,6 @@ mod Going
 mod Joining
 mod Keeping
 mod Lines
-mod Matching
 mod Natural
 mod Stepping
 mod Worked

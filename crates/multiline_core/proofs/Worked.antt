@@ -1,17 +1,12 @@
 -- The worked values of continuing lines, events and messages, computed by the definitions.
-use Rattle.std.proofs.Common.{◌≡◌, ℕ, true, false, List, [], ◌∷◌, None, refl, codes, length}
+use Rattle.std.proofs.Common.{◌≡◌, ℕ, true, false, List, [], ◌∷◌, None, not, refl, ap, codes, length}
 use Rattle.event_tree.specs.declared.group_rule.GroupRule.{GroupRule}
 use Rattle.event_tree.specs.declared.group_rule.GroupRule.TheVariants.{Count, Pattern}
 use Rattle.event_tree.specs.declared.group_rule.Side.TheVariants.{After}
 use Rattle.event_tree.specs.declared.line_rule.LineRule.{LineRule}
 use Rattle.event_tree.specs.declared.line_rule.Terminator.TheVariants.{Auto}
 use Rattle.line_cutter.specs.declared.line.Line.{Line}
-use Rattle.regex_hir.specs.Find.{find, first_from}
-use Rattle.regex_hir.specs.Looks.{holds, holds_between}
-use Rattle.regex_hir.specs.Re.{attempt}
-use Rattle.regex_hir.specs.Text.{byte_before, has_bytes_at}
-use Rattle.regex.specs.Patterns.{in_range, in_ranges}
-use Rattle.regex_syntax.proofs.Written.{grammar}
+use Rattle.patterns.proofs.Worked.{bracket_begins, bracket_does_not_begin, backslash_ends, letter_ends}
 use Rattle.multiline_core.specs.Continuing.{continues}
 use Rattle.multiline_core.specs.Message.{message_of, group_of}
 use Rattle.multiline_core.specs.Partition.{lines_from}
@@ -34,12 +29,10 @@ trace_lines : lines_from by_default traces 0
 trace_lines = refl
 
 first_continues : continues (codes "^\\[") true (from_to 0 3 (codes "[1")) ≡ false
-unfolding grammar find first_from attempt holds holds_between byte_before has_bytes_at in_range in_ranges
-first_continues = refl
+first_continues = ap not bracket_begins
 
 second_continues : continues (codes "^\\[") true (from_to 3 6 (codes " x")) ≡ true
-unfolding grammar find first_from attempt holds holds_between byte_before has_bytes_at in_range in_ranges
-second_continues = refl
+second_continues = ap not bracket_does_not_begin
 
 trace_event : group_of after_rule (from_to 0 3 (codes "[1") ∷ from_to 3 6 (codes " x") ∷ from_to 6 9 (codes " y") ∷ [])
     ≡ record { span = record { start = 0; end = 9 }; message = codes "[1\n x\n y"; lines = 3 }
@@ -47,12 +40,10 @@ trace_event = refl
 
 -- multiline_before: `a\`, `b`, `c\`
 ends_in_backslash : continues (codes "\\\\$") false (from_to 0 3 (codes "a\\")) ≡ true
-unfolding grammar find first_from attempt holds holds_between byte_before has_bytes_at in_range in_ranges
-ends_in_backslash = refl
+ends_in_backslash = backslash_ends
 
 ends_in_letter : continues (codes "\\\\$") false (from_to 3 5 (codes "b")) ≡ false
-unfolding grammar find first_from attempt holds holds_between byte_before has_bytes_at in_range in_ranges
-ends_in_letter = refl
+ends_in_letter = letter_ends
 
 -- max_lines_cuts_message: the line `s` and five lines ` x`, of which two are kept
 abbrev two_lines : GroupRule

@@ -3,7 +3,7 @@
 use Rattle.std.specs.Prelude.{◌≡◌, ℕ, Bool, true, false, not, List, Option, Some, None, if◌then◌else◌}
 use Rattle.std.specs.List.{AllByRecursion}
 use Rattle.line_cutter.specs.declared.line.Line.{Line}
-use Rattle.multiline_core.specs.Pattern.{matches}
+use Rattle.patterns.specs.Matching.{matches}
 
 abbrev pub continues : List ℕ → Bool → Line → Bool
 continues pattern negate line = if negate then not (matches pattern line.head) else matches pattern line.head

@@ -4,6 +4,5 @@ pub mod Gathering
 pub mod Kind
 pub mod Message
 pub mod Partition
-pub mod Pattern
 pub mod Rule
 pub mod Step

@@ -1,11 +1,12 @@
-ghost use Rattle.std.specs.Prelude.{◌≡◌, IfOk};
+ghost use Rattle.std.specs.Prelude.{◌≡◌, IfOk, IfSome};
+ghost use Rattle.patterns.specs.Pattern.{IsLinePattern};
 ghost use Rattle.multiline_core.specs.Continuing.{continues, flushes};
 ghost use Rattle.multiline_core.specs.Step.{count_step, unflushed_step};
 
-use crate::pattern::LinePattern;
 use crate::step::Step;
 use event_tree::{GroupRule, Side};
 use line_cutter::Line;
+use patterns::LinePattern;
 use std::alloc::Global;
 use wire_base::{NoMemory, Text};
 
@@ -33,9 +34,11 @@ pub struct Limits {
 
 impl Kind {
     ghost use Rattle.multiline_core.specs.Kind.{kind_of, kind_step};
+    ghost use Rattle.multiline_core.specs.Rule.{IsGroupRule};
 
     /// The kind of the rule, with its patterns compiled.
     pub fn of(alloc: Global, rule: &GroupRule) -> Result<Kind, NoMemory>
+        requires { IsGroupRule rule.now }
         ensures { IfOk result (λ kind. kind ≡ kind_of rule.now) }
     {
         match rule {
@@ -118,6 +121,7 @@ impl Limits {
 }
 
 fn compiled(alloc: Global, pattern: &Option<Text>) -> Result<Option<LinePattern>, NoMemory>
+    requires { IfSome pattern.now IsLinePattern }
     ensures { IfOk result (λ compiled. compiled ≡ pattern.now) }
 {
     match pattern {

@@ -12,14 +12,13 @@
 //!
 //! The laws say what the definitions are good for: at each place begins at most one event by rule, the events of a
 //! file's bytes stay events however the file grows, the spans of a partition adjoin, and without a rule each complete
-//! line is an event. Patterns are those of `regex`, on bytes. Nothing here reads a file or a clock.
+//! line is an event. Patterns are those of lines, matched on bytes. Nothing here reads a file or a clock.
 #![tactic(auto)]
 
 mod group;
 mod grouper;
 mod kind;
 mod laws;
-mod pattern;
 mod pending;
 mod step;
 

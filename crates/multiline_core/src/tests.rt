@@ -1,12 +1,11 @@
 ghost use Rattle.std.specs.Prelude.{IfOk};
-ghost use Rattle.regex.specs.Failures.{IsPattern};
-ghost use Rattle.multiline_core.specs.Pattern.{byte_options};
+ghost use Rattle.patterns.specs.Pattern.{IsLinePattern};
 ghost use Rattle.multiline_core.specs.Rule.{IsGroupRule};
 
 use crate::*;
 use event_tree::{GroupRule, LineRule, Side, Terminator};
 use line_cutter::{Cutter, Line};
-use regex::bytes::Regex;
+use patterns::is_line_pattern;
 use std::alloc::Global;
 use std::test::Fail;
 use wire_base::{Blob, Moment, NoMemory, Span, Text};
@@ -18,13 +17,14 @@ const DEFAULT_LIMIT: u64 = 10_485_760;
 
 const TIMEOUT: u64 = 5_000;
 
-// The text, where `regex` takes it as a pattern.
+// The text, where it is a pattern.
 fn pattern(alloc: Global, text: &str) -> Result<Text, NoMemory>
-    ensures { IfOk result (IsPattern byte_options) }
+    ensures { IfOk result IsLinePattern }
 {
-    match Regex::new(alloc, text) {
-        Ok(_) => Ok(Text::from_string(String::from_str(alloc, text)?)),
-        Err(_) => Err(NoMemory),
+    if is_line_pattern(alloc, text)? {
+        Ok(Text::from_string(String::from_str(alloc, text)?))
+    } else {
+        Err(NoMemory)
     }
 }
 

@@ -2,3 +2,4 @@ mod Between
 mod Characters
 mod Finding
 mod Reading
+pub mod Worked
