@@ -1,3 +1,4 @@
 mod Bodies
 mod Escapes
-mod Operations
+pub mod OneReading
+pub mod Operations

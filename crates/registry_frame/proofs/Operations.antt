@@ -9,16 +9,16 @@ use Rattle.wire_base.specs.declared.row.Op.TheVariants.{Set, Remove}
 use Rattle.registry_frame.specs.Body.{moment_bytes, operation_bytes}
 use Rattle.registry_frame.proofs.Escapes.{quoted_short}
 
-abbrev before_epoch : List ℕ
+abbrev pub before_epoch : List ℕ
 before_epoch = codes "\"epoch\":"
 
-abbrev before_key : List ℕ
+abbrev pub before_key : List ℕ
 before_key = codes ",\"key\":"
 
-abbrev before_offset : List ℕ
+abbrev pub before_offset : List ℕ
 before_offset = codes ",\"offset\":"
 
-abbrev before_path : List ℕ
+abbrev pub before_path : List ℕ
 before_path = codes ",\"op\":\"set\",\"path\":"
 
 -- the parts of a text of ten behind its first byte, one after the other

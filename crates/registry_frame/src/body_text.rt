@@ -1,6 +1,7 @@
-ghost use Rattle.std.specs.Prelude.{◌≡◌, ◌≢◌, All, IfOk, []};
+ghost use Rattle.std.specs.Prelude.{◌≡◌, ◌≢◌, All, IfOk, OnOk, []};
 ghost use Rattle.wire_base.specs.Ranges.{IsOp};
 ghost use Rattle.registry_frame.specs.Body.{body_bytes};
+ghost use Rattle.registry_frame.specs.BodyOf.{IsStoredOp};
 
 use crate::operation::operation_text;
 use std::alloc::Global;
@@ -10,7 +11,8 @@ use wire_base::{Blob, NoMemory, Op};
 pub fn body(alloc: Global, ops: &[Op]) -> Result<Blob, NoMemory>
     requires some { ops.now ≢ [] }
     requires in_range { All IsOp ops.now }
-    ensures { IfOk result (λ body. body ≡ body_bytes ops.now) }
+    ensures spelled { IfOk result (λ body. body ≡ body_bytes ops.now) }
+    ensures stored { OnOk result (All IsStoredOp ops.now) }
 {
     let mut texts = Vec::new(alloc);
     for op in ops {

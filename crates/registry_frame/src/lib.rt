@@ -6,9 +6,11 @@
 #![tactic(auto)]
 
 mod body_text;
+mod laws;
 mod operation;
 
 pub use body_text::body;
+pub use laws::one_reading;
 pub use operation::{MAX_OPERATION, operation_text, set_text};
 
 #[cfg(test)]

@@ -1,7 +1,9 @@
-ghost use Rattle.std.specs.Prelude.{◌≡◌, ◌≤◌, IfOk, length, string_bytes};
+ghost use Rattle.std.specs.Prelude.{◌≡◌, ◌≤◌, IfOk, OnOk, length, string_bytes};
+ghost use Rattle.std.specs.Str.{IsUtf8};
 ghost use Rattle.event_json.specs.Json.{quoted};
 ghost use Rattle.wire_base.specs.Ranges.{IsKey, IsOp, IsRow};
 ghost use Rattle.registry_frame.specs.Body.{moment_bytes, operation_bytes};
+ghost use Rattle.registry_frame.specs.BodyOf.{IsStoredOp, IsStoredRow};
 
 use std::alloc::Global;
 use wire_base::{Moment, NoMemory, Op, Row, Text};
@@ -14,6 +16,7 @@ pub fn operation_text(alloc: Global, op: &Op) -> Result<String, NoMemory>
     requires { IsOp op.now }
     ensures spelled { IfOk result (λ text. string_bytes text ≡ operation_bytes op.now) }
     ensures short { IfOk result (λ text. length (string_bytes text) ≤ MAX_OPERATION) }
+    ensures stored { OnOk result (IsStoredOp op.now) }
 {
     match op {
         Op::Set(row) => set_text(alloc, row),
@@ -26,6 +29,7 @@ pub fn set_text(alloc: Global, row: &Row) -> Result<String, NoMemory>
     requires { IsRow row.now }
     ensures spelled { IfOk result (λ text. string_bytes text ≡ operation_bytes (Op.Set row.now)) }
     ensures short { IfOk result (λ text. length (string_bytes text) ≤ MAX_OPERATION) }
+    ensures stored { OnOk result (IsStoredRow row.now) }
 {
     let moment = moment_text(alloc, row.changed)?;
     let epoch = row.epoch.0;
@@ -52,14 +56,16 @@ fn remove_text(alloc: Global, key: &Text) -> Result<String, NoMemory>
     requires { IsKey key.now }
     ensures spelled { IfOk result (λ text. string_bytes text ≡ operation_bytes (Op.Remove key.now)) }
     ensures short { IfOk result (λ text. length (string_bytes text) ≤ MAX_OPERATION) }
+    ensures stored { OnOk result (IsStoredOp (Op.Remove key.now)) }
 {
     let key = quoted_text(alloc, key)?;
     Ok(format!(in alloc; "{{\"key\":{key},\"op\":\"remove\"}}")?)
 }
 
-/// The JSON text of a key or a path.
+// The JSON text of a key or a path.
 fn quoted_text(alloc: Global, text: &Text) -> Result<String, NoMemory>
-    ensures { IfOk result (λ written. string_bytes written ≡ quoted text.now) }
+    ensures spelled { IfOk result (λ written. string_bytes written ≡ quoted text.now) }
+    ensures utf8 { IsUtf8 text.now }
 {
     match serde_json::to_string(alloc, &text.as_str()) {
         Ok(written) => Ok(written),

@@ -28,11 +28,11 @@ record_printed old text head digits body size head_is digits_are size_is text_is
     text_is ∙ ap (λ (l : List ℕ). old ++ l ++ body ++ 93 ∷ 10 ∷ []) head_is ∙ record_parts old digits body
     ∙ ap (λ (l : List ℕ). old ++ (codes "{" ++ l ++ codes " " ++ (body ++ codes "]") ++ codes "\n")) (digits_are ∙ ap (padded 7) whole)
 
-area_parts : (digits records : List ℕ) → 123 ∷ (codes "beat 1 " ++ (digits ++ codes "\n") ++ records ++ 46 ∷ []) ≡ codes "{" ++ (codes "beat 1 " ++ digits ++ codes "\n") ++ records ++ codes "."
+area_parts : (digits records : List ℕ) → 123 ∷ (codes "beat 2 " ++ (digits ++ codes "\n") ++ records ++ 46 ∷ []) ≡ codes "{" ++ (codes "beat 2 " ++ digits ++ codes "\n") ++ records ++ codes "."
 area_parts digits records = simp append_assoc refl
 
-pub area_printed : (generation : ℕ) (rows : List Row) (text header digits : List ℕ) → header ≡ codes "beat 1 " ++ (digits ++ codes "\n") → digits ≡ padded 20 generation
+pub area_printed : (generation : ℕ) (rows : List Row) (text header digits : List ℕ) → header ≡ codes "beat 2 " ++ (digits ++ codes "\n") → digits ≡ padded 20 generation
     → text ≡ header ++ records_bytes (sets rows) ++ 46 ∷ [] → 123 ∷ text ≡ area_bytes generation rows
 area_printed generation rows text header digits header_is digits_are text_is =
     ap (λ (l : List ℕ). 123 ∷ l) (text_is ∙ ap (λ (l : List ℕ). l ++ records_bytes (sets rows) ++ 46 ∷ []) header_is) ∙ area_parts digits (records_bytes (sets rows))
-    ∙ ap (λ (l : List ℕ). codes "{" ++ (codes "beat 1 " ++ l ++ codes "\n") ++ records_bytes (sets rows) ++ codes ".") digits_are
+    ∙ ap (λ (l : List ℕ). codes "{" ++ (codes "beat 2 " ++ l ++ codes "\n") ++ records_bytes (sets rows) ++ codes ".") digits_are

@@ -1,4 +1,4 @@
--- A registry area as it is started (this project's profile).
+-- A registry area as it is started, always in version 2 (this project's profile).
 use Rattle.std.specs.Prelude.{ℕ, List, ◌++◌, map, codes}
 use Rattle.wire_base.specs.declared.row.Op.{Op}
 use Rattle.wire_base.specs.declared.row.Op.TheVariants.{Set}
@@ -7,7 +7,7 @@ use Rattle.registry_log.specs.Records.{padded, records_bytes}
 
 -- the version, the generation in twenty digits and a line feed
 abbrev pub header_bytes : ℕ → List ℕ
-header_bytes generation = codes "beat 1 " ++ padded 20 generation ++ codes "\n"
+header_bytes generation = codes "beat 2 " ++ padded 20 generation ++ codes "\n"
 
 -- an operation for each row, in their order
 abbrev pub sets : List Row → List Op

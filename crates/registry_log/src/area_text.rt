@@ -55,7 +55,7 @@ pub(crate) fn area_text(alloc: Global, generation: u64, rows: &Rows) -> Result<V
     ensures spelled { IfOk result (λ text. 0x7B ∷ text.items ≡ area_bytes generation rows.now) }
     ensures bodies_fit { IfOk result (λ text. All (λ ops. length (body_bytes ops) ≤ MAX_BODY) (groups (sets rows.now))) }
 {
-    let header = format!(in alloc; "beat 1 {generation:020}\n")?.into_bytes();
+    let header = format!(in alloc; "beat 2 {generation:020}\n")?.into_bytes();
     let mut text = with_records(alloc, header, rows)?;
     text.push(b'.')?;
     Ok(text)

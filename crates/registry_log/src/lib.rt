@@ -7,11 +7,13 @@
 #![tactic(auto)]
 
 mod area_text;
+mod header;
 mod log_error;
 mod start;
 mod synced;
 
 pub use area_text::MAX_BODY;
+pub use header::{HEADER, Header, read_header};
 pub use log_error::LogError;
 pub use start::start_area;
 
