@@ -1,7 +1,7 @@
 -- What one note more at the end says of a slot's spans, and a slot's place by its parts.
 use Rattle.std.proofs.Common.{◌≡◌, ℕ, ◌+◌, ◌<◌, ◌≤◌, Bool, true, false, List, [], ◌∷◌, ◌++◌, length, get_or, take, drop, All, Option, Some, None, max, if◌then◌else◌, ◌==◌, nat_lt, refl, sym, ap, ◌∙◌, subst, arith, add-one, drop-cons}
 use Rattle.std.specs.List.{cons_option, list_any}
-use Rattle.std.specs.Option.{option_map, option_to_list, option_and_then}
+use Rattle.std.specs.Option.{option_map, option_to_list}
 use Rattle.std.proofs.lemmas.Bool.{and_right, and_from, le-ltb, lt-ltb, eq-eqb}
 use Rattle.std.proofs.lemmas.List.{take-append-drop, append-nil}
 use Rattle.std.proofs.Math.Seq.{take-suc}
@@ -11,7 +11,7 @@ use Rattle.wire_base.specs.declared.numbers.Epoch.{Epoch}
 use Rattle.wire_base.specs.declared.row.Row.{Row}
 use Rattle.wire_base.specs.declared.note.Note.{Note}
 use Rattle.ship_core.specs.CoveredEnd.{next_end, covered_end}
-use Rattle.ship_core.specs.RowOver.{Start, slot_of, span_in, forgets, notes_of, start_over, greatest_epoch, base_in, spans_in, offset_over, path_over, is_gone, row_of, place_over}
+use Rattle.ship_core.specs.RowOver.{Start, slot_of, span_in, forgets, notes_of, greatest_epoch, base_in, spans_in, offset_over, is_gone, standing_row, row_of}
 
 -- ---- a slot's spans of an epoch
 
@@ -75,33 +75,21 @@ seen_none slot epoch notes i note most inside is settled seen =
 
 -- ---- a slot's place by its parts
 
--- the epoch and the base of the slot's first Begin
-abbrev pub pair_of : Start → ℕ × ℕ
-pair_of start = (start.epoch, start.base)
-
-abbrev pub pair_over : ℕ → List Note → Option (ℕ × ℕ)
-pair_over slot notes = option_map pair_of (start_over (notes_of slot notes))
-
 -- a place of these numbers, where the row is not gone
 abbrev place_unless : Bool → ℕ → ℕ → Option (Epoch × ℕ)
 place_unless gone epoch offset = if gone then None else Some (record { 0 = epoch }, offset)
 
-by_row : (b : Bool) (key path : List ℕ) (epoch offset : ℕ) → place_unless b epoch offset ≡ option_map (λ (row : Row). (row.epoch, row.offset)) (if b then None else Some (record { key = key; path = path; epoch = record { 0 = epoch }; offset = offset }))
-by_row true key path epoch offset = refl
-by_row false key path epoch offset = refl
+abbrev pub place_of : Row → Epoch × ℕ
+place_of row = (row.epoch, row.offset)
 
-by_start : (ours : List Note) (start : Start) (epoch from offset : ℕ) (gone : Bool) → epoch ≡ greatest_epoch ours → from ≡ base_in start epoch → offset ≡ covered_end (spans_in epoch ours) from → gone ≡ list_any (forgets epoch offset) ours → place_unless gone epoch offset ≡ option_map (λ (row : Row). (row.epoch, row.offset)) (row_of ours start)
-by_start ours start epoch from offset gone greatest from_is offset_is gone_is =
+of_row : (b : Bool) (ours : List Note) (start : Start) → place_unless b (greatest_epoch ours) (offset_over start ours) ≡ option_map place_of (if b then None else Some (standing_row ours start))
+of_row true ours start = refl
+of_row false ours start = refl
+
+-- the place by its parts
+pub by_parts : (ours : List Note) (start : Start) (epoch from offset : ℕ) (gone : Bool) → epoch ≡ greatest_epoch ours → from ≡ base_in start epoch → offset ≡ covered_end (spans_in epoch ours) from → gone ≡ list_any (forgets epoch offset) ours → place_unless gone epoch offset ≡ option_map place_of (row_of ours start)
+by_parts ours start epoch from offset gone greatest from_is offset_is gone_is =
     let from_base : from ≡ base_in start (greatest_epoch ours) = from_is ∙ ap (base_in start) greatest in
     let offset_base : offset ≡ offset_over start ours = offset_is ∙ (λ k. covered_end (spans_in (greatest k) ours) (from_base k)) in
     let gone_over : gone ≡ is_gone start ours = gone_is ∙ (λ k. list_any (forgets (greatest k) (offset_base k)) ours) in
-    (λ k. place_unless (gone_over k) (greatest k) (offset_base k)) ∙ by_row (is_gone start ours) start.key (path_over start ours) (greatest_epoch ours) (offset_over start ours)
-
-pub by_parts : (slot : ℕ) (notes : List Note) (pair : ℕ × ℕ) (epoch from offset : ℕ) (gone : Bool) → pair_over slot notes ≡ Some pair → epoch ≡ greatest_epoch (notes_of slot notes) → from ≡ (if epoch == pair.0 then pair.1 else 0) → offset ≡ covered_end (own slot epoch notes) from → gone ≡ list_any (forgets epoch offset) (notes_of slot notes) → place_unless gone epoch offset ≡ place_over slot notes
-by_parts slot notes pair epoch from offset gone begun greatest from_is offset_is gone_is = by_case (start_over (notes_of slot notes)) begun
-  where
-    by_case : (s : Option Start) → option_map pair_of s ≡ Some pair → place_unless gone epoch offset ≡ option_map (λ (row : Row). (row.epoch, row.offset)) (option_and_then (row_of (notes_of slot notes)) s)
-    by_case None e = absurd (let q : None ≡ Some pair = e in cc)
-    by_case (Some start) e =
-        let same : pair ≡ pair_of start = let q : Some (pair_of start) ≡ Some pair = e in cc in
-        by_start (notes_of slot notes) start epoch from offset gone greatest (from_is ∙ ap (λ (p : ℕ × ℕ). if epoch == p.0 then p.1 else 0) same) offset_is gone_is
+    (λ k. place_unless (gone_over k) (greatest k) (offset_base k)) ∙ of_row (is_gone start ours) ours start

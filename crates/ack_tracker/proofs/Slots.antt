@@ -6,12 +6,13 @@ use Rattle.std.proofs.lemmas.Bool.{eqb-true, eq-eqb}
 use Rattle.std.proofs.lemmas.List.Elements.{filter_map-append, filter_passes, All-filter, All-weaker, All-contains, All-contains_itself, Contains-append_left}
 use Rattle.wire_base.specs.declared.numbers.Epoch.{Epoch}
 use Rattle.wire_base.specs.declared.note.Note.{Note}
-use Rattle.wire_base.specs.declared.note.Note.TheVariants.{Begin, Announce, Settle, Rename, Forget}
+use Rattle.wire_base.specs.declared.note.Note.TheVariants.{Begin, Announce, Settle, Rename, Seen, Forget}
 use Rattle.wire_base.specs.declared.row.Row.{Row}
 use Rattle.ship_core.specs.Forward.{RowGoesOn}
 use Rattle.ship_core.specs.Orderly.{IsBegun}
 use Rattle.ship_core.specs.RowOver.{Start, slot_of, start_of, notes_of, first_start, start_over, row_of, row_over, place_over}
 use Rattle.ack_tracker.specs.Tracked.{slot_begun, gone_over}
+use Rattle.ack_tracker.proofs.Places.{place_of}
 
 -- ---- members of a filtered list
 
@@ -53,27 +54,29 @@ skipped slot note notes none = by_case (slot_of note == slot)
 
 begun_listed : (slot : ℕ) (notes : List Note) → IsBegun slot notes → Contains (filter_map slot_begun notes) slot
 begun_listed slot [] begun = absurd (let q : false ≡ true = begun in cc)
-begun_listed slot (Begin s key path epoch base ∷ notes) begun = by_case (s.0 == slot) refl begun (begun_listed slot notes)
+begun_listed slot (Begin s key path epoch base changed ∷ notes) begun = by_case (s.0 == slot) refl begun (begun_listed slot notes)
   where
-    by_case : (b : Bool) → (s.0 == slot) ≡ b → IsSome (start_over (if b then Begin s key path epoch base ∷ notes_of slot notes else notes_of slot notes)) → (IsBegun slot notes → Contains (filter_map slot_begun notes) slot) → Contains (s.0 ∷ filter_map slot_begun notes) slot
+    by_case : (b : Bool) → (s.0 == slot) ≡ b → IsSome (start_over (if b then Begin s key path epoch base changed ∷ notes_of slot notes else notes_of slot notes)) → (IsBegun slot notes → Contains (filter_map slot_begun notes) slot) → Contains (s.0 ∷ filter_map slot_begun notes) slot
     by_case true e some h = subst (λ (z : ℕ). Contains (s.0 ∷ filter_map slot_begun notes) z) (eqb-true s.0 slot e) (contains_first s.0 (filter_map slot_begun notes))
     by_case false e some h = contains_later s.0 slot (filter_map slot_begun notes) (h some)
 begun_listed slot (Announce s epoch ∷ notes) begun = begun_listed slot notes (subst IsSome (skipped slot (Announce s epoch) notes refl) begun)
 begun_listed slot (Settle s epoch span cause ∷ notes) begun = begun_listed slot notes (subst IsSome (skipped slot (Settle s epoch span cause) notes refl) begun)
 begun_listed slot (Rename s scan path ∷ notes) begun = begun_listed slot notes (subst IsSome (skipped slot (Rename s scan path) notes refl) begun)
+begun_listed slot (Seen s changed ∷ notes) begun = begun_listed slot notes (subst IsSome (skipped slot (Seen s changed) notes refl) begun)
 begun_listed slot (Forget s epoch end ∷ notes) begun = begun_listed slot notes (subst IsSome (skipped slot (Forget s epoch end) notes refl) begun)
 
 listed_begun : (slot : ℕ) (notes : List Note) → Contains (filter_map slot_begun notes) slot → IsBegun slot notes
 listed_begun slot [] there = absurd (omega (arith, there.1))
-listed_begun slot (Begin s key path epoch base ∷ notes) there = by_case (s.0 == slot) refl (contains_cases s.0 slot (filter_map slot_begun notes) there) (listed_begun slot notes)
+listed_begun slot (Begin s key path epoch base changed ∷ notes) there = by_case (s.0 == slot) refl (contains_cases s.0 slot (filter_map slot_begun notes) there) (listed_begun slot notes)
   where
-    by_case : (b : Bool) → (s.0 == slot) ≡ b → (s.0 ≡ slot) ⊎ Contains (filter_map slot_begun notes) slot → (Contains (filter_map slot_begun notes) slot → IsBegun slot notes) → IsSome (start_over (if b then Begin s key path epoch base ∷ notes_of slot notes else notes_of slot notes))
+    by_case : (b : Bool) → (s.0 == slot) ≡ b → (s.0 ≡ slot) ⊎ Contains (filter_map slot_begun notes) slot → (Contains (filter_map slot_begun notes) slot → IsBegun slot notes) → IsSome (start_over (if b then Begin s key path epoch base changed ∷ notes_of slot notes else notes_of slot notes))
     by_case true e which h = refl
     by_case false e (inl same) h = absurd (let q : true ≡ false = sym (eq-eqb s.0 slot same) ∙ e in cc)
     by_case false e (inr later) h = h later
 listed_begun slot (Announce s epoch ∷ notes) there = subst IsSome (sym (skipped slot (Announce s epoch) notes refl)) (listed_begun slot notes there)
 listed_begun slot (Settle s epoch span cause ∷ notes) there = subst IsSome (sym (skipped slot (Settle s epoch span cause) notes refl)) (listed_begun slot notes there)
 listed_begun slot (Rename s scan path ∷ notes) there = subst IsSome (sym (skipped slot (Rename s scan path) notes refl)) (listed_begun slot notes there)
+listed_begun slot (Seen s changed ∷ notes) there = subst IsSome (sym (skipped slot (Seen s changed) notes refl)) (listed_begun slot notes there)
 listed_begun slot (Forget s epoch end ∷ notes) there = subst IsSome (sym (skipped slot (Forget s epoch end) notes refl)) (listed_begun slot notes there)
 
 -- ---- slots whose rows went
@@ -109,27 +112,31 @@ gone_kept law notes note false new is = subst (λ (l : List Note). All (Contains
 
 -- ---- what an answer says
 
-abbrev place_of : Row → Epoch × ℕ
-place_of row = (row.epoch, row.offset)
+pub none_says : (slot : ℕ) (notes : List Note) (answer : Option Row) → answer ≡ row_over slot notes → IfNone answer (IsBegun slot notes → Contains (gone_over notes) slot)
+none_says slot notes None is = λ begun. is_gone_listed slot notes begun (sym is)
+none_says slot notes (Some row) is = tt
 
-pub none_says : (slot : ℕ) (notes : List Note) (answer : Option (Epoch × ℕ)) → answer ≡ place_over slot notes → IfNone answer (IsBegun slot notes → Contains (gone_over notes) slot)
-none_says slot notes None is = λ begun. is_gone_listed slot notes begun (by_row (row_over slot notes) (sym is))
-  where
-    by_row : (o : Option Row) → option_map place_of o ≡ None → o ≡ None
-    by_row None e = refl
-    by_row (Some row) e = absurd (let q : Some (place_of row) ≡ None = e in cc)
-none_says slot notes (Some place) is = tt
-
-pub some_says : (slot : ℕ) (notes : List Note) (answer : Option (Epoch × ℕ)) → answer ≡ place_over slot notes → OnSome answer (IsBegun slot notes × ¬ (Contains (gone_over notes) slot))
+pub some_says : (slot : ℕ) (notes : List Note) (answer : Option Row) → answer ≡ row_over slot notes → OnSome answer (IsBegun slot notes × ¬ (Contains (gone_over notes) slot))
 some_says slot notes None is = tt
-some_says slot notes (Some place) is = (
-  by_start (start_over (notes_of slot notes)) (sym is),
-  λ there.
-      let gone = gone_is slot notes there in
-      let q : None ≡ Some place = sym (ap (option_map place_of) gone.1) ∙ sym is in
-      cc,
-)
+some_says slot notes (Some row) is =
+    (by_start (start_over (notes_of slot notes)) (sym is), λ there. let q : None ≡ Some row = sym (gone_is slot notes there).1 ∙ sym is in cc)
   where
-    by_start : (s : Option Start) → option_map place_of (option_and_then (row_of (notes_of slot notes)) s) ≡ Some place → IsSome s
-    by_start None e = absurd (let q : None ≡ Some place = e in cc)
+    by_start : (s : Option Start) → option_and_then (row_of (notes_of slot notes)) s ≡ Some row → IsSome s
+    by_start None e = absurd (let q : None ≡ Some row = e in cc)
     by_start (Some start) e = refl
+
+-- and of a place what is said of its row
+
+pub none_said : (slot : ℕ) (notes : List Note) (answer : Option (Epoch × ℕ)) → answer ≡ place_over slot notes → IfNone answer (IsBegun slot notes → Contains (gone_over notes) slot)
+none_said slot notes answer is = subst (λ (a : Option (Epoch × ℕ)). IfNone a (IsBegun slot notes → Contains (gone_over notes) slot)) (sym is) (of_row (row_over slot notes) (none_says slot notes (row_over slot notes) refl))
+  where
+    of_row : (o : Option Row) → IfNone o (IsBegun slot notes → Contains (gone_over notes) slot) → IfNone (option_map place_of o) (IsBegun slot notes → Contains (gone_over notes) slot)
+    of_row None says = says
+    of_row (Some row) says = tt
+
+pub some_said : (slot : ℕ) (notes : List Note) (answer : Option (Epoch × ℕ)) → answer ≡ place_over slot notes → OnSome answer (IsBegun slot notes × ¬ (Contains (gone_over notes) slot))
+some_said slot notes answer is = subst (λ (a : Option (Epoch × ℕ)). OnSome a (IsBegun slot notes × ¬ (Contains (gone_over notes) slot))) (sym is) (of_row (row_over slot notes) (some_says slot notes (row_over slot notes) refl))
+  where
+    of_row : (o : Option Row) → OnSome o (IsBegun slot notes × ¬ (Contains (gone_over notes) slot)) → OnSome (option_map place_of o) (IsBegun slot notes × ¬ (Contains (gone_over notes) slot))
+    of_row None says = tt
+    of_row (Some row) says = says

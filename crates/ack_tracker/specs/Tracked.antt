@@ -5,7 +5,7 @@ use Rattle.std.specs.List.{filter_map}
 use Rattle.std.specs.Option.{is_none}
 use Rattle.wire_base.specs.declared.row.Row.{Row}
 use Rattle.wire_base.specs.declared.note.Note.{Note}
-use Rattle.wire_base.specs.declared.note.Note.TheVariants.{Begin, Announce, Settle, Rename, Forget}
+use Rattle.wire_base.specs.declared.note.Note.TheVariants.{Begin, Announce, Settle, Rename, Seen, Forget}
 use Rattle.ship_core.specs.RowOver.{row_over}
 
 pub record Tracked : Type 0 where
@@ -15,10 +15,11 @@ pub record Tracked : Type 0 where
 
 -- the slot that a note begins
 abbrev pub slot_begun : Note → Option ℕ
-slot_begun (Begin slot key path epoch base) = Some slot.0
+slot_begun (Begin slot key path epoch base changed) = Some slot.0
 slot_begun (Announce slot epoch) = None
 slot_begun (Settle slot epoch span cause) = None
 slot_begun (Rename slot scan path) = None
+slot_begun (Seen slot changed) = None
 slot_begun (Forget slot epoch end) = None
 
 -- the slots that were begun and have no row

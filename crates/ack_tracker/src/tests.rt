@@ -1,10 +1,10 @@
-ghost use Rattle.wire_base.specs.Ranges.{IsNote, IsPlace};
+ghost use Rattle.wire_base.specs.Ranges.{IsMoment, IsNote, IsPlace};
 
 use crate::Tracker;
 use ship_core::Rows;
 use std::alloc::Global;
 use std::test::Fail;
-use wire_base::{Cause, Epoch, NoMemory, Note, RuleNo, Slot, Span, Text};
+use wire_base::{Cause, Epoch, Moment, NoMemory, Note, Row, RuleNo, Slot, Span, Text};
 
 const SLOT: Slot = Slot(0);
 
@@ -23,6 +23,7 @@ fn begun(alloc: Global) -> Result<Tracker, Fail> {
         path: Text::from_bytes(alloc, b"/w/a.log")?,
         epoch: Epoch(0),
         base: 0,
+        changed: Moment(4),
     };
     tell(alloc, &mut tracker, begin)?;
     Ok(tracker)
@@ -66,6 +67,16 @@ fn forget(alloc: Global, tracker: &mut Tracker, epoch: u32, end: u64) -> Result<
         end,
     };
     tell(alloc, tracker, forgotten)
+}
+
+fn seen(alloc: Global, tracker: &mut Tracker, changed: u64) -> Result<(), Fail>
+    requires { IsMoment (record { 0 = changed }) }
+{
+    let seen = Note::Seen {
+        slot: SLOT,
+        changed: Moment(changed),
+    };
+    tell(alloc, tracker, seen)
 }
 
 #[test]
@@ -132,5 +143,23 @@ fn forgotten_row_goes_once_its_end_is_reached(rt: HostRuntime) -> Result<(), Fai
     assert_eq!(rt; tracker.offset(SLOT), None);
     announce(alloc, &mut tracker, 1)?;
     assert_eq!(rt; tracker.offset(SLOT), None);
+    Ok(())
+}
+
+#[test]
+fn greatest_moment_seen(rt: HostRuntime) -> Result<(), Fail> {
+    let alloc = rt.alloc();
+    let mut tracker = begun(alloc)?;
+    seen(alloc, &mut tracker, 9)?;
+    seen(alloc, &mut tracker, 7)?;
+    let row = Row {
+        key: Text::from_bytes(alloc, b"k")?,
+        path: Text::from_bytes(alloc, b"/w/a.log")?,
+        epoch: Epoch(0),
+        offset: 0,
+        changed: Moment(9),
+    };
+    assert_eq!(rt; tracker.row(alloc, SLOT)?, Some(row));
+    assert!(rt; tracker.row(alloc, Slot(1))?.is_none());
     Ok(())
 }
