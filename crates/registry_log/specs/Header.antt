@@ -1,7 +1,7 @@
 -- The header of a registry area (this project's profile): at the places 1 to 7 `beat 1 ` or `beat 2 `, at 8 to 27 the
 -- generation in decimal digits, from 1 to 2^64 - 1, and at 28 a line feed. The gate in front is no part of it.
-use Rattle.std.specs.Prelude.{◌≡◌, ℕ, ◌^◌, Bool, false, not, ◌&&◌, ◌||◌, ◌==◌, nat_lt, nat_le, if◌then◌else◌, List, list_all, find, slice_get, slice_index, Option, None, codes}
-use Rattle.std.specs.List.{range_with_len, slice_range}
+use Rattle.std.specs.Prelude.{◌≡◌, ℕ, ◌^◌, Bool, false, not, ◌&&◌, ◌||◌, ◌==◌, nat_lt, nat_le, if◌then◌else◌, List, find, slice_get, slice_index, Option, None, codes}
+use Rattle.std.specs.List.{list_all, range_with_len, slice_range}
 use Rattle.std.specs.Option.{option_map_or}
 use Rattle.std.specs.Str.Parse.{digits_value}
 
@@ -13,7 +13,7 @@ may_stand place byte =
 
 -- the area has a byte at the place, and it may stand there
 abbrev pub fits : List ℕ → ℕ → Bool
-fits area place = option_map_or (may_stand place) false (slice_get area place)
+fits area place = option_map_or (may_stand place) (slice_get area place) false
 
 -- the number at the places 8 to 27
 abbrev pub generation_of : List ℕ → ℕ
@@ -29,7 +29,7 @@ abbrev pub is_wrong : List ℕ → ℕ → Bool
 is_wrong area place = not (fits area place) || ((place == 8) && is_out_of_range area)
 
 -- the place of the first byte of the header that is absent or wrong
-abbrev pub first_wrong : List ℕ → Option ℕ
+unfoldable pub first_wrong : List ℕ → Option ℕ
 first_wrong area = find (is_wrong area) (range_with_len 1 28)
 
 -- the header is right, and has this generation

@@ -14,10 +14,10 @@ use Rattle.registry_log.specs.Starting.{IsBlank, IsClosed}
 
 -- `start` is the place of the first gate, and `end` that of the last one
 pub data State : Type 0 where
-  pub Blank : State
-  pub Closed : State
-  pub Opened : (generation : ℕ) (rows : List Row) (start end : ℕ) → State
-  pub Broken : (at : ℕ) → State
+  Blank : State
+  Closed : State
+  Opened : (generation : ℕ) (rows : List Row) (start end : ℕ) → State
+  Broken : (at : ℕ) → State
 
 -- the operations of records, in their order
 abbrev pub operations_of : List (List Op) → List Op
@@ -34,7 +34,7 @@ pub record Reaches (area : List ℕ) (generation : ℕ) (records : List (List Op
   pub header : HasHeader area generation
   pub each : AreRecords [] records
   pub bytes : drop 29 area ≡ flat_map record_bytes records ++ rest
-  pub place : 29 + length (flat_map record_bytes records) ≡ place
+  pub begins : 29 + length (flat_map record_bytes records) ≡ place
 
 pub record IsOpened (area : List ℕ) (generation : ℕ) (rows : List Row) (end : ℕ) : Type 0 where
   pub records : List (List Op)
@@ -42,7 +42,7 @@ pub record IsOpened (area : List ℕ) (generation : ℕ) (rows : List Row) (end 
   pub rest : List ℕ
   pub reaches : Reaches area generation records end (gate ∷ rest)
   pub closed : gate ≢ 0x7B
-  pub rows : replay (operations_of records) ≡ rows
+  pub replayed : replay (operations_of records) ≡ rows
 
 -- the gate at the place is open, and no record follows
 pub record LacksRecord (area : List ℕ) (at : ℕ) : Type 0 where

@@ -1,6 +1,7 @@
-ghost use Rattle.std.specs.Prelude.{◌≡◌, ◌<◌, ◌≤◌, ◌^◌, ℕ, MatchOption, OnSome, Some, length, slice_index};
+ghost use Rattle.std.specs.Prelude.{◌≡◌, ◌<◌, ◌^◌, ℕ, All, Some, length};
+ghost use Rattle.std.specs.Char.{IsAsciiDigit};
 ghost use Rattle.std.specs.Option.{SomeIff};
-ghost use Rattle.std.specs.Str.Parse.{digits_value, IsNumeral};
+ghost use Rattle.std.specs.Str.Parse.{digits_value};
 ghost use Rattle.registry_log.specs.Header.{HasHeader, first_wrong, fits, may_stand};
 
 use std::str;
@@ -59,11 +60,24 @@ fn may_stand(place: usize, byte: u8) -> bool
 
 // `None` exactly where the number of these digits is 0 or above 2^64 - 1.
 fn read_generation(digits: &[u8]) -> Option<u64>
-    requires { IsNumeral 10 digits.now }
+    requires some { 0 < length digits.now }
+    requires digits { All IsAsciiDigit digits.now }
     ensures { SomeIff result ((0 < digits_value 10 digits.now) × (digits_value 10 digits.now < 2 ^ 64)) (digits_value 10 digits.now) }
 {
-    match str::from_utf8(digits).ok()?.parse() {
-        Ok(0) | Err(_) => None,
-        Ok(generation) => Some(generation),
+    match read_number(digits) {
+        Some(0) => None,
+        number => number,
+    }
+}
+
+// `None` exactly where the number of these digits is above 2^64 - 1.
+fn read_number(digits: &[u8]) -> Option<u64>
+    requires some { 0 < length digits.now }
+    requires digits { All IsAsciiDigit digits.now }
+    ensures { SomeIff result (digits_value 10 digits.now < 2 ^ 64) (digits_value 10 digits.now) }
+{
+    match str::from_utf8(digits) {
+        Ok(digits) => digits.parse().ok(),
+        Err(_) => None,
     }
 }

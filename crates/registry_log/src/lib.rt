@@ -8,12 +8,14 @@
 
 mod area_text;
 mod header;
+mod laws;
 mod log_error;
 mod start;
 mod synced;
 
 pub use area_text::MAX_BODY;
 pub use header::{HEADER, Header, read_header};
+pub use laws::one_state;
 pub use log_error::LogError;
 pub use start::start_area;
 
