@@ -1,6 +1,6 @@
 ghost use Rattle.std.specs.Prelude.{IfOk};
 ghost use Rattle.patterns.specs.Pattern.{IsLinePattern};
-ghost use Rattle.multiline_core.specs.Rule.{IsGroupRule};
+ghost use Rattle.multiline_core.specs.Rule.{IsGroupRule, IsLineCount};
 
 use crate::*;
 use event_tree::{GroupRule, LineRule, Side, Terminator};
@@ -34,11 +34,13 @@ struct Case {
     negate: bool,
     side: Side,
     flush: Option<&'static str>,
+    max_lines: u64,
     text: &'static [u8],
     events: &'static [u8],
 }
 
 fn rule_of(alloc: Global, case: &Case) -> Result<GroupRule, NoMemory>
+    requires { IsLineCount case.now.max_lines }
     ensures { IfOk result IsGroupRule }
 {
     let flush_pattern = match case.flush {
@@ -50,7 +52,7 @@ fn rule_of(alloc: Global, case: &Case) -> Result<GroupRule, NoMemory>
         negate: case.negate,
         side: case.side,
         flush_pattern,
-        max_lines: 500,
+        max_lines: case.max_lines,
         timeout: TIMEOUT,
         skip_newline: false,
         message_max_bytes: DEFAULT_LIMIT,
@@ -107,6 +109,7 @@ fn lines_become_events(rt: HostRuntime) -> Result<(), Fail> {
             negate: true,
             side: Side::After,
             flush: None,
+            max_lines: 500,
             text: b"[1\n x\n y\n[2\n",
             events: b"0-9 3 [1\n x\n y;9-12 1 [2;",
         },
@@ -116,6 +119,7 @@ fn lines_become_events(rt: HostRuntime) -> Result<(), Fail> {
             negate: false,
             side: Side::Before,
             flush: None,
+            max_lines: 500,
             text: b"a\\\nb\nc\\\n",
             events: b"0-5 2 a\\\nb;5-8 1 c\\;",
         },
@@ -125,6 +129,7 @@ fn lines_become_events(rt: HostRuntime) -> Result<(), Fail> {
             negate: false,
             side: Side::After,
             flush: None,
+            max_lines: 500,
             text: b" x\n y\nz\n",
             events: b"0-6 2  x\n y;6-8 1 z;",
         },
@@ -134,6 +139,7 @@ fn lines_become_events(rt: HostRuntime) -> Result<(), Fail> {
             negate: false,
             side: Side::After,
             flush: Some("^f"),
+            max_lines: 500,
             text: b"s\nc\nf\ns\n",
             events: b"0-6 3 s\nc\nf;6-8 1 s;",
         },
@@ -142,6 +148,7 @@ fn lines_become_events(rt: HostRuntime) -> Result<(), Fail> {
             negate: false,
             side: Side::After,
             flush: None,
+            max_lines: 500,
             text: b"s\nc\nf\ns\n",
             events: b"0-4 2 s\nc;4-6 1 f;6-8 1 s;",
         },
@@ -151,6 +158,7 @@ fn lines_become_events(rt: HostRuntime) -> Result<(), Fail> {
             negate: false,
             side: Side::After,
             flush: Some("^f"),
+            max_lines: 500,
             text: b"f\nc\n",
             events: b"0-4 2 f\nc;",
         },
@@ -159,8 +167,19 @@ fn lines_become_events(rt: HostRuntime) -> Result<(), Fail> {
             negate: false,
             side: Side::Before,
             flush: Some("^f"),
+            max_lines: 500,
             text: b"s\nf\nc\nf\n",
             events: b"0-2 1 s;2-4 1 f;4-8 2 c\nf;",
+        },
+        // max_lines_cuts_message
+        Case {
+            pattern: "^ ",
+            negate: false,
+            side: Side::After,
+            flush: None,
+            max_lines: 2,
+            text: b"s\n x\n x\n x\n x\n x\n",
+            events: b"0-17 6 s\n x;",
         },
         // Stack traces, as operators write the patterns for them.
         Case {
@@ -168,6 +187,7 @@ fn lines_become_events(rt: HostRuntime) -> Result<(), Fail> {
             negate: false,
             side: Side::After,
             flush: None,
+            max_lines: 500,
             text: b"E: java.lang.NullPointerException\n    at a.B.c(B.java:16)\n    at a.D.e(D.java:25)\nCaused by: java.lang.Error\n    ... 1 more\nnext\n",
             events: b"0-124 5 E: java.lang.NullPointerException\n    at a.B.c(B.java:16)\n    at a.D.e(D.java:25)\nCaused by: java.lang.Error\n    ... 1 more;124-129 1 next;",
         },
@@ -176,6 +196,7 @@ fn lines_become_events(rt: HostRuntime) -> Result<(), Fail> {
             negate: true,
             side: Side::After,
             flush: None,
+            max_lines: 500,
             text: b"2026-01-02 ERROR boom\nTraceback (most recent call last):\n  File \"a.py\", line 1, in f\nValueError: x\n2026-01-02 INFO ok\n",
             events: b"0-99 4 2026-01-02 ERROR boom\nTraceback (most recent call last):\n  File \"a.py\", line 1, in f\nValueError: x;99-118 1 2026-01-02 INFO ok;",
         },
@@ -203,7 +224,7 @@ fn counted(skip_newline: bool) -> GroupRule
 }
 
 #[test]
-fn counted_lines_are_joined_and_cut(rt: HostRuntime) -> Result<(), Fail> {
+fn heads_are_joined_and_cut(rt: HostRuntime) -> Result<(), Fail> {
     let text = b"ab\ncd\nef\n\nx\n";
     let joined = events_of(rt.alloc(), &counted(false), text)?;
     assert_eq!(rt; joined.as_slice(), b"0-9 3 ab\nc;9-12 2 \nx;".as_slice());
@@ -214,23 +235,6 @@ fn counted_lines_are_joined_and_cut(rt: HostRuntime) -> Result<(), Fail> {
     };
     let alone = events_of(rt.alloc(), &single, b"ab\n\nc\n")?;
     assert_eq!(rt; alone.as_slice(), b"0-3 1 a;3-4 1 ;4-6 1 c;".as_slice());
-    Ok(())
-}
-
-#[test]
-fn max_lines_cuts_message(rt: HostRuntime) -> Result<(), Fail> {
-    let rule = GroupRule::Pattern {
-        pattern: pattern(rt.alloc(), "^ ")?,
-        negate: false,
-        side: Side::After,
-        flush_pattern: None,
-        max_lines: 2,
-        timeout: TIMEOUT,
-        skip_newline: false,
-        message_max_bytes: DEFAULT_LIMIT,
-    };
-    let events = events_of(rt.alloc(), &rule, b"s\n x\n x\n x\n x\n x\n")?;
-    assert_eq!(rt; events.as_slice(), b"0-17 6 s\n x;".as_slice());
     Ok(())
 }
 
