@@ -1,5 +1,5 @@
 -- Records that are written operation by operation are those of the groups, and each body fits in its record.
-use Rattle.std.proofs.Common.{◌≡◌, inl, inr, ℕ, ◌+◌, ◌≤◌, Bool, true, false, if◌then◌else◌, nat_le, List, [], ◌∷◌, ◌++◌, All, length, take, drop, Some, refl, sym, ap, ◌∙◌, subst, arith, codes, append-nil, append_assoc, length-append}
+use Rattle.std.proofs.Common.{◌≡◌, inl, inr, ℕ, ◌+◌, ◌≤◌, Bool, true, false, if◌then◌else◌, nat_le, List, [], ◌∷◌, ◌++◌, All, length, take, drop, get_or, Some, refl, sym, ap, ◌∙◌, subst, arith, codes, append-nil, append_assoc, length-append}
 use Rattle.std.proofs.lemmas.Bool.Decides.{leb_tells}
 use Rattle.std.proofs.lemmas.List.Concat.{flat_map-append}
 use Rattle.std.proofs.lemmas.List.{drop_more, take_all}
@@ -11,6 +11,8 @@ use Rattle.wire_base.specs.declared.row.Op.{Op}
 use Rattle.wire_base.specs.declared.row.Op.TheVariants.{Set}
 use Rattle.wire_base.specs.declared.row.Row.{Row}
 use Rattle.registry_frame.specs.Body.{body_bytes, operation_bytes}
+use Rattle.registry_frame.specs.BodyOf.{IsStoredRow}
+use Rattle.registry_frame.proofs.Operations.{set_short}
 use Rattle.registry_log.specs.declared.area_text.TheConstants.{MAX_BODY}
 use Rattle.registry_log.specs.Area.{sets}
 use Rattle.registry_log.specs.Records.{fit_in_a_record, grouped, groups, record_bytes, records_behind, records_bytes}
@@ -58,7 +60,7 @@ bracketed_fits text short =
     let same : length (text ++ []) ≡ length text = ap length (append-nil text) in
     omega (arith, same, short, length-append (text ++ []) (codes "]"))
 
-alone_fits : (op : Op) → IsShort op → FitsIn (op ∷ [])
+pub alone_fits : (op : Op) → IsShort op → FitsIn (op ∷ [])
 alone_fits op short = bracketed_fits (operation_bytes op) short
 
 fits_by_test : (there : Bool) (group : List Op) (joined parted : List (List Op)) → (there ≡ true → All FitsIn joined) → FitsIn group → All FitsIn parted
@@ -66,7 +68,7 @@ fits_by_test : (there : Bool) (group : List Op) (joined parted : List (List Op))
 fits_by_test true group joined parted together fits alone = together refl
 fits_by_test false group joined parted together fits alone = All-cons FitsIn group parted fits alone
 
-test_true : (n m : ℕ) → nat_le n m ≡ true → n ≤ m
+pub test_true : (n m : ℕ) → nat_le n m ≡ true → n ≤ m
 test_true n m is = elim (leb_tells n m) [
   | inl holds ↦ holds.1
   | inr fails ↦ cc (is, fails.0)
@@ -85,9 +87,6 @@ groups_fit (op ∷ ops) short = all_fit op [] ops (alone_fits op (All-head IsSho
 
 -- ---- the rows one by one
 
-abbrev pub SetIsShort : Row → Type 0
-SetIsShort row = IsShort (Set row)
-
 pub first_written : (rows : List Row) (row : Row) (body : List ℕ) → slice_get rows 0 ≡ Some row → body ≡ codes "[" ++ operation_bytes (Set row)
     → records_behind body (sets (drop 1 rows)) ≡ records_bytes (sets rows)
 first_written [] row body at is = cc at
@@ -101,10 +100,13 @@ pub next_row : (rows : List Row) (i : ℕ) (row : Row) → slice_get rows i ≡ 
 next_row rows i row at =
     ap sets (drop_more rows i row (slice_get_within rows i row at) ∙ ap (λ (r : Row). r ∷ drop (i + 1) rows) (get_or_from_slice_get rows i row row at))
 
-pub more_short : (rows : List Row) (i : ℕ) (row : Row) → slice_get rows i ≡ Some row → All SetIsShort (take i rows) → SetIsShort row → All SetIsShort (take (i + 1) rows)
-more_short rows i row at all short =
-    All-more SetIsShort rows i row (slice_get_within rows i row at) all (subst SetIsShort (sym (get_or_from_slice_get rows i row row at)) short)
+pub more_stored : (rows : List Row) (i : ℕ) (row : Row) → slice_get rows i ≡ Some row → All IsStoredRow (take i rows) → IsStoredRow row → All IsStoredRow (take (i + 1) rows)
+more_stored rows i row at all stored =
+    All-more IsStoredRow rows i row (slice_get_within rows i row at) all (subst IsStoredRow (sym (get_or_from_slice_get rows i row row at)) stored)
 
-pub rows_fit : (rows : List Row) (i : ℕ) → length rows ≤ i → All SetIsShort (take i rows) → All FitsIn (groups (sets rows))
-rows_fit rows i past all =
-    groups_fit (sets rows) (All-map IsShort Set rows (All-same SetIsShort rows (take i rows) (sym (take_all i rows past)) all))
+pub all_stored : (rows : List Row) (i : ℕ) → length rows ≤ i → All IsStoredRow (take i rows) → All IsStoredRow rows
+all_stored rows i past all = All-same IsStoredRow rows (take i rows) (sym (take_all i rows past)) all
+
+pub rows_fit : (rows : List Row) → All IsStoredRow rows → All FitsIn (groups (sets rows))
+rows_fit rows stored =
+    groups_fit (sets rows) (All-map IsShort Set rows (λ k fallback inside. let row = stored k fallback inside in set_short (get_or rows k fallback) row.ranges row.epoch))

@@ -5,4 +5,5 @@ mod Headers
 mod OneState
 mod Printed
 mod RecordsEnd
+mod Started
 mod Worked

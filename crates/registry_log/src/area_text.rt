@@ -1,7 +1,10 @@
-ghost use Rattle.std.specs.Prelude.{◌≡◌, ◌≤◌, ◌++◌, ◌∷◌, All, IfOk, OnOk, length, codes, List};
+ghost use Rattle.std.specs.Prelude.{◌≡◌, ◌<◌, ◌≤◌, ◌-◌, ◌++◌, ◌∷◌, All, IfOk, OnOk, length, codes, List};
 ghost use Rattle.registry_frame.specs.Body.{body_bytes, operation_bytes};
+ghost use Rattle.registry_frame.specs.BodyOf.{IsStoredRow};
 ghost use Rattle.registry_log.specs.Area.{area_bytes, sets};
 ghost use Rattle.registry_log.specs.Records.{groups, record_of, records_behind, records_bytes};
+ghost use Rattle.registry_log.specs.State.{IsState, Opened};
+ghost use Rattle.ship_core.specs.Rows.{IsInOrder};
 ghost use Rattle.wire_base.specs.declared.row.Op.{Op};
 
 use registry_frame::set_text;
@@ -52,8 +55,11 @@ impl AreaText {
 
 /// All of the area behind its first gate.
 pub(crate) fn area_text(alloc: Global, generation: u64, rows: &Rows) -> Result<Vec<u8>, NoMemory>
+    requires generation { 0 < generation }
+    requires rows { length rows.now ≤ 65_536 }
     ensures spelled { IfOk result (λ text. 0x7B ∷ text.items ≡ area_bytes generation rows.now) }
-    ensures bodies_fit { IfOk result (λ text. All (λ ops. length (body_bytes ops) ≤ MAX_BODY) (groups (sets rows.now))) }
+    ensures bodies_fit { OnOk result (All (λ ops. length (body_bytes ops) ≤ MAX_BODY) (groups (sets rows.now))) }
+    ensures opened { OnOk result (IsState (area_bytes generation rows.now) (Opened generation rows.now 29 (length (area_bytes generation rows.now) - 1))) }
 {
     let header = format!(in alloc; "beat 2 {generation:020}\n")?.into_bytes();
     let mut text = with_records(alloc, header, rows)?;
@@ -63,7 +69,9 @@ pub(crate) fn area_text(alloc: Global, generation: u64, rows: &Rows) -> Result<V
 
 fn with_records(alloc: Global, header: Vec<u8>, rows: &Rows) -> Result<Vec<u8>, NoMemory>
     ensures written { IfOk result (λ text. text.items ≡ header.items ++ records_bytes (sets rows.now)) }
-    ensures bodies_fit { IfOk result (λ text. All (λ ops. length (body_bytes ops) ≤ MAX_BODY) (groups (sets rows.now))) }
+    ensures bodies_fit { OnOk result (All (λ ops. length (body_bytes ops) ≤ MAX_BODY) (groups (sets rows.now))) }
+    ensures stored { OnOk result (All IsStoredRow rows.now) }
+    ensures in_order { OnOk result (IsInOrder rows.now) }
 {
     if rows.len() == 0 {
         return Ok(header);

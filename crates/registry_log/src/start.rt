@@ -1,9 +1,10 @@
-ghost use Rattle.std.specs.Prelude.{◌≡◌, ◌≢◌, ◌<◌, ◌≤◌, ◌+◌, ◌∷◌, ◌↔◌, All, IfOk, IfSome, IsErrOf, IsSome, IsTrue, OnErr, OnOk, length};
+ghost use Rattle.std.specs.Prelude.{◌≡◌, ◌≢◌, ◌<◌, ◌≤◌, ◌+◌, ◌-◌, ◌∷◌, ◌↔◌, All, IfOk, IfSome, IsErrOf, IsSome, IsTrue, OnErr, OnOk, length};
 ghost use Rattle.outside.specs.Counts.{Rose};
 ghost use Rattle.outside.specs.DiskImages.{LeavesOnly, Only};
 ghost use Rattle.registry_frame.specs.Body.{body_bytes};
 ghost use Rattle.registry_log.specs.Area.{area_bytes, sets};
 ghost use Rattle.registry_log.specs.Records.{groups};
+ghost use Rattle.registry_log.specs.State.{IsState, Opened};
 ghost use Rattle.registry_log.specs.Starting.{Holds, IsBlank, IsClosed, IsPartStarted, IsPartWritten, IsShut};
 
 use crate::area_text::area_text;
@@ -33,6 +34,9 @@ pub fn start_area<D: Disk>(
     ensures last_gate { IfOk result (λ gate. gate + 1 ≡ length (area_bytes generation rows.now)) }
     ensures durable { OnOk result (Only (D.contents disk.new) (D.images disk.new)) }
     ensures bodies_fit { OnOk result (All (λ ops. length (body_bytes ops) ≤ MAX_BODY) (groups (sets rows.now))) }
+
+    // It reads as opened, with exactly these rows.
+    ensures opened { result ≢ Err LogError.NoMemory → IsState (area_bytes generation rows.now) (Opened generation rows.now 29 (length (area_bytes generation rows.now) - 1)) }
 
     // Where nothing was pending, a crash at any moment of the call leaves one of these.
     ensures each_moment { Only (D.contents disk.old) (D.images disk.old) → IfSome (D.contents disk.old) (λ before. LeavesOnly D.moment D.images_since disk.old disk.new (IsPartStarted generation rows.now before)) }

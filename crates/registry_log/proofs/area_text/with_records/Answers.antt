@@ -1,15 +1,13 @@
 use Rattle.std.proofs.Common.{◌≡◌, ◌≤◌, ◌∙◌, ℕ, List, length, subst, ◌+◌, ◌++◌, ap, sym, codes, drop, arith}
 use Rattle.std.proofs.lemmas.List.Elements.{All-nil}
 use Rattle.registry_frame.specs.Body.{operation_bytes}
+use Rattle.registry_frame.specs.BodyOf.{IsStoredRow}
 use Rattle.registry_log.specs.Area.{sets}
 use Rattle.registry_log.specs.Records.{records_behind}
 use Rattle.wire_base.specs.declared.row.Op.{Op}
 use Rattle.wire_base.specs.declared.row.Op.TheVariants.{Set}
-use Rattle.registry_log.proofs.Groups.{first_written, more_short, next_row, rows_fit, SetIsShort}
+use Rattle.registry_log.proofs.Groups.{all_stored, first_written, more_stored, next_row, rows_fit}
 use Rattle.registry_log.proofs.area_text.with_records.Goals as goal
-
-abbrev IsShortText : List ℕ → Type 0
-IsShortText text = length text ≤ 80_000
 
 pub loop-i-init : goal.loop-i-init
 loop-i-init c =
@@ -18,7 +16,7 @@ loop-i-init c =
     record {
       in_range = omega arith;
       written = ap (λ (l : List ℕ). c.args.header.items ++ l) (first_written c.args.rows.now c.at.result.now _ c.at.ensures.at body);
-      short = more_short c.args.rows.now 0 c.at.result.now c.at.ensures.at (All-nil SetIsShort) (subst IsShortText c.in_ok-first.ensures.spelled c.in_ok-first.ensures.short);
+      stored = more_stored c.args.rows.now 0 c.at.result.now c.at.ensures.at (All-nil IsStoredRow) c.in_ok-first.ensures.stored;
     }
 
 pub loop-i-preserved : goal.loop-i-preserved
@@ -29,8 +27,14 @@ loop-i-preserved c =
       in_range = omega arith;
       written = c.in_ok-add.ensures (Set row) (sets (drop (c.loop-i.i + 1) c.args.rows.now)) (c.as_str.ensures.value ∙ c.in_ok-operation.ensures.spelled)
           ∙ ap (λ (l : List Op). c.loop-i.area.text.items ++ records_behind c.loop-i.area.body.items l) (sym (next_row c.args.rows.now c.loop-i.i row at)) ∙ c.loop-i.invariant.written;
-      short = more_short c.args.rows.now c.loop-i.i row at c.loop-i.invariant.short (subst IsShortText c.in_ok-operation.ensures.spelled c.in_ok-operation.ensures.short);
+      stored = more_stored c.args.rows.now c.loop-i.i row at c.loop-i.invariant.stored c.in_ok-operation.ensures.stored;
     }
 
 pub returns-clause-bodies_fit : goal.returns-clause-bodies_fit
-returns-clause-bodies_fit c = rows_fit c.args.rows.now c.loop-i.i (omega arith) c.loop-i.invariant.short
+returns-clause-bodies_fit c = rows_fit c.args.rows.now (all_stored c.args.rows.now c.loop-i.i (omega arith) c.loop-i.invariant.stored)
+
+pub returns-clause-stored : goal.returns-clause-stored
+returns-clause-stored c = all_stored c.args.rows.now c.loop-i.i (omega arith) c.loop-i.invariant.stored
+
+pub returns-clause-in_order : goal.returns-clause-in_order
+returns-clause-in_order c = c.at.ensures.rows.in_order
