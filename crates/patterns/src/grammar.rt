@@ -1,4 +1,4 @@
-ghost use Rattle.std.specs.Prelude.{◌≡◌, is_some, map, option_map, string_bytes, IfOk, IfSome};
+ghost use Rattle.std.specs.Prelude.{◌≡◌, ◌<◌, vec_len, is_some, map, option_map, string_bytes, IfOk, IfSome};
 ghost use Rattle.regex_syntax.specs.Verdict.{Reads};
 ghost use Rattle.regex_syntax.specs.WellFormed.{IsWellFormed};
 ghost use Rattle.patterns.specs.Pattern.{is_pattern, is_line_pattern, is_text_pattern, line_config, text_config};
@@ -42,6 +42,7 @@ pub(crate) fn read(alloc: Global, text: &str, config: &Config) -> Result<Option<
         Reads config.now text.now parsed.hir (map (option_map string_bytes) parsed.names.items))) }
     ensures formed { IfOk result (λ found. IfSome found (λ parsed.
         IsWellFormed config.now.utf8 parsed.hir)) }
+    ensures group_zero { IfOk result (λ found. IfSome found (λ parsed. 0 < vec_len parsed.names)) }
 {
     match regex_syntax::parse(alloc, text, config) {
         Ok(parsed) => Ok(Some(parsed)),

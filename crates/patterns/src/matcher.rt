@@ -1,4 +1,4 @@
-ghost use Rattle.std.specs.Prelude.{◌≡◌, IsTrue, IfOk};
+ghost use Rattle.std.specs.Prelude.{◌≡◌, ◌≢◌, IsTrue, IfOk};
 ghost use Rattle.regex_dfa.specs.Search.{IsForwardFor};
 ghost use Rattle.regex_meta.specs.Programs.{pattern_of};
 ghost use Rattle.regex.specs.Utf8.{MatchesText};
@@ -7,6 +7,7 @@ ghost use Rattle.patterns.specs.Matching.{is_found, is_found_in_text, IsReadAs};
 ghost use Rattle.patterns.specs.Pattern.{is_pattern};
 
 use crate::grammar::read;
+use regex_compile::Error;
 use regex_dfa::{End, Forward};
 use regex_meta::{Program, Searcher};
 use regex_syntax::Config;
@@ -38,8 +39,9 @@ impl Matcher {
         let Ok(groups) = u32::try_from(parsed.names.len()) else {
             return Err(NoMemory);
         };
-        let Ok(program) = Program::new(alloc, parsed.hir, groups, SIZE_LIMIT) else {
-            return Err(NoMemory);
+        let program = match Program::new(alloc, parsed.hir, groups, SIZE_LIMIT) {
+            Ok(program) => program,
+            Err(error) => return Err(want_of(error)),
         };
         let forward = Forward::new(alloc, &program.dfa, false)?;
         Ok(Matcher { program, forward })
@@ -111,6 +113,16 @@ impl Matcher {
             place = span.0 + 1;
         }
         Ok(false)
+    }
+}
+
+// What the grammar reads is never malformed.
+fn want_of(error: Error) -> NoMemory
+    requires { error ≢ Error.Malformed }
+{
+    match error {
+        Error::TooBig | Error::OutOfMemory => NoMemory,
+        Error::Malformed => unreachable!(),
     }
 }
 
