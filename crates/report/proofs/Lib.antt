@@ -1,4 +1,5 @@
 mod Eaches
 mod Escapes
+mod Ordered
 mod Parts
 mod Writings

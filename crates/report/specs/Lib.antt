@@ -1,5 +1,6 @@
 pub mod Escape
 pub mod ExitStatus
 pub mod Part
+pub mod Passings
 pub mod Report
 pub mod Writing

@@ -1,6 +1,7 @@
--- What a run prints (this project's profile): the report, with a line for each row of the registry, for each path that
--- was passed over, for the counts and for the status; or the status line alone. Keys and paths of files are JSON texts.
-use Rattle.std.specs.Prelude.{ℕ, List, [], ◌++◌, codes, decimal}
+-- What a run prints (this project's profile): the report, with a line for each row of the registry, for each path and
+-- reason for which it was passed over, for the counts and for the status; or the status line alone. Keys and paths of
+-- files are JSON texts.
+use Rattle.std.specs.Prelude.{◌≡◌, ℕ, List, [], ◌++◌, codes, decimal}
 use Rattle.std.specs.List.{flat_map}
 use Rattle.std.specs.Fmt.{signed_decimal}
 use Rattle.wire_base.specs.declared.limits.Full.{Full}
@@ -12,21 +13,17 @@ use Rattle.event_json.specs.Json.{quoted}
 use Rattle.beat_config.specs.declared.settings_error.SettingsError.{SettingsError}
 use Rattle.beat_config.specs.declared.settings_error.SettingsError.TheVariants as settings
 use Rattle.report.specs.declared.passing.Passing.{Passing}
-use Rattle.report.specs.declared.passing.Why.{Why}
-use Rattle.report.specs.declared.passing.Why.TheVariants.{Gone}
 use Rattle.report.specs.declared.status.Lack.{Lack}
 use Rattle.report.specs.declared.status.Lack.TheVariants.{Byte, Life, Key, Follow, Generate}
 use Rattle.report.specs.declared.status.Status.{Status}
-use Rattle.report.specs.declared.status.Status.TheVariants.{Done, Usage, Settings, RegistryBad, DiskFault, FolderFault, Unreachable, OutFault, SourceFault, TooMany, NoMemory, Unbuilt}
+use Rattle.report.specs.declared.status.Status.TheVariants.{Done, Stopped, Usage, Settings, RegistryBad, DiskFault, FolderFault, Unreachable, OutFault, SourceFault, TooMany, NoNative, NoMemory, Unbuilt}
+use Rattle.report.specs.Passings.{ArePassings, why_text}
 
 -- `file KEY EPOCH OFFSET PATH`
 abbrev pub file_line : Row → List ℕ
 file_line row =
     codes "file " ++ (quoted row.key ++ (codes " " ++ (decimal row.epoch.0 ++ (codes " " ++ (decimal row.offset
     ++ (codes " " ++ (quoted row.path ++ codes "\n")))))))
-
-abbrev pub why_text : Why → List ℕ
-why_text Gone = codes "gone"
 
 -- `passed PATH WHY`
 abbrev pub passed_line : Passing → List ℕ
@@ -76,6 +73,7 @@ unbuilt_line text = codes "status 13 unbuilt " ++ (text ++ codes "\n")
 -- the last line of each end; of a sink that failed nothing is promised
 abbrev pub status_bytes : Status → List ℕ
 status_bytes Done = codes "status 0 done\n"
+status_bytes Stopped = codes "status 1 stopped\n"
 status_bytes Usage = codes "status 2 usage: beat_main -c FILE [--once] [--data DIR] [--generate N]\n"
 status_bytes (Settings fault) = settings_line (settings_text fault)
 status_bytes (RegistryBad area at) =
@@ -88,10 +86,17 @@ status_bytes OutFault = []
 status_bytes SourceFault = codes "status 9 source fault\n"
 status_bytes (TooMany what path) =
     codes "status 10 too many " ++ (full_name what ++ (codes " " ++ (quoted path ++ codes "\n")))
+status_bytes (NoNative path) = codes "status 11 no native numbers " ++ (quoted path ++ codes "\n")
 status_bytes NoMemory = codes "status 12 no memory\n"
 status_bytes (Unbuilt what) = unbuilt_line (lack_text what)
 
--- the lines of the rows, of the paths that were passed over, of the counts and of the status, in this order
+-- the lines of the rows, of the passings, of the counts and of the status, in this order
 abbrev pub report_bytes : List Row → List Passing → ℕ → ℕ → Status → List ℕ
-report_bytes rows passed shipped dropped status =
-    flat_map file_line rows ++ (flat_map passed_line passed ++ (counts_line shipped dropped ++ status_bytes status))
+report_bytes rows ordered shipped dropped status =
+    flat_map file_line rows ++ (flat_map passed_line ordered ++ (counts_line shipped dropped ++ status_bytes status))
+
+-- the text is the report, in which the passings are a set and told in their order
+pub record IsReport (rows : List Row) (passed : List Passing) (shipped dropped : ℕ) (status : Status) (text : List ℕ) : Type 0 where
+  pub ordered : List Passing
+  pub passings : ArePassings passed ordered
+  pub spelled : text ≡ report_bytes rows ordered shipped dropped status

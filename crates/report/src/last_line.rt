@@ -20,48 +20,89 @@ pub fn status_line<S: Sink>(status: &Status, out: &mut S) -> Result<(), Failed>
 {
     match status {
         Status::Done => write_all(out, b"status 0 done\n"),
+        Status::Stopped => write_all(out, b"status 1 stopped\n"),
         Status::Usage => write_all(
             out,
             b"status 2 usage: beat_main -c FILE [--once] [--data DIR] [--generate N]\n",
         ),
         Status::Settings(fault) => settings_line(fault, out),
-        Status::RegistryBad { area, at } => write_parts(
-            out,
-            &[
-                Plain(b"status 4 registry bad area "),
-                Plain(area_name(*area)),
-                Plain(b" at "),
-                Number(*at),
-                Plain(b"\n"),
-            ],
-        ),
+        Status::RegistryBad { area, at } => registry_line(*area, *at, out),
         Status::DiskFault => write_all(out, b"status 5 disk fault\n"),
         Status::FolderFault => write_all(out, b"status 6 folder fault\n"),
-        Status::Unreachable { worker, failures } => write_parts(
-            out,
-            &[
-                Plain(b"status 7 unreachable worker "),
-                Number(u64::from(*worker)),
-                Plain(b" failures "),
-                Number(u64::from(*failures)),
-                Plain(b"\n"),
-            ],
-        ),
+        Status::Unreachable { worker, failures } => unreachable_line(*worker, *failures, out),
         Status::OutFault => Ok(()),
         Status::SourceFault => write_all(out, b"status 9 source fault\n"),
-        Status::TooMany { what, path } => write_parts(
-            out,
-            &[
-                Plain(b"status 10 too many "),
-                Plain(full_name(*what)),
-                Plain(b" "),
-                Quoted(path),
-                Plain(b"\n"),
-            ],
-        ),
+        Status::TooMany { what, path } => too_many_line(*what, path, out),
+        Status::NoNative { path } => no_native_line(path, out),
         Status::NoMemory => write_all(out, b"status 12 no memory\n"),
         Status::Unbuilt { what } => unbuilt_line(what, out),
     }
+}
+
+fn registry_line<S: Sink>(area: Which, at: u64, out: &mut S) -> Result<(), Failed>
+    ensures told { WritesAll (S.written out.old) (status_bytes (Status.RegistryBad area at)) result (S.written out.new) }
+    ensures faults_never_fall { S.faults out.old ≤ S.faults out.new }
+    ensures failed_only_where_faults_rose { OnErr result (Rose (S.faults out.old) (S.faults out.new)) }
+{
+    write_parts(
+        out,
+        &[
+            Plain(b"status 4 registry bad area "),
+            Plain(area_name(area)),
+            Plain(b" at "),
+            Number(at),
+            Plain(b"\n"),
+        ],
+    )
+}
+
+fn unreachable_line<S: Sink>(worker: u32, failures: u32, out: &mut S) -> Result<(), Failed>
+    ensures told { WritesAll (S.written out.old) (status_bytes (Status.Unreachable worker failures)) result (S.written out.new) }
+    ensures faults_never_fall { S.faults out.old ≤ S.faults out.new }
+    ensures failed_only_where_faults_rose { OnErr result (Rose (S.faults out.old) (S.faults out.new)) }
+{
+    write_parts(
+        out,
+        &[
+            Plain(b"status 7 unreachable worker "),
+            Number(u64::from(worker)),
+            Plain(b" failures "),
+            Number(u64::from(failures)),
+            Plain(b"\n"),
+        ],
+    )
+}
+
+fn too_many_line<S: Sink>(what: Full, path: &Text, out: &mut S) -> Result<(), Failed>
+    ensures told { WritesAll (S.written out.old) (status_bytes (Status.TooMany what path.now)) result (S.written out.new) }
+    ensures faults_never_fall { S.faults out.old ≤ S.faults out.new }
+    ensures failed_only_where_faults_rose { OnErr result (Rose (S.faults out.old) (S.faults out.new)) }
+{
+    write_parts(
+        out,
+        &[
+            Plain(b"status 10 too many "),
+            Plain(full_name(what)),
+            Plain(b" "),
+            Quoted(path),
+            Plain(b"\n"),
+        ],
+    )
+}
+
+fn no_native_line<S: Sink>(path: &Text, out: &mut S) -> Result<(), Failed>
+    ensures told { WritesAll (S.written out.old) (status_bytes (Status.NoNative path.now)) result (S.written out.new) }
+    ensures faults_never_fall { S.faults out.old ≤ S.faults out.new }
+    ensures failed_only_where_faults_rose { OnErr result (Rose (S.faults out.old) (S.faults out.new)) }
+{
+    write_parts(
+        out,
+        &[
+            Plain(b"status 11 no native numbers "),
+            Quoted(path),
+            Plain(b"\n"),
+        ],
+    )
 }
 
 fn settings_line<S: Sink>(fault: &SettingsError, out: &mut S) -> Result<(), Failed>

@@ -26,6 +26,8 @@ pub enum Status {
     /// Each file was read to its end and each of its lines was acknowledged or dropped by a rule, or
     /// the file was not listed, or was gone.
     Done,
+    /// The bell rang.
+    Stopped,
     /// The words are not the command's.
     Usage,
     /// The settings are refused.
@@ -40,6 +42,8 @@ pub enum Status {
     SourceFault,
     /// There was no room for the file of this path.
     TooMany { what: Full, path: Text },
+    /// Files are told apart by their native numbers, and the system told none for the file of this path.
+    NoNative { path: Text },
     NoMemory,
     Unbuilt { what: Lack },
 }
@@ -51,6 +55,7 @@ impl Status {
     {
         match self {
             Status::Done => 0,
+            Status::Stopped => 1,
             Status::Usage => 2,
             Status::Settings(_) => 3,
             Status::RegistryBad { .. } => 4,
@@ -60,6 +65,7 @@ impl Status {
             Status::OutFault => 8,
             Status::SourceFault => 9,
             Status::TooMany { .. } => 10,
+            Status::NoNative { .. } => 11,
             Status::NoMemory => 12,
             Status::Unbuilt { .. } => 13,
         }

@@ -1,17 +1,13 @@
 use Rattle.report.proofs.last_line.status_line.Goals as goal
 
-pub returns-in-RegistryBad-clause-told : goal.returns-in-RegistryBad-clause-told
-returns-in-RegistryBad-clause-told g c = rw c.in-RegistryBad.is (rw c.area_name.ensures at c.write_parts.ensures.told)
+pub returns-in-Usage-clause-told : goal.returns-in-Usage-clause-told
+returns-in-Usage-clause-told g c = rw c.in-Usage.is c.write_all-in-Usage.ensures.told
 
 pub returns-in-DiskFault-clause-told : goal.returns-in-DiskFault-clause-told
 returns-in-DiskFault-clause-told g c = rw c.in-DiskFault.is c.write_all-in-DiskFault.ensures.told
 
 pub returns-in-FolderFault-clause-told : goal.returns-in-FolderFault-clause-told
 returns-in-FolderFault-clause-told g c = rw c.in-FolderFault.is c.write_all-in-FolderFault.ensures.told
-
-pub returns-in-Unreachable-clause-told : goal.returns-in-Unreachable-clause-told
-returns-in-Unreachable-clause-told g c =
-    rw c.in-Unreachable.is (rw (c.from.ensures, c.from-in-Unreachable.ensures) at c.write_parts-in-Unreachable.ensures.told)
 
 pub returns-in-SourceFault-clause-told : goal.returns-in-SourceFault-clause-told
 returns-in-SourceFault-clause-told g c = rw c.in-SourceFault.is c.write_all-in-SourceFault.ensures.told
