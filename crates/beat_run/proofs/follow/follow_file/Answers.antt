@@ -48,3 +48,6 @@ returns-clause-followed g c = λ begun listed before goes followed.
       shipped = c.settle.ensures.shipped_counted ∙ ap (λ (n : ℕ). min (n + c.ship_file-met.new.shipment.progress.shipped) 18446744073709551615) c.begin-2.ensures.shipped_kept;
       dropped = c.settle.ensures.dropped_counted ∙ ap (λ (n : ℕ). min (n + c.ship_file-met.new.shipment.progress.dropped) 18446744073709551615) c.begin-2.ensures.dropped_kept;
     })
+
+pub returns-clause-rows_in_range : goal.returns-clause-rows_in_range
+returns-clause-rows_in_range g c = λ within. c.settle.ensures.rows_in_range (c.begin-2.ensures.rows_in_range within)

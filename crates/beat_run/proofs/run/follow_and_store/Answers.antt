@@ -16,7 +16,7 @@ returns-in-Err-clause-rows g c = λ source held faults named is few.
 pub returns-in-Err-clause-no_other_row : goal.returns-in-Err-clause-no_other_row
 returns-in-Err-clause-no_other_row g c = λ source held named is only.
     rows_left source c.args.settings.now _ _ c.follow-met.new.noted c.follow-met.new.noted.rows.items _ held _ (LeavesOnly g.D.Disk.moment g.D.Disk.images_since c.args.area.now c.args.area.now) c.follow-met.result named c.follow-met.ensures.followed (λ order. search rules)
-    (left_as_before _ held _ (LeavesOnly g.D.Disk.moment g.D.Disk.images_since c.args.area.now c.args.area.now) is
+    (left_as_before c.follow-met.new.noted.rows.items held _ (LeavesOnly g.D.Disk.moment g.D.Disk.images_since c.args.area.now c.args.area.now) is
     (λ bytes told. untouched g.D.Disk.moment g.D.Disk.images_since c.args.area.now _ _ (g.met.D.Disk.only_now c.args.area.now) only c.follow-met.new.noted.rows.items bytes (is ∙ told)))
 
 pub returns-in-Err-store-clause-rows : goal.returns-in-Err-store-clause-rows
@@ -28,7 +28,7 @@ returns-in-Err-store-clause-rows g c = λ source held faults named is few.
 pub returns-in-Err-store-clause-no_other_row : goal.returns-in-Err-store-clause-no_other_row
 returns-in-Err-store-clause-no_other_row g c = λ source held named is only.
     rows_left source c.args.settings.now _ _ c.follow-met.new.noted c.in-Ok.ending.rows _ held _ (LeavesOnly g.D.Disk.moment g.D.Disk.images_since c.args.area.now c.store.new.area) c.follow-met.result named c.follow-met.ensures.followed (rw c.in-Ok.is at c.ending_of.ensures.rows)
-    (left_where_failed _ held _ _ (LeavesOnly g.D.Disk.moment g.D.Disk.images_since c.args.area.now c.store.new.area) is ((rw c.in-Err-store.is at c.store.ensures.left) only) (c.store.ensures.each_moment only))
+    (left_where_failed c.in-Ok.ending.rows held _ _ (LeavesOnly g.D.Disk.moment g.D.Disk.images_since c.args.area.now c.store.new.area) is ((rw c.in-Err-store.is at c.store.ensures.left) only) (c.store.ensures.each_moment only))
 
 pub returns-in-Err-store-clause-durable_where_stored : goal.returns-in-Err-store-clause-durable_where_stored
 returns-in-Err-store-clause-durable_where_stored g c = not_stored_storing _ _ c.in-Err-store.status _ (rw c.in-Err-store.is at c.store.ensures.ends)
@@ -41,8 +41,8 @@ returns-in-Ok-met-clause-rows g c = λ source held faults named is few.
 pub returns-in-Ok-met-clause-no_other_row : goal.returns-in-Ok-met-clause-no_other_row
 returns-in-Ok-met-clause-no_other_row g c = λ source held named is only.
     rows_left source c.args.settings.now _ _ c.follow-met.new.noted c.in-Ok.ending.rows _ held _ (LeavesOnly g.D.Disk.moment g.D.Disk.images_since c.args.area.now c.store.new.area) c.follow-met.result named c.follow-met.ensures.followed (rw c.in-Ok.is at c.ending_of.ensures.rows)
-    (left_where_stored _ held _ (LeavesOnly g.D.Disk.moment g.D.Disk.images_since c.args.area.now c.store.new.area) (stores_rows _ held _ _ is (rw c.in-Ok-store.is at c.store.ensures.stored))
-    (always_so _ held _ (LeavesOnly g.D.Disk.moment g.D.Disk.images_since c.args.area.now c.store.new.area) is (c.store.ensures.each_moment only)))
+    (left_where_stored c.in-Ok.ending.rows held _ (LeavesOnly g.D.Disk.moment g.D.Disk.images_since c.args.area.now c.store.new.area) (stores_rows c.in-Ok.ending.rows held _ _ is (rw c.in-Ok-store.is at c.store.ensures.stored))
+    (always_so c.in-Ok.ending.rows held _ (LeavesOnly g.D.Disk.moment g.D.Disk.images_since c.args.area.now c.store.new.area) is (c.store.ensures.each_moment only)))
 
 pub returns-in-Ok-met-clause-done : goal.returns-in-Ok-met-clause-done
 returns-in-Ok-met-clause-done g c = λ source held named is.
@@ -57,8 +57,8 @@ returns-in-Err-met-clause-rows g c = λ source held faults named is few.
 pub returns-in-Err-met-clause-no_other_row : goal.returns-in-Err-met-clause-no_other_row
 returns-in-Err-met-clause-no_other_row g c = λ source held named is only.
     rows_left source c.args.settings.now _ _ c.follow-met.new.noted c.in-Ok.ending.rows _ held _ (LeavesOnly g.D.Disk.moment g.D.Disk.images_since c.args.area.now c.store.new.area) c.follow-met.result named c.follow-met.ensures.followed (rw c.in-Ok.is at c.ending_of.ensures.rows)
-    (left_where_stored _ held _ (LeavesOnly g.D.Disk.moment g.D.Disk.images_since c.args.area.now c.store.new.area) (stores_rows _ held _ _ is (rw c.in-Ok-store.is at c.store.ensures.stored))
-    (always_so _ held _ (LeavesOnly g.D.Disk.moment g.D.Disk.images_since c.args.area.now c.store.new.area) is (c.store.ensures.each_moment only)))
+    (left_where_stored c.in-Ok.ending.rows held _ (LeavesOnly g.D.Disk.moment g.D.Disk.images_since c.args.area.now c.store.new.area) (stores_rows c.in-Ok.ending.rows held _ _ is (rw c.in-Ok-store.is at c.store.ensures.stored))
+    (always_so c.in-Ok.ending.rows held _ (LeavesOnly g.D.Disk.moment g.D.Disk.images_since c.args.area.now c.store.new.area) is (c.store.ensures.each_moment only)))
 
 pub returns-in-Err-met-clause-too_many : goal.returns-in-Err-met-clause-too_many
 returns-in-Err-met-clause-too_many g c = λ what path is. c.follow-met.ensures.too_many what path (c.in-Err-met.is ∙ same_error _ _ is)
