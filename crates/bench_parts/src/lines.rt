@@ -2,15 +2,14 @@
 ghost use Rattle.std.specs.Prelude.{◌≡◌, IfOk, OnOk};
 ghost use Rattle.std.specs.Option.{ForSome};
 ghost use Rattle.line_cutter.specs.Cutting.{fed_to};
-ghost use Rattle.multiline_core.specs.Pattern.{byte_options};
 ghost use Rattle.multiline_core.specs.Rule.{IsGroupRule};
-ghost use Rattle.regex.specs.Failures.{IsPattern};
+ghost use Rattle.patterns.specs.Pattern.{IsLinePattern};
 
 use event_tree::{GroupRule, LineRule, Side, Terminator};
 use line_cutter::Cutter;
 use memchr::memchr;
 use multiline_core::Grouper;
-use regex::bytes::Regex;
+use patterns::is_line_pattern;
 use std::alloc::Global;
 use wire_base::{Moment, NoMemory, Text};
 
@@ -32,13 +31,14 @@ pub(crate) fn single() -> GroupRule
     }
 }
 
-// The text, where `regex` takes it as a pattern.
+// The text, where it is a pattern.
 fn pattern(alloc: Global, text: &str) -> Result<Text, NoMemory>
-    ensures { IfOk result (IsPattern byte_options) }
+    ensures { IfOk result IsLinePattern }
 {
-    match Regex::new(alloc, text) {
-        Ok(_) => Ok(Text::from_string(String::from_str(alloc, text)?)),
-        Err(_) => Err(NoMemory),
+    if is_line_pattern(alloc, text)? {
+        Ok(Text::from_string(String::from_str(alloc, text)?))
+    } else {
+        Err(NoMemory)
     }
 }
 
