@@ -1,10 +1,13 @@
 -- A condition by its levels and its table.
-use Rattle.std.proofs.Common.{◌≡◌, ℕ, zero, suc, pos, List, [], ◌∷◌, Some, None, sym, ap, subst}
+use Rattle.std.proofs.Common.{◌≡◌, ℕ, zero, suc, List, [], ◌∷◌, ◌++◌, Option, Some, None, refl, sym, ap, ◌∙◌, subst}
 use Rattle.event_tree.specs.declared.condition_rule.ConditionRule.{ConditionRule}
 use Rattle.toml.specs.Data.{Data, Members, as_table}
-use Rattle.beat_config.specs.declared.settings_error.SettingsError.TheVariants.{WrongKind, OutOfRange}
+use Rattle.beat_config.specs.declared.settings_error.SettingsError.{SettingsError}
+use Rattle.beat_config.specs.declared.settings_error.SettingsError.TheVariants.{WrongKind}
 use Rattle.beat_config.specs.Conditions.{kind_of, kind_findings, table_condition, deep_findings, condition_findings, IsOfKind, IsCondition}
+use Rattle.beat_config.specs.Finding.{note_all}
 use Rattle.beat_config.specs.Table.{members_of, members_or_none}
+use Rattle.beat_config.proofs.Chain.{then}
 
 -- what is no table is of any rule
 pub no_table : (levels : ℕ) (value : Data) (rule : ConditionRule) → as_table value ≡ None → IsCondition levels value rule
@@ -12,20 +15,36 @@ unfolding IsCondition kind_of
 no_table zero value rule none = tt
 no_table (suc levels) value rule none = rw none tt
 
-pub no_table_told : (levels : ℕ) (key : List ℕ) (value : Data) → as_table value ≡ None → condition_findings levels key value ≡ WrongKind key ∷ []
-unfolding condition_findings
-no_table_told zero key value none = ap (deep_findings key) none
-no_table_told (suc levels) key value none = ap (table_condition (condition_findings levels) key) none
-
--- what stands too deep is not looked into
-pub too_deep : (levels : ℕ) (value : Data) (rule : ConditionRule) → levels ≡ 0 → IsCondition levels value rule
+-- where no level is left, there is no condition
+pub no_level : (levels : ℕ) (value : Data) (rule : ConditionRule) → levels ≡ 0 → IsCondition levels value rule
 unfolding IsCondition
-too_deep levels value rule none = subst (λ n. IsCondition n value rule) (sym none) tt
+no_level levels value rule none = subst (λ n. IsCondition n value rule) (sym none) tt
 
-pub too_deep_told : (levels : ℕ) (key : List ℕ) (value : Data) (table : Members) → levels ≡ 0 → as_table value ≡ Some table
-    → condition_findings levels key value ≡ OutOfRange key (pos 17) ∷ []
+pub no_level_told : (levels : ℕ) (key : List ℕ) (value : Data) → levels ≡ 0 → condition_findings levels key value ≡ []
 unfolding condition_findings
-too_deep_told levels key value table none found = subst (λ n. condition_findings n key value ≡ OutOfRange key (pos 17) ∷ []) (sym none) (ap (deep_findings key) found)
+no_level_told levels key value none = subst (λ n. condition_findings n key value ≡ []) (sym none) refl
+
+-- what is told of a condition that takes a level: its depth, and what is wrong with its table
+pub told : (levels left : ℕ) (key : List ℕ) (value : Data) → levels ≡ suc left
+    → condition_findings levels key value ≡ deep_findings left key ++ table_condition (condition_findings left) key (as_table value)
+unfolding condition_findings
+told levels left key value less =
+    subst (λ n. condition_findings n key value ≡ deep_findings left key ++ table_condition (condition_findings left) key (as_table value)) (sym less) refl
+
+pub no_table_told : (levels left : ℕ) (key : List ℕ) (value : Data) (a b c : Option SettingsError) → levels ≡ suc left → as_table value ≡ None
+    → b ≡ note_all a (deep_findings left key) → c ≡ note_all b (WrongKind key ∷ []) → c ≡ note_all a (condition_findings levels key value)
+no_table_told levels left key value a b c less none deep wrong =
+    then a b c (deep_findings left key) (table_condition (condition_findings left) key (as_table value)) deep
+    (wrong ∙ ap (λ found. note_all b (table_condition (condition_findings left) key found)) (sym none))
+    ∙ ap (note_all a) (sym (told levels left key value less))
+
+pub table_told : (levels left : ℕ) (key : List ℕ) (value : Data) (table : Members) (a b c : Option SettingsError) → levels ≡ suc left → as_table value ≡ Some table
+    → b ≡ note_all a (deep_findings left key) → c ≡ note_all b (kind_findings (condition_findings left) key table (kind_of table))
+    → c ≡ note_all a (condition_findings levels key value)
+table_told levels left key value table a b c less found deep inner =
+    then a b c (deep_findings left key) (table_condition (condition_findings left) key (as_table value)) deep
+    (inner ∙ ap (λ o. note_all b (table_condition (condition_findings left) key o)) (sym found))
+    ∙ ap (note_all a) (sym (told levels left key value less))
 
 of_members : (levels : ℕ) (value : Data) (table : Members) (rule : ConditionRule) → as_table value ≡ Some table
     → IsOfKind (IsCondition levels) table (kind_of table) rule → IsOfKind (IsCondition levels) (members_of value) (kind_of (members_of value)) rule
@@ -38,10 +57,3 @@ pub looked_into : (levels left : ℕ) (value : Data) (table : Members) (rule : C
     → IsOfKind (IsCondition left) table (kind_of table) rule → IsCondition levels value rule
 unfolding IsCondition
 looked_into levels left value table rule less found h = subst (λ n. IsCondition n value rule) (sym less) (of_members left value table rule found h)
-
-pub looked_into_told : (levels left : ℕ) (key : List ℕ) (value : Data) (table : Members) → levels ≡ suc left → as_table value ≡ Some table
-    → condition_findings levels key value ≡ kind_findings (condition_findings left) key table (kind_of table)
-unfolding condition_findings
-looked_into_told levels left key value table less found =
-    subst (λ n. condition_findings n key value ≡ kind_findings (condition_findings left) key table (kind_of table)) (sym less)
-    (ap (table_condition (condition_findings left) key) found)

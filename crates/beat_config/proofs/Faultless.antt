@@ -22,6 +22,10 @@ pub passed : (test : Bool) (fault : SettingsError) → (if test then [] else fau
 passed true fault h = refl
 passed false fault h = absurd (cc)
 
+pub not_passed : (test : Bool) (fault : SettingsError) → (if test then fault ∷ [] else []) ≡ [] → test ≡ false
+not_passed true fault h = absurd (cc)
+not_passed false fault h = refl
+
 -- a required key is there
 pub required : (path key : List ℕ) (keys : List (List ℕ)) (table : Members) → missing_findings path (key ∷ keys) table ≡ []
     → (is_some (get_member key table) ≡ true) × (missing_findings path keys table ≡ [])

@@ -8,7 +8,9 @@ pub mod Lists
 pub mod Nests
 pub mod Numbers
 pub mod OneAnswer
-pub mod Patterns
 pub mod Ranges
+pub mod RangesOfConditions
 pub mod RangesOfDocuments
 pub mod RangesOfInputs
+pub mod RangesOfProcessors
+pub mod RangesOfTimes

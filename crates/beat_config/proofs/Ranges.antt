@@ -110,6 +110,7 @@ output_within path found there h =
       hosts = hosts.0;
       workers = whole_within 1 16 1 (codes "workers") (members_at found) refl;
       bulk_max_size = whole_within 1 65536 2048 (codes "bulk_max_size") (members_at found) refl;
+      pipelining = whole_within 1 8 2 (codes "pipelining") (members_at found) refl;
       timeout = time_within 1 3600000 30000 (codes "timeout") (members_at found) refl;
       attempts = whole_within 1 1000 3 (codes "attempts") (members_at found) refl;
     }

@@ -1,40 +1,45 @@
 -- The settings of a document without a fault are in range.
-use Rattle.std.proofs.Common.{◌≡◌, ℕ, ◌≤◌, suc, List, [], ◌∷◌, length, Option, Some, None, refl, sym, ap, subst, codes}
+use Rattle.std.proofs.Common.{◌≡◌, ℕ, ◌≤◌, List, [], ◌∷◌, length, All, Option, Some, None, refl, sym, subst, codes}
 use Rattle.std.specs.Int.{IsInRange}
 use Rattle.std.proofs.lemmas.Bool.{leb-true}
+use Rattle.std.proofs.lemmas.List.Elements.{All-nil}
 use Rattle.event_tree.specs.declared.processor_rule.ProcessorRule.{ProcessorRule}
 use Rattle.event_tree.specs.declared.settings.Settings.{Settings}
-use Rattle.toml.specs.Data.{Data, Items, no_items, item, Members, get_member, as_array}
+use Rattle.toml.specs.Data.{Data, Items, Members, get_member, as_array}
 use Rattle.beat_config.specs.Document.{document_keys, document_findings, AreSettings}
-use Rattle.beat_config.specs.Each.{each_findings, AreEach}
+use Rattle.beat_config.specs.Each.{each_findings}
 use Rattle.beat_config.specs.InRange.{IsOutputInRange, AreInRange}
 use Rattle.beat_config.specs.Input.{inputs_findings}
 use Rattle.beat_config.specs.Output.{output_findings}
 use Rattle.beat_config.specs.Processors.{IsProcessor, AreListed, AreProcessorsOf, processor_findings, processor_list_findings, processors_findings}
+use Rattle.beat_config.specs.ProcessorsInRange.{IsProcessorInRange}
 use Rattle.beat_config.specs.Table.{unknown_findings, missing_findings, members_at}
 use Rattle.beat_config.specs.Text.{item_count}
 use Rattle.beat_config.proofs.Faultless.{parts, required, count_within}
 use Rattle.beat_config.proofs.Ranges.{whole_within, output_within}
+use Rattle.beat_config.proofs.RangesOfConditions.{each_within}
 use Rattle.beat_config.proofs.RangesOfInputs.{AreInputsInRange, inputs_are}
+use Rattle.beat_config.proofs.RangesOfProcessors.{processor_within}
 
-as_many : (items : Items) (rules : List ProcessorRule) → AreEach IsProcessor items rules → length rules ≡ item_count items
-as_many no_items [] h = refl
-as_many no_items (rule ∷ rules) h = absurd h
-as_many (item value items) [] h = absurd h
-as_many (item value items) (rule ∷ rules) h = ap suc (as_many items rules h.1)
+-- the processors of a document
+record AreProcessorsInRange (rules : List ProcessorRule) : Type 0 where
+  few : length rules ≤ 64
+  within : All IsProcessorInRange rules
 
-none_few : (rules : List ProcessorRule) → rules ≡ [] → length rules ≤ 64
-none_few rules none = subst (λ (rs : List ProcessorRule). length rs ≤ 64) (sym none) (leb-true 0 64 refl)
+none_are : (rules : List ProcessorRule) → rules ≡ [] → AreProcessorsInRange rules
+none_are rules none = subst AreProcessorsInRange (sym none) (record { few = leb-true 0 64 refl; within = All-nil IsProcessorInRange })
 
-listed_few : (key : List ℕ) (found : Option Items) (rules : List ProcessorRule) → processor_list_findings key found ≡ [] → AreListed found rules → length rules ≤ 64
-listed_few key None rules h listed = none_few rules listed
-listed_few key (Some items) rules h listed =
-    let within = count_within 0 64 key (item_count items) (parts _ (each_findings processor_findings key 0 items) h).0 in
-    subst (λ count. count ≤ 64) (sym (as_many items rules listed)) within.1
+listed_are : (key : List ℕ) (found : Option Items) (rules : List ProcessorRule) → processor_list_findings key found ≡ [] → AreListed found rules → AreProcessorsInRange rules
+listed_are key None rules h listed = none_are rules listed
+listed_are key (Some items) rules h listed =
+    let both = parts _ (each_findings processor_findings key 0 items) h in
+    let are = each_within IsProcessorInRange IsProcessor processor_findings processor_within key 0 items rules both.1 listed in
+    let count = count_within 0 64 key (item_count items) both.0 in
+    record { few = subst (λ many. many ≤ 64) (sym are.1) count.1; within = are.0 }
 
-processors_few : (key : List ℕ) (found : Option Data) (rules : List ProcessorRule) → processors_findings key found ≡ [] → AreProcessorsOf found rules → length rules ≤ 64
-processors_few key None rules h none = none_few rules none
-processors_few key (Some value) rules h listed = listed_few key (as_array value) rules h listed
+processors_are : (key : List ℕ) (found : Option Data) (rules : List ProcessorRule) → processors_findings key found ≡ [] → AreProcessorsOf found rules → AreProcessorsInRange rules
+processors_are key None rules h none = none_are rules none
+processors_are key (Some value) rules h listed = listed_are key (as_array value) rules h listed
 
 pub document_in_range : (document : Members) (settings : Settings) → document_findings document ≡ [] → AreSettings document settings → AreInRange settings
 unfolding document_findings
@@ -47,12 +52,14 @@ document_in_range document settings h said =
     let output = parts (output_findings (codes "output") (get_member (codes "output") document)) _ inputs.1 in
     let processors = parts (processors_findings (codes "processors") (get_member (codes "processors") document)) _ output.1 in
     let rules = subst AreInputsInRange (sym said.inputs) (inputs_are (codes "inputs") (get_member (codes "inputs") document) inputs_key.0 inputs.0) in
+    let chain = processors_are (codes "processors") (get_member (codes "processors") document) settings.processors processors.0 said.processors in
     record {
       input_count = rules.count;
       inputs = rules.within;
       ids_differ = rules.differ;
       output = subst IsOutputInRange (sym said.output) (output_within (codes "output") (get_member (codes "output") document) output_key.0 output.0);
-      processor_count = processors_few (codes "processors") (get_member (codes "processors") document) settings.processors processors.0 said.processors;
+      processor_count = chain.few;
+      processors = chain.within;
       events = subst (IsInRange 32 65536) (sym said.events)
           (whole_within 32 65536 3200 (codes "events") (members_at (get_member (codes "queue") document)) refl);
       lanes = subst (IsInRange 1 8) (sym said.lanes)

@@ -14,16 +14,19 @@ use Rattle.beat_config.specs.declared.text.Form.{Form}
 use Rattle.beat_config.specs.declared.text.Form.TheVariants.{Id, Glob, LinePattern}
 use Rattle.glob_paths.specs.declared.error.GlobError.{GlobError}
 use Rattle.glob_paths.specs.Fault.{fault_of}
-use Rattle.beat_config.specs.InRange.{IsMessageLimit, IsGlob, IsLinePattern, IsIdentityInRange, IsGroupInRange, IsInputInRange}
+use Rattle.patterns.specs.Pattern.{IsLinePattern}
+use Rattle.beat_config.specs.InRange.{IsMessageLimit, IsGlob, IsIdentityInRange, IsGroupInRange, IsInputInRange}
 use Rattle.beat_config.specs.Input.{input_keys, identities, terminators, identity_at, identity_in, identity_of, identity_findings, id_in, message_max_bytes_in, input_in, repeated_findings, input_value_findings, input_findings, inputs_in, inputs_item_findings, inputs_list_findings, list_inputs, inputs_of, inputs_findings}
 use Rattle.beat_config.specs.Multiline.{count_in, pattern_in, pattern_value_findings, pattern_keys, is_count, group_in, group_of, group_findings, group_value_findings, pattern_table_findings}
 use Rattle.beat_config.specs.Name.{IsName}
 use Rattle.beat_config.specs.Path.{key_path, member_path}
-use Rattle.beat_config.specs.Single.{limits, choice_of, choice_findings, flag_findings, whole_of, whole_findings, duration_findings}
+use Rattle.beat_config.specs.Single.{limits, choice_of, choice_findings, flag_findings, whole_of, whole_findings}
 use Rattle.beat_config.specs.Table.{members_of, members_at}
+use Rattle.beat_config.specs.Times.{times_in, times_findings}
 use Rattle.beat_config.specs.Text.{glob_findings, text_findings, text_of, found_findings, key_findings, items_findings, texts_of, list_texts, texts_findings, item_count, member_findings}
 use Rattle.beat_config.proofs.Faultless.{parts, passed, required, table_required, count_within, texts_within}
 use Rattle.beat_config.proofs.Ranges.{whole_within, time_within, name_of}
+use Rattle.beat_config.proofs.RangesOfTimes.{within, late, clean_told}
 
 -- texts of each form
 glob_of : (key : List ℕ) (fault : Option GlobError) → glob_findings key fault ≡ [] → fault ≡ None
@@ -55,7 +58,7 @@ module _ (P : List ℕ → Type 0) (form : Form) (each : (key text : List ℕ) �
   some_texts low high key (Some value) there h = list_within low high key (as_array value) h
 
   -- a list at a key that may be absent
-  few_texts : (high : ℕ) (key : List ℕ) (found : Option Data) → texts_findings form (limits 0 high) key found ≡ []
+  pub few_texts : (high : ℕ) (key : List ℕ) (found : Option Data) → texts_findings form (limits 0 high) key found ≡ []
       → All P (texts_of found) × (length (texts_of found) ≤ high)
   few_texts high key None h = (All-nil P, omega arith)
   few_texts high key (Some value) h = let both = list_within 0 high key (as_array value) h in (both.0, both.1.1)
@@ -64,7 +67,7 @@ module _ (P : List ℕ → Type 0) (form : Form) (each : (key text : List ℕ) �
   text_within key None h = absurd (cc)
   text_within key (Some text) h = (refl, each key text h)
 
-  text_at : (key : List ℕ) (found : Option Data) → key_findings form key found ≡ [] → IfSome (text_of found) P
+  pub text_at : (key : List ℕ) (found : Option Data) → key_findings form key found ≡ [] → IfSome (text_of found) P
   text_at key None h = tt
   text_at key (Some value) h = (text_within key (as_str value) h).1
 
@@ -76,7 +79,7 @@ module _ (P : List ℕ → Type 0) (form : Form) (each : (key text : List ℕ) �
   or_empty_within None there h = absurd (cc)
   or_empty_within (Some text) there h = h
 
-  required_text : (key : List ℕ) (found : Option Data) → is_some found ≡ true → key_findings form key found ≡ [] → P (unwrap_or (text_of found) [])
+  pub required_text : (key : List ℕ) (found : Option Data) → is_some found ≡ true → key_findings form key found ≡ [] → P (unwrap_or (text_of found) [])
   required_text key found there h = or_empty_within (text_of found) (text_there key found there h) (text_at key found h)
 
 -- the identity
@@ -149,13 +152,13 @@ input_is path members id_there paths_there findings =
     let id = parts _ _ findings in
     let paths = parts _ _ id.1 in
     let identity = parts (identity_findings path members) _ paths.1 in
-    let interval = parts (duration_findings (limits 1 86400000) (key_path path (codes "check_interval")) (get_member (codes "check_interval") members)) _ identity.1 in
-    let removed = parts (flag_findings (key_path path (codes "clean_removed")) (get_member (codes "clean_removed") members)) _ interval.1 in
-    let inactive = parts (duration_findings (limits 1 86400000) (key_path path (codes "close_inactive")) (get_member (codes "close_inactive") members)) _ removed.1 in
-    let terminator = parts (choice_findings terminators (key_path path (codes "line_terminator")) (get_member (codes "line_terminator") members)) _ inactive.1 in
+    let times = parts (times_findings path members) _ identity.1 in
+    let removed = parts (flag_findings (key_path path (codes "clean_removed")) (get_member (codes "clean_removed") members)) _ times.1 in
+    let terminator = parts (choice_findings terminators (key_path path (codes "line_terminator")) (get_member (codes "line_terminator") members)) _ removed.1 in
     let limit = parts (whole_findings (limits 1 16777216) (key_path path (codes "message_max_bytes")) (get_member (codes "message_max_bytes") members)) _ terminator.1 in
     let included = parts _ _ limit.1 in
     let excluded = parts _ _ included.1 in
+    let are = within members in
     let globs = some_texts IsGlob Glob is_glob 1 64 (key_path path (codes "paths")) (get_member (codes "paths") members) paths_there paths.0 in
     let includes = few_texts IsLinePattern LinePattern is_line_pattern 64 (key_path path (codes "include_lines")) (get_member (codes "include_lines") members) included.0 in
     let excludes = few_texts IsLinePattern LinePattern is_line_pattern 64 (key_path path (codes "exclude_lines")) (get_member (codes "exclude_lines") members) excluded.0 in
@@ -164,8 +167,11 @@ input_is path members id_there paths_there findings =
       path_count = globs.1;
       paths = globs.0;
       file_identity = identity_is members;
-      check_interval = time_within 1 86400000 10000 (codes "check_interval") members refl;
-      close_inactive = time_within 1 86400000 300000 (codes "close_inactive") members refl;
+      check_interval = are.check_interval;
+      close_inactive = are.close_inactive;
+      ignore_older = are.ignore_older;
+      clean_inactive = are.clean_inactive;
+      cleaned_late = late path (times_in members) (clean_told path members times.0);
       message_max_bytes = limit_is members;
       include_count = includes.1;
       include_lines = includes.0;

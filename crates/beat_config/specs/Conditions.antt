@@ -1,8 +1,8 @@
--- A condition: a table with exactly one key, nested at most so many levels deep (Filebeat reference, conditions; the
--- depth is this project's profile). Of two keys of conditions the later in byte order is unknown. What stands too deep is
--- not looked into.
+-- A condition: a table with exactly one key, nested at most 16 deep (Filebeat reference, conditions; the depth is this
+-- project's profile). Of two keys of conditions the later in byte order is unknown. A condition that stands deeper is out
+-- of range, besides whatever else is wrong with it.
 use Rattle.std.specs.Global.{Box}
-use Rattle.std.specs.Prelude.{◌≡◌, ℕ, zero, suc, pos, List, [], ◌∷◌, ◌++◌, codes, Option, Some, None, find, is_some}
+use Rattle.std.specs.Prelude.{◌≡◌, ℕ, zero, suc, pos, nat_lt, List, [], ◌∷◌, ◌++◌, codes, Option, Some, None, find, is_some, if◌then◌else◌}
 use Rattle.event_tree.specs.Condition.{rules_of}
 use Rattle.event_tree.specs.declared.condition_rule.ConditionRule.{ConditionRule}
 use Rattle.event_tree.specs.declared.condition_rule.ConditionRule as variant
@@ -76,14 +76,22 @@ module _ (here : List ℕ → Data → List SettingsError) where
   table_condition key None = WrongKind key ∷ []
   table_condition key (Some table) = kind_findings key table (kind_of table)
 
-abbrev pub deep_findings : List ℕ → Option Members → List SettingsError
-deep_findings key None = WrongKind key ∷ []
-deep_findings key (Some table) = OutOfRange key (pos 17) ∷ []
+-- the levels that a document can have: at most 80 by a header, and at most 80 below it
+abbrev pub most_levels : ℕ
+most_levels = 160
 
--- what is wrong with a condition that may be so many levels deep
+-- where fewer are left below a condition, it stands more than 16 deep
+abbrev pub levels_below_sixteen : ℕ
+levels_below_sixteen = 144
+
+unfoldable pub deep_findings : ℕ → List ℕ → List SettingsError
+deep_findings levels key = if nat_lt levels levels_below_sixteen then OutOfRange key (pos 17) ∷ [] else []
+
+-- what is wrong with a condition that takes one of these levels
 unfoldable pub condition_findings : ℕ → List ℕ → Data → List SettingsError
-condition_findings zero key value = deep_findings key (as_table value)
-condition_findings (suc levels) key value = table_condition (condition_findings levels) key (as_table value)
+condition_findings zero key value = []
+condition_findings (suc levels) key value =
+    deep_findings levels key ++ table_condition (condition_findings levels) key (as_table value)
 
 module _ (IsHere : Data → ConditionRule → Type 0) where
   abbrev pub AreListed : Option Items → List ConditionRule → Type 0
@@ -110,7 +118,7 @@ module _ (IsHere : Data → ConditionRule → Type 0) where
   IsOfKind table None rule = Unit {0}
   IsOfKind table (Some kind) rule = IsFound kind (get_member (key_of kind) table) rule
 
--- the rule is that of a condition that may be so many levels deep
+-- the rule is that of a condition that takes one of these levels
 unfoldable pub IsCondition : ℕ → Data → ConditionRule → Type 0
 IsCondition zero value rule = Unit {0}
 IsCondition (suc levels) value rule = IsOfKind (IsCondition levels) (members_of value) (kind_of (members_of value)) rule

@@ -6,7 +6,7 @@ use Rattle.std.specs.Ordering.{nat_cmp, is_lt, ordering_then}
 use Rattle.std.specs.declared.cmp.Ordering.{Ordering}
 use Rattle.std.specs.Cmp.Lexicographic.{slice_cmp}
 use Rattle.beat_config.specs.declared.settings_error.SettingsError.{SettingsError}
-use Rattle.beat_config.specs.declared.settings_error.SettingsError.TheVariants.{TooLong, NotToml, Unknown, Missing, WrongKind, BadText, OutOfRange, BadGlob, BadPattern, NoMemory}
+use Rattle.beat_config.specs.declared.settings_error.SettingsError.TheVariants.{TooLong, NotToml, Unknown, Missing, WrongKind, BadText, OutOfRange, BadGlob, BadPattern, CleanTooSoon, NoMemory}
 use Rattle.beat_config.specs.declared.noted.Noted.{Noted}
 
 -- the place of the kind in the table
@@ -20,7 +20,8 @@ rank (BadText key) = 5
 rank (OutOfRange key value) = 6
 rank (BadGlob key fault) = 7
 rank (BadPattern key) = 8
-rank NoMemory = 9
+rank (CleanTooSoon key) = 9
+rank NoMemory = 10
 
 abbrev pub key_of : SettingsError → List ℕ
 key_of TooLong = []
@@ -32,6 +33,7 @@ key_of (BadText key) = key
 key_of (OutOfRange key value) = key
 key_of (BadGlob key fault) = key
 key_of (BadPattern key) = key
+key_of (CleanTooSoon key) = key
 key_of NoMemory = []
 
 -- by the kind, and then by the key

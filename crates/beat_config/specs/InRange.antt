@@ -1,6 +1,6 @@
--- Settings within the ranges of their table: counts, numbers, ids, hosts, globs and patterns (Filebeat reference,
--- filestream input, multiline messages and Logstash output; the ranges are this project's profile).
-use Rattle.std.specs.Prelude.{◌≡◌, ◌≢◌, ℕ, ◌≤◌, List, length, All, IsTrue, IfSome, None}
+-- Settings within the ranges of their table: counts, numbers, ids, hosts, globs, patterns and processors (Filebeat
+-- reference, filestream input, multiline messages and Logstash output; the ranges are this project's profile).
+use Rattle.std.specs.Prelude.{◌≡◌, ◌≢◌, ℕ, ◌+◌, ◌<◌, ◌≤◌, List, length, All, IfSome, None}
 use Rattle.std.specs.Int.{IsInRange}
 use Rattle.std.specs.List.{AllPairs}
 use Rattle.event_tree.specs.declared.group_rule.GroupRule.{GroupRule}
@@ -11,9 +11,10 @@ use Rattle.event_tree.specs.declared.input_rule.InputRule.{InputRule}
 use Rattle.event_tree.specs.declared.output_rule.OutputRule.{OutputRule}
 use Rattle.event_tree.specs.declared.settings.Settings.{Settings}
 use Rattle.glob_paths.specs.Fault.{fault_of}
+use Rattle.patterns.specs.Pattern.{IsLinePattern}
 use Rattle.wire_base.specs.declared.host.Host.{Host}
 use Rattle.beat_config.specs.Name.{IsName}
-use Rattle.beat_config.specs.Pattern.{is_pattern, line_config}
+use Rattle.beat_config.specs.ProcessorsInRange.{IsProcessorInRange}
 
 -- the most bytes of a message that are kept
 abbrev pub IsMessageLimit : ℕ → Type 0
@@ -23,11 +24,12 @@ IsMessageLimit bytes = IsInRange 1 16777216 bytes
 abbrev pub IsInterval : ℕ → Type 0
 IsInterval milliseconds = IsInRange 1 86400000 milliseconds
 
+-- an age, in milliseconds, of at most 365 days; 0 turns off what it is for
+abbrev pub IsAge : ℕ → Type 0
+IsAge milliseconds = milliseconds ≤ 31536000000
+
 abbrev pub IsLineCount : ℕ → Type 0
 IsLineCount lines = IsInRange 1 1000000 lines
-
-abbrev pub IsLinePattern : List ℕ → Type 0
-IsLinePattern text = IsTrue (is_pattern line_config text)
 
 -- a text that is a glob
 abbrev pub IsGlob : List ℕ → Type 0
@@ -52,6 +54,9 @@ pub record IsInputInRange (rule : InputRule) : Type 0 where
   pub file_identity : IsIdentityInRange rule.file_identity
   pub check_interval : IsInterval rule.check_interval
   pub close_inactive : IsInterval rule.close_inactive
+  pub ignore_older : IsAge rule.ignore_older
+  pub clean_inactive : IsAge rule.clean_inactive
+  pub cleaned_late : rule.clean_inactive ≢ 0 → rule.ignore_older + rule.check_interval < rule.clean_inactive
   pub message_max_bytes : IsMessageLimit rule.lines.message_max_bytes
   pub include_count : length rule.include_lines ≤ 64
   pub include_lines : All IsLinePattern rule.include_lines
@@ -68,6 +73,7 @@ pub record IsOutputInRange (rule : OutputRule) : Type 0 where
   pub hosts : All IsHostInRange rule.hosts
   pub workers : IsInRange 1 16 rule.workers
   pub bulk_max_size : IsInRange 1 65536 rule.bulk_max_size
+  pub pipelining : IsInRange 1 8 rule.pipelining
   pub timeout : IsInRange 1 3600000 rule.timeout
   pub attempts : IsInRange 1 1000 rule.attempts
 
@@ -78,5 +84,6 @@ pub record AreInRange (settings : Settings) : Type 0 where
   pub ids_differ : AllPairs (λ earlier later. earlier.id ≢ later.id) settings.inputs
   pub output : IsOutputInRange settings.output
   pub processor_count : length settings.processors ≤ 64
+  pub processors : All IsProcessorInRange settings.processors
   pub events : IsInRange 32 65536 settings.events
   pub lanes : IsInRange 1 8 settings.lanes

@@ -14,15 +14,16 @@ use Rattle.beat_config.specs.declared.settings_error.SettingsError.TheVariants.{
 use Rattle.beat_config.specs.declared.text.Form.TheVariants.{Id, Glob, LinePattern}
 use Rattle.beat_config.specs.Multiline.{group_of, group_findings}
 use Rattle.beat_config.specs.Path.{key_path, member_path}
-use Rattle.beat_config.specs.Single.{limits, range_findings, flag_of, flag_findings, whole_of, whole_findings, duration_of, duration_findings, choice_of, choice_findings}
+use Rattle.beat_config.specs.Single.{limits, range_findings, flag_of, flag_findings, whole_of, whole_findings, choice_of, choice_findings}
 use Rattle.beat_config.specs.Table.{members_of, members_at, table_findings, table_at_findings}
 use Rattle.beat_config.specs.Text.{text_of, key_findings, texts_of, texts_findings, item_count}
+use Rattle.beat_config.specs.Times.{times_in, times_findings}
 
 abbrev pub input_keys : List (List ℕ)
 input_keys =
     codes "id" ∷ codes "paths" ∷ codes "file_identity" ∷ codes "fingerprint" ∷ codes "check_interval" ∷ codes "clean_removed"
-    ∷ codes "close_inactive" ∷ codes "line_terminator" ∷ codes "message_max_bytes" ∷ codes "include_lines" ∷ codes "exclude_lines"
-    ∷ codes "multiline" ∷ []
+    ∷ codes "close_inactive" ∷ codes "ignore_older" ∷ codes "clean_inactive" ∷ codes "line_terminator" ∷ codes "message_max_bytes"
+    ∷ codes "include_lines" ∷ codes "exclude_lines" ∷ codes "multiline" ∷ []
 
 abbrev pub identities : List (List ℕ)
 identities = codes "fingerprint" ∷ codes "native" ∷ codes "path" ∷ []
@@ -71,9 +72,11 @@ input_in members = record {
   id = id_in members;
   paths = texts_of (get_member (codes "paths") members);
   file_identity = identity_of members;
-  check_interval = duration_of (limits 1 86400000) 10000 (get_member (codes "check_interval") members);
+  check_interval = (times_in members).check_interval;
   clean_removed = flag_of true (get_member (codes "clean_removed") members);
-  close_inactive = duration_of (limits 1 86400000) 300000 (get_member (codes "close_inactive") members);
+  close_inactive = (times_in members).close_inactive;
+  ignore_older = (times_in members).ignore_older;
+  clean_inactive = (times_in members).clean_inactive;
   lines = record {
     terminator = terminator_at (choice_of terminators 0 (get_member (codes "line_terminator") members));
     message_max_bytes = message_max_bytes_in members;
@@ -97,14 +100,13 @@ input_value_findings path members =
     key_findings Id (key_path path (codes "id")) (get_member (codes "id") members)
     ++ (texts_findings Glob (limits 1 64) (key_path path (codes "paths")) (get_member (codes "paths") members)
     ++ (identity_findings path members
-    ++ (duration_findings (limits 1 86400000) (key_path path (codes "check_interval")) (get_member (codes "check_interval") members)
+    ++ (times_findings path members
     ++ (flag_findings (key_path path (codes "clean_removed")) (get_member (codes "clean_removed") members)
-    ++ (duration_findings (limits 1 86400000) (key_path path (codes "close_inactive")) (get_member (codes "close_inactive") members)
     ++ (choice_findings terminators (key_path path (codes "line_terminator")) (get_member (codes "line_terminator") members)
     ++ (whole_findings (limits 1 16777216) (key_path path (codes "message_max_bytes")) (get_member (codes "message_max_bytes") members)
     ++ (texts_findings LinePattern (limits 0 64) (key_path path (codes "include_lines")) (get_member (codes "include_lines") members)
     ++ (texts_findings LinePattern (limits 0 64) (key_path path (codes "exclude_lines")) (get_member (codes "exclude_lines") members)
-    ++ group_findings (key_path path (codes "multiline")) (get_member (codes "multiline") members))))))))))
+    ++ group_findings (key_path path (codes "multiline")) (get_member (codes "multiline") members)))))))))
 
 -- an input behind inputs of these ids
 unfoldable pub input_findings : List ℕ → List (List ℕ) → Data → List SettingsError

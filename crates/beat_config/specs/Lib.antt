@@ -1,4 +1,5 @@
 pub mod Conditions
+pub mod ConditionsInRange
 pub mod Document
 pub mod Duration
 pub mod Each
@@ -13,9 +14,10 @@ pub mod Number
 pub mod Output
 pub mod Pairs
 pub mod Path
-pub mod Pattern
 pub mod Processors
+pub mod ProcessorsInRange
 pub mod Single
 pub mod Table
 pub mod Text
+pub mod Times
 pub mod Tree

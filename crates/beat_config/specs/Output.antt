@@ -14,6 +14,7 @@ output_in members = record {
   hosts = hosts_of (get_member (codes "hosts") members);
   workers = whole_of (limits 1 16) 1 (get_member (codes "workers") members);
   bulk_max_size = whole_of (limits 1 65536) 2048 (get_member (codes "bulk_max_size") members);
+  pipelining = whole_of (limits 1 8) 2 (get_member (codes "pipelining") members);
   timeout = duration_of (limits 1 3600000) 30000 (get_member (codes "timeout") members);
   attempts = whole_of (limits 1 1000) 3 (get_member (codes "attempts") members);
 }
@@ -22,15 +23,17 @@ abbrev pub output_of : Option Data → OutputRule
 output_of found = output_in (members_at found)
 
 abbrev pub output_keys : List (List ℕ)
-output_keys = codes "hosts" ∷ codes "workers" ∷ codes "bulk_max_size" ∷ codes "timeout" ∷ codes "attempts" ∷ []
+output_keys =
+    codes "hosts" ∷ codes "workers" ∷ codes "bulk_max_size" ∷ codes "pipelining" ∷ codes "timeout" ∷ codes "attempts" ∷ []
 
 unfoldable pub output_value_findings : List ℕ → Members → List SettingsError
 output_value_findings path members =
     hosts_findings (limits 1 16) (key_path path (codes "hosts")) (get_member (codes "hosts") members)
     ++ (whole_findings (limits 1 16) (key_path path (codes "workers")) (get_member (codes "workers") members)
     ++ (whole_findings (limits 1 65536) (key_path path (codes "bulk_max_size")) (get_member (codes "bulk_max_size") members)
+    ++ (whole_findings (limits 1 8) (key_path path (codes "pipelining")) (get_member (codes "pipelining") members)
     ++ (duration_findings (limits 1 3600000) (key_path path (codes "timeout")) (get_member (codes "timeout") members)
-    ++ whole_findings (limits 1 1000) (key_path path (codes "attempts")) (get_member (codes "attempts") members))))
+    ++ whole_findings (limits 1 1000) (key_path path (codes "attempts")) (get_member (codes "attempts") members)))))
 
 abbrev pub output_findings : List ℕ → Option Data → List SettingsError
 output_findings path found =

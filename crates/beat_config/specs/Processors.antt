@@ -11,7 +11,7 @@ use Rattle.beat_config.specs.declared.processor.ProcessorKind.{ProcessorKind}
 use Rattle.beat_config.specs.declared.processor.ProcessorKind.TheVariants.{AddFields, AddTags, DropEvent, DropFields, Rename}
 use Rattle.beat_config.specs.declared.settings_error.SettingsError.TheVariants.{Missing, WrongKind}
 use Rattle.beat_config.specs.declared.text.Form.TheVariants.{Any, FieldPath, Target}
-use Rattle.beat_config.specs.Conditions.{condition_findings, IsCondition}
+use Rattle.beat_config.specs.Conditions.{most_levels, condition_findings, IsCondition}
 use Rattle.beat_config.specs.Each.{each_findings, AreEach}
 use Rattle.beat_config.specs.Path.{key_path, member_path}
 use Rattle.beat_config.specs.Single.{limits, flag_of, flag_findings, range_findings}
@@ -49,16 +49,16 @@ required_of DropEvent = codes "when" ∷ []
 required_of DropFields = codes "fields" ∷ []
 required_of Rename = codes "fields" ∷ []
 
--- the condition under which a processor runs, at most 16 levels deep
+-- the condition under which a processor runs
 abbrev pub when_findings : List ℕ → Option Data → List SettingsError
 when_findings key None = []
-when_findings key (Some value) = condition_findings 16 key value
+when_findings key (Some value) = condition_findings most_levels key value
 
 abbrev pub IsWhen : Option Data → Option ConditionRule → Type 0
 IsWhen None None = Unit {0}
 IsWhen None (Some rule) = ⊥
 IsWhen (Some value) None = ⊥
-IsWhen (Some value) (Some rule) = IsCondition 16 value rule
+IsWhen (Some value) (Some rule) = IsCondition most_levels value rule
 
 -- the fields that are added
 abbrev pub added_findings : List ℕ → Option Members → List SettingsError

@@ -5,7 +5,7 @@ use Rattle.std.specs.List.{cons_option}
 use Rattle.event_tree.specs.Parts.{parts_of, empty_place}
 use Rattle.glob_paths.specs.declared.error.GlobError.{GlobError}
 use Rattle.glob_paths.specs.Fault.{fault_of}
-use Rattle.regex_syntax.specs.Verdict.{default_config}
+use Rattle.patterns.specs.Pattern.{is_line_pattern, is_text_pattern}
 use Rattle.toml.specs.Data.{Data, Items, no_items, item, as_str, as_array}
 use Rattle.beat_config.specs.declared.settings_error.SettingsError.{SettingsError}
 use Rattle.beat_config.specs.declared.single.Limits.{Limits}
@@ -14,7 +14,6 @@ use Rattle.beat_config.specs.declared.text.Form.{Form}
 use Rattle.beat_config.specs.declared.text.Form.TheVariants.{Any, Id, Glob, LinePattern, TextPattern, FieldPath, Target}
 use Rattle.beat_config.specs.Name.{is_name}
 use Rattle.beat_config.specs.Path.{member_path}
-use Rattle.beat_config.specs.Pattern.{is_pattern, line_config}
 use Rattle.beat_config.specs.Single.{range_findings}
 
 abbrev pub glob_findings : List ℕ → Option GlobError → List SettingsError
@@ -34,8 +33,8 @@ abbrev pub text_findings : Form → List ℕ → List ℕ → List SettingsError
 text_findings Any key text = []
 text_findings Id key text = if is_name 64 text then [] else BadText key ∷ []
 text_findings Glob key text = glob_findings key (fault_of text)
-text_findings LinePattern key text = if is_pattern line_config text then [] else BadPattern key ∷ []
-text_findings TextPattern key text = if is_pattern default_config text then [] else BadPattern key ∷ []
+text_findings LinePattern key text = if is_line_pattern text then [] else BadPattern key ∷ []
+text_findings TextPattern key text = if is_text_pattern text then [] else BadPattern key ∷ []
 text_findings FieldPath key text = path_findings key text
 text_findings Target key text = target_findings key text
 

@@ -9,7 +9,7 @@ ghost use Rattle.toml.specs.Data.{get_member, no_members, as_array, as_table};
 ghost use Rattle.toml.specs.View.{view, table_view, items_view};
 ghost use Rattle.beat_config.specs.Finding.{seen_of, note_all};
 ghost use Rattle.beat_config.specs.Each.{each_findings, AreEach};
-ghost use Rattle.beat_config.specs.Conditions.{key_of, kind_of, list_findings, table_body, paths_findings, body_findings, kind_findings, condition_findings, AreListed, IsBody, IsOfKind, IsCondition};
+ghost use Rattle.beat_config.specs.Conditions.{key_of, kind_of, deep_findings, list_findings, table_body, paths_findings, body_findings, kind_findings, condition_findings, AreListed, IsBody, IsOfKind, IsCondition};
 ghost use Rattle.beat_config.specs.Pairs.{scalars_after, texts_at_in, bounds_in};
 ghost use Rattle.beat_config.specs.Table.{members_of};
 ghost use Rattle.beat_config.specs.Text.{list_texts};
@@ -48,7 +48,13 @@ const KINDS: [ConditionKind; 8] = [
     ConditionKind::Regexp,
 ];
 
-/// What is told of a condition that stands too deep.
+/// The levels that a document can have: at most 80 by a header, and at most 80 below it.
+pub(crate) const MOST_LEVELS: usize = 160;
+
+/// How deep a condition may stand.
+const MOST_CONDITIONS: usize = 16;
+
+/// What is told of one that stands deeper.
 const TOO_DEEP: i64 = 17;
 
 impl ConditionKind {
@@ -101,7 +107,7 @@ fn not_rule(alloc: Global, rule: ConditionRule) -> Result<ConditionRule, NoMemor
 }
 
 impl Noted {
-    /// A condition that may be so many levels deep.
+    /// A condition that takes one of these levels of the document.
     #[cycle(condition)]
     pub fn condition(
         &mut self,
@@ -114,19 +120,15 @@ impl Noted {
         ensures value { IfOk result (IsCondition levels (view value.now)) }
         ensures findings { OnOk result (seen_of self.new ≡ note_all (seen_of self.old) (condition_findings levels key.now (view value.now))) }
     {
+        if levels == 0 {
+            return Ok(self.no_condition());
+        }
+        self.check_depth(key, levels - 1)?;
         let Some(table) = value.as_table() else {
             let key = key.copy(self.alloc)?;
             self.fault(SettingsError::WrongKind { key });
             return Ok(self.no_condition());
         };
-        if levels == 0 {
-            let at = key.copy(self.alloc)?;
-            self.fault(SettingsError::OutOfRange {
-                key: at,
-                value: TOO_DEEP,
-            });
-            return Ok(self.no_condition());
-        }
         let rule = self.table_condition(key, table, levels - 1, empty)?;
         Ok(rule)
     }
@@ -248,6 +250,19 @@ impl Noted {
             rules.push(rule)?;
         }
         Ok(rules)
+    }
+
+    // Notes a condition that stands too deep, with so many levels left below it.
+    #[tactic(auto, unfolding(crate::specs::Finding::note_all, crate::specs::Conditions::deep_findings))]
+    fn check_depth(&mut self, key: &Text, levels: usize) -> Result<(), NoMemory>
+        ensures { OnOk result (seen_of self.new ≡ note_all (seen_of self.old) (deep_findings levels key.now)) }
+    {
+        if levels < MOST_LEVELS - MOST_CONDITIONS {
+            let key = key.copy(self.alloc)?;
+            let value = TOO_DEEP;
+            self.fault(SettingsError::OutOfRange { key, value });
+        }
+        Ok(())
     }
 
     fn no_condition(&self) -> ConditionRule {

@@ -21,7 +21,7 @@ use event_tree::{IdentityRule, InputRule, LineRule, ListOf, Terminator};
 use toml::{Table, Value};
 use wire_base::{NoMemory, Text};
 
-const INPUT: [&str; 12] = [
+const INPUT: [&str; 14] = [
     "id",
     "paths",
     "file_identity",
@@ -29,6 +29,8 @@ const INPUT: [&str; 12] = [
     "check_interval",
     "clean_removed",
     "close_inactive",
+    "ignore_older",
+    "clean_inactive",
     "line_terminator",
     "message_max_bytes",
     "include_lines",
@@ -59,11 +61,6 @@ const OFFSET: Limits = Limits {
 const LENGTH: Limits = Limits {
     low: 64,
     high: 1_048_576,
-};
-
-const PAUSE: Limits = Limits {
-    low: 1,
-    high: 86_400_000,
 };
 
 const MESSAGE_MAX_BYTES: Limits = Limits {
@@ -173,9 +170,8 @@ impl Noted {
         let id = self.text(path, table, "id", Form::Id)?;
         let paths = self.texts(path, table, "paths", Form::Glob, PATHS)?;
         let file_identity = self.identity(path, table, empty)?;
-        let check_interval = self.duration(path, table, "check_interval", PAUSE, 10_000)?;
+        let times = self.times(path, table)?;
         let clean_removed = self.flag(path, table, "clean_removed", true)?;
-        let close_inactive = self.duration(path, table, "close_inactive", PAUSE, 300_000)?;
         let terminator = self.choice(path, table, "line_terminator", &TERMINATORS, 0)?;
         let message_max_bytes = self.whole(
             path,
@@ -191,9 +187,11 @@ impl Noted {
             id: or_empty(self.alloc, id),
             paths: ListOf::from_vec(paths),
             file_identity,
-            check_interval,
+            check_interval: times.check_interval,
             clean_removed,
-            close_inactive,
+            close_inactive: times.close_inactive,
+            ignore_older: times.ignore_older,
+            clean_inactive: times.clean_inactive,
             lines: LineRule {
                 terminator: terminator_at(terminator),
                 message_max_bytes,

@@ -22,13 +22,13 @@ mod number;
 mod output;
 mod pairs;
 mod path;
-mod pattern;
 mod processor;
 mod read;
 mod settings_error;
 mod single;
 mod table;
 mod text;
+mod times;
 mod tree;
 
 pub use laws::settings_or_one_first_fault;

@@ -59,6 +59,7 @@ fn place_of(fault: &SettingsError) -> (u8, &[u8])
         SettingsError::OutOfRange { key, .. } => (6, key.bytes()),
         SettingsError::BadGlob { key, .. } => (7, key.bytes()),
         SettingsError::BadPattern { key } => (8, key.bytes()),
-        SettingsError::NoMemory => (9, b""),
+        SettingsError::CleanTooSoon { key } => (9, key.bytes()),
+        SettingsError::NoMemory => (10, b""),
     }
 }

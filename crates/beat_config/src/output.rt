@@ -14,7 +14,14 @@ use event_tree::{ListOf, OutputRule};
 use toml::Table;
 use wire_base::NoMemory;
 
-const OUTPUT: [&str; 5] = ["hosts", "workers", "bulk_max_size", "timeout", "attempts"];
+const OUTPUT: [&str; 6] = [
+    "hosts",
+    "workers",
+    "bulk_max_size",
+    "pipelining",
+    "timeout",
+    "attempts",
+];
 
 const HOSTS: Limits = Limits { low: 1, high: 16 };
 
@@ -24,6 +31,8 @@ const BULK_MAX_SIZE: Limits = Limits {
     low: 1,
     high: 65_536,
 };
+
+const PIPELINING: Limits = Limits { low: 1, high: 8 };
 
 const TIMEOUT: Limits = Limits {
     low: 1,
@@ -67,12 +76,14 @@ impl Noted {
         let hosts = self.hosts(path, table, "hosts", HOSTS)?;
         let workers = self.whole(path, table, "workers", WORKERS, 1)?;
         let bulk_max_size = self.whole(path, table, "bulk_max_size", BULK_MAX_SIZE, 2_048)?;
+        let pipelining = self.whole(path, table, "pipelining", PIPELINING, 2)?;
         let timeout = self.duration(path, table, "timeout", TIMEOUT, 30_000)?;
         let attempts = self.whole(path, table, "attempts", ATTEMPTS, 3)?;
         Ok(OutputRule {
             hosts: ListOf::from_vec(hosts),
             workers: workers as u32,
             bulk_max_size: bulk_max_size as u32,
+            pipelining: pipelining as u32,
             timeout,
             attempts: attempts as u32,
         })

@@ -11,6 +11,7 @@ ghost use Rattle.beat_config.specs.Table.{members_at, members_of};
 ghost use Rattle.beat_config.specs.Tree.{fields_after};
 
 use crate::SettingsError;
+use crate::condition::MOST_LEVELS;
 use crate::member::member;
 use crate::noted::Noted;
 use crate::path::{key_path, member_path};
@@ -46,9 +47,6 @@ const ANY: Limits = Limits {
     low: 0,
     high: 9_223_372_036_854_775_807,
 };
-
-/// How deep a condition may be.
-const LEVELS: usize = 16;
 
 impl ProcessorKind {
     fn key(self) -> &'static str
@@ -248,7 +246,7 @@ impl Noted {
             return Ok(None);
         };
         let key = key_path(self.alloc, path, "when")?;
-        let rule = self.condition(&key, value, LEVELS, empty)?;
+        let rule = self.condition(&key, value, MOST_LEVELS, empty)?;
         Ok(Some(rule))
     }
 

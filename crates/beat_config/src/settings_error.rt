@@ -32,6 +32,10 @@ pub enum SettingsError {
     BadGlob { key: Text, fault: GlobError },
     #[error("bad pattern {}", .key.as_str())]
     BadPattern { key: Text },
+    /// `clean_inactive` of the input at the key is not 0, and at most `ignore_older` and
+    /// `check_interval` together.
+    #[error("clean too soon {}", .key.as_str())]
+    CleanTooSoon { key: Text },
     #[error("out of memory")]
     NoMemory,
 }

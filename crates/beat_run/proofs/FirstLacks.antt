@@ -14,7 +14,7 @@ use Rattle.event_tree.specs.declared.output_rule.OutputRule.{OutputRule}
 use Rattle.event_tree.specs.declared.processor_rule.ProcessorRule.{ProcessorRule}
 use Rattle.event_tree.specs.declared.settings.Settings.{Settings}
 use Rattle.prospect.specs.Lacks.{IsFirstLack, lacks_of, lacks_of_inputs, unless_built}
-use Rattle.prospect.specs.Members.{compare}
+use Rattle.wire_base.specs.KeyOrder.{compare}
 use Rattle.report.specs.declared.status.Lack.TheVariants.{Byte, Life, Key, Follow, Generate}
 use Rattle.report.specs.declared.status.Status.{Status}
 use Rattle.report.specs.declared.status.Status.TheVariants.{Done, Usage, Settings as SettingsFault, RegistryBad, DiskFault, FolderFault, Unreachable, OutFault, SourceFault, TooMany, NoMemory, Unbuilt}

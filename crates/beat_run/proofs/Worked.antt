@@ -10,6 +10,7 @@ use Rattle.std.proofs.lemmas.Bool.{false≢true}
 use Rattle.std.proofs.lemmas.Str.{IsUtf8-from_is_utf8}
 use Rattle.std.proofs.lemmas.List.Elements.{All-from_recursion}
 use Rattle.wire_base.specs.Extent.{Extent}
+use Rattle.wire_base.specs.KeyOrder.{IsInOrder}
 use Rattle.wire_base.specs.declared.talk.Piece.{Piece}
 use Rattle.wire_base.specs.declared.talk.Piece.TheVariants.{Out, In}
 use Rattle.event_json.specs.Json.{escape}
@@ -42,7 +43,7 @@ use Rattle.lumber_frame.specs.Window.{AreWindows, IsWindow, window_bytes}
 use Rattle.lumber_frame.proofs.Settling.{none_in_nothing}
 use Rattle.lumber_frame.proofs.WindowBytes.{are_once}
 use Rattle.prospect.specs.declared.member.Member.{Member}
-use Rattle.prospect.specs.Members.{AreMembers, HasKey, IsCovered, IsInOrder, IsMember, path_key}
+use Rattle.prospect.specs.Members.{AreMembers, HasKey, IsCovered, IsMember, key_of, path_key}
 use Rattle.prospect.specs.Scan.{Listing, event_of, paths_of, with_events}
 use Rattle.report.specs.declared.status.Status.TheVariants.{Unreachable}
 use Rattle.ship_core.specs.CoveredEnd.{last_end}
@@ -281,7 +282,7 @@ is_named paths path there covered =
 abbrev HasMember : List Member → List ℕ → Type 0
 HasMember members path = IsCovered input.paths path → HasKey members (path_key input.id path)
 
-are_members : (paths : List (List ℕ)) (members : List Member) → IsInOrder members → AllByRecursion (IsNamed paths) members →
+are_members : (paths : List (List ℕ)) (members : List Member) → IsInOrder key_of members → AllByRecursion (IsNamed paths) members →
     AllByRecursion (HasMember members) paths → AreMembers (input ∷ []) paths members
 are_members paths members in_order only every = record {
   in_order = in_order;

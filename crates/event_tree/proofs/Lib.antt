@@ -1,9 +1,7 @@
 mod Dots
 mod Edits
 mod Entries
-mod Order
 mod PathLaws
-mod Places
 mod Puts
 mod Smaller
 mod Steps

@@ -1,15 +1,15 @@
 -- What stands at each path after a put or a removal.
-use Rattle.std.proofs.Common.{◌≡◌, ℕ, suc, ◌<◌, length, arith, false, List, [], ◌∷◌, Option, Some, None, option_map, refl, sym, ap, ◌∙◌, subst}
+use Rattle.std.proofs.Common.{◌≡◌, ◌≢◌, ℕ, suc, ◌<◌, length, arith, List, [], ◌∷◌, Option, Some, None, option_map, refl, sym, ap, ◌∙◌, subst}
 use Rattle.std.specs.Prelude.{option_and_then, unwrap_or}
 use Rattle.std.specs.Option.{option_map_or}
-use Rattle.std.specs.Ordering.{is_eq}
 use Rattle.std.specs.declared.cmp.Ordering.{Ordering}
 use Rattle.std.specs.declared.cmp.Ordering.TheVariants.{Less, Equal, Greater}
 use Rattle.event_tree.specs.Value.{TreeValue, null, flag, int, str, list, fields, FieldList, pairs_in}
-use Rattle.event_tree.specs.Keys.{compare, find, set_field, unset_field}
+use Rattle.wire_base.specs.KeyOrder.{compare}
+use Rattle.wire_base.proofs.ByteOrder.{same_key, compare_same}
+use Rattle.event_tree.specs.Keys.{find, set_field, unset_field}
 use Rattle.event_tree.specs.Paths.{Parts, fields_in, map_of, member_at, get_at, put_at, with_fields, with_member, remove_at, blocked_at, blocked_by, IsApart}
-use Rattle.event_tree.proofs.Order.{same_key}
-use Rattle.event_tree.proofs.Edits.{find-set, find-set_other, find-unset, find-unset_other}
+use Rattle.event_tree.proofs.Edits.{find-set, find-set_not, find-unset, find-unset_not}
 use Rattle.event_tree.proofs.Steps.{pairs_back, get_at-map}
 
 -- ---- a put
@@ -19,14 +19,14 @@ get_put [] new v = refl
 get_put (part ∷ parts) new v =
     get_at-map part parts _ ∙ ap (option_and_then (get_at parts)) (find-set part _ (unwrap_or (fields_in v) [])) ∙ get_put parts new _
 
--- two keys are the same, or differ for `find`
-by_key : {G : Type 0} (a b : List ℕ) → (a ≡ b → G) → (is_eq (compare a b) ≡ false → G) → G
+-- two keys are the same, or differ
+by_key : {G : Type 0} (a b : List ℕ) → (a ≡ b → G) → (a ≢ b → G) → G
 by_key {G} a b same differs = by_case (compare a b) refl
   where
     by_case : (o : Ordering) → compare a b ≡ o → G
-    by_case Less e = differs (ap is_eq e)
+    by_case Less e = differs (λ same. let q : Less ≡ Equal = sym e ∙ compare_same a b same in cc)
     by_case Equal e = same (same_key a b e)
-    by_case Greater e = differs (ap is_eq e)
+    by_case Greater e = differs (λ same. let q : Greater ≡ Equal = sym e ∙ compare_same a b same in cc)
 
 find_in : (key : List ℕ) (o : Option FieldList) → find key (unwrap_or o []) ≡ option_and_then (find key) o
 find_in key None = refl
@@ -53,8 +53,8 @@ get_put_apart (part ∷ path) (first ∷ other) apart new v =
         subst (λ k. option_and_then (get_at other) (find k (set_field part (put_at path new (unwrap_or (member_at part v) (map_of []))) (unwrap_or (fields_in v) []))) ≡ get_at (k ∷ other) v) (sym e)
         (ap (option_and_then (get_at other)) (find-set part _ _) ∙ rest apart_below new _ ∙ get_missing path other apart_below (member_at part v))
 
-    differs : is_eq (compare first part) ≡ false → option_and_then (get_at other) (find first (set_field part (put_at path new (unwrap_or (member_at part v) (map_of []))) (unwrap_or (fields_in v) []))) ≡ get_at (first ∷ other) v
-    differs e = ap (option_and_then (get_at other)) (find-set_other part first _ _ e ∙ find_in first (fields_in v))
+    differs : first ≢ part → option_and_then (get_at other) (find first (set_field part (put_at path new (unwrap_or (member_at part v) (map_of []))) (unwrap_or (fields_in v) []))) ≡ get_at (first ∷ other) v
+    differs e = ap (option_and_then (get_at other)) (find-set_not part first _ _ e ∙ find_in first (fields_in v))
 
 -- ---- a removal
 
@@ -70,12 +70,12 @@ get_with : (f : FieldList → FieldList) (first : List ℕ) (other : Parts) (v :
 get_with f first other v = ap (λ o. option_and_then (get_at other) (option_and_then (find first) o)) (fields_in-with f v)
 
 -- what another key has
-find_with_other : (key other : List ℕ) (f : TreeValue → TreeValue) (ps : FieldList) → is_eq (compare other key) ≡ false → find other (with_member key f ps) ≡ find other ps
+find_with_other : (key other : List ℕ) (f : TreeValue → TreeValue) (ps : FieldList) → other ≢ key → find other (with_member key f ps) ≡ find other ps
 find_with_other key other f ps differs = by_case (find key ps)
   where
     by_case : (o : Option TreeValue) → find other (option_map_or (λ v. set_field key (f v) ps) o ps) ≡ find other ps
     by_case None = refl
-    by_case (Some v) = find-set_other key other (f v) ps differs
+    by_case (Some v) = find-set_not key other (f v) ps differs
 
 -- what the key has
 find_with : (key : List ℕ) (f : TreeValue → TreeValue) (ps : FieldList) → find key (with_member key f ps) ≡ option_map f (find key ps)
@@ -108,7 +108,7 @@ get_remove_apart (part ∷ []) (first ∷ other) apart v = get_with (unset_field
   where
     by_case : (o : Option FieldList) → option_and_then (get_at other) (option_and_then (find first) (option_map (unset_field part) o)) ≡ option_and_then (get_at other) (option_and_then (find first) o)
     by_case None = refl
-    by_case (Some ps) = by_key first part (λ e. absurd (apart (sym e))) (λ e. ap (option_and_then (get_at other)) (find-unset_other part first ps e))
+    by_case (Some ps) = by_key first part (λ e. absurd (apart (sym e))) (λ e. ap (option_and_then (get_at other)) (find-unset_not part first ps e))
 get_remove_apart (part ∷ next ∷ path) (first ∷ other) apart v =
     get_with (with_member part (remove_at (next ∷ path))) first other v ∙ by_case (get_remove_apart (next ∷ path) other) (fields_in v)
   where
@@ -137,7 +137,7 @@ free_after_remove (first ∷ to) (part ∷ []) v free =
     by_case None e = e
     by_case (Some ps) e = by_key first part
         (λ same. subst (λ k. blocked_by (Some (find k (unset_field part ps))) (blocked_at to) ≡ None) (sym same) (ap (λ f. blocked_by (Some f) (blocked_at to)) (find-unset part ps)))
-        (λ differs. ap (λ f. blocked_by (Some f) (blocked_at to)) (find-unset_other part first ps differs) ∙ e)
+        (λ differs. ap (λ f. blocked_by (Some f) (blocked_at to)) (find-unset_not part first ps differs) ∙ e)
 free_after_remove (first ∷ to) (part ∷ next ∷ from) v free =
     ap (λ o. blocked_by (option_map (find first) o) (blocked_at to)) (fields_in-with (with_member part (remove_at (next ∷ from))) v) ∙ by_case (free_after_remove to (next ∷ from)) (fields_in v) free
   where

@@ -3,8 +3,8 @@ use Rattle.std.proofs.Common.{◌≡◌, ℕ, ◌<◌, List, [], ◌∷◌, leng
 use Rattle.std.specs.List.{remove}
 use Rattle.std.proofs.lemmas.List.{nil_from_length}
 use Rattle.event_tree.specs.Value.{TreeValue, FieldList}
-use Rattle.event_tree.specs.Keys.{IsInOrder, find, set_field, unset_field}
-use Rattle.event_tree.specs.Place.{IsAt}
+use Rattle.wire_base.specs.KeyOrder.{IsInOrder, IsAt}
+use Rattle.event_tree.specs.Keys.{key_of, find, set_field, unset_field}
 use Rattle.event_tree.specs.Paths.{Parts, map_of, get_at, remove_at, with_member}
 use Rattle.event_tree.specs.Tree.{value_of, pairs_of}
 use Rattle.event_tree.specs.declared.tree.Tree.{Tree}
@@ -26,7 +26,7 @@ pub remove_absent : (key : List ℕ) (later : Parts) (ps : FieldList) → find k
 remove_absent key [] ps lacks = rw (remove_at_last-map key ps, unset_absent key ps lacks) refl
 remove_absent key (next ∷ later) ps lacks = rw (remove_at_more-map key next later ps, lacks) refl
 
-module _ (es : List (List ℕ × Tree)) (ordered : IsInOrder (pairs_of es)) (key : List ℕ) (later : Parts) (i : ℕ) (e : List ℕ × Tree) (at : IsAt (pairs_of es) key i) (is : e ≡ get_or es i e) where
+module _ (es : List (List ℕ × Tree)) (ordered : IsInOrder key_of (pairs_of es)) (key : List ℕ) (later : Parts) (i : ℕ) (e : List ℕ × Tree) (at : IsAt key_of (pairs_of es) key i) (is : e ≡ get_or es i e) where
   has : find key (pairs_of es) ≡ Some (value_of e.1)
   has = sym (find_entry es ordered key i e at is)
 
@@ -37,8 +37,8 @@ module _ (es : List (List ℕ × Tree)) (ordered : IsInOrder (pairs_of es)) (key
   pub left_last : length later ≡ 0 → map_of (pairs_of (remove es i)) ≡ remove_at (key ∷ later) (map_of (pairs_of es))
   left_last ends = rw (nil_from_length later ends, remove_at_last-map key (pairs_of es)) (ap map_of (remove_entry es ordered key i at))
 
-  pub last_in_order : IsInOrder (pairs_of (remove es i))
-  last_in_order = subst IsInOrder (sym (remove_entry es ordered key i at)) (in_order-unset key (pairs_of es) ordered)
+  pub last_in_order : IsInOrder key_of (pairs_of (remove es i))
+  last_in_order = subst (IsInOrder key_of) (sym (remove_entry es ordered key i at)) (in_order-unset key (pairs_of es) ordered)
 
   -- more parts follow
   pub take_there : (taken : Option TreeValue) → taken ≡ get_at later (value_of e.1) → taken ≡ get_at (key ∷ later) (map_of (pairs_of es))

@@ -3,7 +3,6 @@ pub mod Condition
 pub mod Keys
 pub mod Parts
 pub mod Paths
-pub mod Place
 pub mod Refusals
 pub mod Size
 pub mod Tree

@@ -1,9 +1,9 @@
 ghost use Rattle.std.specs.Prelude.{◌≡◌, ◌≢◌, ◌<◌, ℕ, List, [], ◌∷◌, length, IfOk, IfErr, OnOk, OnErr, slice_get, Some, option_map, None, IfNone};
 ghost use Rattle.event_tree.specs.Tree.{value_of, pairs_of};
-ghost use Rattle.event_tree.specs.Keys.{IsInOrder, find, set_field};
+ghost use Rattle.wire_base.specs.KeyOrder.{IsInOrder, IsAt, IsGap};
+ghost use Rattle.event_tree.specs.Keys.{key_of, find, set_field};
 ghost use Rattle.event_tree.specs.Paths.{map_of, get_at, put_at, remove_at, blocked_at};
 ghost use Rattle.event_tree.specs.Size.{value_size};
-ghost use Rattle.event_tree.specs.Place.{IsAt, IsGap};
 
 use crate::Tree;
 use std::alloc::Global;
@@ -27,11 +27,12 @@ impl Model for Fields {
     ghost coded = { pairs_code };
 
     ghost use Rattle.event_tree.specs.Tree.{pairs_of};
-    ghost use Rattle.event_tree.specs.Keys.{IsInOrder};
+    ghost use Rattle.wire_base.specs.KeyOrder.{IsInOrder};
+    ghost use Rattle.event_tree.specs.Keys.{key_of};
 
     ghost view = { λ f. pairs_of f.entries.items };
 
-    ghost invariant = { λ f. IsInOrder (pairs_of f.entries.items) };
+    ghost invariant = { λ f. IsInOrder key_of (pairs_of f.entries.items) };
 
     ghost size = { fields_size };
 
@@ -61,7 +62,7 @@ impl Fields {
         requires { i < length self.now }
         ensures at { slice_get self.now i ≡ Some (result.0.now, value_of result.1.now) }
         ensures smaller { value_size (value_of result.1.now) < value_size (map_of self.now) }
-        ensures in_order { IsInOrder self.now }
+        ensures in_order { IsInOrder key_of self.now }
     {
         let entry = &self.entries[i];
         (&entry.0, &entry.1)
@@ -155,9 +156,9 @@ impl Fields {
 
 // Where the key stands, or where it belongs.
 fn place(entries: &[(Text, Tree)], key: &Text) -> Result<usize, usize>
-    requires { IsInOrder (pairs_of entries.now) }
-    ensures found { IfOk result (IsAt (pairs_of entries.now) key.now) }
-    ensures absent { IfErr result (IsGap (pairs_of entries.now) key.now) }
+    requires { IsInOrder key_of (pairs_of entries.now) }
+    ensures found { IfOk result (IsAt key_of (pairs_of entries.now) key.now) }
+    ensures absent { IfErr result (IsGap key_of (pairs_of entries.now) key.now) }
 {
     entries.binary_search_by(|entry| entry.0.cmp(key))
 }

@@ -9,7 +9,8 @@ use Rattle.std.proofs.lemmas.Map.Lookups.{exact_bytes}
 use Rattle.std.proofs.lemmas.Map.Views.{tells_apart}
 use Rattle.prospect.specs.declared.input_globs.InputGlobs.{InputGlobs}
 use Rattle.prospect.specs.Collecting.{Adds, Found, IsFoundBy}
-use Rattle.prospect.specs.Members.{compare, IsCovered, path_key}
+use Rattle.wire_base.specs.KeyOrder.{compare}
+use Rattle.prospect.specs.Members.{IsCovered, path_key}
 
 pub contains_none : {X : Type 0} (x : X) → Contains [] x → ⊥
 contains_none x (k, within, is) = omega arith

@@ -14,6 +14,7 @@ use Rattle.std.proofs.lemmas.Map.Lookups.{exact_bytes}
 use Rattle.std.proofs.lemmas.Map.Views.{All-found, Contains-keys_from_lookup, tells_apart}
 use Rattle.event_tree.specs.declared.input_rule.InputRule.{InputRule}
 use Rattle.outside.specs.Folders.{FolderHistory}
+use Rattle.wire_base.specs.KeyOrder.{compare, IsBefore, IsInOrder}
 use Rattle.wire_base.specs.Ranges.{IsKey, IsPath}
 use Rattle.prospect.specs.declared.input_globs.InputGlobs.{InputGlobs}
 use Rattle.prospect.specs.declared.member.Member.{Member}
@@ -21,7 +22,7 @@ use Rattle.prospect.specs.declared.listings.TheConstants.{MAX_FILES}
 use Rattle.prospect.specs.declared.scan_error.ScanError.{ScanError}
 use Rattle.prospect.specs.declared.scan_error.ScanError.TheVariants.{Failed, NoMemory, TooMany}
 use Rattle.prospect.specs.Collecting.{Adds, FirstTooMany, Found, globs_in, IsReadOf, Lists, member_of, members_of, ShowPaths}
-use Rattle.prospect.specs.Members.{AreMembers, compare, globs_of, HasKey, HaveShortIds, IsBefore, IsCovered, IsInOrder, IsInRange, IsMember, path_key}
+use Rattle.prospect.specs.Members.{AreMembers, globs_of, HasKey, HaveShortIds, IsCovered, IsInRange, IsMember, key_of, path_key}
 use Rattle.prospect.specs.Scan.{AreListed, FindsTooMany, RefusedAs, Scans, TellsPath}
 use Rattle.prospect.proofs.Adding.{contains_none}
 use Rattle.prospect.proofs.Listing.{only_listed}
@@ -75,11 +76,11 @@ reads_next inputs i input reads after read within is zip id_is globs_are after_i
 
 -- ---- the order
 
-is_before : (key : List ℕ) (entries : List (List ℕ × List ℕ)) → AllByRecursion (λ other. compare key other ≡ Less) (keys_of entries) → IsBefore key (members_of entries)
+is_before : (key : List ℕ) (entries : List (List ℕ × List ℕ)) → AllByRecursion (λ other. compare key other ≡ Less) (keys_of entries) → IsBefore key_of key (members_of entries)
 is_before key [] before = tt
 is_before key (entry ∷ entries) before = (before.0, is_before key entries before.1)
 
-pub is_in_order : (entries : List (List ℕ × List ℕ)) → IsStrictlySortedBy compare (keys_of entries) → IsInOrder (members_of entries)
+pub is_in_order : (entries : List (List ℕ × List ℕ)) → IsStrictlySortedBy compare (keys_of entries) → IsInOrder key_of (members_of entries)
 unfolding IsStrictlySortedBy
 is_in_order [] ordered = tt
 is_in_order (entry ∷ entries) ordered = (is_before entry.0 entries ordered.0, is_in_order entries ordered.1)
@@ -177,8 +178,8 @@ module _ (inputs : List InputRule) (read : List InputGlobs) (told after : Option
   refused NoMemory first = only_listed read (globs_in read) told after none found lists
   refused (TooMany path) first = too_many told path first (scans told lists.shown)
 
-  pub in_order : (members : List Member) → members ≡ members_of found.entries → IsInOrder members
-  in_order members are = subst IsInOrder (sym are) members_are.in_order
+  pub in_order : (members : List Member) → members ≡ members_of found.entries → IsInOrder key_of members
+  in_order members are = subst (IsInOrder key_of) (sym are) members_are.in_order
 
   pub in_range : (members : List Member) → members ≡ members_of found.entries → HaveShortIds inputs → All IsInRange members
   in_range members are ids = subst (λ (l : List Member). All IsInRange l) (sym are) (are_in_range inputs lists.paths (members_of found.entries) lists.in_range ids members_are)

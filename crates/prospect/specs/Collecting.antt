@@ -3,13 +3,14 @@ use Rattle.std.specs.Prelude.{◌≡◌, ◌⊎◌, ℕ, List, flat_map, map, sl
 use Rattle.std.specs.BTreeMap.{BTreeMap, get}
 use Rattle.event_tree.specs.declared.input_rule.InputRule.{InputRule}
 use Rattle.outside.specs.Folders.{FolderHistory}
+use Rattle.wire_base.specs.KeyOrder.{compare}
 use Rattle.wire_base.specs.Ranges.{IsPath}
 use Rattle.prospect.specs.declared.input_globs.InputGlobs.{InputGlobs}
 use Rattle.prospect.specs.declared.member.Member.{Member}
 use Rattle.prospect.specs.declared.listings.TheConstants.{MAX_FILES}
 use Rattle.prospect.specs.declared.scan_error.ScanError.{ScanError}
 use Rattle.prospect.specs.declared.scan_error.ScanError.TheVariants.{Failed, NoMemory, TooMany}
-use Rattle.prospect.specs.Members.{compare, IsCovered, IsMember, path_key}
+use Rattle.prospect.specs.Members.{IsCovered, IsMember, path_key}
 use Rattle.prospect.specs.Scan.{AreListed, Listing, paths_of}
 
 -- paths by their keys

@@ -9,7 +9,7 @@ use Rattle.event_tree.specs.declared.input_rule.InputRule.{InputRule}
 use Rattle.event_tree.specs.declared.line_rule.Terminator.{Terminator}
 use Rattle.event_tree.specs.declared.line_rule.Terminator.TheVariants.{Auto, LineFeed, CarriageReturnLineFeed, NullTerminator}
 use Rattle.event_tree.specs.declared.settings.Settings.{Settings}
-use Rattle.prospect.specs.Members.{compare}
+use Rattle.wire_base.specs.KeyOrder.{compare}
 
 abbrev pub is_path : IdentityRule → Bool
 is_path (Fingerprint offset length) = false
@@ -39,6 +39,8 @@ input_key number name = codes "inputs." ++ decimal number ++ codes "." ++ name
 abbrev pub lacks_of_input : ℕ → InputRule → List (List ℕ)
 lacks_of_input number input =
     unless_built (is_path input.file_identity) (input_key number (codes "file_identity"))
+    ++ unless_built (input.ignore_older == 0) (input_key number (codes "ignore_older"))
+    ++ unless_built (input.clean_inactive == 0) (input_key number (codes "clean_inactive"))
     ++ unless_built (is_auto input.lines.terminator) (input_key number (codes "line_terminator"))
     ++ unless_built (input.lines.message_max_bytes == 10485760) (input_key number (codes "message_max_bytes"))
     ++ unless_built (length input.include_lines == 0) (input_key number (codes "include_lines"))

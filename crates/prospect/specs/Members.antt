@@ -1,19 +1,12 @@
 -- The files that the settings name among the paths of a scan (Filebeat reference, filestream paths and file identity
 -- `path`; keys and their order are this project's profile): one for each input and each path that its globs cover.
-use Rattle.std.specs.Prelude.{◌≡◌, ℕ, ◌≤◌, List, [], ◌∷◌, ◌++◌, length, flat_map, All, Any, Contains, codes, None}
-use Rattle.std.specs.Cmp.Lexicographic.{slice_cmp}
-use Rattle.std.specs.Ordering.{nat_cmp}
-use Rattle.std.specs.declared.cmp.Ordering.{Ordering}
-use Rattle.std.specs.declared.cmp.Ordering.TheVariants.{Less}
+use Rattle.std.specs.Prelude.{◌≡◌, ℕ, ◌≤◌, List, ◌++◌, length, flat_map, All, Any, Contains, codes, None}
 use Rattle.event_tree.specs.declared.input_rule.InputRule.{InputRule}
 use Rattle.glob_paths.specs.Cover.{Covers}
 use Rattle.glob_paths.specs.Fault.{fault_of}
+use Rattle.wire_base.specs.KeyOrder.{IsInOrder}
 use Rattle.wire_base.specs.Ranges.{IsKey, IsPath}
 use Rattle.prospect.specs.declared.member.Member.{Member}
-
--- byte order
-abbrev pub compare : List ℕ → List ℕ → Ordering
-compare = slice_cmp nat_cmp
 
 -- the key of the path for the input of this id
 abbrev pub path_key : List ℕ → List ℕ → List ℕ
@@ -33,19 +26,13 @@ pub record IsMember (paths : List (List ℕ)) (id : List ℕ) (globs : List (Lis
 abbrev pub HasKey : List Member → List ℕ → Type 0
 HasKey members key = Any (λ member. member.key ≡ key) members
 
--- the key comes before the keys of the members
-abbrev pub IsBefore : List ℕ → List Member → Type 0
-IsBefore key [] = Unit {0}
-IsBefore key (member ∷ members) = (compare key member.key ≡ Less) × IsBefore key members
+-- the key of a member
+abbrev pub key_of : Member → List ℕ
+key_of member = member.key
 
--- each key comes before all later keys
-abbrev pub IsInOrder : List Member → Type 0
-IsInOrder [] = Unit {0}
-IsInOrder (member ∷ members) = IsBefore member.key members × IsInOrder members
-
--- the files that the inputs name among the paths, in order, each key once
+-- the files that the inputs name among the paths, in byte order of their keys, each key once
 pub record AreMembers (inputs : List InputRule) (paths : List (List ℕ)) (members : List Member) : Type 0 where
-  pub in_order : IsInOrder members
+  pub in_order : IsInOrder key_of members
   pub only : All (λ member. Any (λ input. IsMember paths input.id input.paths member) inputs) members
   pub every : All (λ input. All (λ path. IsCovered input.paths path → HasKey members (path_key input.id path)) paths) inputs
 

@@ -1,7 +1,8 @@
 ghost use Rattle.std.specs.Prelude.{◌≡◌, ◌≤◌, ◌∷◌, [], length, map, IfOk, IfErr, OnOk};
 ghost use Rattle.std.specs.BTreeMap.{IsOrdered};
 ghost use Rattle.prospect.specs.Collecting.{Adds, FirstTooMany, members_of};
-ghost use Rattle.prospect.specs.Members.{path_key, compare};
+ghost use Rattle.prospect.specs.Members.{path_key};
+ghost use Rattle.wire_base.specs.KeyOrder.{compare};
 
 use crate::input_globs::InputGlobs;
 use crate::{MAX_FILES, Member, ScanError};

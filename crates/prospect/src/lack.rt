@@ -49,6 +49,10 @@ fn add_input(
 {
     let by_path = is_path(input.file_identity);
     add_of(alloc, lacks, number, by_path, "file_identity")?;
+    let takes_old = input.ignore_older == 0;
+    add_of(alloc, lacks, number, takes_old, "ignore_older")?;
+    let keeps_inactive = input.clean_inactive == 0;
+    add_of(alloc, lacks, number, keeps_inactive, "clean_inactive")?;
     let auto = is_auto(input.lines.terminator);
     add_of(alloc, lacks, number, auto, "line_terminator")?;
     let default_size = input.lines.message_max_bytes == DEFAULT_MESSAGE_MAX_BYTES;

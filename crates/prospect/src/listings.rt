@@ -1,7 +1,8 @@
 ghost use Rattle.std.specs.Prelude.{◌≡◌, ◌≤◌, ◌∷◌, [], length, All, IfOk, IfErr, IfSome, IsErrOf, OnOk, OnErr};
 ghost use Rattle.outside.specs.Counts.{Rose};
 ghost use Rattle.prospect.specs.Collecting.{Lists, globs_in};
-ghost use Rattle.prospect.specs.Members.{HaveGlobs, HaveShortIds, IsInOrder, IsInRange};
+ghost use Rattle.prospect.specs.Members.{HaveGlobs, HaveShortIds, IsInRange, key_of};
+ghost use Rattle.wire_base.specs.KeyOrder.{IsInOrder};
 ghost use Rattle.prospect.specs.Scan.{OnlyListed, RefusedAs, Scans, TellsPath};
 
 use crate::collect::{Found, add_entries, hand_out};
@@ -28,7 +29,7 @@ pub fn scan<F: Folder>(
     ensures scanned { IfOk result (λ members. IfSome (F.told folder.old) (λ told. Scans inputs.now told members.items (F.told folder.new))) }
     ensures refused { IfErr result (λ error. IfSome (F.told folder.old) (λ told. RefusedAs inputs.now told error (F.told folder.new))) }
     ensures few { IfOk result (λ members. length members.items ≤ MAX_FILES) }
-    ensures in_order { IfOk result (λ members. IsInOrder members.items) }
+    ensures in_order { IfOk result (λ members. IsInOrder key_of members.items) }
     ensures in_range { IfOk result (λ members. HaveShortIds inputs.now → All IsInRange members.items) }
     ensures path_in_range { IfErr result TellsPath }
     ensures failed_only_where_faults_rose { IsErrOf result ScanError.Failed → Rose (F.faults folder.old) (F.faults folder.new) }

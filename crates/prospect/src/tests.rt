@@ -105,8 +105,16 @@ const LACKS: [(usize, &[(usize, Ask)], Option<&str>); 14] = [
     (1, &[(0, Ask::Fingerprint)], Some("inputs.0.file_identity")),
     (1, &[(0, Ask::Native)], Some("inputs.0.file_identity")),
     (1, &[(0, Ask::LineFeed)], Some("inputs.0.line_terminator")),
-    (1, &[(0, Ask::Size)], Some("inputs.0.message_max_bytes")),
-    (1, &[(0, Ask::Include)], Some("inputs.0.include_lines")),
+    (
+        1,
+        &[(0, Ask::Older), (0, Ask::Include)],
+        Some("inputs.0.ignore_older"),
+    ),
+    (
+        1,
+        &[(0, Ask::Exclude), (0, Ask::Inactive)],
+        Some("inputs.0.clean_inactive"),
+    ),
     (
         1,
         &[(0, Ask::Include), (0, Ask::Exclude)],

@@ -1,6 +1,7 @@
 use Rattle.std.proofs.Common.{sym, subst, arith}
 use Rattle.std.proofs.lemmas.Result.{on_ok_weaker, on_err_weaker}
-use Rattle.event_tree.specs.Keys.{IsInOrder}
+use Rattle.wire_base.specs.KeyOrder.{IsInOrder}
+use Rattle.event_tree.specs.Keys.{key_of}
 use Rattle.event_tree.specs.Tree.{value_of, pairs_of}
 use Rattle.event_tree.proofs.Entries.{set_entry}
 use Rattle.event_tree.proofs.Edits.{in_order-set}
@@ -16,7 +17,7 @@ fields::Fields::put_below-put_parts-requires t c =
 
 pub fields::Fields::put_below-invariant_of-self : goal.fields::Fields::put_below-invariant_of-self
 fields::Fields::put_below-invariant_of-self t c =
-    subst IsInOrder (sym (set_entry _ c.self.invariant _ _ _ c.put_parts.new.self (rw c.deref.ensures.value at c.in-Ok.ensures.found) c.index_mut-entry.ensures.value)) (in_order-set _ _ _ c.self.invariant)
+    subst (IsInOrder key_of) (sym (set_entry _ c.self.invariant _ _ _ c.put_parts.new.self (rw c.deref.ensures.value at c.in-Ok.ensures.found) c.index_mut-entry.ensures.value)) (in_order-set _ _ _ c.self.invariant)
 
 pub fields::Fields::put_below-returns-in-Ok-clause-put :
     goal.fields::Fields::put_below-returns-in-Ok-clause-put
@@ -33,7 +34,7 @@ fields::Fields::put_below-returns-in-Ok-clause-kept t c =
 pub fields::Fields::put_below-invariant_of-self-in-Err :
     goal.fields::Fields::put_below-invariant_of-self-in-Err
 fields::Fields::put_below-invariant_of-self-in-Err t c =
-    subst (λ l. IsInOrder (pairs_of l)) (sym c.in_ok-insert-in-Err.ensures.items) (new_in_order _ c.self.invariant _ _ (rw c.deref.ensures.value at c.in-Err.ensures.absent) _ _ c.in_ok-copy-in-Err.ensures)
+    subst (λ l. IsInOrder key_of (pairs_of l)) (sym c.in_ok-insert-in-Err.ensures.items) (new_in_order _ c.self.invariant _ _ (rw c.deref.ensures.value at c.in-Err.ensures.absent) _ _ c.in_ok-copy-in-Err.ensures)
 
 pub fields::Fields::put_below-returns-in_ok-insert-in-Err-clause-put :
     goal.fields::Fields::put_below-returns-in_ok-insert-in-Err-clause-put

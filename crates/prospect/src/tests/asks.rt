@@ -12,6 +12,8 @@ use wire_base::Text;
 pub enum Ask {
     Fingerprint,
     Native,
+    Older,
+    Inactive,
     LineFeed,
     Size,
     Include,
@@ -112,6 +114,16 @@ pub fn input(
         check_interval: 10_000,
         clean_removed: true,
         close_inactive: 300_000,
+        ignore_older: if is_asked(asks, number, Ask::Older) {
+            1
+        } else {
+            0
+        },
+        clean_inactive: if is_asked(asks, number, Ask::Inactive) {
+            1
+        } else {
+            0
+        },
         lines: lines(asks, number),
         include_lines: none_or_one(alloc, is_asked(asks, number, Ask::Include))?,
         exclude_lines: none_or_one(alloc, is_asked(asks, number, Ask::Exclude))?,
@@ -145,6 +157,7 @@ pub fn settings(alloc: Global, inputs: usize, asks: &[(usize, Ask)]) -> Result<S
                 1
             },
             bulk_max_size: 2_048,
+            pipelining: 8,
             timeout: 30_000,
             attempts: 3,
         },

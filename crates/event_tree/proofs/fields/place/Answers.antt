@@ -1,6 +1,6 @@
 use Rattle.std.proofs.Common.{rules}
 use Rattle.std.proofs.lemmas.Fn.{always_returns_same}
-use Rattle.event_tree.specs.Keys.{compare}
+use Rattle.wire_base.specs.KeyOrder.{compare}
 use Rattle.event_tree.proofs.Entries.{found, absent}
 use Rattle.event_tree.proofs.fields.place.Goals as goal
 

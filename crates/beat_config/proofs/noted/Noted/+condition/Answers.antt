@@ -1,36 +1,34 @@
-use Rattle.std.proofs.Common.{◌≡◌, ◌+◌, ◌-◌, pos, ◌∷◌, [], Some, None, drop, sym, ap, ◌∙◌, subst, arith}
+use Rattle.std.proofs.Common.{◌≡◌, ◌+◌, ◌-◌, ◌∷◌, [], Some, None, drop, sym, ap, ◌∙◌, subst, arith}
 use Rattle.toml.specs.Data.{item, as_table, as_array}
 use Rattle.toml.specs.View.{view, items_view, table_view}
 use Rattle.toml.proofs.Views.{items_view-drop}
-use Rattle.beat_config.specs.declared.settings_error.SettingsError.TheVariants.{WrongKind, OutOfRange}
+use Rattle.beat_config.specs.declared.settings_error.SettingsError.TheVariants.{WrongKind}
 use Rattle.beat_config.specs.Conditions.{condition_findings, IsCondition, AreListed}
 use Rattle.beat_config.specs.Finding.{seen_of, note_all}
 use Rattle.beat_config.specs.Path.{member_path}
-use Rattle.beat_config.proofs.Conditions.{no_table, no_table_told, too_deep, too_deep_told, looked_into, looked_into_told}
+use Rattle.beat_config.proofs.Conditions.{no_level, no_level_told, no_table, no_table_told, looked_into, table_told}
 use Rattle.beat_config.proofs.Each.{each_told, each_more, each_all, none_left}
 use Rattle.beat_config.proofs.noted.Noted.+condition.Goals as goal
+
+pub condition-returns-then-levels-eq0-clause-value : goal.condition-returns-then-levels-eq0-clause-value
+condition-returns-then-levels-eq0-clause-value t c =
+    no_level c.args.levels (view c.args.value.now) c.no_condition.result c.if-levels-eq0.true
+
+pub condition-returns-then-levels-eq0-clause-findings : goal.condition-returns-then-levels-eq0-clause-findings
+unfolding note_all
+condition-returns-then-levels-eq0-clause-findings t c =
+    sym (ap (note_all (seen_of c.args.self.now)) (no_level_told c.args.levels c.args.key.now (view c.args.value.now) c.if-levels-eq0.true))
 
 pub condition-returns-in_default-clause-value : goal.condition-returns-in_default-clause-value
 condition-returns-in_default-clause-value t c =
     let none : as_table (view c.args.value.now) ≡ None = sym c.in_default.ensures in
-    no_table c.args.levels (view c.args.value.now) c.no_condition.result none
+    no_table c.args.levels (view c.args.value.now) c.no_condition-in_default.result none
 
 pub condition-returns-in_default-clause-findings : goal.condition-returns-in_default-clause-findings
 condition-returns-in_default-clause-findings t c =
     let none : as_table (view c.args.value.now) ≡ None = sym c.in_default.ensures in
-    c.fault.ensures ∙ ap (λ k. note_all (seen_of c.args.self.now) (WrongKind k ∷ [])) c.in_ok-key.ensures
-    ∙ ap (note_all (seen_of c.args.self.now)) (sym (no_table_told c.args.levels c.args.key.now (view c.args.value.now) none))
-
-pub condition-returns-then-levels-eq0-clause-value : goal.condition-returns-then-levels-eq0-clause-value
-condition-returns-then-levels-eq0-clause-value t c =
-    too_deep c.args.levels (view c.args.value.now) c.no_condition-then-levels-eq0.result c.if-levels-eq0.true
-
-pub condition-returns-then-levels-eq0-clause-findings : goal.condition-returns-then-levels-eq0-clause-findings
-condition-returns-then-levels-eq0-clause-findings t c =
-    let found : as_table (view c.args.value.now) ≡ Some (table_view c.in-Some.table.now) = sym c.in-Some.ensures in
-    c.fault-then-levels-eq0.ensures ∙ ap (λ k. note_all (seen_of c.args.self.now) (OutOfRange k (pos 17) ∷ [])) c.in_ok-at.ensures
-    ∙ ap (note_all (seen_of c.args.self.now))
-    (sym (too_deep_told c.args.levels c.args.key.now (view c.args.value.now) (table_view c.in-Some.table.now) c.if-levels-eq0.true found))
+    let wrong = c.fault.ensures ∙ ap (λ k. note_all (seen_of c.check_depth.new.self) (WrongKind k ∷ [])) c.in_ok-key.ensures in
+    no_table_told c.args.levels (c.args.levels - 1) c.args.key.now (view c.args.value.now) _ _ _ (omega arith) none c.in_ok-check_depth.ensures wrong
 
 pub condition-returns-clause-value : goal.condition-returns-clause-value
 condition-returns-clause-value t c =
@@ -41,8 +39,8 @@ condition-returns-clause-value t c =
 pub condition-returns-clause-findings : goal.condition-returns-clause-findings
 condition-returns-clause-findings t c =
     let found : as_table (view c.args.value.now) ≡ Some (table_view c.in-Some.table.now) = sym c.in-Some.ensures in
-    let told = looked_into_told c.args.levels (c.args.levels - 1) c.args.key.now (view c.args.value.now) (table_view c.in-Some.table.now) (omega arith) found in
-    c.in_ok-rule.ensures.findings ∙ ap (note_all (seen_of c.args.self.now)) (sym told)
+    table_told c.args.levels (c.args.levels - 1) c.args.key.now (view c.args.value.now) (table_view c.in-Some.table.now) _ _ _
+    (omega arith) found c.in_ok-check_depth.ensures c.in_ok-rule.ensures.findings
 
 pub condition_items-loop-number-preserved : goal.condition_items-loop-number-preserved
 condition_items-loop-number-preserved t c =

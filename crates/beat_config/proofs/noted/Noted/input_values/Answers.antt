@@ -21,9 +21,11 @@ returns-clause-value c =
       id = id i;
       paths = paths i;
       file_identity = c.in_ok-file_identity.ensures.value i;
-      check_interval = c.in_ok-check_interval.ensures.value i;
+      check_interval = (c.in_ok-times.ensures.value i).check_interval;
       clean_removed = c.in_ok-clean_removed.ensures.value i;
-      close_inactive = c.in_ok-close_inactive.ensures.value i;
+      close_inactive = (c.in_ok-times.ensures.value i).close_inactive;
+      ignore_older = (c.in_ok-times.ensures.value i).ignore_older;
+      clean_inactive = (c.in_ok-times.ensures.value i).clean_inactive;
       lines = record { terminator = terminator i; message_max_bytes = most i };
       include_lines = included i;
       exclude_lines = excluded i;
@@ -38,8 +40,8 @@ pub returns-clause-findings : goal.returns-clause-findings
 unfolding input_value_findings
 returns-clause-findings c =
     then _ _ _ _ _ c.in_ok-id.ensures.findings (then _ _ _ _ _ c.in_ok-paths.ensures.findings
-    (then _ _ _ _ _ c.in_ok-file_identity.ensures.findings (then _ _ _ _ _ c.in_ok-check_interval.ensures.findings
-    (then _ _ _ _ _ c.in_ok-clean_removed.ensures.findings (then _ _ _ _ _ c.in_ok-close_inactive.ensures.findings
+    (then _ _ _ _ _ c.in_ok-file_identity.ensures.findings (then _ _ _ _ _ c.in_ok-times.ensures.findings
+    (then _ _ _ _ _ c.in_ok-clean_removed.ensures.findings
     (then _ _ _ _ _ c.in_ok-terminator.ensures.findings (then _ _ _ _ _ c.in_ok-message_max_bytes.ensures.findings
     (then _ _ _ _ _ c.in_ok-include_lines.ensures.findings (then _ _ _ _ _ c.in_ok-exclude_lines.ensures.findings
-    c.in_ok-multiline.ensures.findings)))))))))
+    c.in_ok-multiline.ensures.findings))))))))

@@ -1,6 +1,5 @@
 use Rattle.std.proofs.Common.{sym}
-use Rattle.event_tree.proofs.Entries.{find_entry}
-use Rattle.event_tree.proofs.Places.{find_gap}
+use Rattle.event_tree.proofs.Entries.{find_entry, find_gap}
 use Rattle.event_tree.proofs.fields.Fields.get.Goals as goal
 
 pub returns-in-Ok : goal.returns-in-Ok
@@ -9,4 +8,4 @@ returns-in-Ok c =
 
 pub returns-in-Err : goal.returns-in-Err
 returns-in-Err c =
-    rw (← c.self.view_is) (sym (find_gap _ _ _ (rw c.deref.ensures.value at c.in-Err.ensures.absent)))
+    rw (← c.self.view_is) (sym (find_gap _ c.self.invariant _ _ (rw c.deref.ensures.value at c.in-Err.ensures.absent)))

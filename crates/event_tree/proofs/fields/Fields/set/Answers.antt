@@ -1,5 +1,6 @@
 use Rattle.std.proofs.Common.{sym, subst, ap, ◌∙◌}
-use Rattle.event_tree.specs.Keys.{IsInOrder, find}
+use Rattle.wire_base.specs.KeyOrder.{IsInOrder}
+use Rattle.event_tree.specs.Keys.{key_of, find}
 use Rattle.event_tree.specs.Tree.{value_of}
 use Rattle.event_tree.proofs.Entries.{set_entry, insert_entry, insert_kept}
 use Rattle.event_tree.proofs.Edits.{in_order-set, find-set, find-set_not}
@@ -9,7 +10,7 @@ use Rattle.event_tree.proofs.fields.Fields.set.Goals.{in-Ok-insert, in-Err-inser
 -- the key was there, and its pair is written over
 pub invariant_of-self : goal.invariant_of-self
 invariant_of-self c =
-    subst IsInOrder (sym (set_entry _ c.self.invariant _ _ _ c.args.value (rw c.deref.ensures.value at c.in-Ok.ensures.found) c.index_mut.ensures.value)) (in_order-set _ _ _ c.self.invariant)
+    subst (IsInOrder key_of) (sym (set_entry _ c.self.invariant _ _ _ c.args.value (rw c.deref.ensures.value at c.in-Ok.ensures.found) c.index_mut.ensures.value)) (in_order-set _ _ _ c.self.invariant)
 
 pub returns-in-Ok-clause-set : goal.returns-in-Ok-clause-set
 returns-in-Ok-clause-set c =

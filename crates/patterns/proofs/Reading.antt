@@ -1,5 +1,5 @@
--- What the crate of the regular expressions answers is whether a text is a pattern.
-use Rattle.std.proofs.Common.{◌≡◌, ◌<◌, ◌≤◌, ℕ, true, false, List, Option, Some, None, sym, ap, ◌∙◌, inl, inr, subst, string_bytes, refl}
+-- What the parser answers is whether a text is a pattern.
+use Rattle.std.proofs.Common.{◌≡◌, ◌<◌, ◌≤◌, ◌≢◌, ℕ, true, false, List, Option, Some, None, ap, inl, inr, refl}
 use Rattle.std.specs.Option.{IsSomeAnd, IfSome}
 use Rattle.std.specs.Prelude.{chars}
 use Rattle.std.proofs.lemmas.Bool.{le-leb, lt-leb}
@@ -11,20 +11,14 @@ use Rattle.regex_syntax.specs.Verdict.{Reads, Refuses}
 use Rattle.regex_syntax.specs.declared.Config.{Config}
 use Rattle.regex_syntax.specs.declared.error.ErrorKind.{ErrorKind}
 use Rattle.regex_syntax.specs.declared.error.ErrorKind.TheVariants.{OutOfMemory}
-use Rattle.regex.specs.Failures.{IsRightKind}
-use Rattle.regex.specs.Names.{names_of}
-use Rattle.regex.specs.Sources.{IsRead, IsRefusal}
-use Rattle.regex.specs.declared.error.Error.{Error}
-use Rattle.regex.specs.declared.error.Error.TheVariants.{Syntax}
-use Rattle.regex.specs.declared.pattern.Pattern.{Pattern}
-use Rattle.regex_syntax.specs.declared.error.Error as parser
-use Rattle.beat_config.specs.Pattern.{is_within, is_pattern}
+use Rattle.patterns.specs.Pattern.{is_within, is_pattern}
 
 within_of : (limit : ℕ) (found : Option (Nested Re × Names)) (P : Nested Re × Names → Type 0)
     → ((x : Nested Re × Names) → P x → x.0.depth ≤ limit) → IsSomeAnd found P → is_within limit found ≡ true
 within_of limit None P small h = absurd h
 within_of limit (Some x) P small h = le-leb x.0.depth limit (small x h)
 
+-- what the parser reads is a pattern
 pub read_pattern : (config : Config) (text : List ℕ) (hir : Hir) (names : Names) → Reads config text hir names → is_pattern config text ≡ true
 unfolding Reads is_pattern
 read_pattern config text hir names h = within_of config.nest_limit (read config (chars text)) _ (λ x p. p.0) h
@@ -33,16 +27,9 @@ beyond_of : (limit : ℕ) (found : Option (Nested Re × Names)) → IfSome found
 beyond_of limit None h = refl
 beyond_of limit (Some x) h = lt-leb x.0.depth limit h
 
-pub refused_pattern : (config : Config) (text : List ℕ) (kind : ErrorKind) → Refuses config text kind → (kind ≡ OutOfMemory → ⊥) → is_pattern config text ≡ false
+-- what it refuses is none, unless memory ran out
+pub refused_pattern : (config : Config) (text : List ℕ) (kind : ErrorKind) → Refuses config text kind → kind ≢ OutOfMemory → is_pattern config text ≡ false
 unfolding Refuses is_pattern
 refused_pattern config text kind (inl memory) other = absurd (other memory)
 refused_pattern config text kind (inr (inl none)) other = ap (is_within config.nest_limit) none
 refused_pattern config text kind (inr (inr deep)) other = beyond_of config.nest_limit (read config (chars text)) deep.1
-
--- a compiled pattern is one
-pub taken : (config : Config) (text : List ℕ) (p : Pattern) → p.config ≡ config → string_bytes p.source ≡ text → IsRead p → is_pattern config text ≡ true
-taken config text p opts same is = sym (λ i. is_pattern (opts i) (same i)) ∙ read_pattern p.config (string_bytes p.source) p.program.hir (names_of p.names.items) is
-
--- a text that is refused for its syntax is none
-pub refused : (config : Config) (text : List ℕ) (error : Error) (e : parser.Error) → error ≡ Syntax e → IsRefusal config text error → IsRightKind config text error → is_pattern config text ≡ false
-refused config text error e is h kind = refused_pattern config text e.kind (h e is) (subst (λ x. IsRightKind config text x) is kind)
