@@ -8,8 +8,9 @@ use Rattle.std.specs.declared.cmp.Ordering.TheVariants.{Less, Equal, Greater}
 use Rattle.std.specs.declared.vec.IntoIter.{IntoIter}
 use Rattle.wire_base.specs.declared.row.Row.{Row}
 use Rattle.ship_core.specs.Replay.{with_row}
-use Rattle.ship_core.specs.Rows.{IsBefore, IsInOrder, compare}
-use Rattle.beat_run.proofs.ByteOrder.{compare_greater}
+use Rattle.ship_core.specs.Rows.{IsBefore, IsInOrder}
+use Rattle.wire_base.proofs.ByteOrder.{compare_greater}
+use Rattle.wire_base.specs.KeyOrder.{compare}
 
 -- what a vector's iterator gave is a front of its items
 pub taken_front : {X A : Type 0} (s : IntoIter X A) (xs : List X) (t : IntoIter X A) → Yields into_iter_steps s xs t → into_iter_items s ≡ xs ++ into_iter_items t

@@ -1,14 +1,15 @@
 -- Which ends stored what was noted, and which came before; and what is so of a status that was printed in another's place.
-use Rattle.std.proofs.Common.{◌≡◌, ◌⊎◌, ◌∙◌, inl, inr, ℕ, List, Option, Some, None, Result, Ok, Err, IfErr, IfSome, IsErrOf, ap, sym, subst}
+use Rattle.std.proofs.Common.{◌≡◌, ◌⊎◌, ◌∙◌, inl, inr, ℕ, List, Option, Some, None, Result, Ok, Err, IfErr, IfOk, IfSome, IsErrOf, ap, sym, subst}
 use Rattle.report.specs.declared.status.Lack.{Lack}
 use Rattle.report.specs.declared.status.Lack.TheVariants.{Byte, Life, Key, Follow, Generate}
 use Rattle.report.specs.declared.status.Status.{Status}
-use Rattle.report.specs.declared.status.Status.TheVariants.{Done, Usage, Settings as SettingsFault, RegistryBad, DiskFault, FolderFault, Unreachable, OutFault, SourceFault, TooMany, NoMemory, Unbuilt}
+use Rattle.report.specs.declared.status.Status.TheVariants.{Done, Stopped, Usage, Settings as SettingsFault, RegistryBad, DiskFault, FolderFault, Unreachable, OutFault, SourceFault, TooMany, NoNative, NoMemory, Unbuilt}
 use Rattle.beat_run.specs.Asked.{IsAsked}
-use Rattle.beat_run.specs.Ends.{HasStored, IsHarvestEnd, IsPreparingEnd, IsStoringEnd}
+use Rattle.beat_run.specs.Ends.{HasStored, IsHarvestEnd, IsPreparingEnd, IsPrintingEnd, IsRefusal, IsRunEnd, IsStoringEnd, IsToCome}
 
 pub not_stored_preparing : (source source_now area area_now : ℕ) (status : Status) (P : Type 0) → IsPreparingEnd source source_now area area_now status → HasStored status → P
 not_stored_preparing source source_now area area_now Done P ends stored = absurd ends
+not_stored_preparing source source_now area area_now Stopped P ends stored = absurd stored
 not_stored_preparing source source_now area area_now Usage P ends stored = absurd stored
 not_stored_preparing source source_now area area_now (SettingsFault fault) P ends stored = absurd stored
 not_stored_preparing source source_now area area_now (RegistryBad which at) P ends stored = absurd stored
@@ -18,6 +19,7 @@ not_stored_preparing source source_now area area_now (Unreachable worker failure
 not_stored_preparing source source_now area area_now OutFault P ends stored = absurd stored
 not_stored_preparing source source_now area area_now SourceFault P ends stored = absurd stored
 not_stored_preparing source source_now area area_now (TooMany what path) P ends stored = absurd ends
+not_stored_preparing source source_now area area_now (NoNative path) P ends stored = absurd stored
 not_stored_preparing source source_now area area_now NoMemory P ends stored = absurd stored
 not_stored_preparing source source_now area area_now (Unbuilt (Byte at)) P ends stored = absurd ends
 not_stored_preparing source source_now area area_now (Unbuilt Life) P ends stored = absurd ends
@@ -27,6 +29,7 @@ not_stored_preparing source source_now area area_now (Unbuilt Generate) P ends s
 
 pub not_stored_storing : (before now : ℕ) (status : Status) (P : Type 0) → IsStoringEnd before now status → HasStored status → P
 not_stored_storing before now Done P ends stored = absurd ends
+not_stored_storing before now Stopped P ends stored = absurd stored
 not_stored_storing before now Usage P ends stored = absurd stored
 not_stored_storing before now (SettingsFault fault) P ends stored = absurd stored
 not_stored_storing before now (RegistryBad which at) P ends stored = absurd stored
@@ -36,6 +39,7 @@ not_stored_storing before now (Unreachable worker failures) P ends stored = absu
 not_stored_storing before now OutFault P ends stored = absurd stored
 not_stored_storing before now SourceFault P ends stored = absurd stored
 not_stored_storing before now (TooMany what path) P ends stored = absurd ends
+not_stored_storing before now (NoNative path) P ends stored = absurd stored
 not_stored_storing before now NoMemory P ends stored = absurd stored
 not_stored_storing before now (Unbuilt (Byte at)) P ends stored = absurd ends
 not_stored_storing before now (Unbuilt Life) P ends stored = absurd ends
@@ -47,6 +51,103 @@ not_stored_storing before now (Unbuilt Generate) P ends stored = absurd stored
 pub stored_still : (faulted : Type 0) (status printed : Status) (P : Type 0) → ((printed ≡ status) ⊎ ((printed ≡ OutFault) × faulted)) → (HasStored status → P) → HasStored printed → P
 stored_still faulted status printed P (inl same) holds stored = holds (subst HasStored same stored)
 stored_still faulted status printed P (inr out) holds stored = absurd (subst HasStored out.0 stored)
+
+-- a run that was done was not refused, whatever became of its report
+pub not_refused_printing : (before now : ℕ) (status : Status) (P : Type 0) → IsPrintingEnd before now status → IsRefusal status → P
+not_refused_printing before now Done P ends refused = absurd refused
+not_refused_printing before now Stopped P ends refused = absurd ends
+not_refused_printing before now Usage P ends refused = absurd ends
+not_refused_printing before now (SettingsFault fault) P ends refused = absurd ends
+not_refused_printing before now (RegistryBad which at) P ends refused = absurd ends
+not_refused_printing before now DiskFault P ends refused = absurd ends
+not_refused_printing before now FolderFault P ends refused = absurd ends
+not_refused_printing before now (Unreachable worker failures) P ends refused = absurd ends
+not_refused_printing before now OutFault P ends refused = absurd refused
+not_refused_printing before now SourceFault P ends refused = absurd ends
+not_refused_printing before now (TooMany what path) P ends refused = absurd ends
+not_refused_printing before now (NoNative path) P ends refused = absurd ends
+not_refused_printing before now NoMemory P ends refused = absurd refused
+not_refused_printing before now (Unbuilt what) P ends refused = absurd ends
+
+not_refused_harvest : (folder folder_now area area_now : ℕ) (status : Status) (P : Type 0) → IsHarvestEnd folder folder_now area area_now status → IsRefusal status → P
+not_refused_harvest folder folder_now area area_now Done P ends refused = absurd ends
+not_refused_harvest folder folder_now area area_now Stopped P ends refused = absurd ends
+not_refused_harvest folder folder_now area area_now Usage P ends refused = absurd ends
+not_refused_harvest folder folder_now area area_now (SettingsFault fault) P ends refused = absurd ends
+not_refused_harvest folder folder_now area area_now (RegistryBad which at) P ends refused = absurd ends
+not_refused_harvest folder folder_now area area_now DiskFault P ends refused = absurd refused
+not_refused_harvest folder folder_now area area_now FolderFault P ends refused = absurd refused
+not_refused_harvest folder folder_now area area_now (Unreachable worker failures) P ends refused = absurd refused
+not_refused_harvest folder folder_now area area_now OutFault P ends refused = absurd ends
+not_refused_harvest folder folder_now area area_now SourceFault P ends refused = absurd ends
+not_refused_harvest folder folder_now area area_now (TooMany what path) P ends refused = absurd refused
+not_refused_harvest folder folder_now area area_now (NoNative path) P ends refused = absurd ends
+not_refused_harvest folder folder_now area area_now NoMemory P ends refused = absurd refused
+not_refused_harvest folder folder_now area area_now (Unbuilt (Byte at)) P ends refused = absurd refused
+not_refused_harvest folder folder_now area area_now (Unbuilt Life) P ends refused = absurd refused
+not_refused_harvest folder folder_now area area_now (Unbuilt (Key key)) P ends refused = absurd ends
+not_refused_harvest folder folder_now area area_now (Unbuilt Follow) P ends refused = absurd ends
+not_refused_harvest folder folder_now area area_now (Unbuilt Generate) P ends refused = absurd ends
+
+-- a run that followed files was not refused
+pub never_refused_harvest : {T : Type 0} (folder folder_now area area_now : ℕ) (result : Result T Status) (P : Type 0) → IfErr result (IsHarvestEnd folder folder_now area area_now) → IfErr result (λ status. IsRefusal status → P)
+never_refused_harvest folder folder_now area area_now (Ok done) P ends = tt
+never_refused_harvest folder folder_now area area_now (Err status) P ends = not_refused_harvest folder folder_now area area_now status P ends
+
+-- what is so whatever the answer is
+pub so_if_done : {T : Type 0} (result : Result T Status) (P : Type 0) → P → IfOk result (λ _. P)
+so_if_done (Ok done) P so = so
+so_if_done (Err status) P so = tt
+
+pub so_if_stored : {T : Type 0} (result : Result T Status) (P : Type 0) → P → IfErr result (λ status. HasStored status → P)
+so_if_stored (Ok done) P so = tt
+so_if_stored (Err status) P so = λ stored. so
+
+-- a run that printed another status than it met was not refused
+pub refused_still : (faulted : Type 0) (status printed : Status) (P : Type 0) → ((printed ≡ status) ⊎ ((printed ≡ OutFault) × faulted)) → (IsRefusal status → P) → IsRefusal printed → P
+refused_still faulted status printed P (inl same) holds refused = holds (subst IsRefusal same refused)
+refused_still faulted status printed P (inr out) holds refused = absurd (subst IsRefusal out.0 refused)
+
+-- ---- statuses that are still to come
+
+never_printing : (before now : ℕ) (status : Status) → IsToCome status → IsPrintingEnd before now status → ⊥
+never_printing before now Done to_come ends = to_come
+never_printing before now Stopped to_come ends = ends
+never_printing before now Usage to_come ends = to_come
+never_printing before now (SettingsFault fault) to_come ends = to_come
+never_printing before now (RegistryBad which at) to_come ends = to_come
+never_printing before now DiskFault to_come ends = to_come
+never_printing before now FolderFault to_come ends = to_come
+never_printing before now (Unreachable worker failures) to_come ends = to_come
+never_printing before now OutFault to_come ends = to_come
+never_printing before now SourceFault to_come ends = to_come
+never_printing before now (TooMany what path) to_come ends = to_come
+never_printing before now (NoNative path) to_come ends = ends
+never_printing before now NoMemory to_come ends = to_come
+never_printing before now (Unbuilt what) to_come ends = to_come
+
+never_ending : (status : Status) → IsToCome status → IsRunEnd status → ⊥
+never_ending Done to_come ends = to_come
+never_ending Stopped to_come ends = ends
+never_ending Usage to_come ends = to_come
+never_ending (SettingsFault fault) to_come ends = to_come
+never_ending (RegistryBad which at) to_come ends = to_come
+never_ending DiskFault to_come ends = to_come
+never_ending FolderFault to_come ends = to_come
+never_ending (Unreachable worker failures) to_come ends = to_come
+never_ending OutFault to_come ends = to_come
+never_ending SourceFault to_come ends = to_come
+never_ending (TooMany what path) to_come ends = to_come
+never_ending (NoNative path) to_come ends = ends
+never_ending NoMemory to_come ends = to_come
+never_ending (Unbuilt what) to_come ends = to_come
+
+pub never_to_come_printing : (before now : ℕ) (status : Status) → IsPrintingEnd before now status → ¬ (IsToCome status)
+never_to_come_printing before now status ends = λ to_come. never_printing before now status to_come ends
+
+pub never_to_come : (faulted : Type 0) (status printed : Status) → IsRunEnd status → ((printed ≡ status) ⊎ ((printed ≡ OutFault) × faulted)) → ¬ (IsToCome printed)
+never_to_come faulted status printed ends (inl same) = λ to_come. never_ending status (subst IsToCome same to_come) ends
+never_to_come faulted status printed ends (inr out) = λ to_come. subst IsToCome out.0 to_come
 
 -- what is so of the status, and of a fault of the sink, is so of what was printed
 pub printed_so : (faulted : Type 0) (status printed : Status) (P : Status → Type 0) → ((printed ≡ status) ⊎ ((printed ≡ OutFault) × faulted)) → P status → P OutFault → P printed

@@ -17,12 +17,12 @@ use Rattle.prospect.specs.Lacks.{IsFirstLack, lacks_of, lacks_of_inputs, unless_
 use Rattle.wire_base.specs.KeyOrder.{compare}
 use Rattle.report.specs.declared.status.Lack.TheVariants.{Byte, Life, Key, Follow, Generate}
 use Rattle.report.specs.declared.status.Status.{Status}
-use Rattle.report.specs.declared.status.Status.TheVariants.{Done, Usage, Settings as SettingsFault, RegistryBad, DiskFault, FolderFault, Unreachable, OutFault, SourceFault, TooMany, NoMemory, Unbuilt}
+use Rattle.report.specs.declared.status.Status.TheVariants.{Done, Stopped, Usage, Settings as SettingsFault, RegistryBad, DiskFault, FolderFault, Unreachable, OutFault, SourceFault, TooMany, NoNative, NoMemory, Unbuilt}
 use Rattle.toml.specs.Data.{Data, Items, no_items, item, as_array}
 use Rattle.beat_run.specs.declared.settings.TheConstants.{LIMIT}
 use Rattle.beat_run.specs.Ends.{IsLackEnd, IsSettingsEnd, RefusesKey}
 use Rattle.beat_run.specs.Named.{IsNamed}
-use Rattle.beat_run.proofs.ByteOrder.{neither_before}
+use Rattle.wire_base.proofs.ByteOrder.{neither_before}
 
 -- ---- settings of the same bytes
 
@@ -76,6 +76,7 @@ no_first_lack settings other key none same first =
 -- what is so of each status that ends the reading of the settings
 settings_cases : (before now : ℕ) (P : Status → Type 0) → P SourceFault → P NoMemory → ((fault : SettingsError) → P (SettingsFault fault)) → (status : Status) → IsSettingsEnd before now status → P status
 settings_cases before now P source memory settings Done ends = absurd ends
+settings_cases before now P source memory settings Stopped ends = absurd ends
 settings_cases before now P source memory settings Usage ends = absurd ends
 settings_cases before now P source memory settings (SettingsFault fault) ends = settings fault
 settings_cases before now P source memory settings (RegistryBad area at) ends = absurd ends
@@ -85,12 +86,14 @@ settings_cases before now P source memory settings (Unreachable worker failures)
 settings_cases before now P source memory settings OutFault ends = absurd ends
 settings_cases before now P source memory settings SourceFault ends = source
 settings_cases before now P source memory settings (TooMany what path) ends = absurd ends
+settings_cases before now P source memory settings (NoNative path) ends = absurd ends
 settings_cases before now P source memory settings NoMemory ends = memory
 settings_cases before now P source memory settings (Unbuilt what) ends = absurd ends
 
 -- and of each that ends the look for what is not built
 lack_cases : (P : Status → Type 0) → P NoMemory → ((key : List ℕ) → P (Unbuilt (Key key))) → (status : Status) → IsLackEnd status → P status
 lack_cases P memory by_key Done ends = absurd ends
+lack_cases P memory by_key Stopped ends = absurd ends
 lack_cases P memory by_key Usage ends = absurd ends
 lack_cases P memory by_key (SettingsFault fault) ends = absurd ends
 lack_cases P memory by_key (RegistryBad area at) ends = absurd ends
@@ -100,6 +103,7 @@ lack_cases P memory by_key (Unreachable worker failures) ends = absurd ends
 lack_cases P memory by_key OutFault ends = absurd ends
 lack_cases P memory by_key SourceFault ends = absurd ends
 lack_cases P memory by_key (TooMany what path) ends = absurd ends
+lack_cases P memory by_key (NoNative path) ends = absurd ends
 lack_cases P memory by_key NoMemory ends = memory
 lack_cases P memory by_key (Unbuilt (Byte at)) ends = absurd ends
 lack_cases P memory by_key (Unbuilt Life) ends = absurd ends

@@ -13,7 +13,8 @@ use Rattle.beat_run.specs.Events.{IsGiven, with_payload}
 use Rattle.beat_run.specs.Fate.{payload_of_fate}
 use Rattle.beat_run.specs.Followed.{IsUnopened}
 use Rattle.beat_run.specs.Following.{FollowsAll, FollowsSome, HasFollowed, HasStopped}
-use Rattle.beat_run.specs.Harvest.{AreWhole, Harvest, IsHarvest, IsWhole, Missed, Read, events_from, events_of, member_of, missed_in, row_of, rows_in, settled_in, told_in}
+use Rattle.report.specs.declared.passing.Passing.{Passing}
+use Rattle.beat_run.specs.Harvest.{AreWhole, Harvest, IsHarvest, IsWhole, Missed, Read, events_from, events_of, gone, member_of, missed_in, row_of, rows_in, settled_in, told_in}
 use Rattle.beat_run.specs.Kept.{AreTold, HasFate, ToldEvent, dropped_among, payloads_in}
 use Rattle.beat_run.specs.Run.{StopsLast, counted}
 use Rattle.beat_run.specs.Serving.{HasServed, HasSettled}
@@ -46,7 +47,7 @@ rows_behind (Read member reading ∷ before) one = ap (λ (l : List Row). row_of
 
 missed_behind : (before : List Harvest) (one : Harvest) → missed_in (before ++ one ∷ []) ≡ missed_in before ++ missed_in (one ∷ [])
 missed_behind [] one = refl
-missed_behind (Missed member ∷ before) one = ap (λ (l : List (List ℕ)). member.path ∷ l) (missed_behind before one)
+missed_behind (Missed member ∷ before) one = ap (λ (l : List Passing). gone member.path ∷ l) (missed_behind before one)
 missed_behind (Read member reading ∷ before) one = missed_behind before one
 
 told_behind : (before : List Harvest) (one : Harvest) → told_in (before ++ one ∷ []) ≡ told_in before ++ told_in (one ∷ [])
@@ -184,7 +185,7 @@ one_more told listed older newer link after noted now before one history folder 
         whole = all_behind IsWhole before one followed.whole whole;
         trace = trace_behind listed history folder before one followed.trace trace;
         rows = rows ∙ ap (λ (l : List Row). l ++ rows_in (one ∷ [])) followed.rows ∙ sym (rows_behind before one);
-        missed = missed ∙ ap (λ (l : List (List ℕ)). l ++ missed_in (one ∷ [])) followed.missed ∙ sym (missed_behind before one);
+        missed = missed ∙ ap (λ (l : List Passing). l ++ missed_in (one ∷ [])) followed.missed ∙ sym (missed_behind before one);
         settled = subst S (sym payloads) settled;
         shipped = counted_more noted.shipped shipped now.shipped (length (payloads_in (told_in before))) (length (payloads_in (told_in (one ∷ [])))) _ followed.shipped shipped_are shipped_now
             (ap length payloads ∙ length-append (payloads_in (told_in before)) (payloads_in (told_in (one ∷ []))));
@@ -270,7 +271,7 @@ counted_still before now earlier is same = omega (arith, is, same)
 -- the file was gone
 pub missed_more : {L : Type 0} (told : L → Option Talk) (listed : FolderHistory) (moments : Option (List ℕ)) (link : Option L) (noted now : Noted) (before : List Harvest) (member : Member) (start folder : Option FolderHistory) →
     HasFollowed told listed moments link noted before start → IfSome start (λ history. folder ≡ Some (with_event history (NotThere member.path))) →
-    now.rows.items ≡ noted.rows.items → now.missed.items ≡ noted.missed.items ++ member.path ∷ [] → now.shipped ≡ noted.shipped → now.dropped ≡ noted.dropped →
+    now.rows.items ≡ noted.rows.items → now.missed.items ≡ noted.missed.items ++ gone member.path ∷ [] → now.shipped ≡ noted.shipped → now.dropped ≡ noted.dropped →
     FollowsAll told listed moments link now before (member ∷ []) folder
 missed_more told listed moments link noted now before member None folder followed gone rows missed shipped dropped = absurd (none_is_told listed (events_from (length listed.events) before) followed.trace)
 missed_more told listed moments link noted now before member (Some history) folder followed gone rows missed shipped dropped =

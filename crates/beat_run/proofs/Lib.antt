@@ -1,5 +1,5 @@
 mod Appending
-mod ByteOrder
+mod Crashes
 mod Ended
 mod Endings
 mod EventLines
@@ -17,7 +17,6 @@ mod Orders
 mod Partings
 mod Payloads
 mod PieceReads
-mod Placings
 mod Printings
 mod Progresses
 mod Readings

@@ -7,7 +7,7 @@ use Rattle.outside.specs.declared.history.Sight.{Sight}
 use Rattle.outside.specs.Folders.{Event, FolderHistory, TellsOpening, with_event}
 use Rattle.outside.specs.Tails.{TailHistory}
 use Rattle.report.specs.declared.status.Status.{Status}
-use Rattle.report.specs.declared.status.Status.TheVariants.{Done, Usage, Settings as SettingsFault, RegistryBad, DiskFault, FolderFault, Unreachable, OutFault, SourceFault, TooMany, NoMemory as NoMemoryLeft, Unbuilt}
+use Rattle.report.specs.declared.status.Status.TheVariants.{Done, Stopped, Usage, Settings as SettingsFault, RegistryBad, DiskFault, FolderFault, Unreachable, OutFault, SourceFault, TooMany, NoNative, NoMemory as NoMemoryLeft, Unbuilt}
 use Rattle.beat_run.specs.Ends.{IsFindingEnd}
 use Rattle.beat_run.specs.Followed.{IsNoOpening, IsUnopened}
 use Rattle.beat_run.specs.Unbuilt.{StopsUnopened}
@@ -33,6 +33,7 @@ opening_fails tail_told numbers (Some told) states present path NoMemory after t
 -- an opening stops for no file's bytes
 pub finding_stops : (before now : ℕ) (status : Status) → IsFindingEnd before now status → StopsUnopened status
 finding_stops before now Done ends = tt
+finding_stops before now Stopped ends = tt
 finding_stops before now Usage ends = tt
 finding_stops before now (SettingsFault fault) ends = tt
 finding_stops before now (RegistryBad area at) ends = tt
@@ -42,5 +43,6 @@ finding_stops before now (Unreachable worker failures) ends = absurd ends
 finding_stops before now OutFault ends = tt
 finding_stops before now SourceFault ends = tt
 finding_stops before now (TooMany what path) ends = tt
+finding_stops before now (NoNative path) ends = tt
 finding_stops before now NoMemoryLeft ends = tt
 finding_stops before now (Unbuilt what) ends = absurd ends

@@ -3,7 +3,7 @@ use Rattle.std.proofs.Common.{◌≡◌, ℕ, List, [], ◌++◌, Option, Some, 
 use Rattle.outside.specs.Talks.{Talk}
 use Rattle.outside.specs.Wires.{Outcome}
 use Rattle.report.specs.declared.status.Status.{Status}
-use Rattle.report.specs.declared.status.Status.TheVariants.{Done, Usage, Settings as SettingsFault, RegistryBad, DiskFault, FolderFault, Unreachable, OutFault, SourceFault, TooMany, NoMemory, Unbuilt}
+use Rattle.report.specs.declared.status.Status.TheVariants.{Done, Stopped, Usage, Settings as SettingsFault, RegistryBad, DiskFault, FolderFault, Unreachable, OutFault, SourceFault, TooMany, NoNative, NoMemory, Unbuilt}
 use Rattle.beat_run.specs.Ends.{IsReadingEnd}
 use Rattle.beat_run.specs.Standing.{Blames, GoesOnRefused, IsParted, IsStanding}
 
@@ -20,6 +20,7 @@ none_refused (Some list) outcomes same = ([], (tt, same_list))
 pub reading_blames : {L : Type 0} (told : L → Option Talk) (link_faults : L → ℕ) (timeout : ℕ) (moments : Option (List ℕ)) (start outcomes : Option (List Outcome)) (faults : ℕ) (link : Option L) (before now : ℕ) (status : Status) →
     IsReadingEnd before now status → Blames told link_faults timeout moments start outcomes faults link status
 reading_blames told link_faults timeout moments start outcomes faults link before now Done ends = tt
+reading_blames told link_faults timeout moments start outcomes faults link before now Stopped ends = tt
 reading_blames told link_faults timeout moments start outcomes faults link before now Usage ends = tt
 reading_blames told link_faults timeout moments start outcomes faults link before now (SettingsFault fault) ends = tt
 reading_blames told link_faults timeout moments start outcomes faults link before now (RegistryBad area at) ends = tt
@@ -29,6 +30,7 @@ reading_blames told link_faults timeout moments start outcomes faults link befor
 reading_blames told link_faults timeout moments start outcomes faults link before now OutFault ends = tt
 reading_blames told link_faults timeout moments start outcomes faults link before now SourceFault ends = tt
 reading_blames told link_faults timeout moments start outcomes faults link before now (TooMany what path) ends = tt
+reading_blames told link_faults timeout moments start outcomes faults link before now (NoNative path) ends = tt
 reading_blames told link_faults timeout moments start outcomes faults link before now NoMemory ends = tt
 reading_blames told link_faults timeout moments start outcomes faults link before now (Unbuilt what) ends = tt
 

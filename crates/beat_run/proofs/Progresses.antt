@@ -7,7 +7,7 @@ use Rattle.wire_base.specs.declared.note.Note.{Note}
 use Rattle.wire_base.specs.declared.note.Note.TheVariants.{Settle}
 use Rattle.ship_core.specs.OneLife.{settles}
 use Rattle.beat_run.specs.declared.progress.Progress.{Progress}
-use Rattle.beat_run.specs.declared.progress.TheConstants.{SLOT, EPOCH}
+use Rattle.beat_run.specs.declared.progress.TheConstants.{SLOT, EPOCH, CHANGED}
 use Rattle.beat_run.specs.declared.waiting.Waiting.{Waiting}
 use Rattle.beat_run.specs.Events.{acknowledged_by, dropped_by, settlements_in}
 use Rattle.beat_run.specs.Progress.{IsDoneBy, SettlesFirst}
@@ -26,7 +26,7 @@ pub one_settled : (key path : List ℕ) (old new : Progress) (settled : List Wai
 one_settled key path old new settled line notes shipped dropped done = record {
   notes = notes
       ∙ ap (λ (l : List Note). l ++ Settle SLOT EPOCH line.span line.cause ∷ []) done.notes
-      ∙ ap (λ (l : List Note). Rattle.wire_base.specs.declared.note.Note.TheVariants.Begin SLOT key path EPOCH 0 ∷ l) (sym (settles-snoc settled line));
+      ∙ ap (λ (l : List Note). Rattle.wire_base.specs.declared.note.Note.TheVariants.Begin SLOT key path EPOCH 0 CHANGED ∷ l) (sym (settles-snoc settled line));
   shipped = omega (arith, shipped, done.shipped, acked-append settled (line ∷ []));
   dropped = omega (arith, dropped, done.dropped, dropped-append settled (line ∷ []));
 }

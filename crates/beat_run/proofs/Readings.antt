@@ -93,7 +93,7 @@ closes_so path history tail between after tail_after faults Seen opened seen clo
 -- the last row is the file's, with the offset that is noted
 pub record NotesReading (member : Member) (progress : Progress) (before after : Noted) : Type 0 where
   pub row : (settled : List Waiting) → IsDoneBy member.key member.path progress settled → Adjoin 0 (settled_spans (settlements_in settled)) →
-      after.rows.items ≡ before.rows.items ++ record { key = member.key; path = member.path; epoch = record { 0 = 0 }; offset = last_end 0 (settled_spans (settlements_in settled)) } ∷ []
+      after.rows.items ≡ before.rows.items ++ record { key = member.key; path = member.path; epoch = record { 0 = 0 }; offset = last_end 0 (settled_spans (settlements_in settled)); changed = record { 0 = 0 } } ∷ []
   pub missed : after.missed.items ≡ before.missed.items
   pub shipped : after.shipped ≡ min (before.shipped + progress.shipped) 18446744073709551615
   pub dropped : after.dropped ≡ min (before.dropped + progress.dropped) 18446744073709551615
@@ -103,7 +103,7 @@ row_noted : (member : Member) (progress : Progress) (before after : Noted) (numb
     after.rows.items ≡ before.rows.items ++ row_of member (reading_of member.path number begun history faults settled sent) ∷ []
 row_noted member progress before after number begun history faults settled sent notes done =
     notes.row (waiting_of member.path 0 settled) done (spans_adjoin member.path 0 settled)
-    ∙ ap (λ (l : List Extent). before.rows.items ++ record { key = member.key; path = member.path; epoch = record { 0 = 0 }; offset = last_end 0 l } ∷ []) (waiting_spans member.path 0 settled)
+    ∙ ap (λ (l : List Extent). before.rows.items ++ record { key = member.key; path = member.path; epoch = record { 0 = 0 }; offset = last_end 0 l; changed = record { 0 = 0 } } ∷ []) (waiting_spans member.path 0 settled)
 
 -- of a file that was read to its end
 whole_followed : {L : Type 0} (laws : EventLaws) (told : L → Option Talk) (listed : FolderHistory) (older newer : Option (List ℕ)) (link after : Option L) (progress : Progress) (noted now : Noted) (before : List Harvest) (member : Member) (history : FolderHistory) (between folder : Option FolderHistory)

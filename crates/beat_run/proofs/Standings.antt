@@ -14,7 +14,7 @@ use Rattle.lumber_frame.specs.Acknowledged.{Acknowledges}
 use Rattle.lumber_frame.specs.PeerFault.{HasPeerFault}
 use Rattle.lumber_frame.specs.Settled.{IsSettled}
 use Rattle.report.specs.declared.status.Status.{Status}
-use Rattle.report.specs.declared.status.Status.TheVariants.{Done, Usage, Settings as SettingsFault, RegistryBad, DiskFault, FolderFault, Unreachable, OutFault, SourceFault, TooMany, NoMemory, Unbuilt}
+use Rattle.report.specs.declared.status.Status.TheVariants.{Done, Stopped, Usage, Settings as SettingsFault, RegistryBad, DiskFault, FolderFault, Unreachable, OutFault, SourceFault, TooMany, NoNative, NoMemory, Unbuilt}
 use Rattle.beat_run.specs.Acknowledged.{AcknowledgeInAll, AreAcknowledged, FailsFor, IsFailure, SendOnly, SendsFront, SendsNothingElse}
 use Rattle.beat_run.specs.Serving.{HasFailed, HasServed, HasSettled, IsSomeWindow, IsWindowOf, Serves, Settles}
 use Rattle.beat_run.specs.TimedOut.{IsTimedOut}
@@ -62,6 +62,7 @@ tells_still told (Some list) link after keeps tells = keeps tells
 blames_any : {L : Type 0} (told : L → Option Talk) (link_faults : L → ℕ) (timeout : ℕ) (moments : Option (List ℕ)) (start outcomes : Option (List Outcome)) (faults : ℕ) (link : Option L) (status : Status) →
     HasParted told link_faults timeout moments start outcomes faults link → Blames told link_faults timeout moments start outcomes faults link status
 blames_any told link_faults timeout moments start outcomes faults link Done parted = tt
+blames_any told link_faults timeout moments start outcomes faults link Stopped parted = tt
 blames_any told link_faults timeout moments start outcomes faults link Usage parted = tt
 blames_any told link_faults timeout moments start outcomes faults link (SettingsFault fault) parted = tt
 blames_any told link_faults timeout moments start outcomes faults link (RegistryBad area at) parted = tt
@@ -71,6 +72,7 @@ blames_any told link_faults timeout moments start outcomes faults link (Unreacha
 blames_any told link_faults timeout moments start outcomes faults link OutFault parted = tt
 blames_any told link_faults timeout moments start outcomes faults link SourceFault parted = tt
 blames_any told link_faults timeout moments start outcomes faults link (TooMany what path) parted = tt
+blames_any told link_faults timeout moments start outcomes faults link (NoNative path) parted = tt
 blames_any told link_faults timeout moments start outcomes faults link NoMemory parted = tt
 blames_any told link_faults timeout moments start outcomes faults link (Unbuilt what) parted = tt
 
@@ -383,6 +385,7 @@ left_counts told link_faults timeout moments start count first outcomes after li
 fails_for : {L : Type 0} (told : L → Option Talk) (link_faults : L → ℕ) (timeout : ℕ) (moments : Option (List ℕ)) (start before since_start : Option (List Outcome)) (faults faults_after : ℕ) (link : Option L) (status : Status) →
     (HasParted told link_faults timeout moments start before faults link → IsFailure timeout moments faults_after since_start) → Blames told link_faults timeout moments start before faults link status → FailsFor timeout moments faults_after since_start status
 fails_for told link_faults timeout moments start before since_start faults faults_after link Done fails blamed = tt
+fails_for told link_faults timeout moments start before since_start faults faults_after link Stopped fails blamed = tt
 fails_for told link_faults timeout moments start before since_start faults faults_after link Usage fails blamed = tt
 fails_for told link_faults timeout moments start before since_start faults faults_after link (SettingsFault fault) fails blamed = tt
 fails_for told link_faults timeout moments start before since_start faults faults_after link (RegistryBad area at) fails blamed = tt
@@ -392,6 +395,7 @@ fails_for told link_faults timeout moments start before since_start faults fault
 fails_for told link_faults timeout moments start before since_start faults faults_after link OutFault fails blamed = tt
 fails_for told link_faults timeout moments start before since_start faults faults_after link SourceFault fails blamed = tt
 fails_for told link_faults timeout moments start before since_start faults faults_after link (TooMany what path) fails blamed = tt
+fails_for told link_faults timeout moments start before since_start faults faults_after link (NoNative path) fails blamed = tt
 fails_for told link_faults timeout moments start before since_start faults faults_after link NoMemory fails blamed = tt
 fails_for told link_faults timeout moments start before since_start faults faults_after link (Unbuilt what) fails blamed = tt
 

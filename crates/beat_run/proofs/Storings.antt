@@ -9,7 +9,7 @@ use Rattle.registry_log.specs.Area.{area_bytes}
 use Rattle.registry_log.specs.Starting.{IsPartStarted}
 use Rattle.report.specs.declared.status.Lack.TheVariants.{Byte, Life, Key, Follow, Generate}
 use Rattle.report.specs.declared.status.Status.{Status}
-use Rattle.report.specs.declared.status.Status.TheVariants.{Done, Usage, Settings as SettingsFault, RegistryBad, DiskFault, FolderFault, Unreachable, OutFault, SourceFault, TooMany, NoMemory, Unbuilt}
+use Rattle.report.specs.declared.status.Status.TheVariants.{Done, Stopped, Usage, Settings as SettingsFault, RegistryBad, DiskFault, FolderFault, Unreachable, OutFault, SourceFault, TooMany, NoNative, NoMemory, Unbuilt}
 use Rattle.wire_base.specs.declared.row.Row.{Row}
 use Rattle.beat_run.specs.declared.noted.Noted.{Noted}
 use Rattle.beat_run.specs.Ends.{IsPreparingEnd, IsPrintingEnd, IsStoringEnd}
@@ -18,7 +18,7 @@ use Rattle.beat_run.specs.Followed.{IsUnopened}
 use Rattle.beat_run.specs.Harvest.{AreWhole, Harvest, Missed, Read, rows_in}
 use Rattle.beat_run.specs.Named.{IsNamed}
 use Rattle.beat_run.specs.Run.{Drains, Follows, IsFollowedBy, NotesRows, SendsNothing, StopsHarvest, StopsIn, StopsLast}
-use Rattle.beat_run.specs.Stored.{HasNoOtherRow, HoldsNoRow, IsStored, IsStoredBy, LeavesKept, MissesRows, StoresKept}
+use Rattle.beat_run.specs.Stored.{HasNoOtherRow, HoldsNoRow, IsAlways, IsStored, IsStoredBy, LeavesKept, MissesRows, StoresKept}
 use Rattle.beat_run.specs.Unbuilt.{StopsFor, StopsUnopened}
 
 -- ---- statuses that no file has to explain
@@ -49,6 +49,7 @@ out_is_free = record { unopened = tt; read = λ file looks. tt }
 
 missing_is_free : (before now : ℕ) (old new : Option (List ℕ)) (status : Status) → MissesRows before now old new status → IsFree status
 missing_is_free before now old new Done is = absurd is
+missing_is_free before now old new Stopped is = absurd is
 missing_is_free before now old new Usage is = absurd is
 missing_is_free before now old new (SettingsFault fault) is = absurd is
 missing_is_free before now old new (RegistryBad area at) is = absurd is
@@ -58,11 +59,13 @@ missing_is_free before now old new (Unreachable worker failures) is = absurd is
 missing_is_free before now old new OutFault is = out_is_free
 missing_is_free before now old new SourceFault is = absurd is
 missing_is_free before now old new (TooMany what path) is = absurd is
+missing_is_free before now old new (NoNative path) is = absurd is
 missing_is_free before now old new NoMemory is = record { unopened = tt; read = λ file looks. tt }
 missing_is_free before now old new (Unbuilt what) is = absurd is
 
 printing_is_free : (before now : ℕ) (status : Status) → IsPrintingEnd before now status → StopsUnopened status
 printing_is_free before now Done ends = tt
+printing_is_free before now Stopped ends = tt
 printing_is_free before now Usage ends = tt
 printing_is_free before now (SettingsFault fault) ends = tt
 printing_is_free before now (RegistryBad area at) ends = tt
@@ -72,11 +75,13 @@ printing_is_free before now (Unreachable worker failures) ends = absurd ends
 printing_is_free before now OutFault ends = tt
 printing_is_free before now SourceFault ends = tt
 printing_is_free before now (TooMany what path) ends = tt
+printing_is_free before now (NoNative path) ends = tt
 printing_is_free before now NoMemory ends = tt
 printing_is_free before now (Unbuilt what) ends = absurd ends
 
 pub preparing_stops : (source source_now area area_now : ℕ) (status : Status) → IsPreparingEnd source source_now area area_now status → StopsUnopened status
 preparing_stops source source_now area area_now Done ends = tt
+preparing_stops source source_now area area_now Stopped ends = tt
 preparing_stops source source_now area area_now Usage ends = tt
 preparing_stops source source_now area area_now (SettingsFault fault) ends = tt
 preparing_stops source source_now area area_now (RegistryBad which at) ends = tt
@@ -86,6 +91,7 @@ preparing_stops source source_now area area_now (Unreachable worker failures) en
 preparing_stops source source_now area area_now OutFault ends = tt
 preparing_stops source source_now area area_now SourceFault ends = tt
 preparing_stops source source_now area area_now (TooMany what path) ends = tt
+preparing_stops source source_now area area_now (NoNative path) ends = tt
 preparing_stops source source_now area area_now NoMemory ends = tt
 preparing_stops source source_now area area_now (Unbuilt (Byte at)) ends = ends
 preparing_stops source source_now area area_now (Unbuilt Life) ends = ends
@@ -151,6 +157,7 @@ done_noted source settings (Some told) evidence noted after before now old new n
 -- an area that was started without a row
 started_so : (before now : ℕ) (old new : Option (List ℕ)) (status : Status) → IfSome old (λ _. new ≡ Some (area_bytes 1 [])) → HoldsNoRow before now old new status
 started_so before now old new Done started = inr started
+started_so before now old new Stopped started = inr started
 started_so before now old new Usage started = inr started
 started_so before now old new (SettingsFault fault) started = inr started
 started_so before now old new (RegistryBad area at) started = inr started
@@ -160,12 +167,14 @@ started_so before now old new (Unreachable worker failures) started = inr starte
 started_so before now old new OutFault started = inr (inl started)
 started_so before now old new SourceFault started = inr started
 started_so before now old new (TooMany what path) started = started
+started_so before now old new (NoNative path) started = inr started
 started_so before now old new NoMemory started = inr started
 started_so before now old new (Unbuilt what) started = inr started
 
 -- an area that is as it was
 kept_so : (before now source source_now area area_now : ℕ) (old new : Option (List ℕ)) (status : Status) → IsPreparingEnd source source_now area area_now status → new ≡ old → HoldsNoRow before now old new status
 kept_so before now source source_now area area_now old new Done ends kept = absurd ends
+kept_so before now source source_now area area_now old new Stopped ends kept = inl kept
 kept_so before now source source_now area area_now old new Usage ends kept = inl kept
 kept_so before now source source_now area area_now old new (SettingsFault fault) ends kept = inl kept
 kept_so before now source source_now area area_now old new (RegistryBad which at) ends kept = inl kept
@@ -175,6 +184,7 @@ kept_so before now source source_now area area_now old new (Unreachable worker f
 kept_so before now source source_now area area_now old new OutFault ends kept = absurd ends
 kept_so before now source source_now area area_now old new SourceFault ends kept = inl kept
 kept_so before now source source_now area area_now old new (TooMany what path) ends kept = absurd ends
+kept_so before now source source_now area area_now old new (NoNative path) ends kept = inl kept
 kept_so before now source source_now area area_now old new NoMemory ends kept = inl kept
 kept_so before now source source_now area area_now old new (Unbuilt what) ends kept = inl kept
 
@@ -207,6 +217,7 @@ early_stored source (Some told) evidence before now first last area area_now old
 pub misses : (before between now : ℕ) (old kept new : Option (List ℕ)) (status : Status) → before ≤ between → kept ≡ old →
     IsStoringEnd between now status → (status ≡ NoMemory → new ≡ kept) → MissesRows before now old new status
 misses before between now old kept new Done later same ends memory = absurd ends
+misses before between now old kept new Stopped later same ends memory = absurd ends
 misses before between now old kept new Usage later same ends memory = absurd ends
 misses before between now old kept new (SettingsFault fault) later same ends memory = absurd ends
 misses before between now old kept new (RegistryBad area at) later same ends memory = absurd ends
@@ -217,12 +228,14 @@ misses before between now old kept new (Unreachable worker failures) later same 
 misses before between now old kept new OutFault later same ends memory = absurd ends
 misses before between now old kept new SourceFault later same ends memory = absurd ends
 misses before between now old kept new (TooMany what path) later same ends memory = absurd ends
+misses before between now old kept new (NoNative path) later same ends memory = absurd ends
 misses before between now old kept new NoMemory later same ends memory = memory refl ∙ same
 misses before between now old kept new (Unbuilt what) later same ends memory = absurd ends
 
 -- a fault of the sink stands in the place of any status
 misses_out : (before now : ℕ) (old new : Option (List ℕ)) (status : Status) → MissesRows before now old new status → MissesRows before now old new OutFault
 misses_out before now old new Done is = absurd is
+misses_out before now old new Stopped is = absurd is
 misses_out before now old new Usage is = absurd is
 misses_out before now old new (SettingsFault fault) is = absurd is
 misses_out before now old new (RegistryBad area at) is = absurd is
@@ -232,12 +245,14 @@ misses_out before now old new (Unreachable worker failures) is = absurd is
 misses_out before now old new OutFault is = is
 misses_out before now old new SourceFault is = absurd is
 misses_out before now old new (TooMany what path) is = absurd is
+misses_out before now old new (NoNative path) is = absurd is
 misses_out before now old new NoMemory is = inr is
 misses_out before now old new (Unbuilt what) is = absurd is
 
 -- where it could not, there are other causes for a run that opened no file
 missed_unopened : (before now : ℕ) (old new : Option (List ℕ)) (status : Status) → MissesRows before now old new status → HoldsNoRow before now old new status
 missed_unopened before now old new Done is = absurd is
+missed_unopened before now old new Stopped is = absurd is
 missed_unopened before now old new Usage is = absurd is
 missed_unopened before now old new (SettingsFault fault) is = absurd is
 missed_unopened before now old new (RegistryBad area at) is = absurd is
@@ -248,6 +263,7 @@ missed_unopened before now old new OutFault (inl rose) = inr (inr rose)
 missed_unopened before now old new OutFault (inr kept) = inl kept
 missed_unopened before now old new SourceFault is = absurd is
 missed_unopened before now old new (TooMany what path) is = absurd is
+missed_unopened before now old new (NoNative path) is = absurd is
 missed_unopened before now old new NoMemory is = inl is
 missed_unopened before now old new (Unbuilt what) is = absurd is
 
@@ -290,6 +306,7 @@ stored_so source told evidence after old new Missing Other Unopened So Was Is ot
 -- what is so of the area where the run was done is so where its report could not be printed
 held_then : (before now : ℕ) (old new : Option (List ℕ)) (first last : ℕ) (status : Status) → IsPrintingEnd first last status → HoldsNoRow before now old new Done → HoldsNoRow before now old new status
 held_then before now old new first last Done ends held = held
+held_then before now old new first last Stopped ends held = absurd ends
 held_then before now old new first last Usage ends held = absurd ends
 held_then before now old new first last (SettingsFault fault) ends held = absurd ends
 held_then before now old new first last (RegistryBad area at) ends held = absurd ends
@@ -300,6 +317,7 @@ held_then before now old new first last OutFault ends (inl kept) = inl kept
 held_then before now old new first last OutFault ends (inr started) = inr (inl started)
 held_then before now old new first last SourceFault ends held = absurd ends
 held_then before now old new first last (TooMany what path) ends held = absurd ends
+held_then before now old new first last (NoNative path) ends held = absurd ends
 held_then before now old new first last NoMemory ends held = held
 held_then before now old new first last (Unbuilt what) ends held = absurd ends
 
@@ -307,6 +325,8 @@ held_then before now old new first last (Unbuilt what) ends held = absurd ends
 held_out : (before now : ℕ) (old new : Option (List ℕ)) (status : Status) → HoldsNoRow before now old new status → HoldsNoRow before now old new OutFault
 held_out before now old new Done (inl kept) = inl kept
 held_out before now old new Done (inr started) = inr (inl started)
+held_out before now old new Stopped (inl kept) = inl kept
+held_out before now old new Stopped (inr started) = inr (inl started)
 held_out before now old new Usage (inl kept) = inl kept
 held_out before now old new Usage (inr started) = inr (inl started)
 held_out before now old new (SettingsFault fault) (inl kept) = inl kept
@@ -321,6 +341,8 @@ held_out before now old new OutFault held = held
 held_out before now old new SourceFault (inl kept) = inl kept
 held_out before now old new SourceFault (inr started) = inr (inl started)
 held_out before now old new (TooMany what path) started = inr (inl started)
+held_out before now old new (NoNative path) (inl kept) = inl kept
+held_out before now old new (NoNative path) (inr started) = inr (inl started)
 held_out before now old new NoMemory (inl kept) = inl kept
 held_out before now old new NoMemory (inr started) = inr (inl started)
 held_out before now old new (Unbuilt what) (inl kept) = inl kept
@@ -357,21 +379,19 @@ printed_stored faulted source (Some told) evidence after before now old new stat
 
 -- ---- the area as a run leaves it, whatever became of its writing
 
-abbrev pub Leaves : List Row → Option (List ℕ) → Option (List ℕ) → Type 0
-Leaves rows old new = IfSome old (λ held. IfSome new (IsPartStarted 1 rows held))
+abbrev pub Leaves : List Row → Option (List ℕ) → Option (List ℕ) → ((List ℕ → Type 0) → Type 0) → Type 0
+Leaves rows old new OnlyLeaves = IfSome old (λ held. IsAlways new OnlyLeaves (IsPartStarted 1 rows held))
 
-none_left : (rows : List Row) (old new : Option (List ℕ)) → rows ≡ [] → Leaves rows old new → IfSome old (λ held. IfSome new (λ holds. (holds ≡ held) ⊎ IsPartStarted 1 [] held holds))
-none_left rows None new none left = tt
-none_left rows (Some old) None none left = tt
-none_left rows (Some old) (Some new) none left =
-    let P : List Row → Type 0 = λ r. IsPartStarted 1 r old new in
-    inr (subst P none left)
+none_left : (rows : List Row) (old new : Option (List ℕ)) (OnlyLeaves : (List ℕ → Type 0) → Type 0) → rows ≡ [] → Leaves rows old new OnlyLeaves → Leaves [] old new OnlyLeaves
+none_left rows old new OnlyLeaves none left =
+    let P : List Row → Type 0 = λ r. Leaves r old new OnlyLeaves in
+    subst P none left
 
-rows_left : (source : Option (List ℕ)) (settings : Settings) (told : FolderHistory) (evidence : Evidence) (noted : Noted) (So : List Member → List Harvest → List Event → Type 0) (after : Option FolderHistory) (old new : Option (List ℕ)) →
-    IsNamed source settings → NotesRows settings told evidence noted So after → Leaves noted.rows.items old new → LeavesKept source told evidence after old new
+rows_left : (source : Option (List ℕ)) (settings : Settings) (told : FolderHistory) (evidence : Evidence) (noted : Noted) (So : List Member → List Harvest → List Event → Type 0) (after : Option FolderHistory) (old new : Option (List ℕ)) (OnlyLeaves : (List ℕ → Type 0) → Type 0) →
+    IsNamed source settings → NotesRows settings told evidence noted So after → Leaves noted.rows.items old new OnlyLeaves → LeavesKept source told evidence after old new OnlyLeaves
 unfolding follows_so
-rows_left source settings told evidence noted So after old new named notes left =
-    let P : List Row → Type 0 = λ l. Leaves l old new in
+rows_left source settings told evidence noted So after old new OnlyLeaves named notes left =
+    let P : List Row → Type 0 = λ l. Leaves l old new OnlyLeaves in
     record {
       settings = settings;
       named = named;
@@ -379,29 +399,63 @@ rows_left source settings told evidence noted So after old new named notes left 
       area_left = subst P notes.rows left;
     }
 
-left_by : (source : Option (List ℕ)) (settings : Settings) (told : FolderHistory) (evidence : Evidence) (noted : Noted) (after : Option FolderHistory) (old new : Option (List ℕ)) (result : Result (Unit {0}) Status) →
-    IsNamed source settings → IsFollowedBy settings told evidence noted after result → Leaves noted.rows.items old new → HasNoOtherRow source told evidence after old new
-left_by source settings told evidence noted after old new (Ok done) named notes left = inr (rows_left source settings told evidence noted (Drains evidence noted.shipped noted.dropped) after old new named notes.notes left)
-left_by source settings told evidence noted after old new (Err status) named (inl nothing) left = inl (nothing.unopened, none_left noted.rows.items old new nothing.unnoted.rows left)
-left_by source settings told evidence noted after old new (Err status) named (inr notes) left = inr (rows_left source settings told evidence noted (λ left harvests end. StopsIn status harvests) after old new named notes left)
+left_by : (source : Option (List ℕ)) (settings : Settings) (told : FolderHistory) (evidence : Evidence) (noted : Noted) (after : Option FolderHistory) (old new : Option (List ℕ)) (OnlyLeaves : (List ℕ → Type 0) → Type 0) (result : Result (Unit {0}) Status) →
+    IsNamed source settings → IsFollowedBy settings told evidence noted after result → Leaves noted.rows.items old new OnlyLeaves → HasNoOtherRow source told evidence after old new OnlyLeaves
+left_by source settings told evidence noted after old new OnlyLeaves (Ok done) named notes left =
+    inr (rows_left source settings told evidence noted (Drains evidence noted.shipped noted.dropped) after old new OnlyLeaves named notes.notes left)
+left_by source settings told evidence noted after old new OnlyLeaves (Err status) named (inl nothing) left =
+    inl (nothing.unopened, none_left noted.rows.items old new OnlyLeaves nothing.unnoted.rows left)
+left_by source settings told evidence noted after old new OnlyLeaves (Err status) named (inr notes) left =
+    inr (rows_left source settings told evidence noted (λ left harvests end. StopsIn status harvests) after old new OnlyLeaves named notes left)
 
-pub noted_left : (source : Option (List ℕ)) (settings : Settings) (told : Option FolderHistory) (evidence : Evidence) (noted : Noted) (after : Option FolderHistory) (old new : Option (List ℕ)) (result : Result (Unit {0}) Status) →
-    IsNamed source settings → IfSome told (λ history. IsFollowedBy settings history evidence noted after result) → Leaves noted.rows.items old new →
-    IfSome told (λ history. HasNoOtherRow source history evidence after old new)
-noted_left source settings None evidence noted after old new result named follows left = tt
-noted_left source settings (Some told) evidence noted after old new result named follows left = left_by source settings told evidence noted after old new result named follows left
+pub noted_left : (source : Option (List ℕ)) (settings : Settings) (told : Option FolderHistory) (evidence : Evidence) (noted : Noted) (after : Option FolderHistory) (old new : Option (List ℕ)) (OnlyLeaves : (List ℕ → Type 0) → Type 0) (result : Result (Unit {0}) Status) →
+    IsNamed source settings → IfSome told (λ history. IsFollowedBy settings history evidence noted after result) → Leaves noted.rows.items old new OnlyLeaves →
+    IfSome told (λ history. HasNoOtherRow source history evidence after old new OnlyLeaves)
+noted_left source settings None evidence noted after old new OnlyLeaves result named follows left = tt
+noted_left source settings (Some told) evidence noted after old new OnlyLeaves result named follows left = left_by source settings told evidence noted after old new OnlyLeaves result named follows left
 
-pub left_where_stored : (rows : List Row) (old new : Option (List ℕ)) → HoldsRows rows old new → Leaves rows old new
-left_where_stored rows None new holds = tt
-left_where_stored rows (Some old) new holds =
+-- the area was started with the rows, and meanwhile a crash left nothing else
+pub left_where_stored : (rows : List Row) (old new : Option (List ℕ)) (OnlyLeaves : (List ℕ → Type 0) → Type 0) → HoldsRows rows old new →
+    IfSome old (λ held. OnlyLeaves (IsPartStarted 1 rows held)) → Leaves rows old new OnlyLeaves
+left_where_stored rows None new OnlyLeaves holds leaves = tt
+left_where_stored rows (Some old) new OnlyLeaves holds leaves =
     let P : Option (List ℕ) → Type 0 = λ o. IfSome o (IsPartStarted 1 rows old) in
-    subst P (sym holds.held) (inr refl)
+    (subst P (sym holds.held) (inr refl), leaves)
+
+-- nothing was written
+pub left_as_before : (rows : List Row) (old new : Option (List ℕ)) (OnlyLeaves : (List ℕ → Type 0) → Type 0) → new ≡ old →
+    ((held : List ℕ) → old ≡ Some held → OnlyLeaves (IsPartStarted 1 rows held)) → Leaves rows old new OnlyLeaves
+left_as_before rows None new OnlyLeaves kept leaves = tt
+left_as_before rows (Some old) new OnlyLeaves kept leaves =
+    let P : Option (List ℕ) → Type 0 = λ o. IfSome o (IsPartStarted 1 rows old) in
+    (subst P (sym kept) (inl (inl refl)), leaves old refl)
 
 -- nothing was opened, and nothing written
-pub left_alone : (source : Option (List ℕ)) (told : Option FolderHistory) (evidence : Evidence) (old new : Option (List ℕ)) → new ≡ old →
-    IfSome told (λ history. HasNoOtherRow source history evidence told old new)
-left_alone source None evidence old new kept = tt
-left_alone source (Some told) evidence None new kept = inl (unopened_here told, tt)
-left_alone source (Some told) evidence (Some old) new kept =
-    let P : Option (List ℕ) → Type 0 = λ o. IfSome o (λ holds. (holds ≡ old) ⊎ IsPartStarted 1 [] old holds) in
-    inl (unopened_here told, subst P (sym kept) (inl refl))
+pub left_alone : (source : Option (List ℕ)) (told : Option FolderHistory) (evidence : Evidence) (old new : Option (List ℕ)) (OnlyLeaves : (List ℕ → Type 0) → Type 0) → new ≡ old →
+    ((held : List ℕ) → old ≡ Some held → OnlyLeaves (IsPartStarted 1 [] held)) → IfSome told (λ history. HasNoOtherRow source history evidence told old new OnlyLeaves)
+left_alone source None evidence old new OnlyLeaves kept leaves = tt
+left_alone source (Some told) evidence old new OnlyLeaves kept leaves = inl (unopened_here told, left_as_before [] old new OnlyLeaves kept leaves)
+
+-- ---- what is so of images since a later moment is so since an earlier one
+
+leaves_from : (rows : List Row) (old new : Option (List ℕ)) (Was Is : (List ℕ → Type 0) → Type 0) →
+    ((held : List ℕ) (Kind : List ℕ → Type 0) → old ≡ Some held → Kind held → Was Kind → Is Kind) → Leaves rows old new Was → Leaves rows old new Is
+leaves_from rows None new Was Is then left = tt
+leaves_from rows (Some old) new Was Is then left = (left.0, then old (IsPartStarted 1 rows old) refl (inl (inl refl)) left.1)
+
+kept_from : (source : Option (List ℕ)) (told : FolderHistory) (evidence : Evidence) (after : Option FolderHistory) (old new : Option (List ℕ)) (Was Is : (List ℕ → Type 0) → Type 0) →
+    ((held : List ℕ) (Kind : List ℕ → Type 0) → old ≡ Some held → Kind held → Was Kind → Is Kind) →
+    HasNoOtherRow source told evidence after old new Was → HasNoOtherRow source told evidence after old new Is
+kept_from source told evidence after old new Was Is then (inl unopened) = inl (unopened.0, leaves_from [] old new Was Is then unopened.1)
+kept_from source told evidence after old new Was Is then (inr leaves) = inr (record {
+  settings = leaves.settings;
+  named = leaves.named;
+  follows = leaves.follows;
+  area_left = leaves_from (rows_in leaves.follows.harvests) old new Was Is then leaves.area_left;
+})
+
+pub no_other_from : (source : Option (List ℕ)) (told : Option FolderHistory) (evidence : Evidence) (after : Option FolderHistory) (old new : Option (List ℕ)) (Was Is : (List ℕ → Type 0) → Type 0) →
+    ((held : List ℕ) (Kind : List ℕ → Type 0) → old ≡ Some held → Kind held → Was Kind → Is Kind) →
+    IfSome told (λ history. HasNoOtherRow source history evidence after old new Was) → IfSome told (λ history. HasNoOtherRow source history evidence after old new Is)
+no_other_from source None evidence after old new Was Is then has = tt
+no_other_from source (Some told) evidence after old new Was Is then has = kept_from source told evidence after old new Was Is then has

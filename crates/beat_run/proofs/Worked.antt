@@ -237,11 +237,11 @@ glob = codes "/w/*"
 
 abbrev input : InputRule
 input =
-    record { id = codes "w"; paths = glob ∷ []; file_identity = Path; check_interval = 10000; clean_removed = false; close_inactive = 300000; lines = line_rule; include_lines = []; exclude_lines = []; multiline = event_rule }
+    record { id = codes "w"; paths = glob ∷ []; file_identity = Path; check_interval = 10000; clean_removed = false; close_inactive = 300000; ignore_older = 0; clean_inactive = 0; lines = line_rule; include_lines = []; exclude_lines = []; multiline = event_rule }
 
 abbrev settings : Settings
 settings =
-    record { inputs = input ∷ []; output = record { hosts = []; workers = 1; bulk_max_size = 2048; timeout = 60000; attempts = 3 }; processors = []; events = 3200; lanes = 1 }
+    record { inputs = input ∷ []; output = record { hosts = []; workers = 1; bulk_max_size = 2048; pipelining = 2; timeout = 60000; attempts = 3 }; processors = []; events = 3200; lanes = 1 }
 
 abbrev folder : List (List ℕ) → FolderHistory
 folder paths = record { files = map (λ path. file) paths; events = [] }

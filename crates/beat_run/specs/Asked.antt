@@ -1,5 +1,5 @@
--- What the words and the settings ask for and is not built yet (this project's profile): to go on at the end of the files,
--- to generate them, or what a key of the settings says.
+-- What the words and the settings ask for (this project's profile): that files are read once; or what is not built yet, to
+-- go on at the end of the files, to generate them, or what a key of the settings says.
 use Rattle.std.specs.Prelude.{◌≡◌, ℕ, true, false, List, Option, IsSome}
 use Rattle.command_line.specs.Words.{IsCommand}
 use Rattle.command_line.specs.declared.words.Words.{Words}
@@ -22,6 +22,12 @@ pub record AskFor (words : List (List ℕ)) (lack : Lack) : Type 0 where
   pub asked : Words
   pub taken : IsCommand words asked
   pub lacks : LacksFor asked lack
+
+-- the command takes the words, and they ask for files that are read once
+pub record AskForOnce (words : List (List ℕ)) : Type 0 where
+  pub asked : Words
+  pub taken : IsCommand words asked
+  pub once : asked.once ≡ true
 
 -- the settings of the source ask for what is not built, by this key first
 pub record AsksByKey (source : Option (List ℕ)) (key : List ℕ) : Type 0 where

@@ -10,7 +10,7 @@ use Rattle.outside.specs.Counts.{Rose}
 use Rattle.report.specs.declared.status.Lack.TheVariants.{Byte, Life, Key, Follow, Generate}
 use Rattle.report.specs.declared.status.Lack.{Lack}
 use Rattle.report.specs.declared.status.Status.{Status}
-use Rattle.report.specs.declared.status.Status.TheVariants.{Done, Usage, Settings, RegistryBad, DiskFault, FolderFault, Unreachable, OutFault, SourceFault, TooMany, NoMemory, Unbuilt}
+use Rattle.report.specs.declared.status.Status.TheVariants.{Done, Stopped, Usage, Settings, RegistryBad, DiskFault, FolderFault, Unreachable, OutFault, SourceFault, TooMany, NoNative, NoMemory, Unbuilt}
 
 -- reading the words
 abbrev pub IsWordsEnd : Status → Type 0
@@ -145,9 +145,17 @@ IsHarvestEnd folder folder_now area area_now _ = ⊥
 -- the run before its report is printed
 abbrev pub IsRunEnd : Status → Type 0
 IsRunEnd Done = ⊥
+IsRunEnd Stopped = ⊥
+IsRunEnd (NoNative path) = ⊥
 IsRunEnd OutFault = ⊥
 IsRunEnd (Unreachable worker failures) = IsFirstFailure worker failures
 IsRunEnd _ = Unit {0}
+
+-- statuses that are still to come: no run asks its bell yet, or an entry's native numbers
+abbrev pub IsToCome : Status → Type 0
+IsToCome Stopped = Unit {0}
+IsToCome (NoNative path) = Unit {0}
+IsToCome _ = ⊥
 
 -- words that the command refuses end the run so
 abbrev pub RefusesWords : Status → Type 0

@@ -9,6 +9,8 @@ use Rattle.outside.specs.declared.history.Sight.{Sight}
 use Rattle.outside.specs.Files.{File, life_of}
 use Rattle.outside.specs.Folders.{Event, Opened, NotThere, Closed}
 use Rattle.prospect.specs.declared.member.Member.{Member}
+use Rattle.report.specs.declared.passing.Passing.{Passing}
+use Rattle.report.specs.declared.passing.Why.TheVariants.{Gone}
 use Rattle.ship_core.specs.CoveredEnd.{last_end}
 use Rattle.beat_run.specs.Followed.{HasEndLook}
 use Rattle.beat_run.specs.Kept.{AreTold, ToldEvent, line_rule, spans_of}
@@ -51,13 +53,14 @@ events_from place [] = []
 events_from place (harvest ∷ harvests) =
     events_of place harvest ++ events_from (place + length (events_of place harvest)) harvests
 
--- the row of a file that was read: its offset ends the last of its settled events
+-- the row of a file that was read: its offset ends the last of its settled events; no moment of a last change is noted yet
 abbrev pub row_of : Member → Reading → Row
 row_of member reading = record {
   key = member.key;
   path = member.path;
   epoch = record { 0 = 0 };
   offset = last_end 0 (spans_of reading.settled);
+  changed = record { 0 = 0 };
 }
 
 abbrev pub rows_in : List Harvest → List Row
@@ -65,10 +68,14 @@ rows_in [] = []
 rows_in (Missed member ∷ harvests) = rows_in harvests
 rows_in (Read member reading ∷ harvests) = row_of member reading ∷ rows_in harvests
 
--- the paths that were gone
-abbrev pub missed_in : List Harvest → List (List ℕ)
+-- the path was passed over, since it was gone
+abbrev pub gone : List ℕ → Passing
+gone path = record { path = path; why = Gone }
+
+-- the paths that were gone, each with this reason
+abbrev pub missed_in : List Harvest → List Passing
 missed_in [] = []
-missed_in (Missed member ∷ harvests) = member.path ∷ missed_in harvests
+missed_in (Missed member ∷ harvests) = gone member.path ∷ missed_in harvests
 missed_in (Read member reading ∷ harvests) = missed_in harvests
 
 -- all events that were told of the files, and those of them that are settled

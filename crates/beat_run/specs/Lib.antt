@@ -16,7 +16,6 @@ pub mod Lives
 pub mod Named
 pub mod Opening
 pub mod Output
-pub mod Passings
 pub mod Printed
 pub mod Progress
 pub mod Reading

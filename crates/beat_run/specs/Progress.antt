@@ -3,12 +3,12 @@
 use Rattle.std.specs.Prelude.{◌≡◌, ℕ, ◌++◌, List}
 use Rattle.ship_core.specs.OneLife.{life_notes}
 use Rattle.beat_run.specs.declared.progress.Progress.{Progress}
-use Rattle.beat_run.specs.declared.progress.TheConstants.{SLOT, EPOCH}
+use Rattle.beat_run.specs.declared.progress.TheConstants.{SLOT, EPOCH, CHANGED}
 use Rattle.beat_run.specs.declared.waiting.Waiting.{Waiting}
 use Rattle.beat_run.specs.Events.{settlements_in, acknowledged_in, dropped_in}
 
 pub record IsDoneBy (key path : List ℕ) (progress : Progress) (settled : List Waiting) : Type 0 where
-  pub notes : progress.tracker.notes ≡ life_notes SLOT key path EPOCH 0 (settlements_in settled)
+  pub notes : progress.tracker.notes ≡ life_notes SLOT key path EPOCH 0 CHANGED (settlements_in settled)
   pub shipped : progress.shipped ≡ acknowledged_in settled
   pub dropped : progress.dropped ≡ dropped_in settled
 

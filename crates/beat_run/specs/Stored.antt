@@ -7,15 +7,17 @@ use Rattle.outside.specs.Folders.{Event, FolderHistory}
 use Rattle.prospect.specs.declared.member.Member.{Member}
 use Rattle.registry_log.specs.Area.{area_bytes}
 use Rattle.registry_log.specs.Starting.{IsPartStarted}
+use Rattle.report.specs.Report.{IsReport}
+use Rattle.report.specs.declared.passing.Passing.{Passing}
 use Rattle.report.specs.declared.status.Status.{Status}
-use Rattle.report.specs.declared.status.Status.TheVariants.{DiskFault, FolderFault, OutFault, TooMany, NoMemory}
+use Rattle.report.specs.declared.status.Status.TheVariants.{Done, DiskFault, FolderFault, OutFault, TooMany, NoMemory}
+use Rattle.wire_base.specs.declared.row.Row.{Row}
 use Rattle.beat_run.specs.declared.ending.Ending.{Ending}
 use Rattle.beat_run.specs.Evidence.{Evidence}
 use Rattle.beat_run.specs.Followed.{IsUnopened}
 use Rattle.beat_run.specs.Harvest.{Harvest, missed_in, rows_in}
 use Rattle.beat_run.specs.Named.{IsNamed}
-use Rattle.beat_run.specs.Passings.{ArePassings}
-use Rattle.beat_run.specs.Printed.{ending_bytes}
+use Rattle.beat_run.specs.Printed.{Prints}
 use Rattle.beat_run.specs.Run.{Drains, Follows, SendsNothing, StopsIn}
 use Rattle.beat_run.specs.Unbuilt.{StopsUnopened}
 
@@ -53,38 +55,51 @@ abbrev pub IsStoredBy : Option (List ℕ) → FolderHistory → Evidence → Opt
 IsStoredBy source told evidence after before now old new status =
     IsStored source told evidence after old new (MissesRows before now old new status) (StopsUnopened status × HoldsNoRow before now old new status) (λ left harvests end. StopsIn status harvests)
 
--- the rows of the files that were followed are right, and the area has no others: it is blank still, or its gate is not
--- open, or it holds those rows
-pub record LeavesKept (source : Option (List ℕ)) (told : FolderHistory) (evidence : Evidence) (after : Option FolderHistory) (old new : Option (List ℕ)) : Type 0 where
+-- what a read gives as the run ends is of this kind, and so is what a crash at any moment of the run leaves
+abbrev pub IsAlways : Option (List ℕ) → ((List ℕ → Type 0) → Type 0) → (List ℕ → Type 0) → Type 0
+IsAlways new OnlyLeaves Kind = IfSome new Kind × OnlyLeaves Kind
+
+-- the rows of the files that were followed are right, and the area never has others: it is as it was, is blank, has a gate
+-- that is not open, or holds those rows
+pub record LeavesKept (source : Option (List ℕ)) (told : FolderHistory) (evidence : Evidence) (after : Option FolderHistory) (old new : Option (List ℕ)) (OnlyLeaves : (List ℕ → Type 0) → Type 0) : Type 0 where
   pub settings : Settings
   pub named : IsNamed source settings
   pub follows : Follows settings told evidence (λ left harvests end. Unit {0}) after
-  pub area_left : IfSome old (λ held. IfSome new (IsPartStarted 1 (rows_in follows.harvests) held))
+  pub area_left : IfSome old (λ held. IsAlways new OnlyLeaves (IsPartStarted 1 (rows_in follows.harvests) held))
 
--- no file was opened, and the area is as it was, or has no row; or files were followed, and the area has no rows but the
+-- no file was opened, and the area never has a row that it had not; or files were followed, and it never has rows but the
 -- right ones
-abbrev pub HasNoOtherRow : Option (List ℕ) → FolderHistory → Evidence → Option FolderHistory → Option (List ℕ) → Option (List ℕ) → Type 0
-HasNoOtherRow source told evidence after old new =
-    (IsUnopened told after × IfSome old (λ held. IfSome new (λ holds. (holds ≡ held) ⊎ IsPartStarted 1 [] held holds)))
-    ⊎ LeavesKept source told evidence after old new
+abbrev pub HasNoOtherRow : Option (List ℕ) → FolderHistory → Evidence → Option FolderHistory → Option (List ℕ) → Option (List ℕ) → ((List ℕ → Type 0) → Type 0) → Type 0
+HasNoOtherRow source told evidence after old new OnlyLeaves =
+    (IsUnopened told after × IfSome old (λ held. IsAlways new OnlyLeaves (IsPartStarted 1 [] held)))
+    ⊎ LeavesKept source told evidence after old new OnlyLeaves
 
--- the files that the settings name were followed to their ends, and the area holds the rows of what was found
-pub record IsEnded (source : Option (List ℕ)) (told : FolderHistory) (evidence : Evidence) (after : Option FolderHistory) (old new : Option (List ℕ)) (ending : Ending) : Type 0 where
+-- the files that the settings name were followed to their ends, so many events were shipped and dropped, and the area holds
+-- the rows of what was found
+pub record IsDrained (source : Option (List ℕ)) (told : FolderHistory) (evidence : Evidence) (after : Option FolderHistory) (old new : Option (List ℕ)) (shipped dropped : ℕ) : Type 0 where
   pub settings : Settings
   pub named : IsNamed source settings
-  pub follows : Follows settings told evidence (Drains evidence ending.shipped ending.dropped) after
-  pub rows : ending.rows ≡ rows_in follows.harvests
-  pub passed : ArePassings (missed_in follows.harvests) ending.passed.items
+  pub follows : Follows settings told evidence (Drains evidence shipped dropped) after
   pub stored : IfSome old (λ _. new ≡ Some (area_bytes 1 (rows_in follows.harvests)))
 
--- and the report tells it
-pub record IsDone (source : Option (List ℕ)) (told : FolderHistory) (evidence : Evidence) (after : Option FolderHistory) (old new : Option (List ℕ)) (written printed : Option (List ℕ)) : Type 0 where
-  pub ending : Ending
-  pub ended : IsEnded source told evidence after old new ending
-  pub reported : IfSome written (λ bytes. printed ≡ Some (bytes ++ ending_bytes ending))
+-- and these are the rows, and the paths that were gone
+pub record IsEnded (source : Option (List ℕ)) (told : FolderHistory) (evidence : Evidence) (after : Option FolderHistory) (old new : Option (List ℕ)) (ending : Ending) : Type 0 where
+  pub drained : IsDrained source told evidence after old new ending.shipped ending.dropped
+  pub rows : ending.rows ≡ rows_in drained.follows.harvests
+  pub passed : ending.passed.items ≡ missed_in drained.follows.harvests
 
--- the area holds the rows that the report tells
+-- and the report tells the rows, the paths that were gone and both numbers
+pub record IsDone (source : Option (List ℕ)) (told : FolderHistory) (evidence : Evidence) (after : Option FolderHistory) (old new : Option (List ℕ)) (written printed : Option (List ℕ)) : Type 0 where
+  pub shipped : ℕ
+  pub dropped : ℕ
+  pub drained : IsDrained source told evidence after old new shipped dropped
+  pub reported : IfSome written (λ bytes. Prints (IsReport (rows_in drained.follows.harvests) (missed_in drained.follows.harvests) shipped dropped Done) bytes printed)
+
+-- a report was printed, and the area holds the rows that it tells
 pub record StoresReported (written : List ℕ) (area printed : Option (List ℕ)) : Type 0 where
-  pub ending : Ending
-  pub stored : area ≡ Some (area_bytes 1 ending.rows)
-  pub reported : printed ≡ Some (written ++ ending_bytes ending)
+  pub rows : List Row
+  pub passed : List Passing
+  pub shipped : ℕ
+  pub dropped : ℕ
+  pub stored : area ≡ Some (area_bytes 1 rows)
+  pub reported : Prints (IsReport rows passed shipped dropped Done) written printed

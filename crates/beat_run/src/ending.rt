@@ -1,10 +1,8 @@
 ghost use Rattle.std.specs.Prelude.{◌≡◌, ◌≤◌, All, IfOk, length, vec_len};
 ghost use Rattle.wire_base.specs.Ranges.{IsRow};
 ghost use Rattle.ship_core.specs.Rows.{IsInOrder};
-ghost use Rattle.beat_run.specs.Passings.{ArePassings};
 
 use crate::noted::Noted;
-use crate::passings::passings_of;
 use report::Passing;
 use ship_core::Rows;
 use std::alloc::Global;
@@ -14,7 +12,7 @@ use wire_base::{NoMemory, Op, Row};
 #[derive(Debug, Drop)]
 pub struct Ending {
     pub rows: Rows,
-    /// The paths that were listed and then not found, in byte order.
+    /// The paths that were listed and then not found.
     pub passed: Vec<Passing>,
     pub shipped: u64,
     pub dropped: u64,
@@ -25,7 +23,7 @@ pub fn ending_of(alloc: Global, noted: Noted) -> Result<Ending, NoMemory>
     requires in_range { All IsRow noted.rows.items }
     ensures rows { IfOk result (λ ending. IsInOrder noted.rows.items → ending.rows ≡ noted.rows.items) }
     ensures no_more_rows { IfOk result (λ ending. length ending.rows ≤ vec_len noted.rows) }
-    ensures passed { IfOk result (λ ending. ArePassings noted.missed.items ending.passed.items) }
+    ensures passed { IfOk result (λ ending. ending.passed ≡ noted.missed) }
     ensures shipped { IfOk result (λ ending. ending.shipped ≡ noted.shipped) }
     ensures dropped { IfOk result (λ ending. ending.dropped ≡ noted.dropped) }
 {
@@ -37,7 +35,7 @@ pub fn ending_of(alloc: Global, noted: Noted) -> Result<Ending, NoMemory>
     } = noted;
     Ok(Ending {
         rows: rows_of(alloc, rows)?,
-        passed: passings_of(alloc, missed)?,
+        passed: missed,
         shipped,
         dropped,
     })

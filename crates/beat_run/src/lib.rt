@@ -12,7 +12,6 @@ mod follow;
 mod lines;
 mod noted;
 mod open;
-mod passings;
 mod peer;
 mod prepare;
 mod progress;

@@ -5,21 +5,23 @@ ghost use Rattle.prospect.specs.Members.{IsInRange};
 ghost use Rattle.ship_core.specs.CoveredEnd.{Adjoin, last_end};
 ghost use Rattle.ship_core.specs.OneLife.{spans_of};
 ghost use Rattle.beat_run.specs.Events.{settlements_in};
+ghost use Rattle.beat_run.specs.Harvest.{gone};
 ghost use Rattle.beat_run.specs.Progress.{IsDoneBy};
 ghost use Rattle.beat_run.specs.declared.waiting.Waiting.{Waiting};
 
-use crate::progress::{EPOCH, Progress};
+use crate::progress::{CHANGED, EPOCH, Progress};
 use prospect::Member;
+use report::{Passing, Why};
 use std::alloc::Global;
-use wire_base::{NoMemory, Row, Text};
+use wire_base::{NoMemory, Row};
 
 /// What is noted of the files that were followed so far.
 #[derive(Drop)]
 pub struct Noted {
     /// A row for each file that was opened, in the order in which they were.
     pub rows: Vec<Row>,
-    /// The paths that were listed and then not found.
-    pub missed: Vec<Text>,
+    /// The paths that were listed and then not found, in the order in which they were missed.
+    pub missed: Vec<Passing>,
     pub shipped: u64,
     pub dropped: u64,
 }
@@ -45,7 +47,7 @@ impl Noted {
         requires in_range { IsInRange member.now }
         ensures rows_in_range { All IsRow self.old.rows.items → All IsRow self.new.rows.items }
         ensures one_more { vec_len self.new.rows ≤ vec_len self.old.rows + 1 }
-        ensures begun { OnOk result (self.new.rows.items ≡ self.old.rows.items ++ record { key = member.now.key; path = member.now.path; epoch = EPOCH; offset = 0 } ∷ []) }
+        ensures begun { OnOk result (self.new.rows.items ≡ self.old.rows.items ++ record { key = member.now.key; path = member.now.path; epoch = EPOCH; offset = 0; changed = CHANGED } ∷ []) }
         ensures missed_kept { self.new.missed ≡ self.old.missed }
         ensures shipped_kept { self.new.shipped ≡ self.old.shipped }
         ensures dropped_kept { self.new.dropped ≡ self.old.dropped }
@@ -56,6 +58,7 @@ impl Noted {
             path: member.path.copy(alloc)?,
             epoch: EPOCH,
             offset: 0,
+            changed: CHANGED,
         };
         self.rows.push(row)?;
         Ok(())
@@ -78,13 +81,16 @@ impl Noted {
         ensures rows_in_range { All IsRow self.old.rows.items → All IsRow self.new.rows.items }
         ensures no_more { vec_len self.new.rows ≤ vec_len self.old.rows }
         ensures forgotten { (rows : List Row) (row : Row) → self.old.rows.items ≡ rows ++ row ∷ [] → self.new.rows.items ≡ rows }
-        ensures noted { (rows : List Row) (row : Row) → self.old.rows.items ≡ rows ++ row ∷ [] → OnOk result (self.new.missed.items ≡ self.old.missed.items ++ row.path ∷ []) }
+        ensures noted { (rows : List Row) (row : Row) → self.old.rows.items ≡ rows ++ row ∷ [] → OnOk result (self.new.missed.items ≡ self.old.missed.items ++ gone row.path ∷ []) }
         ensures shipped_kept { self.new.shipped ≡ self.old.shipped }
         ensures dropped_kept { self.new.dropped ≡ self.old.dropped }
     {
         match self.rows.pop() {
             Some(row) => {
-                self.missed.push(row.path)?;
+                self.missed.push(Passing {
+                    path: row.path,
+                    why: Why::Gone,
+                })?;
                 Ok(())
             }
             None => Ok(()),

@@ -1,10 +1,11 @@
 ghost use Rattle.std.specs.Prelude.{◌≡◌, ◌≤◌, ◌<◌, [], ℕ, List, length, take, IfErr, IfOk, IfSome, IsErrOf, MatchResult, OnOk};
+ghost use Rattle.outside.specs.DiskImages.{LeavesOnly};
 ghost use Rattle.beat_config.specs.Document.{AreSettingsOf, IsFirstFault};
 ghost use Rattle.beat_config.specs.InRange.{AreInRange};
 ghost use Rattle.command_line.specs.Words.{IsNoCommand};
 ghost use Rattle.prospect.specs.Lacks.{IsFirstLack, lacks_of};
 ghost use Rattle.beat_run.specs.Ends.{IsLackEnd, IsOpeningEnd, IsPreparingEnd, IsWordsEnd, RefusesArea, RefusesKey, RefusesLack, RefusesSettings, RefusesWords};
-ghost use Rattle.beat_run.specs.Asked.{AskFor, IsAsked};
+ghost use Rattle.beat_run.specs.Asked.{AskFor, AskForOnce, IsAsked};
 ghost use Rattle.beat_run.specs.Named.{IsNamed};
 ghost use Rattle.beat_run.specs.declared.settings.TheConstants.{LIMIT};
 
@@ -28,6 +29,7 @@ pub fn prepare<D: Disk, R: Source>(
     ensures settings { IfOk result (IsNamed (R.left source.old)) }
     ensures in_range { IfOk result AreInRange }
     ensures nothing_lacks { IfOk result (λ settings. lacks_of settings ≡ []) }
+    ensures once { OnOk result (AskForOnce words.now) }
     ensures usage_only { IsErrOf result Status.Usage → IsNoCommand words.now }
     ensures other_words_refused { IsNoCommand words.now → MatchResult result (λ _. ⊥) RefusesWords }
     ensures unbuilt_only { (lack : Lack) → IsErrOf result (Status.Unbuilt lack) → IsAsked words.now (R.left source.old) lack }
@@ -40,6 +42,7 @@ pub fn prepare<D: Disk, R: Source>(
     ensures blank { OnOk result (IfSome (D.contents area.old) (λ bytes. length bytes ≤ 1)) }
     ensures contents_kept { D.contents area.new ≡ D.contents area.old }
     ensures images_kept { (image : List ℕ) → D.images area.new image → D.images area.old image }
+    ensures each_moment { LeavesOnly D.moment D.images_since area.old area.new (D.images area.old) }
     ensures area_faults_never_fall { D.faults area.old ≤ D.faults area.new }
     ensures ends { IfErr result (IsPreparingEnd (R.faults source.old) (R.faults source.new) (D.faults area.old) (D.faults area.new)) }
 {
@@ -64,6 +67,7 @@ pub fn prepare<D: Disk, R: Source>(
 
 // Answers Ok where the words ask for files that are read once.
 fn check_words(alloc: Global, words: &[Text]) -> Result<(), Status>
+    ensures once { OnOk result (AskForOnce words.now) }
     ensures usage_only { IsErrOf result Status.Usage → IsNoCommand words.now }
     ensures other_words_refused { IsNoCommand words.now → MatchResult result (λ _. ⊥) RefusesWords }
     ensures lack_only { (lack : Lack) → IsErrOf result (Status.Unbuilt lack) → AskFor words.now lack }
@@ -102,6 +106,7 @@ fn check_blank<D: Disk>(area: &mut D) -> Result<(), Status>
     ensures refused { IsErrOf result (Status.RegistryBad Which.A 0) → IfSome (D.contents area.old) (λ bytes. 1 < length bytes) }
     ensures contents_kept { D.contents area.new ≡ D.contents area.old }
     ensures images_kept { (image : List ℕ) → D.images area.new image → D.images area.old image }
+    ensures each_moment { LeavesOnly D.moment D.images_since area.old area.new (D.images area.old) }
     ensures ends { IfErr result (IsOpeningEnd (D.faults area.old) (D.faults area.new)) }
     ensures faults_never_fall { D.faults area.old ≤ D.faults area.new }
 {

@@ -11,13 +11,16 @@ use crate::waiting::Waiting;
 use ack_tracker::Tracker;
 use ship_core::{Rows, covered_end_closes_a_prefix, one_life};
 use std::alloc::Global;
-use wire_base::{Cause, Epoch, NoMemory, Note, Slot, Text};
+use wire_base::{Cause, Epoch, Moment, NoMemory, Note, Slot, Text};
 
 /// The number of the one file in its run.
 pub const SLOT: Slot = Slot(0);
 
 /// The file keeps its first life.
 pub const EPOCH: Epoch = Epoch(0);
+
+/// No moment of a last change is noted yet.
+pub const CHANGED: Moment = Moment(0);
 
 /// How far the one file is done: the notes that were made of it, and how many lines they settle for which cause.
 #[derive(Drop)]
@@ -41,6 +44,7 @@ impl Progress {
             path: path.copy(alloc)?,
             epoch: EPOCH,
             base: 0,
+            changed: CHANGED,
         };
         match tracker.note(alloc, begin) {
             Ok(()) => Ok(Progress {

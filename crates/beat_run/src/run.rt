@@ -1,6 +1,6 @@
-ghost use Rattle.std.specs.Prelude.{Some, ℕ, List, All, Option, ◌<◌, length, vec_len, ◌≡◌, ◌≤◌, take, IfErr, IfOk, IfSome, IsErrOf, MatchResult, OnErr, OnOk};
+ghost use Rattle.std.specs.Prelude.{Some, ℕ, List, All, Option, ◌<◌, length, vec_len, ◌≡◌, ◌≤◌, take, IfErr, IfOk, IfSome, IsErrOf, IsSome, MatchResult, OnErr, OnOk};
 ghost use Rattle.outside.specs.Counts.{IsAtEnd, Rose};
-ghost use Rattle.outside.specs.DiskImages.{Only};
+ghost use Rattle.outside.specs.DiskImages.{LeavesOnly, Only};
 ghost use Rattle.beat_config.specs.Document.{AreSettingsOf, IsFirstFault};
 ghost use Rattle.beat_config.specs.InRange.{AreInRange};
 ghost use Rattle.command_line.specs.Words.{IsNoCommand};
@@ -10,9 +10,9 @@ ghost use Rattle.registry_log.specs.Area.{area_bytes};
 ghost use Rattle.registry_log.specs.Starting.{Holds, IsPartStarted};
 ghost use Rattle.wire_base.specs.Ranges.{IsRow};
 ghost use Rattle.beat_run.specs.Acknowledged.{FailsFor};
-ghost use Rattle.beat_run.specs.Asked.{AskFor, IsAsked};
+ghost use Rattle.beat_run.specs.Asked.{AskFor, AskForOnce, IsAsked};
 ghost use Rattle.beat_run.specs.Ends.{HasStored, IsFollowingEnd, IsHarvestEnd, IsRefusal, IsRunEnd, IsStoringEnd, RefusesArea, RefusesKey, RefusesLack, RefusesSettings, RefusesWords, StandsForScan};
-ghost use Rattle.beat_run.specs.Evidence.{evidence_of, moments_since};
+ghost use Rattle.beat_run.specs.Evidence.{MomentsGoOn, evidence_of, moments_since};
 ghost use Rattle.beat_run.specs.Blamed.{FailsBySettings, ShowsTooMany};
 ghost use Rattle.beat_run.specs.Named.{IsNamed};
 ghost use Rattle.beat_run.specs.Harvest.{AreWhole};
@@ -65,14 +65,20 @@ pub fn run<X: Wait, F: Folder, W: Wire, D: Disk, K: Clock, R: Source>(
     ensures rows { IfSome (F.told folder.old) (λ told. MatchResult result
         (λ _. IsStored (R.left source.old) told (evidence_of (K.moments clock.old) (K.moments clock.new) (W.outcomes wire.old) (W.outcomes wire.new)) (F.told folder.new) (D.contents area.old) (D.contents area.new) ⊥ (HoldsNoRow (D.faults area.old) (D.faults area.new) (D.contents area.old) (D.contents area.new) Status.Done) (λ left harvests end. AreWhole harvests))
         (IsStoredBy (R.left source.old) told (evidence_of (K.moments clock.old) (K.moments clock.new) (W.outcomes wire.old) (W.outcomes wire.new)) (F.told folder.new) (D.faults area.old) (D.faults area.new) (D.contents area.old) (D.contents area.new))) }
-    ensures no_other_row { Only (D.contents area.old) (D.images area.old) → IfSome (F.told folder.old) (λ told. HasNoOtherRow (R.left source.old) told (evidence_of (K.moments clock.old) (K.moments clock.new) (W.outcomes wire.old) (W.outcomes wire.new)) (F.told folder.new) (D.contents area.old) (D.contents area.new)) }
+    ensures no_other_row { Only (D.contents area.old) (D.images area.old) → IfSome (F.told folder.old) (λ told. HasNoOtherRow (R.left source.old) told (evidence_of (K.moments clock.old) (K.moments clock.new) (W.outcomes wire.old) (W.outcomes wire.new)) (F.told folder.new) (D.contents area.old) (D.contents area.new) (LeavesOnly D.moment D.images_since area.old area.new)) }
     ensures stored { IfOk result (λ ending. IfSome (D.contents area.old) (λ _. D.contents area.new ≡ Some (area_bytes GENERATION ending.rows))) }
     ensures durable { IfOk result (λ _. Only (D.contents area.new) (D.images area.new)) }
     ensures durable_where_stored { IfErr result (λ status. HasStored status → Only (D.contents area.new) (D.images area.new)) }
     ensures area_kept { IfErr result (λ status. IsRefusal status → D.contents area.new ≡ D.contents area.old) }
+    ensures images_kept { IfErr result (λ status. IsRefusal status → LeavesOnly D.moment D.images_since area.old area.new (D.images area.old)) }
     ensures folder_kept { IfErr result (λ status. IsRefusal status → folder.new ≡ folder.old) }
     ensures wire_kept { IfErr result (λ status. IsRefusal status → wire.new ≡ wire.old) }
+    ensures images_kept_where_refused { IsRefused words.now (R.left source.old) (D.contents area.old) → LeavesOnly D.moment D.images_since area.old area.new (D.images area.old) }
     ensures untouched_where_refused { IsRefused words.now (R.left source.old) (D.contents area.old) → IsUntouched (D.contents area.old) (D.contents area.new) folder.old folder.new wire.old wire.new }
+    ensures still_told { IsSome (D.contents area.old) → IsSome (D.contents area.new) }
+    ensures once { IfOk result (λ _. AskForOnce words.now) }
+    ensures once_where_stored { IfErr result (λ status. HasStored status → AskForOnce words.now) }
+    ensures clock_goes_on { MomentsGoOn (K.moments clock.old) (K.moments clock.new) }
     ensures wire_goes_on { GoesOn (W.outcomes wire.old) (W.outcomes wire.new) }
     ensures links_finished { ¬ (IsAtEnd (W.open_links wire.old)) → W.open_links wire.new ≡ W.open_links wire.old }
     ensures tails_closed { ¬ (IsAtEnd (F.open_tails folder.old)) → F.open_tails folder.new ≡ F.open_tails folder.old }
@@ -107,10 +113,12 @@ fn follow_and_store<X: Wait, F: Folder, W: Wire, D: Disk, K: Clock>(
         (λ _. IsStored source told (evidence_of (K.moments clock.old) (K.moments clock.new) (W.outcomes wire.old) (W.outcomes wire.new)) (F.told folder.new) held (D.contents area.new) ⊥ (HoldsNoRow faults (D.faults area.new) held (D.contents area.new) Status.Done) (λ left harvests end. AreWhole harvests))
         (IsStoredBy source told (evidence_of (K.moments clock.old) (K.moments clock.new) (W.outcomes wire.old) (W.outcomes wire.new)) (F.told folder.new) faults (D.faults area.new) held (D.contents area.new))) }
     ensures no_other_row { (source held : Option (List ℕ)) → IsNamed source settings.now → D.contents area.old ≡ held → Only (D.contents area.old) (D.images area.old) → IfSome (F.told folder.old) (λ told.
-        HasNoOtherRow source told (evidence_of (K.moments clock.old) (K.moments clock.new) (W.outcomes wire.old) (W.outcomes wire.new)) (F.told folder.new) held (D.contents area.new)) }
+        HasNoOtherRow source told (evidence_of (K.moments clock.old) (K.moments clock.new) (W.outcomes wire.old) (W.outcomes wire.new)) (F.told folder.new) held (D.contents area.new) (LeavesOnly D.moment D.images_since area.old area.new)) }
     ensures stored { IfOk result (λ ending. IfSome (D.contents area.old) (λ _. D.contents area.new ≡ Some (area_bytes GENERATION ending.rows))) }
     ensures durable { IfOk result (λ _. Only (D.contents area.new) (D.images area.new)) }
     ensures durable_where_stored { IfErr result (λ status. HasStored status → Only (D.contents area.new) (D.images area.new)) }
+    ensures still_told { IsSome (D.contents area.old) → IsSome (D.contents area.new) }
+    ensures clock_goes_on { MomentsGoOn (K.moments clock.old) (K.moments clock.new) }
     ensures wire_goes_on { GoesOn (W.outcomes wire.old) (W.outcomes wire.new) }
     ensures links_finished { ¬ (IsAtEnd (W.open_links wire.old)) → W.open_links wire.new ≡ W.open_links wire.old }
     ensures tails_closed { ¬ (IsAtEnd (F.open_tails folder.old)) → F.open_tails folder.new ≡ F.open_tails folder.old }
@@ -149,6 +157,7 @@ fn follow<X: Wait, F: Folder, W: Wire, K: Clock>(
     ensures followed { IfSome (F.told folder.old) (λ told. IsFollowedBy settings.now told (evidence_of (K.moments clock.old) (K.moments clock.new) (W.outcomes wire.old) (W.outcomes wire.new)) noted.new (F.told folder.new) result) }
     ensures rows_in_range { All IsRow noted.new.rows.items }
     ensures few { vec_len noted.new.rows ≤ 65_536 }
+    ensures clock_goes_on { MomentsGoOn (K.moments clock.old) (K.moments clock.new) }
     ensures wire_goes_on { GoesOn (W.outcomes wire.old) (W.outcomes wire.new) }
     ensures links_finished { ¬ (IsAtEnd (W.open_links wire.old)) → W.open_links wire.new ≡ W.open_links wire.old }
     ensures tails_closed { ¬ (IsAtEnd (F.open_tails folder.old)) → F.open_tails folder.new ≡ F.open_tails folder.old }
@@ -196,6 +205,8 @@ fn store<D: Disk>(alloc: Global, area: &mut D, rows: &Rows) -> Result<(), Status
     requires few { length rows.now ≤ 65_536 }
     ensures stored { OnOk result (IfSome (D.contents area.old) (λ _. D.contents area.new ≡ Some (area_bytes GENERATION rows.now))) }
     ensures durable { OnOk result (Only (D.contents area.new) (D.images area.new)) }
+    ensures each_moment { Only (D.contents area.old) (D.images area.old) → IfSome (D.contents area.old) (λ before. LeavesOnly D.moment D.images_since area.old area.new (IsPartStarted GENERATION rows.now before)) }
+    ensures still_told { IsSome (D.contents area.old) → IsSome (D.contents area.new) }
     ensures left { OnErr result (Only (D.contents area.old) (D.images area.old) → IfSome (D.contents area.old) (λ before. Holds (IsPartStarted GENERATION rows.now before) (D.contents area.new))) }
     ensures kept_without_memory { IsErrOf result Status.NoMemory → D.contents area.new ≡ D.contents area.old }
     ensures ends { IfErr result (IsStoringEnd (D.faults area.old) (D.faults area.new)) }

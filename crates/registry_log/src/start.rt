@@ -42,6 +42,7 @@ pub fn start_area<D: Disk>(
     ensures each_moment { Only (D.contents disk.old) (D.images disk.old) → IfSome (D.contents disk.old) (λ before. LeavesOnly D.moment D.images_since disk.old disk.new (IsPartStarted generation rows.now before)) }
     ensures left { OnErr result (Only (D.contents disk.old) (D.images disk.old) → IfSome (D.contents disk.old) (λ before. Holds (IsPartStarted generation rows.now before) (D.contents disk.new))) }
 
+    ensures told { IsSome (D.contents disk.old) → IsSome (D.contents disk.new) }
     ensures untouched_without_memory { IsErrOf result LogError.NoMemory → disk.new ≡ disk.old }
     ensures disk_fault_only_where_faults_rose { IsErrOf result LogError.DiskFault → Rose (D.faults disk.old) (D.faults disk.new) }
     ensures never_too_long { result ≢ Err LogError.RecordTooLong }

@@ -1,5 +1,5 @@
 use Rattle.std.proofs.Common.{rules, ◌∙◌, ◌+◌, ◌++◌, ◌∷◌, [], ap, min, ℕ}
-use Rattle.beat_run.specs.Harvest.{told_in}
+use Rattle.beat_run.specs.Harvest.{gone, told_in}
 use Rattle.beat_run.specs.Kept.{payloads_in}
 use Rattle.beat_run.proofs.Follows.{go_on_giving}
 use Rattle.beat_run.proofs.GivenMoments.{moments_go_themselves}
@@ -23,7 +23,7 @@ pub returns-in-Ok-miss-clause-followed : goal.returns-in-Ok-miss-clause-followed
 returns-in-Ok-miss-clause-followed g c = λ begun listed before goes followed.
     missed_more _ listed _ _ _ _ before _ _ _ followed (rw (c.in-Ok-None.is, c.in-Ok-None.field-0-is) at c.open.ensures.told)
     (c.miss.ensures.forgotten _ _ (rw c.in-Ok-begin.is at c.begin-2.ensures.begun))
-    (rw c.in-Ok-miss.is at (c.miss.ensures.noted _ _ (rw c.in-Ok-begin.is at c.begin-2.ensures.begun)) ∙ ap (λ (v : _). v.items ++ c.args.member.now.path ∷ []) c.begin-2.ensures.missed_kept)
+    (rw c.in-Ok-miss.is at (c.miss.ensures.noted _ _ (rw c.in-Ok-begin.is at c.begin-2.ensures.begun)) ∙ ap (λ (v : _). v.items ++ gone c.args.member.now.path ∷ []) c.begin-2.ensures.missed_kept)
     (c.miss.ensures.shipped_kept ∙ c.begin-2.ensures.shipped_kept) (c.miss.ensures.dropped_kept ∙ c.begin-2.ensures.dropped_kept)
 
 pub returns-in-Ok-None-clause-followed : goal.returns-in-Ok-None-clause-followed
@@ -48,3 +48,6 @@ returns-clause-followed g c = λ begun listed before goes followed.
       shipped = c.settle.ensures.shipped_counted ∙ ap (λ (n : ℕ). min (n + c.ship_file-met.new.shipment.progress.shipped) 18446744073709551615) c.begin-2.ensures.shipped_kept;
       dropped = c.settle.ensures.dropped_counted ∙ ap (λ (n : ℕ). min (n + c.ship_file-met.new.shipment.progress.dropped) 18446744073709551615) c.begin-2.ensures.dropped_kept;
     })
+
+pub returns-clause-rows_in_range : goal.returns-clause-rows_in_range
+returns-clause-rows_in_range g c = λ within. c.settle.ensures.rows_in_range (c.begin-2.ensures.rows_in_range within)

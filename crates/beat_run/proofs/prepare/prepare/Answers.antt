@@ -1,5 +1,6 @@
 use Rattle.std.proofs.Common.{◌≡◌, ◌∙◌, ap, take, Err}
 use Rattle.beat_config.specs.Document.{IsFirstFault}
+use Rattle.outside.specs.Moments.{started}
 use Rattle.report.specs.declared.status.Status.{Status}
 use Rattle.report.specs.declared.status.Status.TheVariants.{Usage}
 use Rattle.beat_run.specs.declared.settings.TheConstants.{LIMIT}
@@ -11,6 +12,17 @@ pub returns-in-Err-clause-usage_only : goal.returns-in-Err-clause-usage_only
 returns-in-Err-clause-usage_only g c = λ is.
     let same : c.in-Err.status ≡ Usage = cc in
     c.check_words.ensures.usage_only (c.in-Err.is ∙ ap (λ (s : Status). Err s) same)
+
+-- before the area was looked at
+
+pub returns-in-Err-clause-each_moment : goal.returns-in-Err-clause-each_moment
+returns-in-Err-clause-each_moment g c = started g.D.Disk.moment g.D.Disk.images_since c.args.area.now (g.D.Disk.images c.args.area.now) (g.met.D.Disk.only_now c.args.area.now)
+
+pub returns-in-Err-read_source-clause-each_moment : goal.returns-in-Err-read_source-clause-each_moment
+returns-in-Err-read_source-clause-each_moment g c = started g.D.Disk.moment g.D.Disk.images_since c.args.area.now (g.D.Disk.images c.args.area.now) (g.met.D.Disk.only_now c.args.area.now)
+
+pub returns-in-Err-check_keys-clause-each_moment : goal.returns-in-Err-check_keys-clause-each_moment
+returns-in-Err-check_keys-clause-each_moment g c = started g.D.Disk.moment g.D.Disk.images_since c.args.area.now (g.D.Disk.images c.args.area.now) (g.met.D.Disk.only_now c.args.area.now)
 
 -- the words ask for nothing that is not built
 

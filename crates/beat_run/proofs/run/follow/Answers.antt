@@ -11,6 +11,13 @@ pub returns-in-Err-clause-too_many : goal.returns-in-Err-clause-too_many
 returns-in-Err-clause-too_many g c = λ what path is.
     too_many c.args.settings.now c.as_slice.result.now c.as_slice.ensures _ _ c.in-Err.error c.status_of_scan.result what path c.status_of_scan.ensures is (rw c.in-Err.is at c.scan.ensures.refused)
 
+pub returns-in-Err-clause-clock_goes_on : goal.returns-in-Err-clause-clock_goes_on
+returns-in-Err-clause-clock_goes_on g c = moments_go_themselves (g.K.Clock.moments c.args.clock.now)
+
+pub returns-clause-clock_goes_on : goal.returns-clause-clock_goes_on
+returns-clause-clock_goes_on g c =
+    c.follow_all-met.ensures.moments_go_on (g.K.Clock.moments c.args.clock.now) (moments_go_themselves (g.K.Clock.moments c.args.clock.now))
+
 pub returns-clause-followed : goal.returns-clause-followed
 returns-clause-followed g c =
     let left = c.follow_all-met.ensures.standing (g.K.Clock.moments c.args.clock.now) (g.W.Wire.outcomes c.args.wire.now) (g.W.Wire.open_links c.args.wire.now) (g.W.Wire.faults c.args.wire.now) (moments_go_themselves (g.K.Clock.moments c.args.clock.now))
