@@ -1,16 +1,16 @@
 -- The first byte of a header that is absent or wrong, by the tests of its places.
-use Rattle.std.proofs.Common.{◌≡◌, ◌⊎◌, inl, inr, ℕ, zero, suc, ◌+◌, ◌-◌, ◌^◌, ◌<◌, ◌≤◌, Bool, true, false, List, [], ◌∷◌, length, get_or, take, drop, Option, Some, None, Result, Ok, Err, Bor, refl, sym, ap, ◌∙◌, subst, arith}
+use Rattle.std.proofs.Common.{◌≡◌, ◌⊎◌, inl, inr, ℕ, zero, suc, ◌+◌, ◌-◌, ◌^◌, ◌<◌, ◌≤◌, Bool, true, false, cond, List, [], ◌∷◌, length, get_or, take, drop, Option, Some, None, Result, Ok, Err, Bor, refl, sym, ap, ◌∙◌, subst, arith}
 use Rattle.std.specs.Prelude.{All, find, slice_get, MatchOption, ◌==◌, nat_lt, nat_le, not, ◌&&◌, ◌||◌}
 use Rattle.std.specs.Char.{IsAsciiDigit}
 use Rattle.std.specs.List.{list_all, range_with_len, slice_range}
-use Rattle.std.specs.Option.{SomeIff}
+use Rattle.std.specs.Option.{SomeIff, option_map_or}
 use Rattle.std.specs.Result.{OkIff, result_ok}
 use Rattle.std.specs.Slice.{IsItemAt}
 use Rattle.std.specs.Str.{IsUtf8}
 use Rattle.std.specs.Str.Parse.{digits_value, ParsesUnsigned}
 use Rattle.std.proofs.lemmas.Bool.{cases_lt}
 use Rattle.std.proofs.lemmas.Bool.Decides.{eqb_tells, nat_tests}
-use Rattle.std.proofs.lemmas.List.{get_or_past, get_or-take, get_or-drop, length-drop, length-take-le}
+use Rattle.std.proofs.lemmas.List.{drop-take, get_or_past, get_or-take, get_or-drop, length-drop, length-take-le}
 use Rattle.std.proofs.lemmas.Option.{slice_get-get_or, slice_get_past, slice_get_within}
 use Rattle.std.proofs.lemmas.Str.{IsUtf8-from_ascii}
 use Rattle.std.proofs.lemmas.Str.Parse.{numerals_by_value, tells_by_index, parse_digits}
@@ -164,3 +164,47 @@ none_is_wrong area before is last =
     at_last : (q : ℕ) → 0 < q → (q < 28) ⊎ (28 ≤ q) → q < 29 → fits area q ≡ true
     at_last q above (inl low) below = before q above low
     at_last q above (inr high) below = let Fit : ℕ → Type 0 = λ n. fits area n ≡ true in let last_place : 28 ≡ q = omega (arith, high, below) in subst Fit last_place last
+
+-- ---- the first bytes alone
+
+same_get : (area : List ℕ) (count place : ℕ) → place < count → slice_get (take count area) place ≡ slice_get area place
+same_get area zero place low = absurd (omega (arith, low))
+same_get [] (suc count) place low = refl
+same_get (byte ∷ area) (suc count) zero low = refl
+same_get (byte ∷ area) (suc count) (suc place) low = same_get area count place (omega (arith, low))
+
+same_fit : (area : List ℕ) (count place : ℕ) → place < count → fits (take count area) place ≡ fits area place
+same_fit area count place low = ap (λ (byte : Option ℕ). option_map_or (may_stand place) byte false) (same_get area count place low)
+
+take_of_longer : (bytes : List ℕ) (few count : ℕ) → few ≤ count → take few (take count bytes) ≡ take few bytes
+take_of_longer bytes zero count low = refl
+take_of_longer bytes (suc few) zero low = absurd (omega (arith, low))
+take_of_longer [] (suc few) (suc count) low = refl
+take_of_longer (byte ∷ bytes) (suc few) (suc count) low = ap (λ (l : List ℕ). byte ∷ l) (take_of_longer bytes few count (omega (arith, low)))
+
+pub same_generation : (area : List ℕ) (count : ℕ) → 28 ≤ count → generation_of (take count area) ≡ generation_of area
+same_generation area count enough =
+    let behind : ℕ = count - 8 in
+    let Part : ℕ → Type 0 = λ n. take 20 (drop 8 (take n area)) ≡ take 20 (drop 8 area) in
+    let whole : 8 + behind ≡ count = omega (arith, enough) in
+    ap (digits_value 10) (subst Part whole (ap (take 20) (drop-take 8 behind area) ∙ take_of_longer (drop 8 area) 20 behind (omega (arith, enough))))
+
+list_all_same : (one other : ℕ → Bool) (from n : ℕ) → ((q : ℕ) → q < from + n → one q ≡ other q) → list_all one (range_with_len from n) ≡ list_all other (range_with_len from n)
+list_all_same one other from zero same = refl
+list_all_same one other from (suc n) same = λ i. same from (omega arith) i && list_all_same one other (from + 1) n (λ q low. same q (omega (arith, low))) i
+
+find_same : (one other : ℕ → Bool) (from n : ℕ) → ((q : ℕ) → q < from + n → one q ≡ other q) → find one (range_with_len from n) ≡ find other (range_with_len from n)
+find_same one other from zero same = refl
+find_same one other from (suc n) same =
+    λ i. cond (same from (omega arith) i) (Some from) (find_same one other (from + 1) n (λ q low. same q (omega (arith, low))) i)
+
+same_range : (area : List ℕ) (count : ℕ) → 28 ≤ count → is_out_of_range (take count area) ≡ is_out_of_range area
+same_range area count enough =
+    λ i. list_all_same (fits (take count area)) (fits area) 8 20 (λ q low. same_fit area count q (omega (arith, low, enough))) i
+        && ((same_generation area count enough i == 0) || nat_le (2 ^ 64) (same_generation area count enough i))
+
+pub same_first_wrong : (area : List ℕ) (count : ℕ) → 29 ≤ count → first_wrong (take count area) ≡ first_wrong area
+unfolding first_wrong
+same_first_wrong area count enough =
+    find_same (is_wrong (take count area)) (is_wrong area) 1 28
+    (λ q low. λ i. not (same_fit area count q (omega (arith, low, enough)) i) || ((q == 8) && same_range area count (omega (arith, enough)) i))

@@ -8,7 +8,7 @@ use Rattle.wire_base.specs.declared.row.Row.{Row}
 use Rattle.registry_frame.proofs.OneReading.{same_operations}
 use Rattle.ship_core.specs.Replay.{replay}
 use Rattle.registry_log.specs.Header.{HasHeader, first_wrong}
-use Rattle.registry_log.specs.Reading.{AreRecords, BeginsWithRecord, MayFollow}
+use Rattle.registry_log.specs.Reading.{AreRecords, BeginsWithRecord, MayBeRecord}
 use Rattle.registry_log.specs.Records.{record_bytes}
 use Rattle.registry_log.specs.Starting.{IsBlank, IsClosed}
 use Rattle.registry_log.specs.State.{IsBroken, IsOpened, IsState, IsUnclosed, LacksGate, LacksRecord, Reaches, State, Blank, Closed, Opened, Broken, operations_of}
@@ -24,12 +24,12 @@ one_later : (before ops : List Op) (records : List (List Op)) (rest : List ℕ) 
 one_later before ops records rest ends begins =
     let Begins : List Op → Type 0 = λ l. BeginsWithRecord l rest in ends (subst Begins (append_assoc before ops (operations_of records)) begins)
 
-none_left : (before : List Op) (ops : List Op) (records : List (List Op)) (rest more : List ℕ) → Ends before [] rest → MayFollow before ops → rest ≡ flat_map record_bytes (ops ∷ records) ++ more → ⊥
+none_left : (before : List Op) (ops : List Op) (records : List (List Op)) (rest more : List ℕ) → Ends before [] rest → MayBeRecord before ops → rest ≡ flat_map record_bytes (ops ∷ records) ++ more → ⊥
 none_left before ops records rest more ends may same =
     let Begins : List Op → Type 0 = λ l. BeginsWithRecord l rest in
     ends (subst Begins (sym (append-nil before)) (ops, flat_map record_bytes records ++ more, same ∙ append_assoc (record_bytes ops) (flat_map record_bytes records) more, may))
 
-same_operation_lists : (before ops others : List Op) → MayFollow before ops → MayFollow before others → body_bytes ops ≡ body_bytes others → ops ≡ others
+same_operation_lists : (before ops others : List Op) → MayBeRecord before ops → MayBeRecord before others → body_bytes ops ≡ body_bytes others → ops ≡ others
 same_operation_lists before ops others may might same = same_operations ops others may.each might.each same
 
 pub same_records : (before : List Op) (records others : List (List Op)) (rest more : List ℕ) → AreRecords before records → AreRecords before others → Ends before records rest → Ends before others more

@@ -26,7 +26,7 @@ use Rattle.registry_frame.specs.BodyOf.{IsStoredOp, IsStoredRow}
 use Rattle.registry_frame.proofs.Operations.{remove_short, set_short}
 use Rattle.registry_log.specs.Area.{area_bytes, sets}
 use Rattle.registry_log.specs.Header.{HasHeader, first_wrong, fits, generation_of, may_stand}
-use Rattle.registry_log.specs.Reading.{AreRecords, MayFollow}
+use Rattle.registry_log.specs.Reading.{AreRecords, MayBeRecord}
 use Rattle.registry_log.specs.Records.{fit_in_a_record, grouped, groups, padded, record_bytes, records_bytes}
 use Rattle.registry_log.specs.State.{IsOpened, IsState, IsUnclosed, Opened, Reaches, State, operations_of}
 use Rattle.registry_log.proofs.Groups.{FitsIn, alone_fits, test_true}
@@ -82,7 +82,7 @@ replay_adds rows (op ∷ ops) = let first = after_op_adds rows op in let later =
 abbrev AreStored : List Op → Type 0
 AreStored ops = All IsStoredOp ops
 
-group_may_follow : (before group rest : List Op) → group ≢ [] → AreStored group → FitsIn group → length before + (length group + length rest) ≤ 65_536 → MayFollow before group
+group_may_follow : (before group rest : List Op) → group ≢ [] → AreStored group → FitsIn group → length before + (length group + length rest) ≤ 65_536 → MayBeRecord before group
 group_may_follow before group rest some stored fits few =
     let rows = replay_adds [] (before ++ group) in
     let all = length-append before group in
@@ -105,7 +105,7 @@ grouped_are_records before group (op ∷ ops) some stored later fits alone few =
     (group_may_follow before group (op ∷ ops) some stored fits few)
     (grouped_are_records (before ++ group) (op ∷ []) ops (λ same. cc same) one tail (alone op head) alone (omega (arith, few, moved)))
   where
-    by_test : (there : Bool) → (there ≡ true → AreRecords before (grouped (group ++ op ∷ []) ops)) → MayFollow before group → AreRecords (before ++ group) (grouped (op ∷ []) ops)
+    by_test : (there : Bool) → (there ≡ true → AreRecords before (grouped (group ++ op ∷ []) ops)) → MayBeRecord before group → AreRecords (before ++ group) (grouped (op ∷ []) ops)
         → AreRecords before (if there then grouped (group ++ op ∷ []) ops else group ∷ grouped (op ∷ []) ops)
     by_test true together may parted = together refl
     by_test false together may parted = (may, parted)
@@ -232,17 +232,20 @@ started_is_opened generation rows some short ordered stored few =
     let whole : length (area_bytes generation rows) ≡ 29 + length tail = ap length parts ∙ spelled_length (padded 20 generation) tail twenty in
     let Says : List ℕ → Type 0 = λ area. IsState area (Opened generation rows 29 (length (area_bytes generation rows) - 1)) in
     let ops : All IsStoredOp (sets rows) = All-map IsStoredOp Set rows stored in
-    subst Says (sym parts) (refl, record {
-      records = groups (sets rows);
-      gate = 46;
-      rest = [];
-      reaches = record {
-        unclosed = record { gate = refl; more = omega arith };
-        header = header_there (padded 20 generation) tail twenty generation (some, short) (padded_value 20 generation short) (padded_digits 20 generation short);
-        each = groups_are_records (sets rows) ops (omega (arith, few, length-map rows Set));
-        bytes = behind_header (padded 20 generation) tail twenty;
-        begins = omega (arith, whole, length-append (records_bytes (sets rows)) (codes "."));
-      };
-      closed = λ same. omega (arith, same);
-      replayed = ap replay (groups_operations (sets rows)) ∙ replay_sets [] rows ordered;
-    })
+    subst Says (sym parts) (
+      refl,
+      record {
+        records = groups (sets rows);
+        gate = 46;
+        rest = [];
+        reaches = record {
+          unclosed = record { gate = refl; more = omega arith };
+          header = header_there (padded 20 generation) tail twenty generation (some, short) (padded_value 20 generation short) (padded_digits 20 generation short);
+          each = groups_are_records (sets rows) ops (omega (arith, few, length-map rows Set));
+          bytes = behind_header (padded 20 generation) tail twenty;
+          begins = omega (arith, whole, length-append (records_bytes (sets rows)) (codes "."));
+        };
+        closed = λ same. omega (arith, same);
+        replayed = ap replay (groups_operations (sets rows)) ∙ replay_sets [] rows ordered;
+      },
+    )

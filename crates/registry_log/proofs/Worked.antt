@@ -13,7 +13,7 @@ use Rattle.registry_frame.specs.Body.{body_bytes}
 use Rattle.registry_frame.specs.BodyOf.{IsStoredOp, IsStoredRow}
 use Rattle.registry_log.specs.Area.{area_bytes, sets}
 use Rattle.registry_log.specs.Header.{HasHeader, first_wrong}
-use Rattle.registry_log.specs.Reading.{MayFollow}
+use Rattle.registry_log.specs.Reading.{MayBeRecord}
 use Rattle.registry_log.proofs.RecordsEnd.{cut_record}
 use Rattle.registry_log.specs.State.{IsOpened, IsState, IsUnclosed, LacksGate, LacksRecord, Reaches, State, Blank, Closed, Opened, Broken}
 
@@ -64,10 +64,10 @@ stored offset changed low early = record {
 one_stored : (offset changed : ℕ) → offset ≤ 6 → changed ≤ 5 → All IsStoredOp (Set (row offset changed) ∷ [])
 one_stored offset changed low early = All-cons IsStoredOp (Set (row offset changed)) [] (stored offset changed low early) (All-nil IsStoredOp)
 
-first_may_follow : MayFollow [] (Set (row 4 0) ∷ [])
+first_may_follow : MayBeRecord [] (Set (row 4 0) ∷ [])
 first_may_follow = record { some = λ same. cc same; each = one_stored 4 0 (omega arith) (omega arith); body = omega (arith, lengths.0); rows = omega arith }
 
-second_may_follow : MayFollow (Set (row 4 0) ∷ []) (Set (row 6 5) ∷ [])
+second_may_follow : MayBeRecord (Set (row 4 0) ∷ []) (Set (row 6 5) ∷ [])
 second_may_follow = record { some = λ same. cc same; each = one_stored 6 5 (omega arith) (omega arith); body = omega (arith, lengths.2); rows = omega arith }
 
 -- ---- what the areas say
@@ -77,36 +77,45 @@ unclosed rest = record { gate = refl; more = omega arith }
 
 version_1_is_opened : IsState version_1 (Opened 1 (two_plain_lines ∷ []) 29 130)
 unfolding digits escape first_wrong
-version_1_is_opened = (refl, record {
-  records = (Set two_plain_lines ∷ []) ∷ [];
-  gate = 46;
-  rest = [];
-  reaches = record { unclosed = unclosed _; header = record { right = refl; number = refl }; each = (first_may_follow, tt); bytes = refl; begins = refl };
-  closed = λ same. omega (arith, same);
-  replayed = refl;
-})
+version_1_is_opened = (
+  refl,
+  record {
+    records = (Set two_plain_lines ∷ []) ∷ [];
+    gate = 46;
+    rest = [];
+    reaches = record { unclosed = unclosed _; header = record { right = refl; number = refl }; each = (first_may_follow, tt); bytes = refl; begins = refl };
+    closed = λ same. omega (arith, same);
+    replayed = refl;
+  },
+)
 
 version_2_is_opened : IsState version_2 (Opened 1 (two_plain_lines ∷ []) 29 130)
 unfolding digits escape first_wrong
-version_2_is_opened = (refl, record {
-  records = (Set two_plain_lines ∷ []) ∷ [];
-  gate = 46;
-  rest = [];
-  reaches = record { unclosed = unclosed _; header = record { right = refl; number = refl }; each = (first_may_follow, tt); bytes = refl; begins = refl };
-  closed = λ same. omega (arith, same);
-  replayed = refl;
-})
+version_2_is_opened = (
+  refl,
+  record {
+    records = (Set two_plain_lines ∷ []) ∷ [];
+    gate = 46;
+    rest = [];
+    reaches = record { unclosed = unclosed _; header = record { right = refl; number = refl }; each = (first_may_follow, tt); bytes = refl; begins = refl };
+    closed = λ same. omega (arith, same);
+    replayed = refl;
+  },
+)
 
 appended_is_opened : IsState appended (Opened 1 (row 6 5 ∷ []) 29 243)
 unfolding digits escape first_wrong
-appended_is_opened = (refl, record {
-  records = (Set (row 4 0) ∷ []) ∷ (Set (row 6 5) ∷ []) ∷ [];
-  gate = 46;
-  rest = [];
-  reaches = record { unclosed = unclosed _; header = record { right = refl; number = refl }; each = (first_may_follow, (second_may_follow, tt)); bytes = refl; begins = refl };
-  closed = λ same. omega (arith, same);
-  replayed = refl;
-})
+appended_is_opened = (
+  refl,
+  record {
+    records = (Set (row 4 0) ∷ []) ∷ (Set (row 6 5) ∷ []) ∷ [];
+    gate = 46;
+    rest = [];
+    reaches = record { unclosed = unclosed _; header = record { right = refl; number = refl }; each = (first_may_follow, (second_may_follow, tt)); bytes = refl; begins = refl };
+    closed = λ same. omega (arith, same);
+    replayed = refl;
+  },
+)
 
 version_3_is_broken : (rest : List ℕ) → IsState (codes "{beat 3 " ++ rest) (Broken 6)
 unfolding first_wrong

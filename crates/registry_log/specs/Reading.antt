@@ -9,7 +9,7 @@ use Rattle.registry_log.specs.declared.area_text.TheConstants.{MAX_BODY}
 use Rattle.registry_log.specs.Records.{record_bytes}
 
 -- these operations may be a record behind the operations before them
-pub record MayFollow (before ops : List Op) : Type 0 where
+pub record MayBeRecord (before ops : List Op) : Type 0 where
   pub some : ops ≢ []
   pub each : All IsStoredOp ops
   pub body : length (body_bytes ops) ≤ MAX_BODY
@@ -18,8 +18,8 @@ pub record MayFollow (before ops : List Op) : Type 0 where
 -- each of these may be a record behind the operations before it
 abbrev pub AreRecords : List Op → List (List Op) → Type 0
 AreRecords before [] = Unit {0}
-AreRecords before (ops ∷ records) = MayFollow before ops × AreRecords (before ++ ops) records
+AreRecords before (ops ∷ records) = MayBeRecord before ops × AreRecords (before ++ ops) records
 
 -- the bytes begin with a record that may follow
 abbrev pub BeginsWithRecord : List Op → List ℕ → Type 0
-BeginsWithRecord before bytes = (ops : List Op) × (rest : List ℕ) × (bytes ≡ record_bytes ops ++ rest) × MayFollow before ops
+BeginsWithRecord before bytes = (ops : List Op) × (rest : List ℕ) × (bytes ≡ record_bytes ops ++ rest) × MayBeRecord before ops

@@ -15,7 +15,7 @@ mod synced;
 
 pub use area_text::MAX_BODY;
 pub use header::{HEADER, Header, read_header};
-pub use laws::{one_state, started_area_is_opened};
+pub use laws::{header_by_first_bytes, one_state, started_area_is_opened};
 pub use log_error::LogError;
 pub use start::start_area;
 

@@ -1,94 +1,74 @@
-use crate::{LogError, start_area};
+use crate::{Header, LogError, read_header, start_area};
 use outside_mem::MemDisk;
 use ship_core::Rows;
 use std::alloc::Global;
 use std::process::Abort;
 use std::test::Fail;
-use wire_base::{Epoch, Op, Row, Text};
+use wire_base::{Epoch, Moment, Op, Row, Text};
 
 const WORKED: &[u8] =
-    b"{beat 1 00000000000000000001\n{0000091 [{\"epoch\":0,\"key\":\"filestream::w::path::/w/a.log\",\"offset\":4,\"op\":\"set\",\"path\":\"/w/a.log\"}]\n.";
+    b"{beat 2 00000000000000000001\n{0000091 [{\"epoch\":0,\"key\":\"filestream::w::path::/w/a.log\",\"offset\":4,\"op\":\"set\",\"path\":\"/w/a.log\"}]\n.";
 
-const ESCAPED: &[u8] =
-    b"{beat 1 18446744073709551615\n{0000103 [{\"epoch\":4294967295,\"key\":\"k\\u0001\",\"offset\":9223372036854775807,\"op\":\"set\",\"path\":\"/w/\\\"\\\\\\n\xc3\xa9.log\"}]\n.";
-
-const EMPTY: &[u8] = b"{beat 1 00000000000000000007\n.";
+const EMPTY: &[u8] = b"{beat 2 00000000000000000007\n.";
 
 fn put(
     rt: &impl Abort,
-    rows: &mut Rows,
     alloc: Global,
+    rows: &mut Rows,
     key: &[u8],
     path: &[u8],
-    epoch: u32,
     offset: u64,
 ) -> Result<(), Fail> {
     assert!(rt; key.len() <= 8_192 && path.len() <= 4_096 && offset < 1 << 63);
     let row = Row {
         key: Text::from_bytes(alloc, key)?,
         path: Text::from_bytes(alloc, path)?,
-        epoch: Epoch(epoch),
+        epoch: Epoch(0),
         offset,
+        changed: Moment(0),
     };
     rows.apply(alloc, Op::Set(row))?;
     Ok(())
 }
 
-fn start(
-    rt: &impl Abort,
-    alloc: Global,
-    disk: &mut MemDisk,
-    generation: u64,
-    rows: &Rows,
-) -> Result<u64, LogError> {
-    assert!(rt; generation > 0 && rows.len() <= 65_536);
-    start_area(alloc, disk, generation, rows)
+#[test]
+fn headers_are_read_by_place(rt: HostRuntime) -> Result<(), Fail> {
+    let cases: [(&[u8], Header); 10] = [
+        (WORKED, Header::Right { generation: 1 }),
+        (
+            b".beat 1 18446744073709551615\n",
+            Header::Right {
+                generation: u64::MAX,
+            },
+        ),
+        (b"{beat 3 ", Header::Broken { at: 6 }),
+        (b"{", Header::Broken { at: 1 }),
+        (b"{beat 2 01", Header::Broken { at: 10 }),
+        (b"{beat 2 00000000000a0000000000", Header::Broken { at: 19 }),
+        (b"{beat 2 00000000000000000000", Header::Broken { at: 8 }),
+        (b"{beat 2 18446744073709551616 ", Header::Broken { at: 8 }),
+        (b"{beat 2 00000000000000000001 ", Header::Broken { at: 28 }),
+        (b"{beat 2 00000000000000000001", Header::Broken { at: 28 }),
+    ];
+    for (front, header) in cases {
+        assert_eq!(rt; read_header(front), header);
+    }
+    Ok(())
 }
 
 #[test]
 fn started_area_has_exactly_these_bytes(rt: HostRuntime) -> Result<(), Fail> {
     let alloc = rt.alloc();
-    let mut plain = Rows::new(alloc);
-    put(
-        &rt,
-        &mut plain,
-        alloc,
-        b"filestream::w::path::/w/a.log",
-        b"/w/a.log",
-        0,
-        4,
-    )?;
-    let mut escaped = Rows::new(alloc);
-    put(
-        &rt,
-        &mut escaped,
-        alloc,
-        b"k\x01",
-        b"/w/\"\\\n\xc3\xa9.log",
-        u32::MAX,
-        (1 << 63) - 1,
-    )?;
-    let none = Rows::new(alloc);
-    let cases = [
-        (1, &plain, WORKED, 130),
-        (u64::MAX, &escaped, ESCAPED, 142),
-        (7, &none, EMPTY, 29),
-    ];
-    let befores: [&[u8]; 5] = [
-        b"",
-        b"{",
-        b".",
-        WORKED,
-        b".beat 1 and more than what is to stand there, or less",
-    ];
+    let mut rows = Rows::new(alloc);
+    let key = b"filestream::w::path::/w/a.log";
+    put(&rt, alloc, &mut rows, key, b"/w/a.log", 4)?;
+    assert!(rt; rows.len() == 1);
+    let befores: [&[u8]; 4] = [b"", b"{", b".", b".beat 1 and more"];
     for before in befores {
-        for (generation, rows, bytes, gate) in cases {
-            let mut disk = MemDisk::new(alloc, before)?;
-            let started = start(&rt, alloc, &mut disk, generation, rows);
-            assert_eq!(rt; started, Ok(gate));
-            assert_eq!(rt; disk.bytes(), bytes);
-            assert_eq!(rt; disk.image(2)?.bytes(), bytes);
-        }
+        let mut disk = MemDisk::new(alloc, before)?;
+        let started = start_area(alloc, &mut disk, 1, &rows);
+        assert_eq!(rt; started, Ok(130));
+        assert_eq!(rt; disk.image(2)?.bytes(), WORKED);
     }
     Ok(())
 }
@@ -98,10 +78,10 @@ fn many_rows(rt: &impl Abort, alloc: Global, plain: usize) -> Result<Rows, Fail>
     let mut rows = Rows::new(alloc);
     for first in b'a'..b'v' {
         let key = long_key(alloc, first, 8_191, 0)?;
-        put(rt, &mut rows, alloc, &key, b"/p", 0, 0)?;
+        put(rt, alloc, &mut rows, &key, b"/p", 0)?;
     }
     let key = long_key(alloc, b'z', 2_000, plain)?;
-    put(rt, &mut rows, alloc, &key, b"/p", 0, 0)?;
+    put(rt, alloc, &mut rows, &key, b"/p", 0)?;
     Ok(rows)
 }
 
@@ -112,24 +92,20 @@ fn long_key(alloc: Global, first: u8, escaped: usize, plain: usize) -> Result<Ve
     Ok(key)
 }
 
-fn stands_at(bytes: &[u8], at: usize, text: &[u8]) -> bool {
-    bytes.get(at..).is_some_and(|rest| rest.starts_with(text))
-}
-
 #[test]
 fn record_takes_as_many_operations_as_fit(rt: HostRuntime) -> Result<(), Fail> {
     let alloc = rt.alloc();
-    let cases: [(usize, usize, &[u8], u64); 3] = [
-        (3_277, 29, b"{1048576 [", 1_048_615),
-        (3_278, 29, b"{1033243 [", 1_048_627),
-        (3_278, 1_033_282, b"{0015335 [", 1_048_627),
+    let cases = [
+        (3_277, b"{1048576 [", 1_048_615),
+        (3_278, b"{1033243 [", 1_048_627),
     ];
-    for (plain, place, head, gate) in cases {
+    for (plain, head, gate) in cases {
         let rows = many_rows(&rt, alloc, plain)?;
+        assert!(rt; rows.len() <= 65_536);
         let mut disk = MemDisk::new(alloc, b"")?;
-        let started = start(&rt, alloc, &mut disk, 1, &rows);
+        let started = start_area(alloc, &mut disk, 1, &rows);
         assert_eq!(rt; started, Ok(gate));
-        assert!(rt; stands_at(disk.bytes(), place, head), "at {place}");
+        assert!(rt; disk.bytes().get(29..39) == Some(head.as_slice()));
     }
     Ok(())
 }
