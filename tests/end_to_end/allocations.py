@@ -1,6 +1,6 @@
 #!/usr/bin/env python3
 """Ships two plain lines once for each allocation of such a run, and makes that allocation fail. The answer has to be
-want of memory or the right one, and the area has to be absent or one that the run may leave.
+want of memory or the right one, and the area has to be absent, without a byte, or one that the run may leave.
 
     python3 tests/end_to_end/allocations.py [--program PATH]
 
@@ -32,7 +32,7 @@ def build_shim(folder):
 def areas(path):
     """The areas that a run may leave, by what they are."""
     rows = {f"row at {offset}": area(row(path, offset)) for offset in (0, 4)}
-    return {"absent": None, "no row": area(), **rows}
+    return {"absent": None, "without a byte": b"", "no row": area(), **rows}
 
 
 def report(path):

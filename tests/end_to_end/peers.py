@@ -1,20 +1,23 @@
-"""Peers that are absent, faulty, slow or silent, and an output that nobody reads."""
+"""Peers that are absent, faulty, slow, silent or deaf, and an output that nobody reads."""
 
 import contextlib
 import os
 import socket
 import time
-from pathlib import Path
 
 import program
 from area import area, row
-from peer import GLANCE, SIGN, SIGNS, Behaviour, Peer
-from shipping import UNREACHABLE, WINDOW, Shipping, end_of, now, numbered_lines
+from peer import SIGN, SIGNS, Behaviour, Peer
+from shipping import ONCE, UNREACHABLE, WINDOW, Shipping, end_of, now, numbered_lines
 
 # the timeout of a run whose peer is silent, in seconds
 SILENCE = 1
 # that of a run whose peer says that it is alive for longer than that
 LIFE = 2
+# after so many seconds a connecting and a sending give up; a run that they end takes less than twice as long
+GIVING_UP = 5
+# how long a connection may take that is answered
+ANSWER = 1
 
 
 def unused_host():
@@ -22,6 +25,32 @@ def unused_host():
     holder = socket.socket()
     holder.bind(("127.0.0.1", 0))
     return holder, "127.0.0.1:%d" % holder.getsockname()[1]
+
+
+@contextlib.contextmanager
+def deaf_host():
+    """A host that takes a connection and never reads; the system keeps few bytes on their way to it."""
+    with socket.socket() as listener:
+        listener.setsockopt(socket.SOL_SOCKET, socket.SO_RCVBUF, 4096)
+        listener.setsockopt(socket.IPPROTO_TCP, socket.TCP_MAXSEG, 536)
+        listener.bind(("127.0.0.1", 0))
+        listener.listen()
+        yield "127.0.0.1:%d" % listener.getsockname()[1]
+
+
+@contextlib.contextmanager
+def unanswering_host():
+    """A host that answers no further connection, since it takes none of those that wait."""
+    with contextlib.ExitStack() as sockets:
+        listener = sockets.enter_context(socket.socket())
+        listener.bind(("127.0.0.1", 0))
+        listener.listen(0)
+        with contextlib.suppress(socket.timeout):
+            while True:
+                waiting = sockets.enter_context(socket.socket())
+                waiting.settimeout(ANSWER)
+                waiting.connect(listener.getsockname())
+        yield "127.0.0.1:%d" % listener.getsockname()[1]
 
 
 @contextlib.contextmanager
@@ -37,26 +66,42 @@ def full_pipe():
 
 
 class Peers(Shipping):
-    def wait_for_row(self):
-        """Until the area is opened; a run prints only then."""
-        last = time.monotonic() + program.LIMIT
-        while not (self.area.exists() and self.area.read_bytes().startswith(b"{")):
-            self.assertLess(time.monotonic(), last, "no area was opened")
-            time.sleep(GLANCE)
-
     def test_no_peer_keeps_the_row(self):
-        Path(self.path).write_bytes(b"a\nb\n")
         holder, host = unused_host()
         with holder:
-            ran = self.run_settings(program.settings_text(self.path, host))
+            self.prepare(b"a\nb\n", host)
+            ran = self.run_words(*ONCE)
         self.assert_wrote(ran, UNREACHABLE)
         self.assertEqual(self.area.read_bytes(), area(row(self.path, 0)))
+
+    def ship_until_given_up(self, content, host):
+        """A run that gives up by itself long before the timeout, which is 30 seconds."""
+        self.prepare(content, host)
+        began = time.monotonic()
+        ran = self.run_words(*ONCE)
+        seconds = time.monotonic() - began
+        self.assertTrue(GIVING_UP <= seconds < 2 * GIVING_UP, f"it took {seconds} seconds")
+        self.assert_wrote(ran, UNREACHABLE)
+        self.assertEqual(self.area.read_bytes(), area(row(self.path, 0)))
+
+    def test_connecting_gives_up(self):
+        with unanswering_host() as host:
+            self.ship_until_given_up(b"a\nb\n", host)
+
+    def test_sending_gives_up(self):
+        """One window of more bytes than the system takes."""
+        with deaf_host() as host:
+            self.ship_until_given_up(b"".join(b"%0999d\n" % number for number in range(400)), host)
+
+    def has_opened_area(self):
+        return self.area.exists() and self.area.read_bytes().startswith(b"{")
 
     def test_full_output_pipe_is_closed(self):
         """The report cannot be printed, and the row is stored all the same."""
         with Peer() as peer, full_pipe() as (reader, writer):
             with self.start(b"a\nb\n", peer, output=writer) as started:
-                self.wait_for_row()
+                # a run prints only then
+                self.wait_until(self.has_opened_area, "no area was opened")
                 reader.close()
                 ran = program.finish(started)
         self.assertEqual(ran.stderr, b"")

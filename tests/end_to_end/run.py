@@ -20,6 +20,7 @@ from one_file import OneFile
 from peers import Peers
 from refusals import Refusals
 from shipping import Shipping
+from surroundings import Surroundings
 
 HERE = Path(__file__).resolve().parent
 PREFIX = "test_"
@@ -67,7 +68,7 @@ def name_of(test):
 def all_tests():
     """Each test, by its name."""
     tests = {}
-    for kind in (OneFile, ManyFiles, Refusals, Peers, Killed):
+    for kind in (OneFile, ManyFiles, Refusals, Peers, Surroundings, Killed):
         tests.update({it[len(PREFIX) :]: kind(it) for it in vars(kind) if it.startswith(PREFIX)})
     return tests
 

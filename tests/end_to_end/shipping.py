@@ -6,12 +6,13 @@ import json
 import re
 import subprocess
 import tempfile
+import time
 import unittest
 from pathlib import Path
 
 import program
 from area import area, row, rows_of, text
-from peer import Window
+from peer import GLANCE, Window
 
 ONCE = ("-c", "beat.toml", "--once")
 UNREACHABLE = "status 7 unreachable worker 0 failures 1"
@@ -86,12 +87,19 @@ class Shipping(unittest.TestCase):
         self.write_settings(settings)
         return self.run_words(*ONCE)
 
-    def start(self, content, peer, *more, output=subprocess.PIPE):
-        """Starts a run over a file with this content; without content there is no file. More are keys of the output."""
+    def prepare(self, content, host, *more):
+        """A file with this content, or none, and the settings for it. More are keys of the output."""
         if content is not None:
             Path(self.path).write_bytes(content)
-        self.write_settings(program.settings_text(self.path, peer.host, *more))
+        self.write_settings(program.settings_text(self.path, host, *more))
+
+    def start_prepared(self, output=subprocess.PIPE):
         return program.start(self.tested, ONCE, self.folder, output)
+
+    def start(self, content, peer, *more, output=subprocess.PIPE):
+        """Starts a run over such a file."""
+        self.prepare(content, peer.host, *more)
+        return self.start_prepared(output)
 
     def ship(self, content, peer, *more):
         """One run over such a file."""
@@ -108,6 +116,12 @@ class Shipping(unittest.TestCase):
                 yield started
             finally:
                 started.kill()
+
+    def wait_until(self, holds, why):
+        last = time.monotonic() + program.LIMIT
+        while not holds():
+            self.assertLess(time.monotonic(), last, why)
+            time.sleep(GLANCE)
 
     # what it compares
 

@@ -2,15 +2,28 @@
 #![tactic(auto)]
 
 mod objects;
+mod streams;
 #[cfg(test)]
 mod tests;
 
 use beat_run::{Status, ship, status_line};
 use objects::Objects;
 use outside_real::StdSink;
+use std::io;
 use std::process::ExitCode;
+use streams::hold_open;
+
+/// Before anything else is opened, so that no other file takes the number of a standard stream.
+fn hold_streams(rt: &HostRuntime) -> io::Result<()> {
+    hold_open(rt, &rt.stdin())?;
+    hold_open(rt, &rt.stdout())?;
+    hold_open(rt, &rt.stderr())
+}
 
 fn main(rt: HostRuntime) -> ExitCode {
+    if hold_streams(&rt).is_err() {
+        return ExitCode::from(Status::OutFault.code());
+    }
     let status = match Objects::new(&rt) {
         Ok(
             Objects {

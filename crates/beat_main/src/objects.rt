@@ -59,7 +59,10 @@ where
     }
 }
 
-fn wires_of<R: Net<Stream = TcpStream>>(rt: &R, alloc: Global) -> Result<Vec<TcpWire<&R>>, NoMemory>
+fn wires_of<R: Net<Stream = TcpStream> + Clock>(
+    rt: &R,
+    alloc: Global,
+) -> Result<Vec<TcpWire<&R>>, NoMemory>
     ensures { IfOk result (λ wires. vec_len wires ≡ WIRES) }
 {
     let mut wires = Vec::new(alloc);

@@ -4,8 +4,7 @@ ghost use Rattle.wire_base.specs.Ranges.{IsPlace};
 
 use crate::marks::size_of;
 use crate::steady::read_some_at;
-use crate::walk::is_absent;
-use std::fs::{File, OpenOptions};
+use std::fs::{File, Metadata, OpenOptions};
 use std::io::ErrorKind;
 use std::os::unix::fs::FileExt;
 use std::path::Path;
@@ -13,7 +12,7 @@ use std::rt::Files;
 use std::{fs, io};
 use wire_base::{MAX_PLACE, Text};
 
-/// The file of a registry area, as far as it is there and open.
+/// The file of a registry area; from the first call that asks the system on it is open and locked.
 #[derive(Drop)]
 pub(crate) struct Area {
     path: Text,
@@ -42,47 +41,45 @@ impl Area {
         }
     }
 
-    fn open(&mut self, rt: &impl Files<File = File>, makes: bool) -> io::Result<()> {
+    /// The file, opened where it is not open yet.
+    fn file(&mut self, rt: &impl Files<File = File>) -> io::Result<&File> {
+        if self.file.is_none() {
+            self.file = Some(self.open(rt)?);
+        }
+        match &self.file {
+            Some(file) => Ok(file),
+            None => Err(io::Error::from(ErrorKind::NotFound)),
+        }
+    }
+
+    /// Opens the file, made where nothing has its path, and locks it. Two areas that find nothing there at
+    /// once do not both make it; a link to nothing is not followed.
+    fn open(&mut self, rt: &impl Files<File = File>) -> io::Result<File> {
         let mut options = OpenOptions::new();
-        options.read(true).write(true).create(makes);
-        self.file = Some(options.open(rt, self.path.as_str())?);
-        Ok(())
+        options.read(true).write(true);
+        if !is_there(rt, self.path.as_str())? {
+            self.make_folder(rt)?;
+            options.create_new(true);
+        }
+        let file = options.open(rt, self.path.as_str())?;
+        require_regular(&file.metadata()?)?;
+        file.try_lock()?;
+        Ok(file)
     }
 
-    /// Opens the file where it is there and not open yet.
-    fn find(&mut self, rt: &impl Files<File = File>) -> io::Result<()> {
-        if self.file.is_some() {
-            return Ok(());
-        }
-        match self.open(rt, false) {
-            Err(error) if is_absent(error.kind()) => Ok(()),
-            answer => answer,
-        }
-    }
-
-    /// Opens the file, and makes it and its folder where they are not there.
-    fn find_or_make(&mut self, rt: &impl Files<File = File>) -> io::Result<()> {
-        self.find(rt)?;
-        if self.file.is_some() {
-            return Ok(());
-        }
+    fn make_folder(&mut self, rt: &impl Files<File = File>) -> io::Result<()> {
         let missing = count_missing(rt, self.folder());
         if 0 < missing {
             self.made_folders = self.made_folders.max(missing);
             fs::create_dir_all(rt, self.folder())?;
         }
-        self.open(rt, true)
+        Ok(())
     }
 
-    /// The length; a file that is not there has none.
     pub(crate) fn length(&mut self, rt: &impl Files<File = File>) -> io::Result<u64>
         ensures { IfOk result IsPlace }
     {
-        self.find(rt)?;
-        match &self.file {
-            Some(file) => Ok(size_of(&file.metadata()?)),
-            None => Ok(0),
-        }
+        Ok(size_of(&self.file(rt)?.metadata()?))
     }
 
     pub(crate) fn read(
@@ -94,11 +91,7 @@ impl Area {
         ensures within { IfOk result (λ count. count ≤ length into.old) }
         ensures in_range { IfOk result (λ count. 0 < count → IsPlace (at + count)) }
     {
-        self.find(rt)?;
-        match &self.file {
-            Some(file) => read_some_at(file, at, into),
-            None => Ok(0),
-        }
+        read_some_at(self.file(rt)?, at, into)
     }
 
     /// Writes all of the bytes; a write of none asks the system nothing.
@@ -116,29 +109,21 @@ impl Area {
         if MAX_PLACE.saturating_sub(at) < bytes.len() as u64 {
             return Err(io::Error::from(ErrorKind::FileTooLarge));
         }
-        self.find_or_make(rt)?;
-        match &self.file {
-            Some(file) => file.write_all_at(bytes, at),
-            None => Err(io::Error::from(ErrorKind::NotFound)),
-        }
+        self.file(rt)?.write_all_at(bytes, at)
     }
 
     /// Looks at the length first: a shorter file stays as it is.
     pub(crate) fn cut(&mut self, rt: &impl Files<File = File>, len: u64) -> io::Result<()> {
-        self.find(rt)?;
-        match &self.file {
-            Some(file) if len < file.metadata()?.len() => file.set_len(len),
-            _ => Ok(()),
+        let file = self.file(rt)?;
+        if len < file.metadata()?.len() {
+            file.set_len(len)?;
         }
+        Ok(())
     }
 
     /// Makes the bytes outlast a crash, and at the first time the file's name, too.
     pub(crate) fn sync(&mut self, rt: &impl Files<File = File>) -> io::Result<()> {
-        self.find(rt)?;
-        let Some(file) = &self.file else {
-            return Ok(());
-        };
-        file.sync_all()?;
+        self.file(rt)?.sync_all()?;
         if !self.name_synced {
             self.sync_names(rt)?;
             self.name_synced = true;
@@ -154,6 +139,27 @@ impl Area {
             sync_folder(rt, folder)?;
         }
         Ok(())
+    }
+}
+
+/// Whether a regular file has the path. It is asked before the file is opened, since opening a pipe or a
+/// device may wait.
+fn is_there(rt: &impl Files<File = File>, path: &str) -> io::Result<bool> {
+    match fs::metadata(rt, path) {
+        Ok(found) => {
+            require_regular(&found)?;
+            Ok(true)
+        }
+        Err(error) if error.kind() == ErrorKind::NotFound => Ok(false),
+        Err(error) => Err(error),
+    }
+}
+
+fn require_regular(found: &Metadata) -> io::Result<()> {
+    if found.is_file() {
+        Ok(())
+    } else {
+        Err(io::Error::from(ErrorKind::InvalidInput))
     }
 }
 

@@ -7,8 +7,9 @@ use std::fs::File;
 use std::rt::Files;
 use wire_base::Text;
 
-/// One registry area: a file with a name in a folder. A file that is not there reads as an empty one;
-/// it and its folder are made at the first write.
+/// One registry area: a regular file with a name in a folder. The first call that asks the system makes the
+/// file with no byte, and its folder, where they are not there, and locks it for as long as the object is
+/// there. What is no regular file, and a file that another has locked, are a call that failed.
 #[derive(Drop)]
 pub struct FileDisk<R> {
     rt: R,

@@ -1,4 +1,4 @@
-ghost use Rattle.std.specs.Prelude.{◌≡◌, None, IfOk};
+ghost use Rattle.std.specs.Prelude.{◌≡◌, ◌<◌, ◌≤◌, length, None, IfOk};
 
 use crate::steady::{read_some, write_some};
 use outside::{Failed, Link, Recv};
@@ -10,8 +10,14 @@ use std::time::Duration;
 /// How long a receiving waits for something to come, in milliseconds.
 const PATIENCE: u64 = 10;
 
-/// A connection over TCP. A sending waits until the system takes some of the piece; a receiving
-/// waits a hundredth of a second at most.
+/// How long a sending waits at once until the system takes some of the piece, in milliseconds.
+const SENDING: u64 = 250;
+
+/// After so many such waits, which are 5 seconds, a sending gives up.
+const SENDING_WAITS: u32 = 20;
+
+/// A connection over TCP. A sending waits until the system takes some of the piece, and gives up 5 seconds
+/// after it last took a byte; a receiving waits a hundredth of a second at most.
 #[derive(Drop)]
 pub struct TcpLink {
     stream: TcpStream,
@@ -29,6 +35,7 @@ impl TcpLink {
     {
         stream.set_nodelay(true)?;
         stream.set_read_timeout(Some(Duration::from_millis(PATIENCE)))?;
+        stream.set_write_timeout(Some(Duration::from_millis(SENDING)))?;
         Ok(TcpLink {
             stream,
             faults: 0,
@@ -43,6 +50,21 @@ impl TcpLink {
     }
 }
 
+/// Sends a front of the piece. A call of the system that took some of it comes back within one wait, so all
+/// waits without a byte are counted here.
+fn send_some(stream: &mut TcpStream, piece: &[u8]) -> io::Result<usize>
+    ensures within { IfOk result (λ count. count ≤ length piece.now) }
+    ensures some { IfOk result (λ count. 0 < length piece.now → 0 < count) }
+{
+    for _ in 0..SENDING_WAITS {
+        match write_some(stream, piece) {
+            Err(error) if error.kind() == ErrorKind::WouldBlock => {}
+            answer => return answer,
+        }
+    }
+    Err(io::Error::from(ErrorKind::TimedOut))
+}
+
 impl Link for TcpLink {
     ghost told = { λ _. None };
 
@@ -53,7 +75,7 @@ impl Link for TcpLink {
     ghost failed_sends = { λ l. l.failed_sends };
 
     fn send(&mut self, piece: &[u8]) -> Result<usize, Failed> {
-        match write_some(&mut self.stream, piece) {
+        match send_some(&mut self.stream, piece) {
             Ok(count) => Ok(count),
             Err(_) => {
                 self.faults = self.faults.saturating_add(1);
@@ -70,7 +92,7 @@ impl Link for TcpLink {
                 Recv::Closed
             }
             Ok(count) => Recv::Got(count),
-            Err(error) if matches!(error.kind(), ErrorKind::WouldBlock | ErrorKind::TimedOut) => {
+            Err(error) if error.kind() == ErrorKind::WouldBlock => {
                 self.idles = self.idles.saturating_add(1);
                 Recv::NotYet
             }

@@ -7,8 +7,8 @@ mod wire;
 use std::rt::{Env, Files};
 use std::{env, fs, io};
 
-/// A new folder for one test, below the system's folder for temporary files.
-fn fresh_folder<R: Files + Env + AllocGlobal>(
+/// A path below the system's folder for temporary files, of nothing that is there.
+fn fresh_path<R: Files + Env + AllocGlobal>(
     rt: &R,
     name: &str,
     process: u32,
@@ -16,6 +16,5 @@ fn fresh_folder<R: Files + Env + AllocGlobal>(
     let mut path = env::temp_dir(rt)?.into_string();
     write!(path, "/outside_real_{name}_{process}")?;
     let _ = fs::remove_dir_all(rt, path.as_str());
-    fs::create_dir(rt, path.as_str())?;
     Ok(path)
 }

@@ -4,11 +4,17 @@ use crate::TcpLink;
 use crate::counted::counted;
 use outside::{Failed, Wire};
 use std::io;
-use std::net::{Net, TcpStream};
+use std::io::ErrorKind;
+use std::net::{Net, TcpStream, ToSocketAddrs};
+use std::time::{Clock, Duration};
 use wire_base::Host;
 
-/// The way to peers over TCP. A name is looked up by the system at each connecting, and its addresses
-/// are tried in turn.
+/// After so many seconds a connecting gives up.
+const CONNECTING: u64 = 5;
+
+/// The way to peers over TCP. A connecting gives up 5 seconds after it began. It has the system look up a
+/// name, for as long as that takes, and tries the addresses in turn; each has an equal part of the time that
+/// is left.
 #[derive(Drop)]
 pub struct TcpWire<R> {
     rt: R,
@@ -17,7 +23,7 @@ pub struct TcpWire<R> {
     idles: u64,
 }
 
-impl<R: Net<Stream = TcpStream>> TcpWire<R> {
+impl<R: Net<Stream = TcpStream> + Clock> TcpWire<R> {
     pub fn new(rt: R) -> TcpWire<R>
         ensures tells_nothing { ⟦<TcpWire<R> as Wire>⟧.outcomes result ≡ None }
         ensures no_open_link { ⟦<TcpWire<R> as Wire>⟧.open_links result ≡ 0 }
@@ -33,15 +39,37 @@ impl<R: Net<Stream = TcpStream>> TcpWire<R> {
     }
 }
 
-fn link_to(rt: &impl Net<Stream = TcpStream>, host: &Host) -> io::Result<TcpLink>
+fn stream_to(rt: &(impl Net<Stream = TcpStream> + Clock), host: &Host) -> io::Result<TcpStream> {
+    let end = rt
+        .monotonic()?
+        .saturating_add(Duration::from_secs(CONNECTING));
+    let addresses = (host.name.as_str(), host.port).to_socket_addrs(rt)?;
+    let mut untried = u32::try_from(addresses.len()).unwrap_or(u32::MAX);
+    let mut last = io::Error::from(ErrorKind::TimedOut);
+    for address in addresses {
+        let left = end.saturating_sub(rt.monotonic()?);
+        let part = left.checked_div(untried).unwrap_or(left);
+        if part.is_zero() {
+            break;
+        }
+        match TcpStream::connect_timeout(rt, &address, part) {
+            Ok(stream) => return Ok(stream),
+            Err(error) => last = error,
+        }
+        untried = untried.saturating_sub(1);
+    }
+    Err(last)
+}
+
+fn link_to(rt: &(impl Net<Stream = TcpStream> + Clock), host: &Host) -> io::Result<TcpLink>
     ensures no_fault { IfOk result (λ link. link.faults ≡ 0) }
     ensures no_idle { IfOk result (λ link. link.idles ≡ 0) }
     ensures no_failed_send { IfOk result (λ link. link.failed_sends ≡ 0) }
 {
-    TcpLink::new(TcpStream::connect(rt, (host.name.as_str(), host.port))?)
+    TcpLink::new(stream_to(rt, host)?)
 }
 
-impl<R: Net<Stream = TcpStream>> Wire for TcpWire<R> {
+impl<R: Net<Stream = TcpStream> + Clock> Wire for TcpWire<R> {
     type Link = TcpLink;
 
     ghost outcomes = { λ _. None };

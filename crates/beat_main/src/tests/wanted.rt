@@ -30,17 +30,18 @@ pub struct Wanted<'a> {
     pub area: Area<'a>,
     /// What is sent over the last link, window by window; `None` where that is left open.
     pub windows: Option<&'a [&'a [Event<'a>]]>,
+    /// The clock's moment, in milliseconds after the run began.
+    pub moment: u64,
 }
 
-/// What a run leaves that is refused before it begins.
-pub fn refused(status: u8, printed: &str) -> Wanted<'_> {
-    Wanted {
-        status,
-        printed,
-        area: Area::Kept,
-        windows: Some(&[]),
-    }
-}
+/// What a run leaves that is refused before it begins, but for its status.
+pub const REFUSED: Wanted = Wanted {
+    status: 0,
+    printed: "",
+    area: Area::Kept,
+    windows: Some(&[]),
+    moment: 0,
+};
 
 /// An area of the first generation with these rows, which are in byte order of their keys.
 pub fn area_of(alloc: Global, rows: &[Row]) -> Result<String, Fail> {

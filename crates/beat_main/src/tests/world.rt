@@ -3,6 +3,7 @@ ghost use Rattle.std.specs.Prelude.{◌≡◌, vec_len, IfOk};
 
 use crate::tests::wanted::{Area, Wanted, area_of, sent_of};
 use beat_run::{Status, ship};
+use outside::Clock;
 use outside_mem::{
     Due, MemBell, MemChange, MemClock, MemDisk, MemFile, MemFolder, MemPiece, MemSink, MemSource,
     MemStep, MemTalk, MemWire,
@@ -110,6 +111,25 @@ fn append_sent(bytes: &mut Vec<u8>, talk: &[Piece]) -> Result<(), NoMemory> {
     Ok(())
 }
 
+/// A run, and what it has to leave.
+#[derive(Clone, Copy)]
+pub struct Case<'a> {
+    pub name: &'a str,
+    pub start: Start<'a>,
+    pub wanted: Wanted<'a>,
+}
+
+/// Makes one run after the other, and compares what each leaves.
+pub fn check_each<X: Threads + Wait + Sync + AllocGlobal + Abort>(
+    rt: &X,
+    cases: &[Case],
+) -> Result<(), Fail> {
+    for case in cases {
+        check(rt, case.name, case.start, case.wanted)?;
+    }
+    Ok(())
+}
+
 /// Makes a run, and compares all that it leaves with what is wanted.
 pub fn check<X: Threads + Wait + Sync + AllocGlobal + Abort>(
     rt: &X,
@@ -118,7 +138,7 @@ pub fn check<X: Threads + Wait + Sync + AllocGlobal + Abort>(
     wanted: Wanted,
 ) -> Result<Ran, Fail> {
     let alloc = rt.alloc();
-    let ran = run(rt, start)?;
+    let mut ran = run(rt, start)?;
     let printed = Text::from_bytes(alloc, ran.printed.bytes())?;
     let area = Text::from_bytes(alloc, ran.area.bytes())?;
     let wanted_area = match wanted.area {
@@ -129,6 +149,7 @@ pub fn check<X: Threads + Wait + Sync + AllocGlobal + Abort>(
     assert_eq!(rt; printed.as_str(), wanted.printed, "printed: {case}");
     assert_eq!(rt; ran.status.code(), wanted.status, "exit status: {case}");
     assert_eq!(rt; area.as_str(), wanted_area.as_str(), "area: {case}");
+    assert_eq!(rt; ran.clock.now(), Moment(wanted.moment), "clock: {case}");
     if let Some(windows) = wanted.windows {
         let wanted_sent = sent_of(alloc, windows)?;
         let sent = ran.sent(alloc)?;

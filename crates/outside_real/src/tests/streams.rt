@@ -1,4 +1,4 @@
-use super::fresh_folder;
+use super::fresh_path;
 use crate::*;
 use outside::{Bell, Clock, Failed, Sink, Source};
 use std::cell::Cell;
@@ -10,21 +10,19 @@ use wire_base::{MAX_MOMENT, Moment, Text};
 
 #[test]
 fn source_reads_a_file_to_its_end(rt: HostRuntime) -> Result<(), Fail> {
-    let alloc = rt.alloc();
-    let folder = fresh_folder(&rt, "source", process::id(rt.process()))?;
-    let path = format!(in alloc; "{folder}/settings.toml")?;
-    let missing = FileSource::new(&rt, Text::from_string(path.clone()?)).read(&mut [0; 3]);
+    let path = fresh_path(&rt, "source", process::id(rt.process()))?;
     fs::write(&rt, path.as_str(), "abcde")?;
-    let mut source = FileSource::new(&rt, Text::from_string(path));
+    let mut source = FileSource::new(&rt, Text::from_string(path.clone()?));
     let mut into = [0; 3];
     let read = [
         source.read(&mut into),
         source.read(&mut into),
         source.read(&mut into),
     ];
-    fs::remove_dir_all(&rt, folder.as_str())?;
-    assert_eq!(rt; missing, Err(Failed));
+    fs::remove_file(&rt, path.as_str())?;
+    let absent = FileSource::new(&rt, Text::from_string(path)).read(&mut into);
     assert_eq!(rt; read, [Ok(3), Ok(2), Ok(0)]);
+    assert_eq!(rt; absent, Err(Failed));
     assert_eq!(rt; into, *b"dec");
     Ok(())
 }
@@ -111,13 +109,12 @@ fn clock_gives_milliseconds_and_moves(rt: HostRuntime) -> Result<(), Fail> {
 
 #[test]
 fn bell_rings_where_its_file_is(rt: HostRuntime) -> Result<(), Fail> {
-    let folder = fresh_folder(&rt, "bell", process::id(rt.process()))?;
-    let path = format!(in rt.alloc(); "{folder}/stop")?;
+    let path = fresh_path(&rt, "bell", process::id(rt.process()))?;
     let mut bell = FileBell::new(&rt, Text::from_string(path.clone()?));
     let quiet = bell.asked();
     fs::write(&rt, path.as_str(), "")?;
     let rings = bell.asked();
-    fs::remove_dir_all(&rt, folder.as_str())?;
+    fs::remove_file(&rt, path.as_str())?;
     assert_eq!(rt; [quiet, rings], [false, true]);
     Ok(())
 }

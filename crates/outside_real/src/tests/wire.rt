@@ -1,9 +1,10 @@
 ghost use Rattle.std.specs.Prelude.{◌<◌, length};
 
 use crate::*;
-use outside::{Failed, Link, Recv, Wire};
+use outside::{Link, Recv, Wire};
+use std::io;
 use std::io::{Read, Write};
-use std::net::{Shutdown, TcpListener, TcpStream};
+use std::net::TcpListener;
 use std::test::Fail;
 use wire_base::{Host, Text};
 
@@ -20,6 +21,14 @@ fn next(link: &mut TcpLink, into: &mut [u8]) -> Recv
     Recv::NotYet
 }
 
+/// Sends two bytes back to who connected, and closes the connection.
+fn echo(listener: &TcpListener) -> io::Result<()> {
+    let (mut peer, _) = listener.accept()?;
+    let mut bytes = [0; 2];
+    peer.read_exact(&mut bytes)?;
+    peer.write_all(&bytes)
+}
+
 #[test]
 fn wire_talks_over_loopback_until_the_peer_closes(rt: HostRuntime) -> Result<(), Fail> {
     let listener = TcpListener::bind(&rt, "127.0.0.1:0")?;
@@ -29,36 +38,20 @@ fn wire_talks_over_loopback_until_the_peer_closes(rt: HostRuntime) -> Result<(),
     };
     let mut wire = TcpWire::new(&rt);
     let mut link = wire.connect(&host)?;
-    let (mut peer, _) = listener.accept()?;
     let mut into = [0; 4];
     let nothing_yet = link.recv(&mut into);
     let sent = link.send(b"ab")?;
-    let arrived = peer.read(&mut into)?;
-    peer.write_all(b"xyz")?;
+    echo(&listener)?;
     let answered = next(&mut link, &mut into);
-    drop(peer);
     let closed = next(&mut link, &mut [0]);
-    let counts = (link.faults, link.failed_sends);
     wire.finish(link);
     drop(listener);
     let refused = wire.connect(&host);
-    assert_eq!(rt; nothing_yet, Recv::NotYet);
-    assert_eq!(rt; (sent, arrived), (2, 2));
-    assert_eq!(rt; answered, Recv::Got(3));
-    assert_eq!(rt; into, *b"xyz\0");
-    assert_eq!(rt; closed, Recv::Closed);
-    assert_eq!(rt; counts, (1, 0));
+    assert_eq!(rt;
+        [nothing_yet, answered, closed],
+        [Recv::NotYet, Recv::Got(2), Recv::Closed]
+    );
+    assert_eq!(rt; (sent, into), (2, *b"ab\0\0"));
     assert!(rt; refused.is_err());
-    Ok(())
-}
-
-#[test]
-fn sending_fails_where_the_connection_takes_nothing(rt: HostRuntime) -> Result<(), Fail> {
-    let listener = TcpListener::bind(&rt, "127.0.0.1:0")?;
-    let stream = TcpStream::connect(&rt, listener.local_addr()?)?;
-    stream.shutdown(Shutdown::Write)?;
-    let mut link = TcpLink::new(stream)?;
-    assert_eq!(rt; link.send(b"d"), Err(Failed));
-    assert_eq!(rt; (link.faults, link.failed_sends), (1, 1));
     Ok(())
 }

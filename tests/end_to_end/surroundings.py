@@ -1,0 +1,76 @@
+"""What a run finds around it: closed streams, a data folder or a registry that is none, and another run."""
+
+import os
+
+import program
+from area import area, row
+from peer import Behaviour, Peer
+from shipping import ONCE, Shipping
+
+DISK_FAULT = "status 5 disk fault"
+
+# what a shell closes before the program begins, and whether the report can be read then
+CLOSED = (("<&-", True), (">&-", False), ("2>&-", True), ("<&- >&-", False), ("<&- >&- 2>&-", False))
+
+# what stands in the place of a registry or of its folder, by how it is made
+NO_REGISTRY = {
+    "its folder is a file": lambda path: path.parent.write_bytes(b""),
+    "its folder is a link to nothing": lambda path: path.parent.symlink_to("nothing"),
+    "a folder": lambda path: path.mkdir(parents=True),
+    "a pipe": lambda path: (path.parent.mkdir(), os.mkfifo(path)),
+    "a link to a device": lambda path: (path.parent.mkdir(), path.symlink_to(os.devnull)),
+    "a link to nothing": lambda path: (path.parent.mkdir(), path.symlink_to("nothing")),
+}
+
+# so often two first runs begin together
+TOGETHER = 10
+
+
+class Surroundings(Shipping):
+    def test_closed_streams(self):
+        """No file that a run opens is taken for one of them: the registry is whole, and the report is printed or lost."""
+        for closed, is_read in CLOSED:
+            self.enter_new_folder()
+            with self.subTest(closed=closed), Peer() as peer:
+                self.prepare(b"a\nb\n", peer.host)
+                words = ("-c", f'exec "$0" "$@" {closed}', os.fspath(self.tested), *ONCE)
+                ran = program.run("sh", words, self.folder)
+                if is_read:
+                    self.assert_report(ran, 4, 2)
+                else:
+                    self.assertEqual((ran.returncode, ran.stdout, ran.stderr), (0, b"", b""))
+                    self.assertEqual(self.area.read_bytes(), area(row(self.path, 4)))
+
+    def test_registry_is_no_regular_file(self):
+        """That is found before anything is sent, and left as it is."""
+        for kind, make in NO_REGISTRY.items():
+            self.enter_new_folder()
+            with self.subTest(kind=kind), Peer() as peer:
+                self.prepare(b"a\nb\n", peer.host)
+                make(self.area)
+                before = sorted((str(it), it.lstat().st_mode) for it in self.folder.rglob("*"))
+                self.assert_wrote(self.run_words(*ONCE), DISK_FAULT)
+                self.assertEqual(peer.connections, 0)
+                self.assertEqual(sorted((str(it), it.lstat().st_mode) for it in self.folder.rglob("*")), before)
+
+    def test_registry_of_another_run(self):
+        """The other run goes on as if nobody else had come."""
+        with Peer(Behaviour.SLOW) as peer, self.start(b"a\nb\n", peer) as first:
+            self.wait_until(lambda: peer.payloads, "nothing was sent")
+            second = self.run_words(*ONCE)
+            ran = program.finish(first)
+        self.assert_wrote(second, DISK_FAULT)
+        self.assert_report(ran, 4, 2)
+        self.assertEqual(peer.connections, 1)
+
+    def test_first_runs_together(self):
+        """One of them ships. The other finds the registry locked or, where it comes later, no longer blank."""
+        for _ in range(TOGETHER):
+            self.enter_new_folder()
+            with Peer() as peer:
+                self.prepare(b"a\nb\n", peer.host)
+                with self.start_prepared() as one, self.start_prepared() as other:
+                    ended = sorted((program.finish(it) for it in (one, other)), key=lambda it: it.returncode)
+            self.assert_report(ended[0], 4, 2)
+            self.assertIn(ended[1].stdout.decode(), (f"{DISK_FAULT}\n", "status 4 registry bad area A at 0\n"))
+            self.assertEqual(len(peer.payloads), 2)
