@@ -44,7 +44,7 @@ def bodies(rows):
 
 def rows_of(stored):
     """The rows that an area holds, by their keys. The area has to be opened and whole."""
-    assert stored[:8] in (b"{beat 1 ", b"{beat 2 ") and stored[28:29] == b"\n", "no area of version 1 or 2"
+    assert stored[:8] == b"{beat 2 " and stored[28:29] == b"\n", "no area of version 2"
     rows, gate = {}, 29
     while stored[gate : gate + 1] == b"{":
         length = int(stored[gate + 1 : gate + 8])
