@@ -50,6 +50,14 @@ SETTINGS_REFUSED = (
         lambda valid: valid.replace("[output]", 'include_lines = ["["]\n[output]'),
         "status 3 settings bad pattern inputs.0.include_lines.0",
     ),
+    (
+        lambda valid: valid.replace("[output]", 'ignore_older = "1m"\nclean_inactive = "70s"\n[output]'),
+        "status 3 settings clean too soon inputs.0",
+    ),
+    (
+        lambda valid: valid.replace("[output]", 'ignore_older = "1m"\nclean_inactive = "71s"\n[output]'),
+        "status 13 unbuilt key inputs.0.clean_inactive",
+    ),
     (lambda valid: valid.replace("file_identity", "# file_identity"), "status 13 unbuilt key inputs.0.file_identity"),
     (lambda valid: valid.replace('"path"', '"native"'), "status 13 unbuilt key inputs.0.file_identity"),
     (
@@ -65,7 +73,7 @@ SETTINGS_TAKEN = (
     lambda valid: valid[:-1],
     lambda valid: valid.replace("\n", "\r\n"),
     lambda valid: valid + "#" * (SETTINGS - len(valid)),
-    lambda valid: valid + "attempts = 3\nworkers = 1\n[queue]\nevents = 32\n",
+    lambda valid: valid + "attempts = 3\npipelining = 8\nworkers = 1\n[queue]\nevents = 32\n",
 )
 
 

@@ -15,8 +15,8 @@ pub const MAX_SETTINGS: usize = 1_048_576;
 /// The settings that bytes spell as one TOML document, or the first fault: by the kinds in the order of
 /// `SettingsError`, and within one kind by the key path that is first in byte order. A document with more
 /// than 80 levels of brackets and dotted keys at one place counts as none. Settings are within the ranges of
-/// their table, and no two inputs have the same id. `NoMemory` may come in place of any answer; a pattern that
-/// is too large when it is compiled is told so, too.
+/// their table, and no two inputs have the same id. Patterns are not compiled. `NoMemory` may come in place of any
+/// answer.
 pub fn read_settings(alloc: Global, bytes: &[u8]) -> Result<Settings, SettingsError>
     ensures settings_of_the_document { IfOk result (AreSettingsOf bytes.now) }
     ensures in_range { IfOk result AreInRange }

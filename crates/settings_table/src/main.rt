@@ -34,10 +34,12 @@ fn group_name(rule: &GroupRule) -> &'static str {
 fn output_line(alloc: Global, rule: &OutputRule) -> anyhow::Result<String> {
     let hosts = rule.hosts.as_slice().len();
     let (workers, bulk) = (rule.workers, rule.bulk_max_size);
+    let pipelining = rule.pipelining;
     let (timeout, attempts) = (rule.timeout, rule.attempts);
-    Ok(format!(in alloc;
-        "hosts {hosts} workers {workers} bulk {bulk} timeout {timeout} attempts {attempts}"
-    )?)
+    let text = format!(in alloc;
+        "hosts {hosts} workers {workers} bulk {bulk} pipelining {pipelining}"
+    )?;
+    Ok(format!(in alloc; "{text} timeout {timeout} attempts {attempts}")?)
 }
 
 fn input_line(alloc: Global, rule: &InputRule) -> anyhow::Result<String> {
@@ -45,6 +47,7 @@ fn input_line(alloc: Global, rule: &InputRule) -> anyhow::Result<String> {
     let paths = rule.paths.as_slice().len();
     let identity = identity_name(&rule.file_identity);
     let (check, inactive) = (rule.check_interval, rule.close_inactive);
+    let (older, cleaned) = (rule.ignore_older, rule.clean_inactive);
     let removed = rule.clean_removed;
     let most = rule.lines.message_max_bytes;
     let include = rule.include_lines.as_slice().len();
@@ -53,7 +56,8 @@ fn input_line(alloc: Global, rule: &InputRule) -> anyhow::Result<String> {
     let text = format!(in alloc;
         "{id} paths {paths} {identity} check {check} inactive {inactive} removed {removed}"
     )?;
-    Ok(format!(in alloc; "{text} most {most} include {include} exclude {exclude} {group}")?)
+    let text = format!(in alloc; "{text} older {older} cleaned {cleaned} most {most}")?;
+    Ok(format!(in alloc; "{text} include {include} exclude {exclude} {group}")?)
 }
 
 fn answer(rt: &HostRuntime, document: &str) -> anyhow::Result<()> {
