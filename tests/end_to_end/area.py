@@ -22,7 +22,7 @@ def text(value):
 
 def area(*rows):
     """The bytes of an area that was just started with these rows: generation 1, as many rows in each record as fit."""
-    stored = b"{beat 1 %020d\n" % 1
+    stored = b"{beat 2 %020d\n" % 1
     for body in bodies(sorted(rows, key=lambda it: it["key"].encode())):
         stored += b"{%07d " % len(body) + body + b"\n"
     return stored + b"."
@@ -44,7 +44,7 @@ def bodies(rows):
 
 def rows_of(stored):
     """The rows that an area holds, by their keys. The area has to be opened and whole."""
-    assert stored[:8] == b"{beat 1 " and stored[28:29] == b"\n", "no area of version 1"
+    assert stored[:8] == b"{beat 2 " and stored[28:29] == b"\n", "no area of version 2"
     rows, gate = {}, 29
     while stored[gate : gate + 1] == b"{":
         length = int(stored[gate + 1 : gate + 8])

@@ -9,7 +9,7 @@ class OneFile(Shipping):
     def test_worked_area_is_spelled(self):
         """These tests' own spelling of an area, against the worked one."""
         body = b'[{"epoch":0,"key":"filestream::w::path::/w/a.log","offset":4,"op":"set","path":"/w/a.log"}]'
-        worked = b"{beat 1 00000000000000000001\n{0000091 " + body + b"\n."
+        worked = b"{beat 2 00000000000000000001\n{0000091 " + body + b"\n."
         self.assertEqual(len(worked), 131)
         self.assertEqual(area(row("/w/a.log", 4)), worked)
         self.assertEqual(rows_of(worked), [row("/w/a.log", 4)])

@@ -20,7 +20,7 @@ status 0 done
 const WINDOW_OF_BOTH: &[u8] =
     b"2W\0\0\0\x022J\0\0\0\x01\0\0\0\x83{\"@timestamp\":\"1970-01-01T00:00:00.000Z\",\"input\":{\"type\":\"filestream\"},\"log\":{\"file\":{\"path\":\"/w/a.log\"},\"offset\":0},\"message\":\"a\"}2J\0\0\0\x02\0\0\0\x83{\"@timestamp\":\"1970-01-01T00:00:00.000Z\",\"input\":{\"type\":\"filestream\"},\"log\":{\"file\":{\"path\":\"/w/a.log\"},\"offset\":2},\"message\":\"b\"}";
 
-const ROW_AT_4: &[u8] = br#"{beat 1 00000000000000000001
+const ROW_AT_4: &[u8] = br#"{beat 2 00000000000000000001
 {0000091 [{"epoch":0,"key":"filestream::w::path::/w/a.log","offset":4,"op":"set","path":"/w/a.log"}]
 ."#;
 

@@ -45,7 +45,7 @@ pub const REFUSED: Wanted = Wanted {
 
 /// An area of the first generation with these rows, which are in byte order of their keys.
 pub fn area_of(alloc: Global, rows: &[Row]) -> Result<String, Fail> {
-    let mut text = String::from_str(alloc, "{beat 1 00000000000000000001\n")?;
+    let mut text = String::from_str(alloc, "{beat 2 00000000000000000001\n")?;
     if !rows.is_empty() {
         let body = body_of(alloc, rows)?;
         let length = body.len();
