@@ -45,6 +45,7 @@ settings_text (settings.BadText key) = codes "bad text " ++ key
 settings_text (settings.OutOfRange key value) = codes "out of range " ++ (key ++ (codes " " ++ signed_decimal value))
 settings_text (settings.BadGlob key fault) = codes "bad glob " ++ key
 settings_text (settings.BadPattern key) = codes "bad pattern " ++ key
+settings_text (settings.CleanTooSoon key) = codes "clean too soon " ++ key
 settings_text settings.NoMemory = codes "no memory"
 
 abbrev pub settings_line : List ℕ → List ℕ

@@ -120,6 +120,7 @@ fn settings_line<S: Sink>(fault: &SettingsError, out: &mut S) -> Result<(), Fail
         SettingsError::OutOfRange { key, value } => range_line(key, *value, out),
         SettingsError::BadGlob { key, .. } => key_line(b"bad glob ", key, out),
         SettingsError::BadPattern { key } => key_line(b"bad pattern ", key, out),
+        SettingsError::CleanTooSoon { key } => key_line(b"clean too soon ", key, out),
         SettingsError::NoMemory => write_all(out, b"status 3 settings no memory\n"),
     }
 }

@@ -169,6 +169,13 @@ fn each_fault_of_the_settings_is_told_with_its_key(rt: HostRuntime) -> Result<()
         alloc,
         SettingsError::BadPattern { key },
         "status 3 settings bad pattern a.\"b\"\n",
+    )?;
+    let key = text(alloc, KEY)?;
+    faulty(
+        &rt,
+        alloc,
+        SettingsError::CleanTooSoon { key },
+        "status 3 settings clean too soon a.\"b\"\n",
     )
 }
 

@@ -17,5 +17,8 @@ returns-in-OutOfRange-clause-told g c = rw c.in-OutOfRange.is (rw (to_z-of_z w64
 pub returns-in-BadPattern-clause-told : goal.returns-in-BadPattern-clause-told
 returns-in-BadPattern-clause-told g c = rw c.in-BadPattern.is c.key_line-in-BadPattern.ensures.told
 
+pub returns-in-CleanTooSoon-clause-told : goal.returns-in-CleanTooSoon-clause-told
+returns-in-CleanTooSoon-clause-told g c = rw c.in-CleanTooSoon.is c.key_line-in-CleanTooSoon.ensures.told
+
 pub returns-in-NoMemory-clause-told : goal.returns-in-NoMemory-clause-told
 returns-in-NoMemory-clause-told g c = rw c.in-NoMemory.is c.write_all-in-NoMemory.ensures.told
