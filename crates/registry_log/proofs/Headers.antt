@@ -201,7 +201,7 @@ find_same one other from (suc n) same =
 same_range : (area : List ℕ) (count : ℕ) → 28 ≤ count → is_out_of_range (take count area) ≡ is_out_of_range area
 same_range area count enough =
     λ i. list_all_same (fits (take count area)) (fits area) 8 20 (λ q low. same_fit area count q (omega (arith, low, enough))) i
-        && ((same_generation area count enough i == 0) || nat_le (2 ^ 64) (same_generation area count enough i))
+    && ((same_generation area count enough i == 0) || nat_le (2 ^ 64) (same_generation area count enough i))
 
 pub same_first_wrong : (area : List ℕ) (count : ℕ) → 29 ≤ count → first_wrong (take count area) ≡ first_wrong area
 unfolding first_wrong
