@@ -8,3 +8,4 @@ mod Paths
 mod Showing
 mod Replaying
 mod Talking
+mod Telling

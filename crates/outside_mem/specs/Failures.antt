@@ -7,15 +7,18 @@ use Rattle.outside_mem.specs.declared.failures.Failures.{Failures}
 pub record Stays (old new : Failures) : Type 0 where
   pub faults : new.faults ≡ old.faults
   pub starved : new.starved ≡ old.starved
+  pub asked : new.asked ≡ old.asked
 
 -- one fault was counted, for a list that asked for it
 pub record Fails (old new : Failures) : Type 0 where
   pub faults : new.faults ≡ next_count old.faults
   pub no_less : old.faults ≤ new.faults
   pub starved : new.starved ≡ old.starved
+  pub asked : new.asked ≡ next_count old.asked
 
 -- one fault was counted, for want of memory
 pub record Starves (old new : Failures) : Type 0 where
   pub faults : new.faults ≡ next_count old.faults
   pub no_less : old.faults ≤ new.faults
   pub starved : new.starved ≡ next_count old.starved
+  pub asked : new.asked ≡ old.asked

@@ -1,5 +1,8 @@
+pub mod Asked
 pub mod Disks
+pub mod Failing
 pub mod Failures
+pub mod Filled
 pub mod Happenings
 pub mod Images
 pub mod Listed
@@ -7,6 +10,8 @@ pub mod Logs
 pub mod MemFolders
 pub mod LinkHistories
 pub mod MemWires
+pub mod Meetings
+pub mod Moments
 pub mod Outcomes
 pub mod Replays
 pub mod Scripts

@@ -3,6 +3,7 @@ use Rattle.std.specs.Prelude.{◌≡◌, ◌⊎◌, ℕ, ◌<◌, List, [], ◌�
 use Rattle.outside.specs.declared.entry.Entry.{Entry}
 use Rattle.outside.specs.declared.history.Shown.{Shown}
 use Rattle.outside.specs.Folders.{Listed, IsListed, IsListable, ShowsPresent}
+use Rattle.outside_mem.specs.declared.moments.ToldMoment.{ToldMoment}
 use Rattle.outside_mem.specs.declared.tracked.Tracked.{Tracked}
 use Rattle.outside_mem.specs.declared.tracked.Listing.{Listing}
 use Rattle.outside_mem.specs.Happenings.{event_of}
@@ -10,10 +11,10 @@ use Rattle.outside_mem.specs.Logs.{happened_in}
 use Rattle.outside_mem.specs.Tracking.{path_of, present_from, states_of, files_of}
 
 -- the listing shows what is present below the root, and the log is to say the same
-pub record Lists (files : List Tracked) (listings : ℕ) (root : List ℕ) (depth : ℕ) (listing : Listing) : Type 0 where
+pub record Lists (moments : List ToldMoment) (files : List Tracked) (listings : ℕ) (root : List ℕ) (depth : ℕ) (listing : Listing) : Type 0 where
   pub shown : List Shown
   pub entries_shown : map (λ one. one.entry) shown ≡ listing.entries.items
-  pub shows : ShowsPresent (files_of files) (states_of listings files) (present_from 0 listings files) root depth shown
+  pub shows : ShowsPresent (files_of files) (states_of listings files) (present_from moments 0 listings files) root depth shown
   pub event : event_of (happened_in listing.room) ≡ Listed root depth shown
   pub in_range : All IsListable listing.entries.items
 

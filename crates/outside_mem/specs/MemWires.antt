@@ -9,4 +9,5 @@ pub record IsSame (old new : MemWire) : Type 0 where
   pub open_links : new.unfinished ≡ old.unfinished
   pub faults : new.failures.faults ≡ old.failures.faults
   pub starved : new.failures.starved ≡ old.failures.starved
+  pub asked : new.failures.asked ≡ old.failures.asked
   pub idles : new.idles ≡ old.idles

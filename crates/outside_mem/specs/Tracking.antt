@@ -5,7 +5,9 @@ use Rattle.std.specs.Option.{option_map, option_to_list}
 use Rattle.outside.specs.declared.history.Shown.{Shown}
 use Rattle.outside.specs.declared.history.Sight.{Sight}
 use Rattle.outside.specs.Files.{File}
+use Rattle.outside_mem.specs.declared.moments.ToldMoment.{ToldMoment}
 use Rattle.outside_mem.specs.declared.tracked.Tracked.{Tracked}
+use Rattle.outside_mem.specs.Moments.{moment_of}
 use Rattle.outside_mem.specs.Scripts.{file_of}
 use Rattle.outside_mem.specs.Steps.{path_at, sight_at}
 
@@ -17,21 +19,21 @@ state_of listings tracked = sight_at listings tracked.calls (arc_value tracked.s
 abbrev pub path_of : ℕ → Tracked → Option (List ℕ)
 path_of listings tracked = path_at listings tracked.calls (arc_value tracked.script).file.path (arc_value tracked.script).file.steps.items
 
--- how a listing shows it by a path; its moment of change is 0
-abbrev pub shown_by : ℕ → ℕ → Tracked → List ℕ → Shown
-shown_by number listings tracked path = let state = state_of listings tracked in record {
-  entry = record { path = path; size = state.length; native = (arc_value tracked.script).file.native; changed = record { 0 = 0 } };
+-- how a listing shows it by a path, with the moment of change that was told for the path
+abbrev pub shown_by : List ToldMoment → ℕ → ℕ → Tracked → List ℕ → Shown
+shown_by moments number listings tracked path = let state = state_of listings tracked in record {
+  entry = record { path = path; size = state.length; native = (arc_value tracked.script).file.native; changed = moment_of moments path };
   file = number;
   life = state.life;
 }
 
-abbrev pub shown_of : ℕ → ℕ → Tracked → Option Shown
-shown_of number listings tracked = option_map (shown_by number listings tracked) (path_of listings tracked)
+abbrev pub shown_of : List ToldMoment → ℕ → ℕ → Tracked → Option Shown
+shown_of moments number listings tracked = option_map (shown_by moments number listings tracked) (path_of listings tracked)
 
 -- the files that are found, each with its number, in the order of the numbers
-abbrev pub present_from : ℕ → ℕ → List Tracked → List Shown
-present_from number listings [] = []
-present_from number listings (tracked ∷ files) = option_to_list (shown_of number listings tracked) ++ present_from (number + 1) listings files
+abbrev pub present_from : List ToldMoment → ℕ → ℕ → List Tracked → List Shown
+present_from moments number listings [] = []
+present_from moments number listings (tracked ∷ files) = option_to_list (shown_of moments number listings tracked) ++ present_from moments (number + 1) listings files
 
 abbrev pub states_of : ℕ → List Tracked → List Sight
 states_of listings files = map (state_of listings) files

@@ -1,7 +1,10 @@
-ghost use Rattle.std.specs.Prelude.{◌≡◌, ◌<◌, ◌≤◌, ◌+◌, ◌^◌, ◌⊎◌, length, IfOk, OnOk, IfSome, IsNone};
+ghost use Rattle.std.specs.Prelude.{◌≡◌, ◌<◌, ◌≤◌, ◌+◌, ◌^◌, length, IfOk, OnOk, IfSome};
 ghost use Rattle.outside.specs.DiskImages.{Torn};
 ghost use Rattle.outside.specs.DiskReads.{written};
 ghost use Rattle.outside_mem.specs.Torn.{patched};
+ghost use Rattle.outside_mem.specs.Filled.{filled, filler_of, gap_byte, range_of};
+ghost use Rattle.outside_mem.specs.declared.crash.Filler.{Filler};
+ghost use Rattle.outside_mem.specs.declared.crash.Filler.TheVariants.{Kept};
 ghost use Rattle.wire_base.specs.Ranges.{IsPlace};
 
 use crate::change::{Change, Write};
@@ -19,7 +22,7 @@ pub(crate) enum Filler {
 impl Filler {
     /// The filler of a pick; other picks than 1, 2 and 3 have none.
     pub(crate) fn of(pick: u64) -> Option<Filler>
-        ensures { (pick ≡ 0) ⊎ (3 < pick) → IsNone result }
+        ensures { result ≡ filler_of pick }
     {
         match pick {
             1 => Some(Filler::Kept),
@@ -29,7 +32,9 @@ impl Filler {
         }
     }
 
-    fn byte(self) -> u8 {
+    fn byte(self) -> u8
+        ensures { result ≡ gap_byte self }
+    {
         match self {
             Filler::Kept => 0,
             Filler::Byte(byte) => byte,
@@ -49,7 +54,7 @@ impl Replay {
     ghost use Rattle.outside_mem.specs.Replays.{StandsFor, Follows};
 
     pub(crate) fn new(alloc: Global, first: &[u8]) -> Result<Replay, AllocError>
-        ensures { IfOk result (λ replay. StandsFor (fresh first.now) replay) }
+        ensures { IfOk result (λ replay. (filler : Filler) → StandsFor filler (fresh first.now) replay) }
     {
         Ok(Replay {
             image: first.to_vec(alloc)?,
@@ -64,7 +69,7 @@ impl Replay {
         change: &Change,
         filler: Filler,
     ) -> Result<(), AllocError>
-        ensures { OnOk result (Follows self.old self.new change.now) }
+        ensures { OnOk result (Follows filler self.old self.new change.now) }
     {
         match change {
             Change::Wrote(write) => {
@@ -107,7 +112,8 @@ fn torn(
     len: usize,
     filler: Filler,
 ) -> Result<Vec<u8>, AllocError>
-    ensures { IfOk result (λ next. Torn at len contents.now next.items) }
+    ensures torn { IfOk result (λ next. Torn at len contents.now next.items) }
+    ensures filled { IfOk result (λ next. next.items ≡ filled filler contents.now at len) }
 {
     if len == 0 {
         return contents.to_vec(alloc);
@@ -121,7 +127,7 @@ fn torn(
 
 /// The `len` bytes from `at` on, with zeros past the end.
 fn kept(alloc: Global, contents: &[u8], at: u64, len: usize) -> Result<Vec<u8>, AllocError>
-    ensures { IfOk result (λ range. length range.items ≡ len) }
+    ensures { IfOk result (λ range. range.items ≡ range_of Kept contents.now at len) }
 {
     let start = (at as usize).min(contents.len());
     let count = len.min(contents.len() - start);

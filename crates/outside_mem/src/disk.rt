@@ -1,4 +1,4 @@
-ghost use Rattle.std.specs.Prelude.{◌≡◌, ◌<◌, ◌≤◌, ◌+◌, ◌⊎◌, [], Some, IfOk, OnOk, OnErr, length, vec_len};
+ghost use Rattle.std.specs.Prelude.{◌≡◌, ◌<◌, ◌≤◌, ◌+◌, [], Some, IfOk, OnOk, OnErr, length, vec_len};
 ghost use Rattle.outside_mem.specs.Images.{after, fresh};
 
 use crate::change::{Change, Write};
@@ -22,14 +22,20 @@ pub struct MemDisk {
 
 impl MemDisk {
     ghost use Rattle.std.specs.Prelude.{List, ℕ, length};
+    ghost use Rattle.outside.specs.Counts.{added_counts};
     ghost use Rattle.outside.specs.DiskImages.{Only};
+    ghost use Rattle.outside_mem.specs.Asked.{disk_asked};
+    ghost use Rattle.outside_mem.specs.Filled.{image_by, image_of};
     ghost use Rattle.outside_mem.specs.Images.{after_change, IsImageOf};
     ghost use Rattle.outside_mem.specs.Disks.{now, Changes, IsUnchanged, StaysOrTears, Writes, Cuts};
 
     /// A disk with these bytes, all of them synced.
     pub fn new(alloc: Global, bytes: &[u8]) -> Result<MemDisk, NoMemory>
         ensures contents { IfOk result (λ disk. ⟦<MemDisk as Disk>⟧.contents disk ≡ Some bytes.now) }
-        ensures durable { IfOk result (λ disk. Only (Some bytes.now) (⟦<MemDisk as Disk>⟧.images disk)) }
+        ensures durable { IfOk result (λ disk.
+            Only (Some bytes.now) (⟦<MemDisk as Disk>⟧.images disk)) }
+        ensures faults { IfOk result (λ disk. ⟦<MemDisk as Disk>⟧.faults disk ≡ 0) }
+        ensures asked { IfOk result (λ disk. disk_asked disk ≡ 0) }
     {
         Ok(MemDisk {
             alloc,
@@ -42,20 +48,26 @@ impl MemDisk {
 
     /// Names the calls that fail, counted from 0.
     pub fn fail_at(&mut self, calls: &[u64]) -> Result<(), NoMemory>
-        ensures { now self.new ≡ now self.old }
+        ensures reading { now self.new ≡ now self.old }
+        ensures faults { ⟦<MemDisk as Disk>⟧.faults self.new ≡ ⟦<MemDisk as Disk>⟧.faults self.old }
+        ensures asked { disk_asked self.new ≡ disk_asked self.old }
     {
         self.failures.fail_at(calls)
     }
 
     /// Lets all calls but the first `calls` fail, counted from when the disk was made.
     pub fn stop_after(&mut self, calls: u64)
-        ensures { now self.new ≡ now self.old }
+        ensures reading { now self.new ≡ now self.old }
+        ensures faults { ⟦<MemDisk as Disk>⟧.faults self.new ≡ ⟦<MemDisk as Disk>⟧.faults self.old }
+        ensures asked { disk_asked self.new ≡ disk_asked self.old }
     {
         self.failures.stop_after(calls);
     }
 
     /// How often it failed for want of memory.
-    pub fn starved(&self) -> u64 {
+    pub fn starved(&self) -> u64
+        ensures { ⟦<MemDisk as Disk>⟧.faults self.now ≡ added_counts result (disk_asked self.now) }
+    {
         self.failures.starved
     }
 
@@ -70,8 +82,11 @@ impl MemDisk {
     /// sync, and zeros past the old end; pick 2 gives them the byte `7` and pick 3 the byte `{`; after
     /// a pending cut these give the old length. Every other pick gives what a read gives.
     pub fn image(&self, pick: u64) -> Result<MemDisk, NoMemory>
-        ensures image { IfOk result (λ disk. (image : List ℕ) × ⟦<MemDisk as Disk>⟧.images self.now image × (⟦<MemDisk as Disk>⟧.contents disk ≡ Some image)) }
-        ensures reads { (pick ≡ 0) ⊎ (3 < pick) → IfOk result (λ disk. ⟦<MemDisk as Disk>⟧.contents disk ≡ ⟦<MemDisk as Disk>⟧.contents self.now) }
+        ensures image { IfOk result (λ disk. (image : List ℕ) ×
+            ⟦<MemDisk as Disk>⟧.images self.now image ×
+            (⟦<MemDisk as Disk>⟧.contents disk ≡ Some image)) }
+        ensures picked { IfOk result (λ disk.
+            ⟦<MemDisk as Disk>⟧.contents disk ≡ Some (image_of pick (now self.now))) }
     {
         match Filler::of(pick) {
             None => MemDisk::new(self.alloc, &self.bytes),
@@ -84,7 +99,8 @@ impl MemDisk {
 
     /// The bytes of the last sync with each pending range filled.
     fn torn(&self, filler: Filler) -> Result<Vec<u8>, NoMemory>
-        ensures { IfOk result (λ image. IsImageOf (now self.now) image.items) }
+        ensures is_left { IfOk result (λ image. IsImageOf (now self.now) image.items) }
+        ensures filled { IfOk result (λ image. image.items ≡ image_by (Some filler) (now self.now)) }
     {
         let mut replay = Replay::new(self.alloc, &self.first)?;
         for change in &self.changes {

@@ -1,17 +1,22 @@
-ghost use Rattle.std.specs.Prelude.{◌≡◌, IfOk, OnOk, OnErr, ◌≤◌};
+ghost use Rattle.std.specs.Prelude.{◌≡◌, ◌↔◌, IsTrue, IfOk, OnOk, OnErr, ◌≤◌};
 ghost use Rattle.std.specs.Bool.{OnFalse, OnTrue};
 ghost use Rattle.outside.specs.Counts.{Rose, next_count, added_counts};
+ghost use Rattle.outside_mem.specs.Failing.{IsNamed};
 
 use crate::failing::FailingCalls;
 use std::alloc::Global;
 use wire_base::NoMemory;
 
-/// Which calls on an object fail, and how often it has failed.
+/// Which calls on an object fail, and how often it has failed: as often as there was no memory and as
+/// lists asked for it.
 #[derive(Debug, Drop)]
 pub(crate) struct Failures {
-    failing: FailingCalls,
+    pub(crate) failing: FailingCalls,
     pub(crate) faults: u64,
     pub(crate) starved: u64,
+    /// How often it failed where a list, or the talk of a link, asks for it.
+    pub(crate) asked: u64,
+    ghost accounted: { faults ≡ added_counts starved asked },
 }
 
 impl Failures {
@@ -20,11 +25,13 @@ impl Failures {
     pub(crate) fn new(alloc: Global) -> Failures
         ensures none { result.faults ≡ 0 }
         ensures none_starved { result.starved ≡ 0 }
+        ensures none_asked { result.asked ≡ 0 }
     {
         Failures {
             failing: FailingCalls::new(alloc),
             faults: 0,
             starved: 0,
+            asked: 0,
         }
     }
 
@@ -44,12 +51,14 @@ impl Failures {
 
     /// Counts one call, and says whether it fails; then it counts a fault, too.
     pub(crate) fn next_call_fails(&mut self) -> bool
+        ensures named { IsTrue result ↔ IsNamed self.old.failing }
         ensures fails { OnTrue result (Fails self.old self.new) }
         ensures goes_on { OnFalse result (Stays self.old self.new) }
     {
         let fails = self.failing.next_fails();
         if fails {
             self.faults = self.faults.saturating_add(1);
+            self.asked = self.asked.saturating_add(1);
         }
         fails
     }
@@ -62,12 +71,14 @@ impl Failures {
         self.starved = self.starved.saturating_add(1);
     }
 
-    /// Counts the faults of an object that this one gave out, `starved` of them for want of memory.
-    pub(crate) fn include(&mut self, faults: u64, starved: u64)
-        ensures faults { self.new.faults ≡ added_counts self.old.faults faults }
+    /// Counts the faults of an object that this one gave out.
+    pub(crate) fn include(&mut self, starved: u64, asked: u64)
+        ensures faults { self.new.faults ≡ added_counts self.old.faults (added_counts starved asked) }
         ensures starved { self.new.starved ≡ added_counts self.old.starved starved }
+        ensures asked { self.new.asked ≡ added_counts self.old.asked asked }
     {
-        self.faults = self.faults.saturating_add(faults);
+        self.faults = self.faults.saturating_add(starved.saturating_add(asked));
         self.starved = self.starved.saturating_add(starved);
+        self.asked = self.asked.saturating_add(asked);
     }
 }

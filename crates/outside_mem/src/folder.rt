@@ -8,6 +8,7 @@ ghost use Rattle.outside_mem.specs.Logs.{log_events};
 
 use crate::failures::Failures;
 use crate::log::{Happened, Log, Opening, Room};
+use crate::moments::ToldMoment;
 use crate::script::Script;
 use crate::steps::MemFile;
 use crate::tail::MemTail;
@@ -15,7 +16,7 @@ use crate::tracked::{Listing, Tracked, add_calls, find, list_files};
 use outside::{Entry, Folder, FolderError};
 use std::alloc::Global;
 use std::sync::Arc;
-use wire_base::{NoMemory, Text};
+use wire_base::{Moment, NoMemory, Text};
 
 /// Which calls fail on each tail that is opened by a path.
 #[derive(Drop)]
@@ -33,16 +34,24 @@ pub struct MemFolder {
     log: Log,
     failures: Failures,
     tail_failures: Vec<TailFailures>,
+    moments: Vec<ToldMoment>,
     open_tails: u64,
     ghost failures_counted: { log.failed_in_all ≤ failures.faults },
 }
 
 impl MemFolder {
-    ghost use Rattle.outside_mem.specs.MemFolders.{NotesOnly, OpensTail, OpensOrFindsNone, folder_events, folder_files};
+    ghost use Rattle.std.specs.Prelude.{◌≢◌, ℕ, List};
+    ghost use Rattle.outside.specs.Counts.{added_counts};
+    ghost use Rattle.outside_mem.specs.Asked.{folder_asked};
+    ghost use Rattle.outside_mem.specs.MemFolders.{NotesOnly, OpensTail, OpensOrFindsNone, folder_events, folder_files, listed_moment};
 
     pub fn new(alloc: Global, files: Vec<MemFile>) -> Result<MemFolder, NoMemory>
         ensures files { IfOk result (λ folder. folder_files folder ≡ map told_file files.items) }
         ensures nothing_done { IfOk result (λ folder. folder_events folder ≡ []) }
+        ensures faults { IfOk result (λ folder. ⟦<MemFolder as Folder>⟧.faults folder ≡ 0) }
+        ensures asked { IfOk result (λ folder. folder_asked folder ≡ 0) }
+        ensures moments { IfOk result (λ folder. (path : List ℕ) →
+            listed_moment folder path ≡ record { 0 = 0 }) }
     {
         Ok(MemFolder {
             alloc,
@@ -51,6 +60,7 @@ impl MemFolder {
             log: Log::new(),
             failures: Failures::new(alloc),
             tail_failures: Vec::new(alloc),
+            moments: Vec::new(alloc),
             open_tails: 0,
         })
     }
@@ -74,8 +84,25 @@ impl MemFolder {
         Ok(())
     }
 
+    /// Tells the moment of change with which later listings show this path; a path for which none
+    /// is told has 0.
+    pub fn changed(&mut self, path: &Text, moment: Moment) -> Result<(), NoMemory>
+        ensures told { OnOk result (listed_moment self.new path.now ≡ moment) }
+        ensures others { (other : List ℕ) → other ≢ path.now →
+            listed_moment self.new other ≡ listed_moment self.old other }
+        ensures refused { OnErr result (listed_moment self.new path.now ≡ listed_moment self.old path.now) }
+        ensures files { folder_files self.new ≡ folder_files self.old }
+        ensures events { folder_events self.new ≡ folder_events self.old }
+    {
+        let path = path.copy(self.alloc)?;
+        self.moments.push(ToldMoment { path, moment })?;
+        Ok(())
+    }
+
     /// How often it, or a tail that was closed, failed for want of memory.
-    pub fn starved(&self) -> u64 {
+    pub fn starved(&self) -> u64
+        ensures { ⟦<MemFolder as Folder>⟧.faults self.now ≡ added_counts result (folder_asked self.now) }
+    {
         self.failures.starved
     }
 
@@ -207,7 +234,7 @@ impl Folder for MemFolder {
 
     ghost states = { λ f. states_of f.listings f.files.items };
 
-    ghost present = { λ f. present_from 0 f.listings f.files.items };
+    ghost present = { λ f. present_from f.moments.items 0 f.listings f.files.items };
 
     ghost open_tails = { λ f. f.open_tails };
 
@@ -220,7 +247,7 @@ impl Folder for MemFolder {
             note_failure(&mut self.log, self.failures.faults);
             return Err(FolderError::Failed);
         }
-        match list_files(alloc, self.alloc, &self.files, listings, root, depth) {
+        match list_files(alloc, &self.moments, &self.files, listings, root, depth) {
             Ok(Listing { entries, room }) => {
                 self.log.note(room);
                 Ok(entries)
@@ -277,7 +304,7 @@ impl Folder for MemFolder {
         });
         self.log.note(room);
         add_calls(&mut self.files, number, own_calls);
-        self.failures.include(failures.faults, failures.starved);
+        self.failures.include(failures.starved, failures.asked);
         self.open_tails = self.open_tails.saturating_sub(1);
     }
 }

@@ -1,5 +1,5 @@
 ghost use Rattle.std.specs.Prelude.{◌≡◌, Some, IfOk, OnOk, OnErr};
-ghost use Rattle.outside.specs.Counts.{next_count};
+ghost use Rattle.outside.specs.Counts.{added_counts, next_count};
 ghost use Rattle.outside_mem.specs.LinkHistories.{talk_of, Faults};
 
 use crate::failing::FailingCalls;
@@ -26,15 +26,20 @@ pub struct MemLink {
     history: LinkHistory,
     failed_sends: u64,
     starved: u64,
+    /// How often it failed, or was closed, where a list or its talk asks for it.
+    asked: u64,
     /// Where its outcome will stand.
     node: Box<OutcomeNode>,
+    ghost accounted: { history.faults ≡ added_counts starved asked },
 }
 
 /// What a wire takes over of a link.
 pub(crate) struct LinkEnd {
     pub(crate) history: LinkHistory,
     pub(crate) starved: u64,
+    pub(crate) asked: u64,
     pub(crate) node: Box<OutcomeNode>,
+    ghost accounted: { history.faults ≡ added_counts starved asked },
 }
 
 impl MemLink {
@@ -60,6 +65,7 @@ impl MemLink {
             history: LinkHistory::new(alloc),
             failed_sends: 0,
             starved: 0,
+            asked: 0,
             node: spare_node(alloc)?,
         })
     }
@@ -77,6 +83,7 @@ impl MemLink {
     pub(crate) fn into_end(self) -> LinkEnd
         ensures history { result.history ≡ self.history }
         ensures starved { result.starved ≡ self.starved }
+        ensures asked { result.asked ≡ self.asked }
     {
         let MemLink {
             alloc: _,
@@ -89,11 +96,13 @@ impl MemLink {
             history,
             failed_sends: _,
             starved,
+            asked,
             node,
         } = self;
         LinkEnd {
             history,
             starved,
+            asked,
             node,
         }
     }
@@ -102,6 +111,8 @@ impl MemLink {
         ensures ok { OnOk result (Sends self.old.history piece.now self.new.history) }
         ensures err { OnErr result (Stays self.old.history self.new.history) }
         ensures failed_sends { self.new.failed_sends ≡ self.old.failed_sends }
+        ensures starved { self.new.starved ≡ self.old.starved }
+        ensures asked { self.new.asked ≡ self.old.asked }
     {
         let mut windows = self.windows;
         let whole = windows.read(self.alloc, piece)?;
@@ -119,19 +130,32 @@ impl MemLink {
         }
     }
 
-    fn fail_send(&mut self)
-        ensures history { Faults self.old.history self.new.history }
+    fn count_failed_send(&mut self)
+        ensures history { self.new.history ≡ self.old.history }
         ensures failed_sends { self.new.failed_sends ≡ next_count self.old.failed_sends }
     {
-        self.history.fault();
         self.failed_sends = self.failed_sends.saturating_add(1);
     }
 
-    fn starve(&mut self)
-        ensures starved { self.new.starved ≡ next_count self.old.starved }
-        ensures history { self.new.history ≡ self.old.history }
+    /// Fails, since a list or the talk asks for it.
+    fn fail(&mut self)
+        ensures history { Faults self.old.history self.new.history }
         ensures failed_sends { self.new.failed_sends ≡ self.old.failed_sends }
+        ensures starved { self.new.starved ≡ self.old.starved }
+        ensures asked { self.new.asked ≡ next_count self.old.asked }
     {
+        self.history.fault();
+        self.asked = self.asked.saturating_add(1);
+    }
+
+    /// Fails for want of memory.
+    fn starve(&mut self)
+        ensures history { Faults self.old.history self.new.history }
+        ensures failed_sends { self.new.failed_sends ≡ self.old.failed_sends }
+        ensures starved { self.new.starved ≡ next_count self.old.starved }
+        ensures asked { self.new.asked ≡ self.old.asked }
+    {
+        self.history.fault();
         self.starved = self.starved.saturating_add(1);
     }
 }
@@ -147,7 +171,8 @@ impl Link for MemLink {
 
     fn send(&mut self, piece: &[u8]) -> Result<usize, Failed> {
         if self.sends.next_fails() {
-            self.fail_send();
+            self.fail();
+            self.count_failed_send();
             return Err(Failed);
         }
         if piece.is_empty() {
@@ -157,7 +182,7 @@ impl Link for MemLink {
             Ok(()) => Ok(piece.len()),
             Err(_) => {
                 self.starve();
-                self.fail_send();
+                self.count_failed_send();
                 Err(Failed)
             }
         }
@@ -165,7 +190,7 @@ impl Link for MemLink {
 
     fn recv(&mut self, into: &mut [u8]) -> Recv {
         if self.recvs.next_fails() {
-            self.history.fault();
+            self.fail();
             return Recv::Failed;
         }
         match self.talk.give(&self.whole, self.received, into) {
@@ -176,13 +201,16 @@ impl Link for MemLink {
                 }
                 Err(_) => {
                     self.starve();
-                    self.history.fault();
                     Recv::Failed
                 }
             },
             Answer::Closed => {
-                self.history.fault();
+                self.fail();
                 Recv::Closed
+            }
+            Answer::Failed => {
+                self.fail();
+                Recv::Failed
             }
             Answer::NotYet => {
                 self.history.idle();

@@ -13,8 +13,13 @@ pub struct MemSink {
 }
 
 impl MemSink {
+    ghost use Rattle.outside.specs.Counts.{added_counts};
+    ghost use Rattle.outside_mem.specs.Asked.{sink_asked};
+
     pub fn new(alloc: Global) -> Result<MemSink, NoMemory>
-        ensures { IfOk result (λ sink. ⟦<MemSink as Sink>⟧.written sink ≡ Some []) }
+        ensures written { IfOk result (λ sink. ⟦<MemSink as Sink>⟧.written sink ≡ Some []) }
+        ensures faults { IfOk result (λ sink. ⟦<MemSink as Sink>⟧.faults sink ≡ 0) }
+        ensures asked { IfOk result (λ sink. sink_asked sink ≡ 0) }
     {
         Ok(MemSink {
             bytes: Vec::new(alloc),
@@ -24,7 +29,9 @@ impl MemSink {
 
     /// Names the writes that fail, counted from 0.
     pub fn fail_at(&mut self, calls: &[u64]) -> Result<(), NoMemory>
-        ensures { ⟦<MemSink as Sink>⟧.written self.new ≡ ⟦<MemSink as Sink>⟧.written self.old }
+        ensures written { ⟦<MemSink as Sink>⟧.written self.new ≡ ⟦<MemSink as Sink>⟧.written self.old }
+        ensures faults { ⟦<MemSink as Sink>⟧.faults self.new ≡ ⟦<MemSink as Sink>⟧.faults self.old }
+        ensures asked { sink_asked self.new ≡ sink_asked self.old }
     {
         self.failures.fail_at(calls)
     }
@@ -37,7 +44,9 @@ impl MemSink {
     }
 
     /// How often it failed for want of memory.
-    pub fn starved(&self) -> u64 {
+    pub fn starved(&self) -> u64
+        ensures { ⟦<MemSink as Sink>⟧.faults self.now ≡ added_counts result (sink_asked self.now) }
+    {
         self.failures.starved
     }
 }

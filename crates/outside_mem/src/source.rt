@@ -15,8 +15,13 @@ pub struct MemSource {
 }
 
 impl MemSource {
+    ghost use Rattle.outside.specs.Counts.{added_counts};
+    ghost use Rattle.outside_mem.specs.Asked.{source_asked};
+
     pub fn new(alloc: Global, bytes: &[u8]) -> Result<MemSource, NoMemory>
-        ensures { IfOk result (λ source. ⟦<MemSource as Source>⟧.left source ≡ Some bytes.now) }
+        ensures left { IfOk result (λ source. ⟦<MemSource as Source>⟧.left source ≡ Some bytes.now) }
+        ensures faults { IfOk result (λ source. ⟦<MemSource as Source>⟧.faults source ≡ 0) }
+        ensures asked { IfOk result (λ source. source_asked source ≡ 0) }
     {
         Ok(MemSource {
             bytes: bytes.to_vec(alloc)?,
@@ -27,13 +32,17 @@ impl MemSource {
 
     /// Names the reads that fail, counted from 0.
     pub fn fail_at(&mut self, calls: &[u64]) -> Result<(), NoMemory>
-        ensures { ⟦<MemSource as Source>⟧.left self.new ≡ ⟦<MemSource as Source>⟧.left self.old }
+        ensures left { ⟦<MemSource as Source>⟧.left self.new ≡ ⟦<MemSource as Source>⟧.left self.old }
+        ensures faults { ⟦<MemSource as Source>⟧.faults self.new ≡ ⟦<MemSource as Source>⟧.faults self.old }
+        ensures asked { source_asked self.new ≡ source_asked self.old }
     {
         self.failures.fail_at(calls)
     }
 
     /// How often it failed for want of memory.
-    pub fn starved(&self) -> u64 {
+    pub fn starved(&self) -> u64
+        ensures { ⟦<MemSource as Source>⟧.faults self.now ≡ added_counts result (source_asked self.now) }
+    {
         self.failures.starved
     }
 }

@@ -1,4 +1,4 @@
-mod disk;
-mod folder;
+mod files;
+mod peers;
 mod streams;
-mod wire;
+mod threads;

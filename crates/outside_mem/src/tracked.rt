@@ -1,16 +1,17 @@
 ghost use Rattle.std.specs.Prelude.{◌≡◌, ◌↔◌, ℕ, All, IsTrue, IfOk, OnOk, IfSome, IfNone, Some};
 ghost use Rattle.outside.specs.Files.{NoneEarlier};
 ghost use Rattle.outside_mem.specs.Listed.{Lists, AddsFound, FindsAt};
-ghost use Rattle.outside_mem.specs.Tracking.{present_from, path_of, states_of, files_of};
+ghost use Rattle.outside_mem.specs.Tracking.{path_of, states_of, files_of};
 ghost use Rattle.outside.specs.Folders.{IsListed};
 
 use crate::below::is_below;
 use crate::log::{Happened, Room};
+use crate::moments::{ToldMoment, moment_of};
 use crate::script::Script;
 use outside::{Entry, Shown, Sight};
 use std::alloc::Global;
 use std::sync::Arc;
-use wire_base::{MAX_PATH, Moment, NoMemory, Text};
+use wire_base::{MAX_PATH, NoMemory, Text};
 
 /// A file of a folder in memory, with the calls on those tails of it that were closed.
 #[derive(Drop)]
@@ -29,8 +30,14 @@ impl Tracked {
     }
 
     /// How a listing shows the file, where it is found.
-    fn shown(&self, alloc: Global, number: u64, listings: u64) -> Result<Option<Shown>, NoMemory>
-        ensures { IfOk result (λ found. found ≡ shown_of number listings self.now) }
+    fn shown(
+        &self,
+        alloc: Global,
+        moments: &[ToldMoment],
+        number: u64,
+        listings: u64,
+    ) -> Result<Option<Shown>, NoMemory>
+        ensures { IfOk result (λ found. found ≡ shown_of moments.now number listings self.now) }
     {
         let Some(path) = self.script.path(listings, self.calls) else {
             return Ok(None);
@@ -40,7 +47,7 @@ impl Tracked {
             path: path.copy(alloc)?,
             size: sight.length,
             native: self.script.file.native,
-            changed: Moment(0),
+            changed: moment_of(moments, path),
         };
         Ok(Some(Shown {
             entry,
@@ -70,22 +77,22 @@ pub(crate) struct Listing {
 /// Lists the files below a root.
 pub(crate) fn list_files(
     alloc: Global,
-    own: Global,
+    moments: &[ToldMoment],
     files: &[Tracked],
     listings: u64,
     root: &Text,
     depth: u32,
 ) -> Result<Listing, NoMemory>
-    ensures { IfOk result (Lists files.now listings root.now depth) }
+    ensures { IfOk result (Lists moments.now files.now listings root.now depth) }
 {
     let mut entries = Vec::new(alloc);
-    let mut shown = Vec::new(own);
+    let mut shown = Vec::new(alloc);
     for (number, tracked) in files.iter().enumerate() {
-        let found = tracked.shown(own, number as u64, listings)?;
+        let found = tracked.shown(alloc, moments, number as u64, listings)?;
         add_found(alloc, root, depth, found, &mut entries, &mut shown)?;
     }
-    let root = root.copy(own)?;
-    let room = Room::new(own, Happened::Listed { root, depth, shown })?;
+    let root = root.copy(alloc)?;
+    let room = Room::new(alloc, Happened::Listed { root, depth, shown })?;
     Ok(Listing { entries, room })
 }
 
@@ -122,7 +129,7 @@ fn is_listed(root: &Text, depth: u32, one: &Shown) -> bool
 /// The number of the first file that is found by a path.
 pub(crate) fn find(files: &[Tracked], listings: u64, path: &Text) -> Option<usize>
     ensures found { IfSome result (λ number. FindsAt files.now listings path.now number) }
-    ensures none { IfNone result (All (λ one. ¬ (one.entry.path ≡ path.now)) (present_from 0 listings files.now)) }
+    ensures none { IfNone result (All (λ one. ¬ (path_of listings one ≡ Some path.now)) files.now) }
 {
     for (number, tracked) in files.iter().enumerate() {
         if is_found(tracked, listings, path) {

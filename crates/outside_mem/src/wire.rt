@@ -34,6 +34,8 @@ pub struct MemWire {
 }
 
 impl MemWire {
+    ghost use Rattle.outside.specs.Counts.{added_counts};
+    ghost use Rattle.outside_mem.specs.Asked.{wire_asked};
     ghost use Rattle.outside_mem.specs.LinkHistories.{IsFresh};
     ghost use Rattle.outside_mem.specs.MemWires.{IsSame};
     ghost use Rattle.outside_mem.specs.Outcomes.{last_talk};
@@ -44,6 +46,7 @@ impl MemWire {
         ensures open_links { IfOk result (λ wire. ⟦<MemWire as Wire>⟧.open_links wire ≡ 0) }
         ensures faults { IfOk result (λ wire. ⟦<MemWire as Wire>⟧.faults wire ≡ 0) }
         ensures idles { IfOk result (λ wire. ⟦<MemWire as Wire>⟧.idles wire ≡ 0) }
+        ensures asked { IfOk result (λ wire. wire_asked wire ≡ 0) }
     {
         talks.reverse();
         Ok(MemWire {
@@ -85,7 +88,9 @@ impl MemWire {
     }
 
     /// How often it failed for want of memory, its finished links included.
-    pub fn starved(&self) -> u64 {
+    pub fn starved(&self) -> u64
+        ensures { ⟦<MemWire as Wire>⟧.faults self.now ≡ added_counts result (wire_asked self.now) }
+    {
         self.failures.starved
     }
 
@@ -143,11 +148,12 @@ impl Wire for MemWire {
         let LinkEnd {
             history,
             starved,
+            asked,
             node,
         } = link.into_end();
         self.unfinished = self.unfinished.saturating_sub(1);
         self.idles = self.idles.saturating_add(history.idles);
-        self.failures.include(history.faults, starved);
+        self.failures.include(starved, asked);
         self.outcomes.finish(node, history);
     }
 }

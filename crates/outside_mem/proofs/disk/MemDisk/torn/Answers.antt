@@ -1,4 +1,4 @@
-use Rattle.std.proofs.Common.{◌≡◌, ◌+◌, ◌++◌, ◌∷◌, [], List, take, sym, ◌∙◌, ap, subst, arith}
+use Rattle.std.proofs.Common.{◌≡◌, ◌+◌, ◌++◌, ◌∷◌, [], ℕ, List, take, sym, ◌∙◌, ap, subst, arith}
 use Rattle.std.proofs.lemmas.List.{take_more}
 use Rattle.outside_mem.specs.declared.change.Change.{Change}
 use Rattle.outside_mem.specs.Images.{Reading, after, fresh}
@@ -16,4 +16,8 @@ loop-change-preserved c =
     let one_more : take (i + 1) changes ≡ take i changes ++ change ∷ [] =
     take_more changes i change (omega arith) ∙ ap (λ (x : Change). take i changes ++ x ∷ []) (sym item_is) in
     let reading = ap (λ (cs : List Change). after (fresh first) cs) one_more ∙ after-push (take i changes) (fresh first) change in
-    subst (λ (r : Reading). StandsFor r c.step.new.self) (sym reading) (c.in_ok-step.ensures.each _ c.loop-change.invariant)
+    subst (λ (r : Reading). StandsFor c.args.filler r c.step.new.self) (sym reading) (c.in_ok-step.ensures.each _ c.loop-change.invariant)
+
+pub loop-change-init : goal.loop-change-init
+loop-change-init c =
+    subst (λ (bytes : List ℕ). StandsFor c.args.filler (fresh bytes) c.in_ok-replay.replay) c.deref.ensures.value (c.in_ok-replay.ensures c.args.filler)

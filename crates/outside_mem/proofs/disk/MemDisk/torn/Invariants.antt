@@ -4,4 +4,4 @@ use Rattle.outside_mem.specs.Replays.{StandsFor}
 use Rattle.outside_mem.proofs.disk.MemDisk.torn.Given as goal
 
 abbrev pub invariant-loop-change : goal.invariant-loop-change
-invariant-loop-change l = StandsFor (after (fresh l.self.first.items) (take l.change-index l.self.changes.items)) l.replay
+invariant-loop-change l = StandsFor l.filler (after (fresh l.self.first.items) (take l.change-index l.self.changes.items)) l.replay
