@@ -22,6 +22,3 @@ returns-in-CleanTooSoon-clause-told g c = rw c.in-CleanTooSoon.is c.key_line-in-
 
 pub returns-in-NoMemory-clause-told : goal.returns-in-NoMemory-clause-told
 returns-in-NoMemory-clause-told g c = rw c.in-NoMemory.is c.write_all-in-NoMemory.ensures.told
-
-pub returns-in-CleanTooSoon-clause-told : goal.returns-in-CleanTooSoon-clause-told
-returns-in-CleanTooSoon-clause-told g c = rw c.in-CleanTooSoon.is c.key_line-in-CleanTooSoon.ensures.told
