@@ -1,0 +1,2 @@
+mod OneLife
+mod Worked

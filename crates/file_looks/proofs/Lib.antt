@@ -1,0 +1,5 @@
+pub mod Cutting
+pub mod Going
+pub mod OneLife
+pub mod Telling
+mod Worked
