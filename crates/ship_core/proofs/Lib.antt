@@ -1,10 +1,10 @@
 mod Applied
 mod Covering
-mod Prefixes
+pub mod Prefixes
 mod MoreNotes
 mod InOrder
 mod Worked
 mod Living
-mod Members
+pub mod Members
 mod Reordered
 mod Built

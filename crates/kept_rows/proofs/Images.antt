@@ -1,0 +1,83 @@
+-- Rows over the first of backed notes are kept.
+use Rattle.std.proofs.Common.{◌≡◌, ◌⊎◌, inl, inr, ℕ, cond, List, [], ◌∷◌, max, Some, None, refl, sym, ap, ◌∙◌, subst}
+use Rattle.std.specs.List.{Contains, filter, fold}
+use Rattle.std.specs.Option.{is_some}
+use Rattle.std.specs.Ordering.{is_eq}
+use Rattle.std.specs.declared.cmp.Ordering.{Ordering}
+use Rattle.std.specs.declared.cmp.Ordering.TheVariants.{Less, Equal, Greater}
+use Rattle.wire_base.specs.KeyOrder.{compare}
+use Rattle.wire_base.proofs.ByteOrder.{same_key}
+use Rattle.wire_base.specs.declared.note.Note.{Note}
+use Rattle.wire_base.specs.declared.row.Row.{Row}
+use Rattle.ship_core.proofs.Members.{none_there}
+use Rattle.ship_core.specs.RowOver.{row_over}
+use Rattle.ship_core.specs.Rows.{find}
+use Rattle.ship_core.specs.RowsOver.{AreRowsOver, row_among, row_for, row_of_greatest, slots_for}
+use Rattle.told_events.proofs.Going.{all_front}
+use Rattle.kept_rows.specs.Account.{SlotAccount, slot_of}
+use Rattle.kept_rows.specs.Backed.{AreBacked, AreBegun, AreInRows, AreRowsOverFronts, Backs}
+use Rattle.kept_rows.specs.Kept.{IsKept, IsKeptInImage, IsUnbegun, StandsAsOpened}
+use Rattle.kept_rows.specs.Trace.{WireTold}
+use Rattle.kept_rows.proofs.Backing.{ClosesBy, row_is_kept}
+
+-- a row that is found has the key
+found_key : (key : List ℕ) (rows : List Row) (row : Row) → find key rows ≡ Some row → key ≡ row.key
+found_key key [] row is = absurd (let q : None ≡ Some row = is in cc)
+found_key key (first ∷ rows) row is = go (compare key first.key) refl is (λ e. found_key key rows row e)
+  where
+    go : (o : Ordering) → compare key first.key ≡ o → cond (is_eq o) (Some first) (find key rows) ≡ Some row → (find key rows ≡ Some row → key ≡ row.key) → key ≡ row.key
+    go Less order e again = again e
+    go Greater order e again = again e
+    go Equal order e again =
+        let q : Some first ≡ Some row = e in
+        let same : first ≡ row = cc in
+        same_key key first.key order ∙ ap (λ (r : Row). r.key) same
+
+as_opened : (key : List ℕ) (opening : List Row) (row : Row) → find key opening ≡ Some row → StandsAsOpened opening row
+as_opened key opening row is = record {
+  opened = row;
+  found = subst (λ (k : List ℕ). find k opening ≡ Some row) (found_key key opening row is) is;
+  same_epoch = refl;
+  same_offset = refl;
+}
+
+-- a row over notes is that of a slot, or the opening one of a key to which no Begin gave a slot
+row_for_cases : (opening : List Row) (notes : List Note) (key : List ℕ) (row : Row) → row_for opening notes key ≡ Some row →
+    ((slot : ℕ) × (row_over slot notes ≡ Some row)) ⊎ ((slots_for key notes ≡ []) × (find key opening ≡ Some row))
+row_for_cases opening notes key row is = go (slots_for key notes) refl is
+  where
+    greatest : (slots : List ℕ) → row_of_greatest notes slots ≡ Some row → (slot : ℕ) × (row_over slot notes ≡ Some row)
+    greatest [] e = absurd (let q : None ≡ Some row = e in cc)
+    greatest (slot ∷ slots) e = (fold max slot slots, e)
+
+    go : (slots : List ℕ) → slots_for key notes ≡ slots → row_among opening notes key slots ≡ Some row →
+        ((slot : ℕ) × (row_over slot notes ≡ Some row)) ⊎ ((slots_for key notes ≡ []) × (find key opening ≡ Some row))
+    go [] none e = inr (none, e)
+    go (slot ∷ slots) some e = inl (greatest (filter (λ given. is_some (row_over given notes)) (slot ∷ slots)) e)
+
+pub kept_in_image : ClosesBy → (account : List SlotAccount) (opening : List Row) (wires : List WireTold) (notes : List Note) (rows : List Row) → AreInRows account →
+    AreBacked account wires notes → AreRowsOverFronts opening notes rows → (key : List ℕ) (row : Row) → find key rows ≡ Some row → IsKeptInImage account opening wires row
+kept_in_image closes account opening wires notes rows in_rows backed over key row is =
+    let front = over.each key in
+    let backed_front = all_front (Backs account wires) front.front front.rest (subst (AreBacked account wires) front.notes_are backed) in
+    elim (row_for_cases opening front.front key row (sym front.is ∙ is)) [
+      | inl slot ↦ inl (row_is_kept closes account wires front.front slot.0 row in_rows backed_front slot.1)
+      | inr opened ↦ inr (as_opened key opening row opened.1)
+    ]
+
+-- a key to which no Begin gave a slot was not begun, where each slot of the account has its Begin among the notes
+unbegun : (account : List SlotAccount) (notes : List Note) (key : List ℕ) → AreBegun account notes → slots_for key notes ≡ [] → IsUnbegun account key
+unbegun [] notes key begun none = tt
+unbegun (one ∷ account) notes key begun none =
+    (λ same. none_there (slot_of one) (subst (λ (l : List ℕ). Contains l (slot_of one)) (ap (λ (k : List ℕ). slots_for k notes) same ∙ none) begun.0), unbegun account notes key begun.1 none)
+
+pub kept_at_the_end : ClosesBy → (account : List SlotAccount) (opening : List Row) (wires : List WireTold) (notes : List Note) (rows : List Row) → AreInRows account →
+    AreBacked account wires notes → AreBegun account notes → AreRowsOver opening notes rows → (key : List ℕ) (row : Row) → find key rows ≡ Some row → IsKept account opening wires row
+kept_at_the_end closes account opening wires notes rows in_rows backed begun over key row is =
+    elim (row_for_cases opening notes key row (sym (over.each key) ∙ is)) [
+      | inl slot ↦ inl (row_is_kept closes account wires notes slot.0 row in_rows backed slot.1)
+      | inr opened ↦ inr (
+        subst (IsUnbegun account) (found_key key opening row opened.1) (unbegun account notes key begun opened.0),
+        as_opened key opening row opened.1,
+      )
+    ]

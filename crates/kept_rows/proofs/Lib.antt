@@ -1,0 +1,13 @@
+pub mod Acknowledging
+pub mod Backing
+pub mod Draining
+pub mod Growing
+pub mod Images
+pub mod Joining
+pub mod Links
+pub mod Showing
+pub mod Worked
+mod Lives
+mod Refused
+mod Removed
+mod Undrained

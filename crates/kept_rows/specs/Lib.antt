@@ -1,0 +1,17 @@
+pub mod Account
+pub mod Acknowledged
+pub mod Backed
+pub mod Drained
+pub mod Epochs
+pub mod Failures
+pub mod Followed
+pub mod Going
+pub mod InARow
+pub mod Kept
+pub mod Lost
+pub mod Premises
+pub mod Run
+pub mod Scans
+pub mod Sent
+pub mod Telling
+pub mod Trace

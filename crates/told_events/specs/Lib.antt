@@ -1,0 +1,4 @@
+pub mod Fate
+pub mod Licence
+pub mod Rules
+pub mod Told
