@@ -1,12 +1,38 @@
-.PHONY: run test bench
+.PHONY: run build install test check edits e2e fmt bench
+
+PREFIX ?= /usr/local
 
 # ships the logs of examples/ by examples/beat.toml to a receiver on loopback, and shows what came in
 run:
 	python3 -B tests/end_to_end/first_run.py
 
-# the gate: all proofs, all tests, and the program tested from outside
+# proves and builds the program alone, and runs it once over settings that name no file
+build:
+	cd crates/beat_main && rt run
+
+# puts the built program into PREFIX/bin
+install:
+	install -D -m 755 crates/beat_main/out/beat_main $(DESTDIR)$(PREFIX)/bin/beat_main
+
+# the gate: all proofs, all tests, all must-fail edits, and the program tested from outside
 test:
 	.ci/run
+
+# one crate while it is written: make check CRATE=line_cutter
+check:
+	cd crates/$(CRATE) && rt check
+
+# the must-fail edits of one crate: make edits CRATE=line_cutter
+edits:
+	rt must-fail $(CRATE)
+
+# the built program over real files and sockets: make e2e TEST=two_inputs, or all
+e2e:
+	python3 -B tests/end_to_end/run.py $(TEST)
+
+# lays out every crate
+fmt:
+	for crate in crates/*/; do (cd $$crate && rt fmt) || exit 1; done
 
 # times the program over one file and many, and single calls, into bench/RESULTS.md; wants rustc
 bench:
