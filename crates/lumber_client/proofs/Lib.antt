@@ -1,0 +1,16 @@
+pub mod Acknowledging
+pub mod Alike
+pub mod Answered
+pub mod Asks
+pub mod Behind
+pub mod Bytes
+pub mod Given
+pub mod Goings
+pub mod Hearings
+pub mod Laid
+pub mod Nexts
+pub mod Parcels
+pub mod Rooms
+pub mod Standings
+pub mod Stepping
+pub mod Told

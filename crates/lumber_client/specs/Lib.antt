@@ -1,0 +1,10 @@
+pub mod Answer
+pub mod Exchange
+pub mod Held
+pub mod Hearing
+pub mod Laying
+pub mod Newly
+pub mod Room
+pub mod Sound
+pub mod Standing
+pub mod Step
