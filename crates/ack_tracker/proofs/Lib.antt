@@ -1,3 +1,11 @@
-mod InRange
-mod Places
-mod Slots
+mod ByNumber
+mod Contained
+mod Covering
+mod Leads
+mod Listed
+mod OneMore
+mod Putting
+mod Reaches
+mod Settling
+mod Standing
+mod Walks

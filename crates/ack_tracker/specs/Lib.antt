@@ -1,2 +1,4 @@
-pub mod Lent
+pub mod Covered
+pub mod FileState
+pub mod Files
 pub mod Tracked

@@ -6,14 +6,16 @@
 //! the end of spans that adjoin each other from the file's base on. Which spans were acknowledged and which a rule
 //! dropped makes no difference. `row` answers the row to be stored, with the newest path and the greatest moment.
 //!
-//! The tracker keeps the plain list of its notes and computes by the definitions of `ship_core`. Its answer costs a
-//! look at each note where spans are settled in their order, and a further look for each span that was settled too
-//! early. Nothing here collects notes or writes a disk.
+//! A tracker stands for the list of its notes, as the definitions of `ship_core` read it, but keeps no such list. Of each
+//! file it keeps the end up to which all is settled, and the spans settled behind that as intervals in a tree. So a span
+//! that adjoins the end only moves it, one ahead costs the logarithm of the intervals, and memory is bounded by files and
+//! gaps. Nothing here collects notes or writes a disk.
 #![tactic(auto)]
 
-mod note;
-mod place;
-mod row;
+mod coverage;
+mod file;
+mod history;
+mod reach;
 mod tracker;
 
 pub use tracker::Tracker;

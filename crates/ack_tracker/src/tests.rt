@@ -1,6 +1,10 @@
+ghost use Rattle.std.specs.Prelude.{IfOk};
 ghost use Rattle.wire_base.specs.Ranges.{IsMoment, IsNote, IsPlace};
 
+mod listed;
+
 use crate::Tracker;
+use crate::tests::listed::Listed;
 use ship_core::Rows;
 use std::alloc::Global;
 use std::test::Fail;
@@ -161,5 +165,98 @@ fn greatest_moment_seen(rt: HostRuntime) -> Result<(), Fail> {
     };
     assert_eq!(rt; tracker.row(alloc, SLOT)?, Some(row));
     assert!(rt; tracker.row(alloc, Slot(1))?.is_none());
+    Ok(())
+}
+
+#[test]
+fn spans_of_a_permutation(rt: HostRuntime) -> Result<(), Fail> {
+    let alloc = rt.alloc();
+    let mut tracker = begun(alloc)?;
+    for i in 0..100_000u64 {
+        let start = i * 7_919 % 100_000 * 10;
+        settle(alloc, &mut tracker, 0, (start, start + 10), Cause::Acked)?;
+        assert!(rt; tracker.offset(SLOT).is_some_and(|(_, end)| end % 10 == 0));
+    }
+    assert_eq!(rt; tracker.offset(SLOT), Some((Epoch(0), 1_000_000)));
+    Ok(())
+}
+
+// A number that looks drawn by lot, and the next of them.
+fn next(state: &mut u64) -> u64 {
+    *state = state
+        .wrapping_mul(6_364_136_223_846_793_005)
+        .wrapping_add(1_442_695_040_888_963_407);
+    *state >> 33
+}
+
+// A note of the slot, by these numbers. Spans lie in a grid, so that any two are one or apart.
+fn scripted(alloc: Global, slot: Slot, step: u64, kind: u64, by: u64) -> Result<Note, Fail>
+    ensures { IfOk result IsNote }
+{
+    let epoch = Epoch((by % 3) as u32);
+    let place = by / 3 % 7 * 10;
+    let note = match kind % 8 {
+        0 => Note::Announce { slot, epoch },
+        1 => Note::Forget {
+            slot,
+            epoch,
+            end: place,
+        },
+        2 => Note::Seen {
+            slot,
+            changed: Moment(place),
+        },
+        3 => Note::Rename {
+            slot,
+            scan: step,
+            path: Text::from_bytes(alloc, b"/w/b.log")?,
+        },
+        _ => match Span::new(place, place + 10) {
+            Some(span) => Note::Settle {
+                slot,
+                epoch,
+                span,
+                cause: Cause::Acked,
+            },
+            None => Note::Announce { slot, epoch },
+        },
+    };
+    Ok(note)
+}
+
+fn begin(alloc: Global, slot: Slot, by: u64) -> Result<Note, Fail>
+    ensures { IfOk result IsNote }
+{
+    Ok(Note::Begin {
+        slot,
+        key: Text::from_bytes(alloc, b"k")?,
+        path: Text::from_bytes(alloc, b"/w/a.log")?,
+        epoch: Epoch((by % 2) as u32),
+        base: by / 2 % 3 * 10,
+        changed: Moment(0),
+    })
+}
+
+#[test]
+fn answers_as_the_list_of_notes(rt: HostRuntime) -> Result<(), Fail> {
+    let alloc = rt.alloc();
+    for seed in 0..3_000u64 {
+        let mut state = seed;
+        let mut tracker = Tracker::new(alloc, &Rows::new(alloc))?;
+        let mut listed = Listed::new(alloc);
+        for slot in 0..2 {
+            let by = next(&mut state);
+            tell(alloc, &mut tracker, begin(alloc, Slot(slot), by)?)?;
+            listed.note(begin(alloc, Slot(slot), by)?)?;
+        }
+        for step in 0..24u64 {
+            let slot = Slot((next(&mut state) % 2) as u32);
+            let kind = next(&mut state);
+            let by = next(&mut state);
+            tell(alloc, &mut tracker, scripted(alloc, slot, step, kind, by)?)?;
+            listed.note(scripted(alloc, slot, step, kind, by)?)?;
+            assert_eq!(rt; tracker.offset(slot), listed.place(slot));
+        }
+    }
     Ok(())
 }

@@ -1,7 +1,10 @@
-use Rattle.std.specs.Result.{is_ok}
-use Rattle.ack_tracker.proofs.Slots.{gone_kept}
+use Rattle.std.proofs.Common.{All, Contains, subst}
+use Rattle.ack_tracker.specs.Files.{gone_among}
+use Rattle.ack_tracker.specs.Tracked.{Tracked}
 use Rattle.ack_tracker.proofs.tracker.Tracker.note.Goals as goal
 
+pub returns-in_err-add-clause-gone_stays : goal.returns-in_err-add-clause-gone_stays
+returns-in_err-add-clause-gone_stays c = subst (λ (t : Tracked). All (Contains (gone_among c.add.new.files.entries)) t.gone) c.self.view_is c.add.ensures.gone_stays
+
 pub returns-clause-gone_stays : goal.returns-clause-gone_stays
-returns-clause-gone_stays c =
-    rw (← c.self.view_is) (gone_kept c.no_row_goes_back.ensures c.self.inside.notes.items c.args.note (is_ok c.push.result) c.push.new.self.items c.push.ensures.items)
+returns-clause-gone_stays c = subst (λ (t : Tracked). All (Contains (gone_among c.add.new.files.entries)) t.gone) c.self.view_is c.add.ensures.gone_stays
