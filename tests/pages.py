@@ -47,6 +47,8 @@ def faults_of_crates():
         if name not in known:
             if state != NOT_YET:
                 yield f"docs/architecture.md says that {name} is there, and crates.txt has it not"
+        elif state == NOT_YET:
+            yield f"docs/architecture.md says that {name} is not there yet, and crates.txt has it"
         elif below != known[name] - {BASE}:
             yield f"docs/architecture.md: {name} stands on {sorted(known[name] - {BASE})}, not on {sorted(below)}"
 
