@@ -14,3 +14,4 @@ pub mod Rooms
 pub mod Standings
 pub mod Stepping
 pub mod Told
+pub mod Worked
