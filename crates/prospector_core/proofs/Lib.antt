@@ -1,0 +1,10 @@
+pub mod Along
+pub mod Finding
+mod Comparing
+mod Indexing
+mod Looping
+mod Remembering
+mod Scanning
+mod Settling
+mod Steps
+mod Worked

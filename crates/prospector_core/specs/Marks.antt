@@ -1,0 +1,80 @@
+-- What the members of a scan so far show of each known file, kept beside it while the scan is compared.
+use Rattle.std.specs.Prelude.{ℕ, ◌-◌, Bool, true, false, List, [], ◌∷◌, length, map, Option, Some, None, unwrap_or, if◌then◌else◌}
+use Rattle.std.specs.Str.{bytes_eq}
+use Rattle.prospector_core.specs.declared.change.Change.{Change}
+use Rattle.prospector_core.specs.declared.change.Change.TheVariants.{Doubled, Removed}
+use Rattle.prospector_core.specs.declared.known.Known.{Known}
+use Rattle.prospector_core.specs.declared.marks.Mark.{Mark}
+use Rattle.prospector_core.specs.declared.marks.Mark.TheVariants.{Unseen, Held, Shown}
+use Rattle.prospector_core.specs.declared.marks.Watched.{Watched}
+use Rattle.prospector_core.specs.declared.seen.Seen.{Seen}
+use Rattle.prospector_core.specs.Changes.{is_held, known_changes}
+use Rattle.prospector_core.specs.KnownFiles.{KnownFiles, first_with}
+
+abbrev pub file_of : Watched → Known
+file_of watched = watched.file
+
+abbrev pub files_of : List Watched → List Known
+files_of watched = map file_of watched
+
+abbrev pub keys_of : List Watched → List (List ℕ)
+keys_of watched = map (λ one. one.file.key) watched
+
+-- the member's path where it is another
+abbrev pub other_path : Known → Seen → Option (List ℕ)
+other_path file member = if bytes_eq file.path member.path then None else Some member.path
+
+-- by the first member that shows the file
+abbrev pub first_mark : List Bool → Known → Seen → Mark
+first_mark clean file member = if is_held clean file then Held else Shown member.size (other_path file member)
+
+abbrev pub mark_by : List Bool → Known → Option Seen → Mark
+mark_by clean file None = Unseen
+mark_by clean file (Some member) = first_mark clean file member
+
+-- a file with what these members show of it
+abbrev pub watched_by : List Bool → List Seen → Known → Watched
+watched_by clean seen file = record { file = file; mark = mark_by clean file (first_with file.key seen) }
+
+-- ---- one member more of the file's key
+
+abbrev pub next_mark : List Bool → Known → Seen → Mark → Mark
+next_mark clean file member Unseen = first_mark clean file member
+next_mark clean file member Held = Held
+next_mark clean file member (Shown size path) = Shown size path
+
+abbrev pub marked_changes : List Bool → Known → Seen → Mark → List Change
+marked_changes clean file member Unseen = known_changes clean file member
+marked_changes clean file member Held = Doubled member.path ∷ []
+marked_changes clean file member (Shown size path) = Doubled member.path ∷ []
+
+-- ---- once all members were looked at
+
+abbrev pub settled_file : Bool → Known → Mark → Known
+settled_file whole file Unseen = if whole then record file { present = false } else file
+settled_file whole file Held = file
+settled_file whole file (Shown size path) = record file { path = unwrap_or path file.path; size = size; present = true }
+
+abbrev pub settled : Bool → Watched → Known
+settled whole watched = settled_file whole watched.file watched.mark
+
+abbrev pub settled_one : Bool → Watched → Watched
+settled_one whole watched = record { file = settled whole watched; mark = Unseen }
+
+abbrev pub cleared : Watched → Watched
+cleared watched = record { file = watched.file; mark = Unseen }
+
+-- ---- what is known of them
+
+-- so many files count together, those of other inputs among them
+abbrev pub known_in : List Watched → ℕ → ℕ → KnownFiles
+known_in watched next count = record { files = files_of watched; next = next; others = count - length watched }
+
+abbrev pub removal_by : Known → Mark → List Change
+removal_by file Unseen = if file.present then Removed file.slot ∷ [] else []
+removal_by file Held = []
+removal_by file (Shown size path) = []
+
+-- of a file that no member showed
+abbrev pub unseen_removal : Watched → List Change
+unseen_removal watched = removal_by watched.file watched.mark

@@ -1,0 +1,127 @@
+ghost use Rattle.std.specs.Prelude.{◌≡◌, ◌≤◌, ◌+◌, ◌==◌, [], IfErr, IfOk, OnErr, OnOk, filter, length, map, not};
+ghost use Rattle.prospector_core.specs.Changes.{changes_between, known_after};
+ghost use Rattle.prospector_core.specs.KnownFiles.{AreBegun, AreKnown, known_of};
+ghost use Rattle.prospector_core.specs.Limits.{IsFirstRefusal, refusals};
+
+use crate::key_index::{grow_index, index_keys, need_index};
+use crate::marks::{Mark, Watched, settle};
+use crate::told::{Scan, tell_scan};
+use crate::{Change, Known, MAX_FILES, ProspectError, Seen};
+use std::alloc::Global;
+use std::marker::Model;
+use wire_base::{Begin, NoMemory, Slot};
+
+/// The files that are remembered from one scan to the next.
+#[derive(Debug, Drop)]
+pub struct Prospector {
+    /// In the order of their slots.
+    watched: Vec<Watched>,
+    /// The places of these in byte order of their keys.
+    order: Vec<usize>,
+    /// The order is of the files as they are.
+    indexed: bool,
+    /// The slot of the next file.
+    next: u32,
+    /// How many rows of other inputs count as files.
+    others: u32,
+}
+
+impl Model for Prospector {
+    ghost use Rattle.prospector_core.specs.KnownFiles.{KnownFiles};
+    ghost use Rattle.prospector_core.specs.Watching.{IsWatching, known_by};
+
+    ghost Value = { KnownFiles };
+
+    ghost view = { λ p. known_by p.watched.items p.next p.others };
+
+    ghost invariant = { λ p. IsWatching p.watched.items p.order.items p.indexed (known_by p.watched.items p.next p.others) };
+}
+
+impl Prospector {
+    /// Remembers the files with which a run begins; `others` counts the rows of other inputs.
+    pub fn begin(alloc: Global, begins: &[Begin], others: u32) -> Result<Prospector, NoMemory>
+        requires begun { AreBegun begins.now }
+        requires few { length begins.now + others ≤ MAX_FILES }
+        ensures remembers { IfOk result (λ prospector. prospector ≡ record { files = map known_of begins.now; next = length begins.now; others = others }) }
+        ensures known { IfOk result AreKnown }
+    {
+        let mut watched = Vec::with_capacity(alloc, begins.len())?;
+        for begin in begins {
+            let file = known_of(alloc, begin)?;
+            watched.push(Watched {
+                file,
+                mark: Mark::Unseen,
+            })?;
+        }
+        let mut order = Vec::new(alloc);
+        index_keys(&watched, &mut order)?;
+        let next = watched.len() as u32;
+        Ok(Prospector {
+            watched,
+            order,
+            indexed: true,
+            next,
+            others,
+        })
+    }
+
+    /// Tells what one scan says, and remembers it.
+    ///
+    /// `seen` is given in byte order of the paths, so that of several paths of one file the first is followed. `clean`
+    /// says of each input, by its number, whether its removed files are to be forgotten. A scan is `whole` where none of
+    /// its listings and no identity asked for it failed.
+    pub fn compare(
+        &mut self,
+        alloc: Global,
+        seen: &[Seen],
+        whole: bool,
+        clean: &[bool],
+    ) -> Result<Vec<Change>, ProspectError>
+        ensures told { IfOk result (λ changes. changes.items ≡ changes_between clean.now whole self.old seen.now) }
+        ensures remembered { OnOk result (self.new ≡ known_after clean.now whole self.old seen.now) }
+        ensures none_too_many { OnOk result (refusals self.old seen.now ≡ []) }
+        ensures refused { IfErr result (IsFirstRefusal (refusals self.old seen.now)) }
+        ensures kept_on_refusal { OnErr result (self.new ≡ self.old) }
+        ensures known { AreKnown self.new }
+    {
+        need_index(&self.watched, &mut self.order, self.indexed)?;
+        self.indexed = true;
+        let scan = Scan { seen, clean, whole };
+        let files = self.watched.len() + self.others as usize;
+        let told = tell_scan(
+            alloc,
+            &mut self.watched,
+            &self.order,
+            &scan,
+            self.next,
+            files,
+        )?;
+        settle(&mut self.watched, whole);
+        let grown = told.next != self.next;
+        self.indexed = grow_index(&self.watched, &mut self.order, grown);
+        self.next = told.next;
+        Ok(told.changes)
+    }
+
+    /// Forgets a file whose row is gone. Takes no memory.
+    pub fn gone(&mut self, slot: Slot)
+        ensures forgotten { self.new ≡ record self.old { files = filter (λ file. not (file.slot.0 == slot.0)) self.old.files } }
+        ensures known { AreKnown self.new }
+    {
+        self.watched.retain(|one| one.file.slot.0 != slot.0);
+        self.indexed = false;
+    }
+}
+
+fn known_of(alloc: Global, begin: &Begin) -> Result<Known, NoMemory>
+    ensures { IfOk result (λ file. file ≡ known_of begin.now) }
+{
+    Ok(Known {
+        slot: begin.slot,
+        input: begin.input,
+        key: begin.key.copy(alloc)?,
+        path: begin.path.copy(alloc)?,
+        size: begin.size,
+        present: true,
+    })
+}
