@@ -1,3 +1,5 @@
 pub mod Joined
+mod Nodes
 mod Texts
+mod Truths
 mod Worked
