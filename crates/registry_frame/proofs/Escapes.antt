@@ -17,9 +17,13 @@ escapes_same : (text : List ℕ) → flat_map escape_byte text ≡ flat_map esca
 escapes_same [] = refl
 escapes_same (byte ∷ text) = λ i. escape_same byte i ++ escapes_same text i
 
+-- `json` and this repository have one escape for each byte
+pub quoted_same : (text : List ℕ) → 0x22 ∷ (flat_map escape_byte text ++ 0x22 ∷ []) ≡ quoted text
+quoted_same text = ap (λ (t : List ℕ). 0x22 ∷ (t ++ 0x22 ∷ [])) (escapes_same text)
+
 pub text_quoted : (text : List ℕ) (log : Log) (written : List ℕ) → Logs (Some []) log (event.text text) → IsTextOf log written → written ≡ quoted text
 text_quoted text log written sent printed =
-    text_of_str text log written sent printed ∙ ap (λ (t : List ℕ). 0x22 ∷ (t ++ 0x22 ∷ [])) (escapes_same text)
+    text_of_str text log written sent printed ∙ quoted_same text
 
 escape_short : (byte : ℕ) → length (escape byte) ≤ 6
 unfolding escape

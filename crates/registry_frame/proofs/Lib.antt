@@ -1,4 +1,6 @@
 mod Bodies
 mod Escapes
+mod Fields
 pub mod OneReading
 pub mod Operations
+mod Spellings

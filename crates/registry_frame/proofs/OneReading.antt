@@ -1,7 +1,7 @@
 -- A body has one reading: what stands in front of the rest of a text is read in one way, part for part.
-use Rattle.std.proofs.Common.{◌≡◌, ◌≢◌, ℕ, suc, ◌+◌, ◌*◌, ◌-◌, ◌/◌, ◌%◌, ◌^◌, ◌<◌, ◌≤◌, Bool, true, false, cond, List, [], ◌∷◌, ◌++◌, length, get_or, drop, Option, Some, None, refl, sym, ◌∙◌, ap, subst, inl, inr, append_assoc, arith, codes, decimal}
+use Rattle.std.proofs.Common.{◌≡◌, ℕ, suc, ◌+◌, ◌*◌, ◌-◌, ◌/◌, ◌%◌, ◌^◌, ◌<◌, ◌≤◌, Bool, true, false, List, [], ◌∷◌, ◌++◌, get_or, drop, Option, Some, None, refl, sym, ◌∙◌, ap, subst, inl, inr, append_assoc, arith, codes, decimal}
 use Rattle.std.specs.Prelude.{All, ◌==◌, nat_lt, if◌then◌else◌}
-use Rattle.std.specs.List.{flat_map, join_by}
+use Rattle.std.specs.List.{flat_map}
 use Rattle.std.specs.Char.{digit_value}
 use Rattle.std.specs.Str.Parse.{AllDigits, digits_value}
 use Rattle.std.proofs.lemmas.Bool.Decides.{eqb_tells, leb_tells, nat_tests}
@@ -149,7 +149,7 @@ quoted_end text other rest more same =
 
 -- ---- operations
 
-abbrev field : ℕ → List ℕ
+abbrev pub field : ℕ → List ℕ
 field moment = codes "\"changed\":" ++ decimal moment ++ codes ","
 
 moments_by_test : (here there : Bool) (m n : ℕ) (rest more : List ℕ) → (here ≡ true → m ≡ 0) → (there ≡ true → n ≡ 0) → m < 2 ^ 64 → n < 2 ^ 64
@@ -164,7 +164,7 @@ moments_by_test false false m n rest more none nor short shorter same =
     (sym (append_assoc (decimal m) (codes ",") (before_epoch ++ rest)) ∙ ap (drop 10) same ∙ append_assoc (decimal n) (codes ",") (before_epoch ++ more)) in
     (ends.0, ap (drop 9) ends.1)
 
-is_zero : (n : ℕ) → (n == 0) ≡ true → n ≡ 0
+pub is_zero : (n : ℕ) → (n == 0) ≡ true → n ≡ 0
 is_zero n test = elim (eqb_tells n 0) [
   | inl is ↦ is.1
   | inr other ↦ cc (test, other.0)
@@ -173,10 +173,10 @@ is_zero n test = elim (eqb_tells n 0) [
 flat_set : (a b c d e f g h i j rest : List ℕ) → (codes "{" ++ a ++ b ++ c ++ d ++ e ++ f ++ g ++ h ++ i ++ j) ++ rest ≡ 123 ∷ (a ++ (b ++ (c ++ (d ++ (e ++ (f ++ (g ++ (h ++ (i ++ (j ++ rest))))))))))
 flat_set a b c d e f g h i j rest = simp append_assoc refl
 
-abbrev behind_moment : Row → List ℕ → List ℕ
+abbrev pub behind_moment : Row → List ℕ → List ℕ
 behind_moment row rest = decimal row.epoch.0 ++ (before_key ++ (quoted row.key ++ (before_offset ++ (decimal row.offset ++ (before_path ++ (quoted row.path ++ (codes "}" ++ rest)))))))
 
-set_parts : (row : Row) (rest : List ℕ) → operation_bytes (Set row) ++ rest ≡ 123 ∷ (moment_bytes row.changed.0 ++ (before_epoch ++ behind_moment row rest))
+pub set_parts : (row : Row) (rest : List ℕ) → operation_bytes (Set row) ++ rest ≡ 123 ∷ (moment_bytes row.changed.0 ++ (before_epoch ++ behind_moment row rest))
 set_parts row rest = flat_set (moment_bytes row.changed.0) before_epoch (decimal row.epoch.0) before_key (quoted row.key) before_offset (decimal row.offset) before_path (quoted row.path) (codes "}") rest
 
 set_end : (row other : Row) (rest more : List ℕ) → IsStoredRow row → IsStoredRow other → operation_bytes (Set row) ++ rest ≡ operation_bytes (Set other) ++ more
@@ -191,10 +191,10 @@ set_end row other rest more stored too same =
     let paths = quoted_end row.path other.path _ _ (ap (drop 19) offsets.1) in
     (λ i. record { key = keys.0 i; path = paths.0 i; epoch = record { 0 = epochs.0 i }; offset = offsets.0 i; changed = record { 0 = moments.0 i } }, same_tail _ _ _ _ paths.1)
 
-abbrev remove_ending : List ℕ
+abbrev pub remove_ending : List ℕ
 remove_ending = codes ",\"op\":\"remove\"}"
 
-remove_parts : (key rest : List ℕ) → operation_bytes (Remove key) ++ rest ≡ codes "{\"key\":" ++ (quoted key ++ (remove_ending ++ rest))
+pub remove_parts : (key rest : List ℕ) → operation_bytes (Remove key) ++ rest ≡ codes "{\"key\":" ++ (quoted key ++ (remove_ending ++ rest))
 remove_parts key rest =
     append_assoc (codes "{\"key\":" ++ quoted key) remove_ending rest ∙ append_assoc (codes "{\"key\":") (quoted key) (remove_ending ++ rest)
 
@@ -220,7 +220,7 @@ operation_end (Remove key) (Remove other) rest more stored too same = let ends =
 
 -- ---- the whole body
 
-abbrev behind_comma : Op → List ℕ
+abbrev pub behind_comma : Op → List ℕ
 behind_comma op = codes "," ++ operation_bytes op
 
 later_end : (ops others : List Op) (rest more : List ℕ) → All IsStoredOp ops → All IsStoredOp others → flat_map behind_comma ops ++ 93 ∷ rest ≡ flat_map behind_comma others ++ 93 ∷ more
@@ -235,7 +235,7 @@ later_end (op ∷ ops) (other ∷ others) rest more stored too same =
     let later = later_end ops others rest more (All-tail IsStoredOp op ops stored) (All-tail IsStoredOp other others too) first.1 in
     (λ i. first.0 i ∷ later.0 i, later.1)
 
-body_parts : (op : Op) (ops : List Op) (rest : List ℕ) → body_bytes (op ∷ ops) ++ rest ≡ 91 ∷ (operation_bytes op ++ (flat_map behind_comma ops ++ 93 ∷ rest))
+pub body_parts : (op : Op) (ops : List Op) (rest : List ℕ) → body_bytes (op ∷ ops) ++ rest ≡ 91 ∷ (operation_bytes op ++ (flat_map behind_comma ops ++ 93 ∷ rest))
 body_parts op ops rest =
     ap (λ (l : List ℕ). 91 ∷ l)
     (append_assoc (operation_bytes op ++ flat_map behind_comma ops) (93 ∷ []) rest ∙ append_assoc (operation_bytes op) (flat_map behind_comma ops) (93 ∷ rest))

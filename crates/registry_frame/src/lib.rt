@@ -2,16 +2,22 @@
 //!
 //! An operation sets the row of a key or takes it away. Its fields stand in byte order of their names, without a space,
 //! and a key or a path has the escapes of any JSON text of this repository. The text is a definition of `specs/`, and
-//! each call is told equal to it. The texts of keys and paths are written by `serde_json`.
+//! each call is told equal to it. The texts of keys and paths are written by `serde_json`, and bodies are read by `json`,
+//! the reader below it: bytes that are not exactly the spelling of what they say are refused, whatever a JSON reader
+//! accepts.
 #![tactic(auto)]
 
+mod body_error;
 mod body_text;
 mod laws;
 mod operation;
+mod reading;
 
+pub use body_error::BodyError;
 pub use body_text::body;
 pub use laws::one_reading;
 pub use operation::{MAX_OPERATION, operation_text, set_text};
+pub use reading::read_body;
 
 #[cfg(test)]
 mod tests;

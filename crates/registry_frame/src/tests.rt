@@ -1,7 +1,7 @@
 ghost use Rattle.std.specs.Prelude.{IfOk};
 ghost use Rattle.wire_base.specs.Ranges.{IsKey, IsMoment, IsOp, IsPath, IsPlace};
 
-use crate::body;
+use crate::{BodyError, body, read_body};
 use std::alloc::Global;
 use std::test::Fail;
 use wire_base::{Epoch, MAX_MOMENT, MAX_PLACE, Moment, Op, Row, Text};
@@ -63,5 +63,44 @@ fn bodies_have_one_spelling(rt: HostRuntime) -> Result<(), Fail> {
         body(alloc, &[escaped, removed])?.bytes(),
         b"[{\"changed\":250000000000000,\"epoch\":4294967295,\"key\":\"k\",\"offset\":9223372036854775807,\"op\":\"set\",\"path\":\"/\\\"\\\\\\u0001\\u001f\\n\\t\x7f\xc3\xa9\"},{\"key\":\"a\\\"b\",\"op\":\"remove\"}]".as_slice()
     );
+    Ok(())
+}
+
+#[test]
+fn bodies_are_read_in_their_one_spelling(rt: HostRuntime) -> Result<(), Fail> {
+    let alloc = rt.alloc();
+    let bodies: [&[u8]; 3] = [
+        b"[{\"epoch\":0,\"key\":\"k\",\"offset\":4,\"op\":\"set\",\"path\":\"/w/a.log\"}]",
+        b"[{\"changed\":250000000000000,\"epoch\":4294967295,\"key\":\"k\",\"offset\":9223372036854775807,\"op\":\"set\",\"path\":\"\\\"\\\\\\u0001\\n\x7f\xc3\xa9\"},{\"key\":\"a\\\"b\",\"op\":\"remove\"}]",
+        b"[{\"key\":\"\",\"op\":\"remove\"}]",
+    ];
+    for bytes in bodies {
+        let ops = read_body(alloc, bytes)?;
+        assert!(rt; ops.len() > 0);
+        assert_eq!(rt; body(alloc, &ops)?.bytes(), bytes);
+    }
+    Ok(())
+}
+
+#[test]
+fn other_spellings_are_no_body(rt: HostRuntime) -> Result<(), Fail> {
+    let alloc = rt.alloc();
+    let others: [&[u8]; 12] = [
+        b"",
+        b"[]",
+        b"[{\"key\":\"k\",\"op\":\"remove\"}",
+        b"[{\"key\":\"k\",\"op\":\"remove\"}] ",
+        b"[{\"key\":\"k\", \"op\":\"remove\"}]",
+        b"[{\"op\":\"remove\",\"key\":\"k\"}]",
+        b"[{\"key\":\"\\u006b\",\"op\":\"remove\"}]",
+        b"[{\"key\":\"\xff\",\"op\":\"remove\"}]",
+        b"[{\"changed\":0,\"epoch\":0,\"key\":\"k\",\"offset\":4,\"op\":\"set\",\"path\":\"/\"}]",
+        b"[{\"epoch\":4294967296,\"key\":\"k\",\"offset\":4,\"op\":\"set\",\"path\":\"/\"}]",
+        b"[{\"epoch\":0,\"key\":\"k\",\"offset\":9223372036854775808,\"op\":\"set\",\"path\":\"/\"}]",
+        b"[{\"epoch\":0,\"key\":\"k\",\"offset\":04,\"op\":\"set\",\"path\":\"/\"}]",
+    ];
+    for bytes in others {
+        assert_eq!(rt; read_body(alloc, bytes).err(), Some(BodyError::NotABody));
+    }
     Ok(())
 }

@@ -1,6 +1,6 @@
 -- The first byte of a header that is absent or wrong, by the tests of its places.
 use Rattle.std.proofs.Common.{◌≡◌, ◌⊎◌, inl, inr, ℕ, zero, suc, ◌+◌, ◌-◌, ◌^◌, ◌<◌, ◌≤◌, Bool, true, false, cond, List, [], ◌∷◌, length, get_or, take, drop, Option, Some, None, Result, Ok, Err, Bor, refl, sym, ap, ◌∙◌, subst, arith}
-use Rattle.std.specs.Prelude.{All, find, slice_get, MatchOption, ◌==◌, nat_lt, nat_le, not, ◌&&◌, ◌||◌}
+use Rattle.std.specs.Prelude.{All, find, slice_get, MatchOption, ◌==◌, nat_le, not, ◌&&◌, ◌||◌}
 use Rattle.std.specs.Char.{IsAsciiDigit}
 use Rattle.std.specs.List.{list_all, range_with_len, slice_range}
 use Rattle.std.specs.Option.{SomeIff, option_map_or}
@@ -11,7 +11,7 @@ use Rattle.std.specs.Str.Parse.{digits_value, ParsesUnsigned}
 use Rattle.std.proofs.lemmas.Bool.{cases_lt}
 use Rattle.std.proofs.lemmas.Bool.Decides.{eqb_tells, nat_tests}
 use Rattle.std.proofs.lemmas.List.{drop-take, get_or_past, get_or-take, get_or-drop, length-drop, length-take-le}
-use Rattle.std.proofs.lemmas.Option.{slice_get-get_or, slice_get_past, slice_get_within}
+use Rattle.std.proofs.lemmas.Option.{slice_get-get_or, slice_get_past}
 use Rattle.std.proofs.lemmas.Str.{IsUtf8-from_ascii}
 use Rattle.std.proofs.lemmas.Str.Parse.{numerals_by_value, tells_by_index, parse_digits}
 use Rattle.registry_log.specs.Header.{HasHeader, first_wrong, fits, generation_of, is_out_of_range, is_wrong, may_stand}
@@ -28,6 +28,19 @@ find_some test from (suc n) p low high passes fail = elim (eqb_tells from p) [
 pub find_none : (test : ℕ → Bool) (from n : ℕ) → ((q : ℕ) → from ≤ q → q < from + n → test q ≡ false) → find test (range_with_len from n) ≡ None
 find_none test from zero fail = refl
 find_none test from (suc n) fail = rw (fail from (omega arith) (omega arith)) (find_none test (from + 1) n (λ q above below. fail q (omega (arith, above)) (omega (arith, below))))
+
+find_step : (here : Bool) (x : ℕ) (rest : Option ℕ) → cond here (Some x) rest ≡ None → (here ≡ false) × (rest ≡ None)
+find_step true x rest none = absurd (cc none)
+find_step false x rest none = (refl, none)
+
+none_passes : (test : ℕ → Bool) (from n : ℕ) → find test (range_with_len from n) ≡ None → (q : ℕ) → from ≤ q → q < from + n → test q ≡ false
+none_passes test from zero none q low high = absurd (omega (arith, low, high))
+none_passes test from (suc n) none q low high =
+    let step = find_step (test from) from (find test (range_with_len (from + 1) n)) none in
+    elim (eqb_tells from q) [
+      | inl here ↦ let Fails : ℕ → Type 0 = λ k. test k ≡ false in subst Fails here.1 step.0
+      | inr later ↦ none_passes test (from + 1) n step.1 q (omega (arith, later.1, low)) (omega (arith, high))
+    ]
 
 pub list_all_false : (test : ℕ → Bool) (from n p : ℕ) → from ≤ p → p < from + n → test p ≡ false → list_all test (range_with_len from n) ≡ false
 list_all_false test from zero p low high fails = absurd (omega (arith, low, high))
@@ -165,9 +178,21 @@ none_is_wrong area before is last =
     at_last q above (inl low) below = before q above low
     at_last q above (inr high) below = let Fit : ℕ → Type 0 = λ n. fits area n ≡ true in let last_place : 28 ≡ q = omega (arith, high, below) in subst Fit last_place last
 
+not_wrong_fits : (there other : Bool) → (not there || other) ≡ false → there ≡ true
+not_wrong_fits true other right = refl
+not_wrong_fits false other right = absurd (cc right)
+
+-- a right header is there whole
+pub header_long : (front : List ℕ) (generation : ℕ) → HasHeader front generation → 29 ≤ length front
+unfolding first_wrong
+header_long front generation header =
+    let right : is_wrong front 28 ≡ false = none_passes (is_wrong front) 1 28 header.right 28 (omega arith) (omega arith) in
+    let inside = fits_within front 28 (not_wrong_fits (fits front 28) ((28 == 8) && is_out_of_range front) right) in
+    omega (arith, inside)
+
 -- ---- the first bytes alone
 
-same_get : (area : List ℕ) (count place : ℕ) → place < count → slice_get (take count area) place ≡ slice_get area place
+pub same_get : (area : List ℕ) (count place : ℕ) → place < count → slice_get (take count area) place ≡ slice_get area place
 same_get area zero place low = absurd (omega (arith, low))
 same_get [] (suc count) place low = refl
 same_get (byte ∷ area) (suc count) zero low = refl

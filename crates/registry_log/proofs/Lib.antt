@@ -1,9 +1,17 @@
+mod AppendCrash
+mod AtGate
 mod Crashes
+mod Digits
+mod Fronts
 mod Gates
 mod Groups
+mod Heads
 mod Headers
 mod OneState
+mod OnlyReads
 mod Printed
+mod ReadOn
+mod Recorded
 mod RecordsEnd
 mod Started
 mod Worked

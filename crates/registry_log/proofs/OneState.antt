@@ -1,6 +1,5 @@
 -- An area has one state: its records are read in one way, and so is what ends them.
-use Rattle.std.proofs.Common.{◌≡◌, ◌≢◌, ◌⊎◌, inl, inr, ℕ, ◌+◌, ◌<◌, ◌≤◌, List, [], ◌∷◌, ◌++◌, length, drop, get_or, Some, None, refl, sym, ap, ◌∙◌, subst, arith, append_assoc, append-nil}
-use Rattle.std.specs.Prelude.{All, slice_get}
+use Rattle.std.proofs.Common.{◌≡◌, ◌≢◌, inl, inr, ℕ, ◌+◌, List, [], ◌∷◌, ◌++◌, length, get_or, Some, refl, sym, ap, ◌∙◌, subst, arith, append_assoc, append-nil}
 use Rattle.std.specs.List.{flat_map}
 use Rattle.wire_base.specs.declared.row.Op.{Op}
 use Rattle.registry_frame.specs.Body.{body_bytes}
@@ -10,8 +9,8 @@ use Rattle.ship_core.specs.Replay.{replay}
 use Rattle.registry_log.specs.Header.{HasHeader, first_wrong}
 use Rattle.registry_log.specs.Reading.{AreRecords, BeginsWithRecord, MayBeRecord}
 use Rattle.registry_log.specs.Records.{record_bytes}
-use Rattle.registry_log.specs.Starting.{IsBlank, IsClosed}
-use Rattle.registry_log.specs.State.{IsBroken, IsOpened, IsState, IsUnclosed, LacksGate, LacksRecord, Reaches, State, Blank, Closed, Opened, Broken, operations_of}
+use Rattle.registry_log.specs.Starting.{IsClosed}
+use Rattle.registry_log.specs.State.{IsBroken, IsOpened, IsState, IsUnclosed, Reaches, State, Blank, Closed, Opened, Broken, operations_of}
 use Rattle.registry_log.proofs.RecordsEnd.{record_end}
 
 -- ---- records

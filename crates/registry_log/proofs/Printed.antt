@@ -28,6 +28,16 @@ record_printed old text head digits body size head_is digits_are size_is text_is
     text_is ∙ ap (λ (l : List ℕ). old ++ l ++ body ++ 93 ∷ 10 ∷ []) head_is ∙ record_parts old digits body
     ∙ ap (λ (l : List ℕ). old ++ (codes "{" ++ l ++ codes " " ++ (body ++ codes "]") ++ codes "\n")) (digits_are ∙ ap (padded 7) whole)
 
+text_parts : (digits body : List ℕ) → 123 ∷ ((digits ++ 32 ∷ []) ++ body ++ 10 ∷ 46 ∷ []) ≡ (codes "{" ++ digits ++ codes " " ++ body ++ codes "\n") ++ codes "."
+text_parts digits body = simp append_assoc refl
+
+-- a record behind its gate, and the closed gate behind it
+pub text_printed : (text head digits body : List ℕ) (size : ℕ) → head ≡ digits ++ 32 ∷ [] → digits ≡ padded 7 size → size ≡ length body → text ≡ head ++ body ++ 10 ∷ 46 ∷ []
+    → 123 ∷ text ≡ record_of body ++ codes "."
+text_printed text head digits body size head_is digits_are size_is text_is =
+    ap (λ (l : List ℕ). 123 ∷ l) (text_is ∙ ap (λ (l : List ℕ). l ++ body ++ 10 ∷ 46 ∷ []) head_is) ∙ text_parts digits body
+    ∙ ap (λ (l : List ℕ). (codes "{" ++ l ++ codes " " ++ body ++ codes "\n") ++ codes ".") (digits_are ∙ ap (padded 7) size_is)
+
 area_parts : (digits records : List ℕ) → 123 ∷ (codes "beat 2 " ++ (digits ++ codes "\n") ++ records ++ 46 ∷ []) ≡ codes "{" ++ (codes "beat 2 " ++ digits ++ codes "\n") ++ records ++ codes "."
 area_parts digits records = simp append_assoc refl
 

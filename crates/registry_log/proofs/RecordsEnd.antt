@@ -1,14 +1,14 @@
 -- Where a record ends, and that its bytes are read in one way.
-use Rattle.std.proofs.Common.{◌≡◌, ℕ, zero, suc, ◌+◌, ◌-◌, ◌*◌, ◌^◌, ◌<◌, ◌≤◌, List, [], ◌∷◌, ◌++◌, length, drop, get_or, refl, sym, ap, ◌∙◌, subst, arith, codes, decimal, append_assoc, length-append}
+use Rattle.std.proofs.Common.{◌≡◌, ℕ, zero, suc, ◌+◌, ◌-◌, ◌^◌, ◌<◌, ◌≤◌, List, [], ◌∷◌, ◌++◌, length, drop, get_or, refl, sym, ap, ◌∙◌, arith, codes, decimal, append_assoc, length-append}
 use Rattle.std.specs.Prelude.{replicate}
-use Rattle.std.specs.Str.Parse.{digits_value, digits_value_after}
+use Rattle.std.specs.Str.Parse.{digits_value}
 use Rattle.std.proofs.lemmas.Fmt.{decimal_is_IsNumeral, length-decimal-le}
 use Rattle.std.proofs.lemmas.List.{length-replicate}
 use Rattle.wire_base.specs.declared.row.Op.{Op}
 use Rattle.registry_frame.specs.Body.{body_bytes}
 use Rattle.registry_log.specs.declared.area_text.TheConstants.{MAX_BODY}
 use Rattle.registry_log.specs.Reading.{BeginsWithRecord}
-use Rattle.registry_log.specs.Records.{padded, record_bytes, record_of}
+use Rattle.registry_log.specs.Records.{padded, record_of}
 
 -- ---- digits behind zeros
 
@@ -41,7 +41,7 @@ seven_end m n rest more short shorter same =
 
 -- ---- records
 
-flat_record : (ds body rest : List ℕ) → (codes "{" ++ ds ++ codes " " ++ body ++ codes "\n") ++ rest ≡ 123 ∷ (ds ++ (32 ∷ (body ++ (10 ∷ rest))))
+pub flat_record : (ds body rest : List ℕ) → (codes "{" ++ ds ++ codes " " ++ body ++ codes "\n") ++ rest ≡ 123 ∷ (ds ++ (32 ∷ (body ++ (10 ∷ rest))))
 flat_record ds body rest = simp append_assoc refl
 
 pub behind_length : (n : ℕ) (tail body rest : List ℕ) → n < 10 ^ 7 → length body ≤ MAX_BODY → 123 ∷ (padded 7 n ++ 32 ∷ tail) ≡ record_of body ++ rest → (n ≡ length body) × (tail ≡ body ++ 10 ∷ rest)

@@ -1,13 +1,13 @@
 -- A started area is opened, with exactly the rows and the generation that it was started with.
-use Rattle.std.proofs.Common.{◌≡◌, ◌≢◌, ◌⊎◌, inl, inr, ℕ, zero, suc, ◌+◌, ◌-◌, ◌^◌, ◌<◌, ◌≤◌, Bool, true, false, if◌then◌else◌, List, [], ◌∷◌, ◌++◌, length, take, drop, get_or, map, Some, None, refl, sym, ap, ◌∙◌, subst, arith, codes, decimal, append_assoc, append-nil, length-append, length-drop}
+use Rattle.std.proofs.Common.{◌≡◌, ◌≢◌, inl, inr, ℕ, zero, suc, ◌+◌, ◌-◌, ◌^◌, ◌<◌, ◌≤◌, Bool, true, false, if◌then◌else◌, List, [], ◌∷◌, ◌++◌, length, take, drop, get_or, Some, refl, sym, ap, ◌∙◌, subst, arith, codes, decimal, append_assoc, append-nil, length-append}
 use Rattle.std.specs.Prelude.{All, ◌&&◌, replicate, slice_get}
 use Rattle.std.specs.Char.{IsAsciiDigit, digit_value}
-use Rattle.std.specs.List.{flat_map, list_all, range_with_len, slice_range}
+use Rattle.std.specs.List.{list_all, range_with_len}
 use Rattle.std.specs.Ordering.{is_eq, match_ordering}
 use Rattle.std.specs.Str.Parse.{AllDigits, digits_value}
 use Rattle.std.specs.declared.cmp.Ordering.{Ordering}
 use Rattle.std.specs.declared.cmp.Ordering.TheVariants.{Less, Equal, Greater}
-use Rattle.std.proofs.Math.Seq.{drop-append_seam, drop-append-add, take-append_seam, get_or-append_seam}
+use Rattle.std.proofs.Math.Seq.{drop-append-add, take-append_seam, get_or-append_seam}
 use Rattle.std.proofs.lemmas.Bool.{cases_lt}
 use Rattle.std.proofs.lemmas.Bool.Decides.{eqb_tells, nat_tests}
 use Rattle.std.proofs.lemmas.Fmt.{decimal_is_IsNumeral, length-decimal-le}
@@ -15,20 +15,19 @@ use Rattle.std.proofs.lemmas.List.{get_or_append_left, get_or-drop, length-map}
 use Rattle.std.proofs.lemmas.List.Elements.{All-append, All-cons, All-head, All-map, All-nil, All-replicate, All-tail}
 use Rattle.std.proofs.lemmas.Option.{slice_get-get_or}
 use Rattle.wire_base.proofs.ByteOrder.{compare_greater}
-use Rattle.wire_base.specs.KeyOrder.{compare, without_key}
+use Rattle.wire_base.specs.KeyOrder.{compare}
 use Rattle.wire_base.specs.declared.row.Row.{Row}
 use Rattle.wire_base.specs.declared.row.Op.{Op}
 use Rattle.wire_base.specs.declared.row.Op.TheVariants.{Set, Remove}
 use Rattle.ship_core.specs.Replay.{after_op, replay, replay_on, with_row, without_row}
-use Rattle.ship_core.specs.Rows.{IsBefore, IsInOrder, key_of}
-use Rattle.registry_frame.specs.Body.{operation_bytes}
+use Rattle.ship_core.specs.Rows.{IsBefore, IsInOrder}
 use Rattle.registry_frame.specs.BodyOf.{IsStoredOp, IsStoredRow}
 use Rattle.registry_frame.proofs.Operations.{remove_short, set_short}
 use Rattle.registry_log.specs.Area.{area_bytes, sets}
-use Rattle.registry_log.specs.Header.{HasHeader, first_wrong, fits, generation_of, may_stand}
+use Rattle.registry_log.specs.Header.{HasHeader, fits, generation_of, may_stand}
 use Rattle.registry_log.specs.Reading.{AreRecords, MayBeRecord}
-use Rattle.registry_log.specs.Records.{fit_in_a_record, grouped, groups, padded, record_bytes, records_bytes}
-use Rattle.registry_log.specs.State.{IsOpened, IsState, IsUnclosed, Opened, Reaches, State, operations_of}
+use Rattle.registry_log.specs.Records.{fit_in_a_record, grouped, groups, padded, records_bytes}
+use Rattle.registry_log.specs.State.{IsState, Opened, operations_of}
 use Rattle.registry_log.proofs.Groups.{FitsIn, alone_fits, test_true}
 use Rattle.registry_log.proofs.Headers.{FitsBefore, IsGeneration, none_is_wrong}
 use Rattle.registry_log.proofs.RecordsEnd.{padded_length, padded_value}
@@ -138,7 +137,7 @@ ascii_digits : (ds : List ℕ) → AllDigits 10 ds → All IsAsciiDigit ds
 ascii_digits [] are = All-nil IsAsciiDigit
 ascii_digits (d ∷ ds) are = All-cons IsAsciiDigit d ds (is_a_digit d are.0) (ascii_digits ds are.1)
 
-padded_digits : (width number : ℕ) → number < 2 ^ 64 → All IsAsciiDigit (padded width number)
+pub padded_digits : (width number : ℕ) → number < 2 ^ 64 → All IsAsciiDigit (padded width number)
 padded_digits width number short =
     All-append IsAsciiDigit (replicate (width - length (decimal number)) 48) (decimal number)
     (All-replicate IsAsciiDigit (width - length (decimal number)) 48 (omega arith, omega arith)) (ascii_digits (decimal number) (decimal_is_IsNumeral number short).0.1)

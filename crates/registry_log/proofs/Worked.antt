@@ -1,21 +1,19 @@
 -- The area after a file of two plain lines, `a` and `b`, was sent: its 131 bytes in version 1 and in version 2, what they
 -- say whole and cut, and with a later row appended.
-use Rattle.std.proofs.Common.{◌≡◌, ◌⊎◌, inl, inr, ℕ, ◌+◌, ◌<◌, ◌≤◌, List, [], ◌∷◌, ◌++◌, length, take, codes, refl, arith}
+use Rattle.std.proofs.Common.{◌≡◌, inl, inr, ℕ, ◌≤◌, List, [], ◌∷◌, ◌++◌, length, take, codes, refl, arith}
 use Rattle.std.specs.Prelude.{All}
 use Rattle.std.specs.Fmt.{digits}
 use Rattle.std.proofs.lemmas.List.Elements.{All-cons, All-nil}
 use Rattle.event_json.specs.Json.{escape}
-use Rattle.wire_base.specs.Ranges.{IsRow}
 use Rattle.wire_base.specs.declared.row.Row.{Row}
-use Rattle.wire_base.specs.declared.row.Op.{Op}
 use Rattle.wire_base.specs.declared.row.Op.TheVariants.{Set}
 use Rattle.registry_frame.specs.Body.{body_bytes}
 use Rattle.registry_frame.specs.BodyOf.{IsStoredOp, IsStoredRow}
-use Rattle.registry_log.specs.Area.{area_bytes, sets}
-use Rattle.registry_log.specs.Header.{HasHeader, first_wrong}
+use Rattle.registry_log.specs.Area.{area_bytes}
+use Rattle.registry_log.specs.Header.{first_wrong}
 use Rattle.registry_log.specs.Reading.{MayBeRecord}
 use Rattle.registry_log.proofs.RecordsEnd.{cut_record}
-use Rattle.registry_log.specs.State.{IsOpened, IsState, IsUnclosed, LacksGate, LacksRecord, Reaches, State, Blank, Closed, Opened, Broken}
+use Rattle.registry_log.specs.State.{IsState, IsUnclosed, Blank, Closed, Opened, Broken}
 
 abbrev row : ℕ → ℕ → Row
 row offset changed = record {

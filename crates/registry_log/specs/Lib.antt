@@ -1,6 +1,11 @@
+pub mod Answer
+pub mod Appending
 pub mod Area
 pub mod Header
+pub mod OnlyRead
 pub mod Reading
+pub mod RecordReading
 pub mod Records
 pub mod Starting
 pub mod State
+pub mod Stretch

@@ -25,7 +25,8 @@ pub enum Header {
 /// Reads the header from the area's first bytes, of which `HEADER` are enough; whether the gate is open is not asked.
 /// Takes no memory.
 pub fn read_header(front: &[u8]) -> Header
-    ensures right { (generation : ℕ) → result ≡ Header.Right generation → HasHeader front.now generation }
+    ensures right { (generation : ℕ) → result ≡ Header.Right generation →
+        HasHeader front.now generation }
     ensures broken { (at : ℕ) → result ≡ Header.Broken at → first_wrong front.now ≡ Some at }
 {
     for at in 1..28 {
@@ -71,7 +72,7 @@ fn read_generation(digits: &[u8]) -> Option<u64>
 }
 
 // `None` exactly where the number of these digits is above 2^64 - 1.
-fn read_number(digits: &[u8]) -> Option<u64>
+pub(crate) fn read_number(digits: &[u8]) -> Option<u64>
     requires some { 0 < length digits.now }
     requires digits { All IsAsciiDigit digits.now }
     ensures { SomeIff result (digits_value 10 digits.now < 2 ^ 64) (digits_value 10 digits.now) }

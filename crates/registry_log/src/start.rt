@@ -16,7 +16,7 @@ use std::alloc::Global;
 
 const CLOSED: &[u8] = b".";
 
-const OPEN: &[u8] = b"{";
+pub(crate) const OPEN: &[u8] = b"{";
 
 /// Starts an area with a generation and rows, whatever it held, and answers the place of its last gate.
 ///
@@ -30,21 +30,29 @@ pub fn start_area<D: Disk>(
     requires generation { 0 < generation }
     requires rows { length rows.now ≤ 65_536 }
 
-    ensures started { OnOk result (IfSome (D.contents disk.old) (λ before. D.contents disk.new ≡ Some (area_bytes generation rows.now))) }
+    ensures started { OnOk result (IfSome (D.contents disk.old)
+        (λ before. D.contents disk.new ≡ Some (area_bytes generation rows.now))) }
     ensures last_gate { IfOk result (λ gate. gate + 1 ≡ length (area_bytes generation rows.now)) }
     ensures durable { OnOk result (Only (D.contents disk.new) (D.images disk.new)) }
-    ensures bodies_fit { OnOk result (All (λ ops. length (body_bytes ops) ≤ MAX_BODY) (groups (sets rows.now))) }
+    ensures bodies_fit { OnOk result
+        (All (λ ops. length (body_bytes ops) ≤ MAX_BODY) (groups (sets rows.now))) }
 
     // It reads as opened, with exactly these rows.
-    ensures opened { result ≢ Err LogError.NoMemory → IsState (area_bytes generation rows.now) (Opened generation rows.now 29 (length (area_bytes generation rows.now) - 1)) }
+    ensures opened { result ≢ Err LogError.NoMemory → IsState (area_bytes generation rows.now)
+        (Opened generation rows.now 29 (length (area_bytes generation rows.now) - 1)) }
 
     // Where nothing was pending, a crash at any moment of the call leaves one of these.
-    ensures each_moment { Only (D.contents disk.old) (D.images disk.old) → IfSome (D.contents disk.old) (λ before. LeavesOnly D.moment D.images_since disk.old disk.new (IsPartStarted generation rows.now before)) }
-    ensures left { OnErr result (Only (D.contents disk.old) (D.images disk.old) → IfSome (D.contents disk.old) (λ before. Holds (IsPartStarted generation rows.now before) (D.contents disk.new))) }
+    ensures each_moment { Only (D.contents disk.old) (D.images disk.old) →
+        IfSome (D.contents disk.old) (λ before. LeavesOnly D.moment D.images_since disk.old disk.new
+        (IsPartStarted generation rows.now before)) }
+    ensures left { OnErr result (Only (D.contents disk.old) (D.images disk.old) →
+        IfSome (D.contents disk.old) (λ before.
+        Holds (IsPartStarted generation rows.now before) (D.contents disk.new))) }
 
     ensures told { IsSome (D.contents disk.old) → IsSome (D.contents disk.new) }
     ensures untouched_without_memory { IsErrOf result LogError.NoMemory → disk.new ≡ disk.old }
-    ensures disk_fault_only_where_faults_rose { IsErrOf result LogError.DiskFault → Rose (D.faults disk.old) (D.faults disk.new) }
+    ensures disk_fault_only_where_faults_rose { IsErrOf result LogError.DiskFault →
+        Rose (D.faults disk.old) (D.faults disk.new) }
     ensures never_too_long { result ≢ Err LogError.RecordTooLong }
     ensures faults_never_fall { D.faults disk.old ≤ D.faults disk.new }
 {

@@ -1,7 +1,8 @@
 ghost use Rattle.std.specs.Prelude.{◌≡◌, ◌≤◌, IfSome, IsSome, OnErr, OnOk, length, take};
 ghost use Rattle.outside.specs.Counts.{Rose};
-ghost use Rattle.outside.specs.DiskImages.{LeavesOnly, MayBeCut, Only, Torn};
+ghost use Rattle.outside.specs.DiskImages.{LeavesOnly, MayBeCut, Only, Torn, reach};
 ghost use Rattle.outside.specs.DiskReads.{written};
+ghost use Rattle.wire_base.specs.Ranges.{IsPlace};
 
 use outside::{Disk, Failed};
 
@@ -10,6 +11,7 @@ pub(crate) fn write_synced<D: Disk>(disk: &mut D, at: u64, bytes: &[u8]) -> Resu
     ensures written { OnOk result (IfSome (D.contents disk.old) (λ before. D.contents disk.new ≡ Some (written before at bytes.now))) }
     ensures durable { OnOk result (Only (D.contents disk.new) (D.images disk.new)) }
     ensures each_moment { Only (D.contents disk.old) (D.images disk.old) → IfSome (D.contents disk.old) (λ before. LeavesOnly D.moment D.images_since disk.old disk.new (Torn at (length bytes.now) before)) }
+    ensures in_range { OnOk result (IsPlace (reach at (length bytes.now))) }
     ensures told { IsSome (D.contents disk.old) → IsSome (D.contents disk.new) }
     ensures faults_never_fall { D.faults disk.old ≤ D.faults disk.new }
     ensures failed_only_where_faults_rose { OnErr result (Rose (D.faults disk.old) (D.faults disk.new)) }

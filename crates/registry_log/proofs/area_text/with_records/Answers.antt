@@ -1,4 +1,4 @@
-use Rattle.std.proofs.Common.{◌≡◌, ◌≤◌, ◌∙◌, ℕ, List, length, subst, ◌+◌, ◌++◌, ap, sym, codes, drop, arith}
+use Rattle.std.proofs.Common.{◌≡◌, ◌∙◌, ℕ, List, ◌+◌, ◌++◌, ap, sym, codes, drop, arith}
 use Rattle.std.proofs.lemmas.List.Elements.{All-nil}
 use Rattle.registry_frame.specs.Body.{operation_bytes}
 use Rattle.registry_frame.specs.BodyOf.{IsStoredRow}

@@ -1,5 +1,4 @@
-use Rattle.std.proofs.Common.{◌≡◌, ◌<◌, length, Some, ap, sym, ◌∙◌, arith}
-use Rattle.registry_log.specs.Header.{fits}
+use Rattle.std.proofs.Common.{◌≡◌, Some, ap, sym, ◌∙◌, arith}
 use Rattle.registry_log.proofs.Headers.{FitsBefore, digits_there, fits_within, line_feed_is_first, misfit_is_first, none_is_wrong, number_is_first}
 use Rattle.registry_log.proofs.header.read_header.Goals as goal
 
