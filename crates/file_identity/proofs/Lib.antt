@@ -1,2 +1,4 @@
+mod Answered
 mod OneLife
+pub mod Pieces
 mod Worked

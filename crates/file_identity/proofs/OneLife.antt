@@ -122,10 +122,10 @@ came file life before (look ∷ looks) place wanted there are of reads =
 
 -- ---- the key by these bytes
 
-some_key : (id : List ℕ) (count : ℕ) (bytes : List ℕ) → length bytes ≡ count → key_if_all id count bytes ≡ Some (fingerprint_key id bytes)
+pub some_key : (id : List ℕ) (count : ℕ) (bytes : List ℕ) → length bytes ≡ count → key_if_all id count bytes ≡ Some (fingerprint_key id bytes)
 some_key id count bytes all = ap (λ (b : Bool). cond b (Some (fingerprint_key id bytes)) None) (eq-eqb (length bytes) count all)
 
-no_key : (id : List ℕ) (count : ℕ) (bytes : List ℕ) → length bytes < count → key_if_all id count bytes ≡ None
+pub no_key : (id : List ℕ) (count : ℕ) (bytes : List ℕ) → length bytes < count → key_if_all id count bytes ≡ None
 no_key id count bytes fewer = ap (λ (b : Bool). cond b (Some (fingerprint_key id bytes)) None) (ne_eqb (length bytes) count (λ same. omega (arith, same)))
 
 all_there : (offset count : ℕ) (bytes : List ℕ) → offset + count ≤ length bytes → fingerprint_of offset count bytes ≡ Some (take count (drop offset bytes))

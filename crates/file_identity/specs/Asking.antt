@@ -27,6 +27,17 @@ AreReads [] place wanted = wanted ≡ 0
 AreReads (look ∷ looks) place wanted =
     (0 < wanted) × ReadsOn place wanted (λ next left. AreReads looks next left) (looks ≡ []) look.question
 
+-- the first of them, as far as an asking came that met a fault
+abbrev pub ArePartReads : List Look → ℕ → ℕ → Type 0
+ArePartReads [] place wanted = Unit {0}
+ArePartReads (look ∷ looks) place wanted =
+    (0 < wanted) × ReadsOn place wanted (λ next left. ArePartReads looks next left) (looks ≡ []) look.question
+
+abbrev pub IsPartOfAsking : IdentityRule → List Look → Type 0
+IsPartOfAsking (Fingerprint offset count) looks = ArePartReads looks offset count
+IsPartOfAsking Native looks = looks ≡ []
+IsPartOfAsking Path looks = looks ≡ []
+
 -- the looks of one asking that met no fault
 abbrev pub IsAsking : IdentityRule → List Look → Type 0
 IsAsking (Fingerprint offset count) looks = AreReads looks offset count

@@ -18,9 +18,13 @@ path_key id path = key_by id (codes "path") path
 abbrev pub native_key : List ℕ → ℕ × ℕ → List ℕ
 native_key id numbers = key_by id (codes "native") (decimal numbers.0 ++ codes "-" ++ decimal numbers.1)
 
+-- of a digest
+abbrev pub key_of_digest : List ℕ → List ℕ → List ℕ
+key_of_digest id digest = key_by id (codes "fingerprint") (encode_lower digest)
+
 -- of the bytes of the fingerprint
 unfoldable pub fingerprint_key : List ℕ → List ℕ → List ℕ
-fingerprint_key id bytes = key_by id (codes "fingerprint") (encode_lower (sha256 bytes))
+fingerprint_key id bytes = key_of_digest id (sha256 bytes)
 
 -- what is known without a look into the file: none for a fingerprint, and none where no numbers were told
 abbrev pub named_key : List ℕ → IdentityRule → List ℕ → Option (ℕ × ℕ) → Option (List ℕ)

@@ -1,2 +1,4 @@
+pub mod Answers
 pub mod Asking
 pub mod Key
+pub mod Reading
