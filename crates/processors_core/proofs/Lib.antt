@@ -1,2 +1,10 @@
 mod Chains
+mod Doing
+mod Errors
+mod Keys
+mod Misses
+mod Moves
+mod Overs
+mod Tags
+mod Ways
 mod Worked

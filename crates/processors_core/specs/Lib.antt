@@ -1,7 +1,16 @@
+pub mod Actions
 pub mod Added
 pub mod Attempt
 pub mod Dropped
 pub mod Error
+pub mod Fates
+pub mod Made
+pub mod Missing
+pub mod Numbered
 pub mod Outcome
+pub mod Over
+pub mod Pairs
 pub mod Renamed
+pub mod Runs
 pub mod Tagged
+pub mod Targets

@@ -1,7 +1,7 @@
 -- `add_tags` (Filebeat reference, processors; what is an error is this project's profile): the tags are appended to
 -- the list at the target. An absent target becomes a list. A target of any other value, a text too, is an error, and
 -- so is a part of the target in something that is no map.
-use Rattle.std.specs.Prelude.{ℕ, codes, List, ◌++◌, map, Option, Some, None, is_none, if◌then◌else◌}
+use Rattle.std.specs.Prelude.{ℕ, codes, List, [], ◌++◌, map, Option, Some, None, is_none, if◌then◌else◌}
 use Rattle.event_tree.specs.Parts.{parts_of}
 use Rattle.event_tree.specs.Paths.{Parts, blocked_at, get_at, put_at}
 use Rattle.event_tree.specs.Value.{TreeValue, str, list, as_values, list_of}
@@ -22,3 +22,9 @@ tags_added tags target tree =
     if is_none (blocked_at (parts_of target) tree)
     then put_if (codes "add_tags: no list at " ++ target) (parts_of target) (with_tags tags (get_at (parts_of target) tree)) tree
     else Failed (codes "add_tags: no list at " ++ target)
+
+-- the list that stands there, an empty one where nothing does
+abbrev pub list_at : Option TreeValue → Option (List TreeValue)
+list_at None = Some []
+list_at (Some (list values)) = Some (list_of values)
+list_at (Some value) = None
