@@ -1,5 +1,5 @@
 -- What a prospector knows and keeps after a scan, after one was refused, where a file is forgotten, and at the beginning.
-use Rattle.std.proofs.Common.{◌≡◌, ℕ, suc, ◌+◌, ◌-◌, ◌≤◌, Bool, true, false, cond, not, List, [], ◌∷◌, ◌++◌, length, map, take, drop, eqb, filter, refl, sym, ap, ◌∙◌, subst, arith}
+use Rattle.std.proofs.Common.{◌≡◌, ℕ, ◌+◌, ◌-◌, ◌≤◌, Bool, true, false, cond, not, List, [], ◌∷◌, ◌++◌, length, map, take, drop, eqb, filter, refl, sym, ap, ◌∙◌, subst, arith}
 use Rattle.std.proofs.lemmas.List.{append-nil, length-map, nil_from_length, take_all}
 use Rattle.prospector_core.proofs.Looping.{index_kept}
 use Rattle.prospector_core.proofs.Remembering.{file-key, known_begun, known_later}

@@ -1,5 +1,5 @@
 -- The index of keys: how it is made, and what a search in it finds.
-use Rattle.std.proofs.Common.{◌≡◌, ◌≢◌, ℕ, ◌<◌, ◌≤◌, List, [], length, map, get_or, All, refl, sym, ap, ◌∙◌, subst, inl, inr, arith}
+use Rattle.std.proofs.Common.{◌≡◌, ◌≢◌, ℕ, ◌<◌, List, [], length, get_or, All, sym, ◌∙◌, subst, inl, inr, arith}
 use Rattle.std.specs.List.{HoldsAt, Contains}
 use Rattle.std.specs.List.Sorted.{IsNonDecreasingBy, IsPartitionPoint, IsPermutation, IsSortedBy}
 use Rattle.std.specs.Ordering.{is_lt, ordering_index}

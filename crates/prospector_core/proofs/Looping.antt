@@ -1,12 +1,12 @@
 -- The members one by one, as they are looked at: what holds of the files, the index and what was told.
-use Rattle.std.proofs.Common.{◌≡◌, ◌≢◌, inl, inr, ℕ, ◌+◌, ◌<◌, Bool, true, false, List, [], ◌∷◌, ◌++◌, length, map, take, get_or, set, All, AllPairs, Option, Some, None, refl, sym, ap, ◌∙◌, subst, arith}
+use Rattle.std.proofs.Common.{◌≡◌, ◌≢◌, inl, inr, ℕ, ◌+◌, ◌<◌, Bool, true, false, List, [], ◌∷◌, ◌++◌, length, map, take, get_or, set, All, AllPairs, Some, None, refl, sym, ap, ◌∙◌, subst, arith}
 use Rattle.std.specs.BTreeSet.{contains}
 use Rattle.std.proofs.lemmas.List.{get_or-map, length-map, map-set, set-get_or}
 use Rattle.std.proofs.lemmas.List.Elements.{All-map}
 use Rattle.prospector_core.proofs.Finding.{find_none}
 use Rattle.prospector_core.proofs.Indexing.{key_of_place}
 use Rattle.prospector_core.proofs.Settling.{files-watched, keys-files}
-use Rattle.prospector_core.proofs.Steps.{TellsOf, next_member, of_known, strange_created, strange_doubled, strange_refused}
+use Rattle.prospector_core.proofs.Steps.{next_member, of_known, strange_created, strange_doubled, strange_refused}
 use Rattle.prospector_core.specs.declared.change.Change.{Change}
 use Rattle.prospector_core.specs.declared.known.Known.{Known}
 use Rattle.prospector_core.specs.declared.marks.Watched.{Watched}
@@ -16,9 +16,9 @@ use Rattle.prospector_core.specs.declared.seen.Seen.{Seen}
 use Rattle.prospector_core.specs.declared.told.Told.{Told}
 use Rattle.prospector_core.specs.KeyIndex.{IsIndex, key_at}
 use Rattle.prospector_core.specs.KnownFiles.{KnownFiles, StandsBefore, file_key, first_with, known_with}
-use Rattle.prospector_core.specs.Limits.{IsFirstRefusal, Refusal, refusals}
+use Rattle.prospector_core.specs.Limits.{IsFirstRefusal, refusals}
 use Rattle.prospector_core.specs.Marks.{file_of, files_of, keys_of, known_in, mark_by, marked_changes, next_mark, watched_by}
-use Rattle.prospector_core.specs.Told.{IsRefusedStrange, IsToldBy, RefusesMember, TellsKnown, TellsMember, TellsStrange, ToldMore, ToldStrange}
+use Rattle.prospector_core.specs.Told.{IsToldBy, RefusesMember, TellsMember, ToldMore, ToldStrange}
 use Rattle.wire_base.specs.KeyOrder.{compare}
 
 pub files-set : (watched : List Watched) (place : ℕ) (one old : Watched) → place < length watched → old ≡ get_or watched place old → one.file ≡ old.file →

@@ -1,11 +1,10 @@
 -- The known files stay apart: their slots rise and their keys differ, after a scan and where one is forgotten.
-use Rattle.std.proofs.Common.{◌≡◌, ◌≢◌, ℕ, zero, suc, ◌+◌, ◌<◌, ◌≤◌, Bool, true, false, List, [], ◌∷◌, ◌++◌, length, map, get_or, All, AllPairs, Option, Some, None, is_none, ◌&&◌, not, refl, sym, ap, ◌∙◌, subst, inl, inr, if◌then◌else◌, arith, length-append, filter}
-use Rattle.std.proofs.lemmas.Bool.{cases_lt}
+use Rattle.std.proofs.Common.{◌≡◌, ◌≢◌, ℕ, suc, ◌+◌, ◌<◌, ◌≤◌, Bool, true, false, List, [], ◌∷◌, ◌++◌, length, map, get_or, All, AllPairs, Option, Some, None, is_none, ◌&&◌, not, refl, sym, ap, ◌∙◌, subst, if◌then◌else◌, arith, length-append, filter}
 use Rattle.std.proofs.lemmas.List.{get_or-map, length-map}
 use Rattle.std.proofs.lemmas.List.Filters.{length-filter_both}
 use Rattle.std.proofs.lemmas.List.Elements.{All-append, All-cons, All-filter, All-head, All-map, All-nil, All-tail, All-weaker}
 use Rattle.std.proofs.lemmas.List.Kept.{AllPairs-cons, AllPairs-filter}
-use Rattle.prospector_core.proofs.Finding.{find-append_found, find-append_none, find_same, found_key}
+use Rattle.prospector_core.proofs.Finding.{find-append_found, find-append_none, find_same}
 use Rattle.prospector_core.specs.declared.known.Known.{Known}
 use Rattle.prospector_core.specs.declared.limits.TheConstants.{MAX_FILES}
 use Rattle.prospector_core.specs.declared.seen.Seen.{Seen}

@@ -1,23 +1,21 @@
 -- A scan as a whole: how it starts, and what it told and left.
-use Rattle.std.proofs.Common.{◌≡◌, ℕ, ◌+◌, ◌-◌, ◌≤◌, Bool, true, false, List, [], ◌∷◌, ◌++◌, length, map, take, drop, AllPairs, refl, sym, ap, ◌∙◌, subst, if◌then◌else◌, arith, length-append}
+use Rattle.std.proofs.Common.{◌≡◌, ℕ, ◌-◌, ◌≤◌, Bool, true, false, List, [], ◌++◌, length, map, take, drop, AllPairs, refl, sym, ap, ◌∙◌, subst, if◌then◌else◌, arith}
 use Rattle.std.specs.Prelude.{flat_map}
 use Rattle.std.proofs.lemmas.List.{append-nil, drop_all, length-map, take_all}
 use Rattle.prospector_core.proofs.Looping.{index_kept}
-use Rattle.prospector_core.proofs.Settling.{files-cleared, files-settled, files-watched, keys-files, map_map, removals_are}
+use Rattle.prospector_core.proofs.Settling.{files-cleared, removals_are}
 use Rattle.prospector_core.proofs.Steps.{none_told}
 use Rattle.prospector_core.specs.declared.known.Known.{Known}
-use Rattle.prospector_core.specs.declared.limits.TheConstants.{MAX_FILES}
 use Rattle.prospector_core.specs.declared.marks.Watched.{Watched}
 use Rattle.prospector_core.specs.declared.seen.Seen.{Seen}
 use Rattle.prospector_core.specs.declared.told.Scan.{Scan}
 use Rattle.prospector_core.specs.declared.told.Told.{Told}
-use Rattle.prospector_core.specs.Changes.{created_files, known_after, member_changes, new_members, removals}
+use Rattle.prospector_core.specs.Changes.{member_changes, removals}
 use Rattle.prospector_core.specs.Earlier.{flat_map_with_earlier}
 use Rattle.prospector_core.specs.KeyIndex.{IsIndex}
 use Rattle.prospector_core.specs.KnownFiles.{AreKnown, KnownFiles, StandsBefore}
-use Rattle.prospector_core.specs.Marks.{cleared, file_of, files_of, keys_of, known_in, settled_one, unseen_removal, watched_by}
-use Rattle.prospector_core.specs.Told.{HasAdded, HasTold, IsToldBy, ToldMore, begun}
-use Rattle.prospector_core.specs.Watching.{known_by}
+use Rattle.prospector_core.specs.Marks.{cleared, file_of, files_of, keys_of, known_in, unseen_removal, watched_by}
+use Rattle.prospector_core.specs.Told.{HasAdded, HasTold, IsToldBy}
 
 -- ---- the start
 

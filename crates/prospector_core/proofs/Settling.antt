@@ -4,11 +4,9 @@ use Rattle.std.specs.Prelude.{flat_map}
 use Rattle.std.specs.Str.{bytes_eq}
 use Rattle.std.proofs.lemmas.List.{map-append}
 use Rattle.std.proofs.lemmas.Slice.Eq.{bytes_eq-Decides}
-use Rattle.prospector_core.specs.declared.change.Change.{Change}
 use Rattle.prospector_core.specs.declared.change.Change.TheVariants.{Removed}
 use Rattle.prospector_core.specs.declared.known.Known.{Known}
-use Rattle.prospector_core.specs.declared.marks.Mark.{Mark}
-use Rattle.prospector_core.specs.declared.marks.Mark.TheVariants.{Unseen, Held, Shown}
+use Rattle.prospector_core.specs.declared.marks.Mark.TheVariants.{Held, Shown}
 use Rattle.prospector_core.specs.declared.marks.Watched.{Watched}
 use Rattle.prospector_core.specs.declared.seen.Seen.{Seen}
 use Rattle.prospector_core.specs.Changes.{file_after, file_shown, is_held, removal}

@@ -1,5 +1,5 @@
 -- What is told and made by the members so far, with one member more.
-use Rattle.std.proofs.Common.{◌≡◌, ◌≢◌, inl, inr, ℕ, suc, ◌+◌, ◌<◌, ◌≤◌, Bool, true, false, cond, ◌&&◌, List, [], ◌∷◌, ◌++◌, length, map, drop, get_or, set, take, All, AllPairs, Option, Some, None, is_some, is_none, refl, sym, ap, ◌∙◌, subst, if◌then◌else◌, add_assoc, arith, length-append}
+use Rattle.std.proofs.Common.{◌≡◌, ◌≢◌, inl, inr, ℕ, suc, ◌+◌, ◌<◌, ◌≤◌, Bool, true, false, cond, ◌&&◌, List, [], ◌∷◌, ◌++◌, length, map, drop, get_or, set, take, All, AllPairs, Option, Some, None, is_some, is_none, refl, sym, ap, ◌∙◌, subst, if◌then◌else◌, arith}
 use Rattle.std.specs.BTreeMap.{is_at}
 use Rattle.std.specs.BTreeSet.{contains}
 use Rattle.std.specs.List.{list_any}
@@ -7,16 +7,15 @@ use Rattle.std.specs.Prelude.{nat_le, slice_get}
 use Rattle.std.specs.Ordering.{is_eq}
 use Rattle.std.specs.declared.cmp.Ordering.{Ordering}
 use Rattle.std.proofs.lemmas.Bool.{cases_eq, cases_lt}
-use Rattle.std.proofs.lemmas.List.{append-nil, length-map, get_or_default, get_or-map, get_or-set_other, get_or-set_same, drop_more, length-set, length_push, map_push, same_lists, take-append-drop, take_more}
+use Rattle.std.proofs.lemmas.List.{length-map, get_or_default, get_or-map, get_or-set_other, get_or-set_same, drop_more, length-set, length_push, map_push, same_lists, take-append-drop, take_more}
 use Rattle.std.proofs.lemmas.List.Elements.{All-head, All-tail}
 use Rattle.prospector_core.proofs.Along.{along-append, along-more, along-same, along-push}
 use Rattle.prospector_core.proofs.Settling.{map_map}
-use Rattle.prospector_core.proofs.Finding.{find_place, find-push_first, find-push_further, find-push_other, found_key, other_key, same_or_other}
+use Rattle.prospector_core.proofs.Finding.{find_place, find-push_first, find-push_further, find-push_other, other_key, same_or_other}
 use Rattle.prospector_core.specs.declared.change.Change.{Change}
 use Rattle.prospector_core.specs.declared.change.Change.TheVariants.{Created, Doubled}
 use Rattle.prospector_core.specs.declared.known.Known.{Known}
-use Rattle.prospector_core.specs.declared.marks.Mark.{Mark}
-use Rattle.prospector_core.specs.declared.marks.Mark.TheVariants.{Unseen, Held, Shown}
+use Rattle.prospector_core.specs.declared.marks.Mark.TheVariants.{Held, Shown}
 use Rattle.prospector_core.specs.declared.marks.Watched.{Watched}
 use Rattle.prospector_core.specs.declared.seen.Seen.{Seen}
 use Rattle.prospector_core.specs.declared.told.Told.{Told}

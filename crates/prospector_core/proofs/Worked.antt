@@ -1,6 +1,5 @@
 -- Worked changes, computed by the definitions: each case alone, and what is known afterwards.
 use Rattle.std.proofs.Common.{◌≡◌, ℕ, Bool, true, false, List, [], ◌∷◌, codes, refl}
-use Rattle.prospector_core.specs.declared.change.Change.{Change}
 use Rattle.prospector_core.specs.declared.change.Change.TheVariants.{Created, Returned, Renamed, Written, Truncated, Removed, Doubled}
 use Rattle.prospector_core.specs.declared.known.Known.{Known}
 use Rattle.prospector_core.specs.declared.seen.Seen.{Seen}

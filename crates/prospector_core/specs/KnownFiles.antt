@@ -1,6 +1,6 @@
 -- The files that are remembered from one scan to the next (Filebeat reference, filestream input; this project's
 -- profile): each has a slot, an input, a key, the path and size that were last seen, and is present or removed.
-use Rattle.std.specs.Prelude.{◌≡◌, ◌≢◌, ℕ, ◌+◌, ◌<◌, ◌≤◌, List, [], ◌∷◌, length, slice_index_or, true, All, AllPairs, Option}
+use Rattle.std.specs.Prelude.{◌≡◌, ◌≢◌, ℕ, ◌+◌, ◌<◌, ◌≤◌, List, length, slice_index_or, true, All, AllPairs, Option}
 use Rattle.prospector_core.specs.declared.known.Known.{Known}
 use Rattle.prospector_core.specs.declared.limits.TheConstants.{MAX_FILES}
 use Rattle.prospector_core.specs.declared.seen.Seen.{Seen}

@@ -1,5 +1,5 @@
 -- What the members of a scan so far told, and what stands ready for the files that they began.
-use Rattle.std.specs.Prelude.{◌≡◌, ◌≢◌, ◌⊎◌, ℕ, ◌+◌, ◌<◌, ◌≤◌, All, slice_index_or, slice_set, Bool, true, false, cond, List, [], ◌∷◌, ◌++◌, length, map, Option, Some, None, is_some}
+use Rattle.std.specs.Prelude.{◌≡◌, ◌≢◌, ◌⊎◌, ℕ, ◌+◌, ◌<◌, ◌≤◌, All, slice_index_or, slice_set, Bool, true, false, cond, List, [], ◌∷◌, ◌++◌, length, map, Some, None, is_some}
 use Rattle.std.specs.BTreeMap.{is_at}
 use Rattle.std.specs.BTreeSet.{contains}
 use Rattle.prospector_core.specs.declared.change.Change.{Change}

@@ -1,4 +1,4 @@
-use Rattle.std.proofs.Common.{sym, ◌∙◌}
+use Rattle.std.proofs.Common.{◌∙◌}
 use Rattle.prospector_core.proofs.Comparing.{begun_known}
 use Rattle.prospector_core.proofs.prospector.Prospector.begin.Goals as goal
 

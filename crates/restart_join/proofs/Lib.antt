@@ -1,0 +1,3 @@
+mod Ordering
+mod Stepping
+mod Worked

@@ -1,0 +1,4 @@
+pub mod Joining
+pub mod PathOrder
+pub mod Starts
+pub mod Steps
