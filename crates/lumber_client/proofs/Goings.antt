@@ -58,9 +58,6 @@ pub lent_passed : (old mid : Laying) (payloads : List (List ℕ)) (begun most n 
 lent_passed old mid payloads begun most n is_mid is =
     subst (λ (l : Laying). IsLent l.lent l.to_lay most (last_laid l payloads begun)) (sym is_mid) (passed_lent old payloads begun most n is)
 
-pub counted_passed : (old mid : Laying) (n : ℕ) (payload : List ℕ) → mid ≡ passed_by old n payload → IsCounted old → IsCounted mid
-counted_passed old mid n payload is_mid counted = subst IsCounted (sym is_mid) counted
-
 -- ---- a parcel is offered
 
 module _ (l : Laying) (parcels all : List Parcel) (parcel : Parcel) (begun most : ℕ) (is_all : all ≡ parcels ++ parcel ∷ []) (within : begun ≤ length parcels) (bound : most ≤ begun) (is : IsLent l.lent l.to_lay most (last_laid l (payloads_of parcels) begun)) where
@@ -123,9 +120,6 @@ pub last_payload : (l : Laying) (parcels : List Parcel) (begun : ℕ) (other : P
 unfolding last_laid
 last_payload l parcels begun other there = get_or-map (λ (p : Parcel). p.payload) parcels (begun - l.to_lay - 1) other [] there
 
-pub next_payload : (parcels : List Parcel) (place : ℕ) (other : Parcel) → place < length parcels → get_or (payloads_of parcels) place [] ≡ (get_or parcels place other).payload
-next_payload parcels place other there = get_or-map (λ (p : Parcel). p.payload) parcels place other [] there
-
 -- what is lent is of this parcel's payload, and not all of it went out
 pub lent_there : (l : Laying) (parcels : List Parcel) (begun sent : ℕ) (parcel : Parcel) → begun ≤ length parcels → IsLent l.lent l.to_lay begun (last_laid l (payloads_of parcels) begun) → l.lent ≡ Some sent → parcel ≡ get_or parcels (begun - l.to_lay - 1) parcel
     → (last_laid l (payloads_of parcels) begun ≡ parcel.payload) × (sent < length parcel.payload)
@@ -163,13 +157,6 @@ rest_within l payloads begun n sent out lent less few =
     let payload = last_laid l payloads begun in
     let is : piece_of l payloads begun ≡ drop sent payload = piece_lent l payloads begun out ∙ ap (λ (o : Option ℕ). lent_rest o payload) lent in
     omega (arith, less, few, ap length is, length-drop sent payload)
-
-pub passed_front : (l : Laying) (n : ℕ) (payload : List ℕ) → l.start < length l.buffer → passed_by l n payload ≡ record l { start = l.start + n }
-passed_front l n payload less =
-    elim (leb_tells (suc l.start) (length l.buffer)) [
-      | inl is ↦ rw (is.0) refl
-      | inr is ↦ absurd (omega (arith, is.1, less))
-    ]
 
 pub passed_rest : (l : Laying) (n : ℕ) (payload : List ℕ) → length l.buffer ≤ l.start → passed_by l n payload ≡ record l { lent = lent_after l.lent n payload }
 passed_rest l n payload out =

@@ -6,7 +6,7 @@ use Rattle.lumber_frame.specs.declared.frame.Frame.TheVariants.{Window, Json}
 use Rattle.lumber_frame.specs.Frame.{frame_bytes, json_head_bytes}
 use Rattle.lumber_frame.specs.Window.{numbered, window_bytes}
 use Rattle.lumber_client.specs.Held.{total}
-use Rattle.lumber_client.specs.Laying.{Laying, IsCounted, IsIdle, IsLent, LaysFrame, LaysHead, LaysNext, LaysNoMore, behind_first, behind_of, first_of, last_laid, lent_after, lent_rest, nothing_laid, passed_by, pending, piece_of, rest_of, unlaid_bytes, windows_left, with_frame, with_window}
+use Rattle.lumber_client.specs.Laying.{Laying, IsCounted, IsIdle, IsLent, LaysFrame, LaysHead, LaysNext, LaysNoMore, Refills, behind_first, behind_of, first_of, last_laid, lent_after, lent_rest, nothing_laid, passed_by, pending, piece_of, rest_of, unlaid_bytes, windows_left, with_frame, with_window}
 
 -- ---- the next piece and all that goes out
 
@@ -233,7 +233,7 @@ lays_more first l new payloads begun so_far few within next =
         )
 
 -- where no more is laid, something is, or nothing is to be laid
-pub lays_none : (first l : Laying) (payloads : List (List ℕ)) (begun : ℕ) → Lays first l payloads begun → LaysNoMore l → piece_of l payloads begun ≡ [] → IsIdle l
+lays_none : (first l : Laying) (payloads : List (List ℕ)) (begun : ℕ) → Lays first l payloads begun → LaysNoMore l → piece_of l payloads begun ≡ [] → IsIdle l
 unfolding piece_of
 lays_none first l payloads begun so_far no_more none =
     elim no_more [
@@ -252,6 +252,17 @@ lays_none first l payloads begun so_far no_more none =
     lent_there None to_lay most front payload some is none = absurd cc
     lent_there (Some sent) to_lay most [] payload some is none = absurd (omega (arith, ap length none, length-drop sent payload, is.1))
     lent_there (Some sent) to_lay most (byte ∷ front) payload some is none = absurd cc
+
+pub refills : (first l : Laying) (payloads : List (List ℕ)) (begun : ℕ) → Lays first l payloads begun → LaysNoMore l → Refills first payloads begun l
+refills first l payloads begun so_far no_more = record {
+  same_bytes = so_far.bytes;
+  something_or_all_out = lays_none first l payloads begun so_far no_more;
+  lent = λ most few is. so_far.lent most few;
+  counted = so_far.counted;
+  fewer_to_lay = so_far.to_lay;
+  fewer_windows = so_far.unlaid;
+  depth = so_far.depth;
+}
 
 -- ---- what a window does
 

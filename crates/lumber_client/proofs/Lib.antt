@@ -3,7 +3,6 @@ pub mod Alike
 pub mod Answered
 pub mod Asks
 pub mod Behind
-pub mod Bytes
 pub mod Given
 pub mod Goings
 pub mod Hearings

@@ -1,5 +1,5 @@
 -- Room for all parcels that a window may hold.
-use Rattle.std.proofs.Common.{◌≡◌, ℕ, ◌+◌, ◌*◌, ◌^◌, ◌<◌, ◌≤◌, List, [], ◌∷◌, ◌++◌, length, drop, Option, Some, None, mul-le-mul_left, refl, ap, arith}
+use Rattle.std.proofs.Common.{◌≡◌, ℕ, ◌+◌, ◌*◌, ◌<◌, ◌≤◌, List, [], ◌∷◌, ◌++◌, length, drop, Option, Some, None, mul-le-mul_left, refl, ap, arith}
 use Rattle.std.specs.List.{AllByRecursion}
 use Rattle.lumber_client.specs.Held.{IsPart, oldest_of, total}
 
@@ -10,12 +10,6 @@ total_few most (count ∷ counts) each = omega (arith, each.0.1, total_few most 
 
 pub flights_few : (most depth : ℕ) (counts : List ℕ) → AllByRecursion (λ count. (0 < count) × (count ≤ most)) counts → length counts ≤ depth → total counts ≤ most * depth
 flights_few most depth counts each few = omega (arith, total_few most counts each, mul-le-mul_left most few)
-
--- the room is a number of the machine
-pub room_fits : (most depth : ℕ) → most < 2 ^ 32 → depth < 2 ^ 32 → most * depth + most < 2 ^ 64
-room_fits most depth small_most small_depth =
-    let few : depth ≤ 4294967295 = omega arith in
-    omega (arith, mul-le-mul_left most few)
 
 pub total_more : (counts : List ℕ) (count : ℕ) → total (counts ++ count ∷ []) ≡ total counts + count
 total_more [] count = omega arith

@@ -14,9 +14,9 @@ use Rattle.lumber_frame.proofs.GoingOn.{all_both}
 use Rattle.lumber_frame.proofs.OneMoreWindow.{whole_all}
 use Rattle.lumber_frame.proofs.Settling.{none_in_nothing}
 use Rattle.lumber_frame.proofs.Staying.{numbers_fit, out_append}
-use Rattle.lumber_client.specs.Exchange.{Exchange, payloads_of, windows_of, given_in, parcels_by, acknowledged_in, no_exchange, with_begun, with_heard, with_sent, with_handed, anew}
+use Rattle.lumber_client.specs.Exchange.{Exchange, payloads_of, windows_of, given_in, parcels_by, acknowledged_in, with_begun, with_heard, with_sent, with_handed, anew}
 use Rattle.lumber_client.specs.Hearing.{one_more}
-use Rattle.lumber_client.specs.Held.{Held, begun_in, begun_as, made_again, next_in, nothing_held, sent_as, waiting_in, with_parcels}
+use Rattle.lumber_client.specs.Held.{Held, begun_in, begun_as, made_again, next_in, sent_as, waiting_in, with_parcels}
 use Rattle.lumber_client.specs.Standing.{AreAnswered, Hears, HearsWith, StandsFor, window_asked}
 use Rattle.lumber_client.proofs.Answered.{answered_begun, answered_same}
 use Rattle.lumber_client.proofs.Given.{none_given}
@@ -103,22 +103,6 @@ none_heard e window talk begun = record {
   short = omega arith;
   begins = none_begins;
   asks = λ some. absurd (some refl);
-}
-
-pub stands_new : (most depth : ℕ) → StandsFor (nothing_held most depth) no_exchange
-stands_new most depth = record {
-  each = tt;
-  sent = refl;
-  nothing_behind = λ none. refl;
-  full = 0;
-  answered = none_answered;
-  few = omega arith;
-  heard = none_heard no_exchange (window_asked false 0) refl refl;
-  flies = λ some oldest. absurd (some refl);
-  given = omega arith;
-  within = omega arith;
-  held = refl;
-  acknowledged = refl;
 }
 
 -- ---- what goes on without a byte

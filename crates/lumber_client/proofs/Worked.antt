@@ -1,7 +1,7 @@
 -- Windows of the parcels A and B and of C are begun and out. The acknowledgements 1, 2 and 1 acknowledge A, B and C; the byte
 -- that ends the first of them tells that one more is acknowledged, and neither that the peer is alive nor that more has to
 -- come. A frame whose first byte came before the windows were out acknowledges nothing.
-use Rattle.std.proofs.Common.{◌≡◌, ℕ, List, [], ◌∷◌, ◌++◌, lit<, refl, arith}
+use Rattle.std.proofs.Common.{◌≡◌, ℕ, List, [], ◌∷◌, lit<, refl, arith}
 use Rattle.std.specs.List.{flat_map}
 use Rattle.wire_base.specs.declared.parcel.Parcel.{Parcel}
 use Rattle.wire_base.specs.declared.talk.Piece.{Piece}

@@ -1,6 +1,6 @@
 -- What a window stands for (Lumberjack v2; this project's profile for several windows in flight): the talk since it was made
 -- or made again, byte for byte, and the parcels on their way. Which of them a talk acknowledges is `lumber_frame`'s reading.
-use Rattle.std.specs.Prelude.{ℕ, suc, List, [], ◌∷◌, ◌++◌, map, take}
+use Rattle.std.specs.Prelude.{◌≡◌, ℕ, suc, List, [], ◌∷◌, ◌++◌, map, take}
 use Rattle.wire_base.specs.declared.parcel.Parcel.{Parcel}
 use Rattle.wire_base.specs.declared.talk.Piece.{Piece}
 use Rattle.wire_base.specs.declared.talk.Piece.TheVariants.{Out, In}
@@ -38,6 +38,14 @@ parcels_by given window (parcels ∷ windows) = take (greatest window given) par
 -- the parcels that the talk acknowledges, by windows and places
 abbrev pub acknowledged_in : Exchange → List Parcel
 acknowledged_in e = parcels_by (given_in e) 1 e.begun
+
+-- all that the talks acknowledge was handed out
+abbrev pub IsAllHanded : Exchange → Type 0
+IsAllHanded e = e.earlier ++ acknowledged_in e ≡ e.handed
+
+-- this parcel is the next of those that they acknowledge
+abbrev pub IsNextOf : Exchange → Parcel → Type 0
+IsNextOf e parcel = (more : List Parcel) × (e.earlier ++ acknowledged_in e ≡ e.handed ++ parcel ∷ more)
 
 -- ---- how it goes on
 

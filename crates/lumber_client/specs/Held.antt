@@ -168,3 +168,7 @@ with_parcels w parcels acknowledged = record {
   behind = w.behind;
   hearing = w.hearing;
 }
+
+-- the window with this parcel behind the others
+abbrev pub with_offered : Held → Parcel → Held
+with_offered w parcel = with_parcels w (w.parcels ++ parcel ∷ []) w.acknowledged

@@ -71,6 +71,10 @@ abbrev pub IsLent : Option ℕ → ℕ → ℕ → List ℕ → Type 0
 IsLent None to_lay begun payload = Unit {0}
 IsLent (Some sent) to_lay begun payload = (to_lay < begun) × (sent < length payload)
 
+-- so it is of what is laid of these payloads
+abbrev pub Lends : Laying → List (List ℕ) → ℕ → ℕ → Type 0
+Lends l payloads begun most = IsLent l.lent l.to_lay most (last_laid l payloads begun)
+
 -- the frames to be laid are those that are left of the present window and those of the windows behind it
 abbrev pub IsCounted : Laying → Type 0
 IsCounted l = l.to_lay ≡ l.left + total l.unlaid
@@ -157,3 +161,13 @@ with_window l count = record {
   unlaid = l.unlaid ++ count ∷ [];
   to_lay = l.to_lay + count;
 }
+
+-- frames were laid where nothing was left of those before them, or all stayed as it was
+pub record Refills (old : Laying) (payloads : List (List ℕ)) (begun : ℕ) (new : Laying) : Type 0 where
+  pub same_bytes : pending new payloads begun ≡ pending old payloads begun
+  pub something_or_all_out : piece_of new payloads begun ≡ [] → IsIdle new
+  pub lent : (most : ℕ) → old.to_lay ≤ most → Lends old payloads begun most → Lends new payloads begun most
+  pub counted : IsCounted new
+  pub fewer_to_lay : new.to_lay ≤ old.to_lay
+  pub fewer_windows : length new.unlaid ≤ length old.unlaid
+  pub depth : new.depth ≡ old.depth

@@ -7,23 +7,23 @@ ghost use Rattle.lumber_client.specs.Exchange.{Exchange, acknowledged_in, payloa
 ghost use Rattle.lumber_client.specs.Held.{Held};
 ghost use Rattle.lumber_client.specs.Standing.{StandsFor};
 
-/// The talk for which a window stands acknowledges the payloads of the parcels that the window settles as
-/// acknowledged, in their order. A law; it computes nothing.
+/// The talk for which a window stands acknowledges the payloads of the parcels that the window
+/// settles as acknowledged, in their order. A law; it computes nothing.
 pub fn acknowledged_is_of_the_talk()
     ensures { (window : Held) (e : Exchange) → StandsFor window e →
         Acknowledges e.talk (payloads_of (acknowledged_in e)) }
 {}
 
-/// Received bytes may be given one by one or many at once: a window stands for the one talk where it stands for
-/// the other. A law; it computes nothing.
+/// Received bytes may be given one by one or many at once: a window stands for the one talk where
+/// it stands for the other. A law; it computes nothing.
 pub fn received_pieces_join()
     ensures { (window : Held) (e : Exchange) (talk : List Piece) (front back : List ℕ) →
         StandsFor window (with_talk e (talk ++ In front ∷ In back ∷ [])) →
         StandsFor window (with_talk e (talk ++ In (front ++ back) ∷ [])) }
 {}
 
-/// Behind a peer's fault nothing counts: whatever is sent and received afterwards, the talk acknowledges the same. A law;
-/// it computes nothing.
+/// Behind a peer's fault nothing counts: whatever is sent and received afterwards, the talk
+/// acknowledges the same. A law; it computes nothing.
 pub fn nothing_counts_behind_a_fault()
     ensures { (talk more : List Piece) (payloads : List (List ℕ)) → HasPeerFault talk →
         Acknowledges talk payloads → Acknowledges (talk ++ more) payloads }

@@ -3,7 +3,7 @@ ghost use Rattle.std.specs.VecDeque.{deque_len};
 ghost use Rattle.wire_base.specs.declared.parcel.TheConstants.{MAX_PAYLOAD};
 ghost use Rattle.wire_base.specs.Ranges.{IsParcel};
 ghost use Rattle.lumber_client.specs.Exchange.{payloads_of};
-ghost use Rattle.lumber_client.specs.Laying.{IsCounted, IsIdle, IsLent, LaysFrame, LaysHead, LaysNext, LaysNoMore, last_laid, nothing_laid, passed_by, pending, piece_of, with_window};
+ghost use Rattle.lumber_client.specs.Laying.{IsCounted, LaysFrame, LaysHead, LaysNext, LaysNoMore, Lends, Refills, last_laid, nothing_laid, passed_by, piece_of, with_window};
 
 use lumber_frame::{json_head, window_head};
 use std::alloc::Global;
@@ -90,7 +90,7 @@ impl Outgoing {
     // The next piece.
     pub(crate) fn piece<'a>(&'a self, parcels: &'a VecDeque<Parcel>, begun: usize) -> &'a [u8]
         requires begun { begun ≤ deque_len parcels.now }
-        requires lent { IsLent self.now.lent self.now.to_lay begun (last_laid self.now (payloads_of parcels.now.items) begun) }
+        requires lent { Lends self.now (payloads_of parcels.now.items) begun begun }
         ensures { result.now ≡ piece_of self.now (payloads_of parcels.now.items) begun }
     {
         if self.start < self.buffer.len() {
@@ -106,9 +106,10 @@ impl Outgoing {
     pub(crate) fn pass(&mut self, n: usize, parcels: &VecDeque<Parcel>, begun: usize)
         requires begun { begun ≤ deque_len parcels.now }
         requires range { All IsParcel parcels.now.items }
-        requires lent { IsLent self.old.lent self.old.to_lay begun (last_laid self.old (payloads_of parcels.now.items) begun) }
+        requires lent { Lends self.old (payloads_of parcels.now.items) begun begun }
         requires within { n ≤ length (piece_of self.old (payloads_of parcels.now.items) begun) }
-        ensures { self.new ≡ passed_by self.old n (last_laid self.old (payloads_of parcels.now.items) begun) }
+        ensures { self.new ≡
+            passed_by self.old n (last_laid self.old (payloads_of parcels.now.items) begun) }
     {
         if self.start < self.buffer.len() {
             self.start += n;
@@ -136,15 +137,8 @@ impl Outgoing {
         requires to_lay { self.old.to_lay ≤ begun }
         requires range { All IsParcel parcels.now.items }
         requires counted { IsCounted self.old }
-        requires lent { IsLent self.old.lent self.old.to_lay begun (last_laid self.old (payloads_of parcels.now.items) begun) }
-        ensures same_bytes { pending self.new (payloads_of parcels.now.items) begun ≡ pending self.old (payloads_of parcels.now.items) begun }
-        ensures something_or_all_out { piece_of self.new (payloads_of parcels.now.items) begun ≡ [] → IsIdle self.new }
-        ensures lent { (most : ℕ) → self.old.to_lay ≤ most → IsLent self.old.lent self.old.to_lay most (last_laid self.old (payloads_of parcels.now.items) begun) →
-            IsLent self.new.lent self.new.to_lay most (last_laid self.new (payloads_of parcels.now.items) begun) }
-        ensures counted { IsCounted self.new }
-        ensures fewer_to_lay { self.new.to_lay ≤ self.old.to_lay }
-        ensures fewer_windows { length self.new.unlaid ≤ length self.old.unlaid }
-        ensures depth { self.new.depth ≡ self.old.depth }
+        requires lent { Lends self.old (payloads_of parcels.now.items) begun begun }
+        ensures { Refills self.old (payloads_of parcels.now.items) begun self.new }
     {
         if self.start == self.buffer.len() && self.lent.is_none() {
             self.lay(parcels, begun);
@@ -159,14 +153,7 @@ impl Outgoing {
         requires counted { IsCounted self.old }
         requires out { self.old.start ≡ length self.old.buffer }
         requires none_lent { self.old.lent ≡ None }
-        ensures same_bytes { pending self.new (payloads_of parcels.now.items) begun ≡ pending self.old (payloads_of parcels.now.items) begun }
-        ensures something_or_all_out { piece_of self.new (payloads_of parcels.now.items) begun ≡ [] → IsIdle self.new }
-        ensures lent { (most : ℕ) → self.old.to_lay ≤ most → IsLent self.old.lent self.old.to_lay most (last_laid self.old (payloads_of parcels.now.items) begun) →
-            IsLent self.new.lent self.new.to_lay most (last_laid self.new (payloads_of parcels.now.items) begun) }
-        ensures counted { IsCounted self.new }
-        ensures fewer_to_lay { self.new.to_lay ≤ self.old.to_lay }
-        ensures fewer_windows { length self.new.unlaid ≤ length self.old.unlaid }
-        ensures depth { self.new.depth ≡ self.old.depth }
+        ensures { Refills self.old (payloads_of parcels.now.items) begun self.new }
     {
         self.empty();
         while self.lay_next(parcels, begun) {}
@@ -180,8 +167,8 @@ impl Outgoing {
         self.start = 0;
     }
 
-    // Lays one more frame. False where none is left, where it has no room, and behind a payload that
-    // is lent.
+    // Lays one more frame. False where none is left, where it has no room, and behind a payload
+    // that is lent.
     fn lay_next(&mut self, parcels: &VecDeque<Parcel>, begun: usize) -> bool
         requires begun { begun ≤ deque_len parcels.now }
         requires to_lay { self.old.to_lay ≤ begun }

@@ -3,7 +3,7 @@ ghost use Rattle.wire_base.specs.Ranges.{IsParcel};
 ghost use Rattle.lumber_frame.specs.Window.{IsWindow, window_bytes};
 ghost use Rattle.lumber_client.specs.Exchange.{payloads_of};
 ghost use Rattle.lumber_client.specs.Hearing.{IsTakenAs, heard_as};
-ghost use Rattle.lumber_client.specs.Held.{acknowledged_to, begun_as, has_some, made_again, next_in, nothing_held, oldest_of, sent_as, waiting_in, with_hearing, with_parcels};
+ghost use Rattle.lumber_client.specs.Held.{acknowledged_to, begun_as, has_some, made_again, next_in, nothing_held, oldest_of, sent_as, waiting_in, with_hearing, with_offered, with_parcels};
 ghost use Rattle.lumber_client.specs.Step.{Answers, asked_in, now_failed};
 
 use crate::heard::Heard;
@@ -45,7 +45,7 @@ impl Window {
         requires range { IsParcel parcel }
         requires room { length (waiting_in self.old) < self.old.most }
         requires nothing_to_settle { self.old.acknowledged ≡ 0 }
-        ensures { self.new ≡ with_parcels self.old (self.old.parcels ++ parcel ∷ []) self.old.acknowledged }
+        ensures { self.new ≡ with_offered self.old parcel }
     {
         self.parcels.push_back_reserved(parcel);
     }
@@ -171,7 +171,8 @@ impl Window {
         requires { 0 < self.old.acknowledged }
         ensures first { self.old.parcels ≡ result ∷ self.new.parcels }
         ensures fewer { self.old.acknowledged ≡ suc self.new.acknowledged }
-        ensures others_stay { self.new ≡ with_parcels self.old self.new.parcels self.new.acknowledged }
+        ensures others_stay { self.new ≡
+            with_parcels self.old self.new.parcels self.new.acknowledged }
         ensures range { IsParcel result }
     {
         let Some(parcel) = self.parcels.pop_front() else {

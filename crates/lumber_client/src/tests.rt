@@ -133,8 +133,8 @@ fn peer_fault_then_again(rt: HostRuntime) -> Result<(), Fail> {
 #[test]
 fn peers_of_three_windows(rt: HostRuntime) -> Result<(), Fail> {
     let alloc = rt.alloc();
-    // What a peer gives, what it tells, and the payloads that are settled, where windows of `ab`, of
-    // `c` and of `de` are in flight.
+    // What a peer gives, what it tells, and the payloads that are settled, where windows of `ab`,
+    // of `c` and of `de` are in flight.
     let peers: [(&[u8], &[Heard], &[u8]); 11] = [
         (b"\0", &[Heard::PeerFault { at: 0 }], b""),
         (b"2C", &[Heard::PeerFault { at: 1 }], b""),

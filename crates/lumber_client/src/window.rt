@@ -3,8 +3,8 @@ ghost use Rattle.wire_base.specs.declared.parcel.Parcel.{Parcel};
 ghost use Rattle.wire_base.specs.Ranges.{IsParcel};
 ghost use Rattle.lumber_frame.specs.Window.{window_bytes};
 ghost use Rattle.lumber_client.specs.Answer.{IsAnswerTo};
-ghost use Rattle.lumber_client.specs.Exchange.{Exchange, acknowledged_in, anew, no_exchange, payloads_of, with_begun, with_handed, with_heard, with_sent};
-ghost use Rattle.lumber_client.specs.Held.{begun_as, made_again, next_in, nothing_held, sent_as, waiting_in, with_parcels};
+ghost use Rattle.lumber_client.specs.Exchange.{Exchange, IsAllHanded, IsNextOf, anew, no_exchange, payloads_of, with_begun, with_handed, with_heard, with_sent};
+ghost use Rattle.lumber_client.specs.Held.{begun_as, made_again, next_in, nothing_held, sent_as, waiting_in, with_offered, with_parcels};
 ghost use Rattle.lumber_client.specs.Newly.{KeepsParcels, is_fault, newly_acknowledged};
 ghost use Rattle.lumber_client.specs.Standing.{StandsFor};
 
@@ -16,14 +16,14 @@ use std::collections::VecDeque;
 use std::marker::Model;
 use wire_base::{NoMemory, Parcel};
 
-/// Parcels on their way over one link at a time: they go out in windows, and what the peer acknowledges of
-/// them is handed out in order. No call but `new` takes memory.
+/// Parcels on their way over one link at a time: they go out in windows, and what the peer
+/// acknowledges of them is handed out in order. No call but `new` takes memory.
 #[derive(Drop)]
 pub struct Window {
     pub(crate) most: u32,
     pub(crate) depth: u32,
-    // In the order in which they were offered: those that are acknowledged and not handed out, those in
-    // flight, and those that wait to be begun.
+    // In the order in which they were offered: those that are acknowledged and not handed out,
+    // those in flight, and those that wait to be begun.
     pub(crate) parcels: VecDeque<Parcel>,
     pub(crate) acknowledged: usize,
     pub(crate) in_flight: usize,
@@ -64,8 +64,8 @@ impl Model for Window {
 }
 
 impl Window {
-    /// Windows of at most `most` parcels each, of which at most `depth` are begun and not acknowledged in
-    /// full. All memory is taken here.
+    /// Windows of at most `most` parcels each, of which at most `depth` are begun and not
+    /// acknowledged in full. All memory is taken here.
     pub fn new(alloc: Global, most: u32, depth: u32) -> Result<Window, NoMemory>
         requires most { 0 < most }
         requires depth { 0 < depth }
@@ -75,8 +75,8 @@ impl Window {
         Window::empty(alloc, most, depth)
     }
 
-    /// Whether a parcel may be offered: fewer than `most` wait to be begun, and nothing that is acknowledged
-    /// waits for `settled`.
+    /// Whether a parcel may be offered: fewer than `most` wait to be begun, and nothing that is
+    /// acknowledged waits for `settled`.
     pub fn can_offer(&self) -> bool
         ensures { IsTrue result ↔
             ((length (waiting_in self.now) < self.now.most) × (self.now.acknowledged ≡ 0)) }
@@ -99,13 +99,13 @@ impl Window {
         self.incoming.failed()
     }
 
-    /// Puts a parcel behind those that wait to be begun. Fewer than `most` wait, and nothing that is
-    /// acknowledged waits for `settled`.
+    /// Puts a parcel behind those that wait to be begun. Fewer than `most` wait, and nothing that
+    /// is acknowledged waits for `settled`.
     pub fn offer(&mut self, parcel: Parcel)
         requires range { IsParcel parcel }
         requires room { length (waiting_in self.old) < self.old.most }
         requires nothing_to_settle { self.old.acknowledged ≡ 0 }
-        ensures offered { self.new ≡ with_parcels self.old (self.old.parcels ++ parcel ∷ []) self.old.acknowledged }
+        ensures offered { self.new ≡ with_offered self.old parcel }
         ensures stands { (e : Exchange) → StandsFor self.old e → StandsFor self.new e }
     {
         self.push(parcel);
@@ -124,8 +124,8 @@ impl Window {
         self.begin_next();
     }
 
-    /// The next piece to go out; empty exactly where all that was begun is out. Frames stand in it one behind
-    /// the other, and a payload that is larger than the buffer is a piece of its own.
+    /// The next piece to go out; empty exactly where all that was begun is out. Frames stand in it
+    /// one behind the other, and a payload that is larger than the buffer is a piece of its own.
     pub fn out(&self) -> &[u8]
         ensures piece { result.now ≡ self.now.out }
         ensures empty_only_where_all_is_out { result.now ≡ [] → self.now.behind ≡ [] }
@@ -145,14 +145,16 @@ impl Window {
         self.pass(n);
     }
 
-    /// Takes the next byte that the peer gave. All that was begun is out, and no fault was told since the
-    /// window was made or made again.
+    /// Takes the next byte that the peer gave. All that was begun is out, and no fault was told
+    /// since the window was made or made again.
     pub fn got(&mut self, byte: u8) -> Heard
         requires all_is_out { self.old.out ≡ [] }
         requires no_fault { self.old.hearing.failed ≡ false }
         ensures told { (e : Exchange) → StandsFor self.old e → IsAnswerTo e byte result }
-        ensures stands { (e : Exchange) → StandsFor self.old e → StandsFor self.new (with_heard e byte) }
-        ensures acknowledged { self.new.acknowledged ≡ self.old.acknowledged + newly_acknowledged result }
+        ensures stands { (e : Exchange) → StandsFor self.old e →
+            StandsFor self.new (with_heard e byte) }
+        ensures acknowledged { self.new.acknowledged ≡
+            self.old.acknowledged + newly_acknowledged result }
         ensures kept { KeepsParcels self.old self.new }
         ensures failed_where_a_fault_is_told { self.new.hearing.failed ≡ is_fault result }
     {
@@ -164,19 +166,21 @@ impl Window {
         }
     }
 
-    /// Hands out the next parcel that is acknowledged, in order, each once; `None` exactly where none is left.
+    /// Hands out the next parcel that is acknowledged, in order, each once; `None` exactly where
+    /// none is left.
     pub fn settled(&mut self) -> Option<Parcel>
-        ensures handed_out { IfSome result (λ parcel. (self.old.parcels ≡ parcel ∷ self.new.parcels) ×
-            (self.old.acknowledged ≡ suc self.new.acknowledged)) }
+        ensures first { IfSome result (λ parcel. self.old.parcels ≡ parcel ∷ self.new.parcels) }
+        ensures fewer { IfSome result (λ _. self.old.acknowledged ≡ suc self.new.acknowledged) }
         ensures others_stay { IfSome result (λ _. self.new ≡
             with_parcels self.old self.new.parcels self.new.acknowledged) }
-        ensures none_where_none_is_left { IfNone result ((self.old.acknowledged ≡ 0) × (self.new ≡ self.old)) }
+        ensures none_where_none_is_left { IfNone result (self.old.acknowledged ≡ 0) }
+        ensures unchanged_where_none { IfNone result (self.new ≡ self.old) }
         ensures range { IfSome result IsParcel }
         ensures stands { (e : Exchange) → StandsFor self.old e →
-            MatchOption result (StandsFor self.new e) (λ parcel. StandsFor self.new (with_handed e parcel)) }
+            MatchOption result (StandsFor self.new e)
+            (λ parcel. StandsFor self.new (with_handed e parcel)) }
         ensures what_was_acknowledged { (e : Exchange) → StandsFor self.old e →
-            MatchOption result (e.earlier ++ acknowledged_in e ≡ e.handed)
-            (λ parcel. (more : List Parcel) × (e.earlier ++ acknowledged_in e ≡ e.handed ++ parcel ∷ more)) }
+            MatchOption result (IsAllHanded e) (IsNextOf e) }
     {
         if !self.has_settled() {
             return None;
@@ -184,8 +188,9 @@ impl Window {
         Some(self.hand_out())
     }
 
-    /// Makes the parcels that are not acknowledged wait to be begun again, in their old order, those that
-    /// already waited last. Parcels that are acknowledged and not handed out stay for `settled`.
+    /// Makes the parcels that are not acknowledged wait to be begun again, in their old order,
+    /// those that already waited last. Parcels that are acknowledged and not handed out stay for
+    /// `settled`.
     pub fn again(&mut self)
         ensures again { self.new ≡ made_again self.old }
         ensures stands { (e : Exchange) → StandsFor self.old e → StandsFor self.new (anew e) }

@@ -1,7 +1,7 @@
 use Rattle.std.proofs.Common.{◌≤◌, length, subst, sym, arith}
 use Rattle.lumber_client.specs.Exchange.{payloads_of}
 use Rattle.lumber_client.specs.Laying.{Laying, LaysNoMore}
-use Rattle.lumber_client.proofs.Laid.{Lays, lays_first, lays_more, lays_none}
+use Rattle.lumber_client.proofs.Laid.{Lays, lays_first, lays_more, refills}
 use Rattle.lumber_client.proofs.Nexts.{payloads_number}
 use Rattle.lumber_client.proofs.outgoing.Outgoing.lay.Goals as goal
 
@@ -28,10 +28,10 @@ loop-preserved c =
     let within : c.args.begun ≤ length (payloads_of parcels.items) = omega (arith, c.requires.begun, parcels.ok.0, payloads_number parcels.items) in
     (lays_more c.args.self.now c.loop.self c.lay_next.new.self (payloads_of parcels.items) c.args.begun c.loop.invariant c.requires.to_lay within c.loop-test.ensures.lays).0
 
-pub returns-clause-something_or_all_out : goal.returns-clause-something_or_all_out
-returns-clause-something_or_all_out c =
+pub returns : goal.returns
+returns c =
     let payloads = payloads_of c.args.parcels.now.items in
     let still = c.loop-test.ensures.lays in
-    lays_none c.args.self.now c.lay_next.new.self payloads c.args.begun
+    refills c.args.self.now c.lay_next.new.self payloads c.args.begun
     (subst (λ (l : Laying). Lays c.args.self.now l payloads c.args.begun) (sym still.0) c.loop.invariant)
     (subst LaysNoMore (sym still.0) still.1)
