@@ -1,4 +1,5 @@
 pub mod Conditions
+pub mod ConditionsInRange
 pub mod Document
 pub mod Duration
 pub mod Each
@@ -14,6 +15,7 @@ pub mod Output
 pub mod Pairs
 pub mod Path
 pub mod Processors
+pub mod ProcessorsInRange
 pub mod Single
 pub mod Table
 pub mod Text
