@@ -83,11 +83,17 @@ fn settle(alloc: Global, window: &mut Window) -> Result<Vec<u8>, Fail> {
 #[test]
 fn window_bytes(rt: HostRuntime) -> Result<(), Fail> {
     let alloc = rt.alloc();
+    let first = [b'a'; 131];
+    let second = [b'b'; 131];
     let mut window = Window::new(alloc, 2, 1)?;
-    offer(alloc, &mut window, b"{\"a\":1}")?;
-    offer(alloc, &mut window, b"{}")?;
+    offer(alloc, &mut window, &first)?;
+    offer(alloc, &mut window, &second)?;
     assert!(rt; !window.can_offer());
-    let bytes = b"2W\0\0\0\x022J\0\0\0\x01\0\0\0\x07{\"a\":1}2J\0\0\0\x02\0\0\0\x02{}";
+    let mut bytes = Vec::new(alloc);
+    bytes.extend_from_slice(b"2W\0\0\0\x022J\0\0\0\x01\0\0\0\x83")?;
+    bytes.extend_from_slice(&first)?;
+    bytes.extend_from_slice(b"2J\0\0\0\x02\0\0\0\x83")?;
+    bytes.extend_from_slice(&second)?;
     assert_eq!(rt; send(alloc, &mut window)?.as_slice(), bytes.as_slice());
     assert!(rt; !window.can_begin());
     Ok(())
@@ -135,11 +141,15 @@ fn peers_of_three_windows(rt: HostRuntime) -> Result<(), Fail> {
     let alloc = rt.alloc();
     // What a peer gives, what it tells, and the payloads that are settled, where windows of `ab`,
     // of `c` and of `de` are in flight.
-    let peers: [(&[u8], &[Heard], &[u8]); 11] = [
+    let peers: [(&[u8], &[Heard], &[u8]); 15] = [
         (b"\0", &[Heard::PeerFault { at: 0 }], b""),
         (b"2C", &[Heard::PeerFault { at: 1 }], b""),
         (b"2W", &[Heard::PeerFault { at: 1 }], b""),
         // Closes within a frame.
+        (b"2", &[], b""),
+        (b"2A", &[], b""),
+        (b"2A\0", &[], b""),
+        (b"2A\0\0", &[], b""),
         (b"2A\0\0\0", &[], b""),
         (b"2A\0\0\0\0", &[Heard::Alive], b""),
         // Above the count of the oldest.
