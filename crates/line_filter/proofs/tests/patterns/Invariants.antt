@@ -1,0 +1,7 @@
+use Rattle.std.proofs.Common.{All}
+use Rattle.patterns.specs.Pattern.{IsLinePattern}
+use Rattle.line_filter.proofs.tests.patterns.Given as goal
+
+-- the texts so far are patterns
+abbrev pub invariant-loop-text : goal.invariant-loop-text
+invariant-loop-text l = All IsLinePattern l.patterns.items
