@@ -1,6 +1,6 @@
 #!/usr/bin/env python3
-"""Compares the pages with the repository: the table of crates in docs/architecture.md with crates.txt, and the files that
-pages link to with those that are there.
+"""Compares the pages with the repository: the table of crates in docs/architecture.md with crates.txt, the files that pages
+link to with those that are there, and the names in backticks with those of the code, the tests and the settings.
 """
 
 import re
@@ -11,6 +11,37 @@ ROOT = Path(__file__).resolve().parents[1]
 PAGES = [*ROOT.glob("*.md"), *ROOT.glob("docs/*.md")]
 BASE = "wire_base"
 NOT_YET = "not yet"
+
+# where names stand, and how a comment begins there; what a comment alone says is no name
+CODE = {".rt": "//", ".antt": "--", ".py": "#", ".rs": "//", ".c": "//", ".toml": "#", ".txt": "#", ".edit": "", "": "#"}
+PLACES = ("crates", "tests", "bench", "examples", ".ci", "Makefile", "crates.txt")
+# pages whose names are compared; the changelog and results of measurements speak of other days, too
+NAMING = [ROOT / "README.md", ROOT / "CONTRIBUTING.md", *sorted(ROOT.glob("docs/*.md"))]
+FENCE = re.compile(r"^```.*?^```$", re.MULTILINE | re.DOTALL)
+# an identifier, a call, a dotted key, or an option
+NAME = re.compile(r"[A-Za-z_]\w*(?:(?:::|\.)\w+)*(?:\(\))?|--\w[\w-]*")
+PATH = re.compile(r"[\w.*-]+(?:/[\w.*-]*)+")
+TARGET = re.compile(r"make (\w+)\b.*")
+# such words, as NAME or ID, stand for any other
+PLACEHOLDER = re.compile(r"\b[A-Z]+\b")
+# names of Filebeat's reference and of systems
+REFERENCE = {
+    "SO_SNDTIMEO",
+    "close.on_state_change.inactive",
+    "close.reader.on_eof",
+    "flock",
+    "max_retries",
+    "output.logstash.bulk_max_size",
+    "output.logstash.hosts",
+    "output.logstash.max_retries",
+    "output.logstash.pipelining",
+    "output.logstash.timeout",
+    "output.logstash.workers",
+    "parsers.multiline",
+    "prospector.scanner.check_interval",
+    "prospector.scanner.fingerprint.length",
+    "prospector.scanner.fingerprint.offset",
+}
 
 
 def crates():
@@ -60,8 +91,58 @@ def faults_of_links():
                 yield f"{page.relative_to(ROOT)} links to {target}, which is not there"
 
 
+def files_of_code():
+    for place in map(ROOT.joinpath, PLACES):
+        for file in [place] if place.is_file() else sorted(place.rglob("*")):
+            if file.is_file() and file.suffix in CODE and "out" not in file.relative_to(ROOT).parts:
+                yield file
+
+
+def words_of_code():
+    """Each word that stands outside of comments, and each name of a file or folder."""
+    words = set()
+    for file in files_of_code():
+        words.update(re.findall(r"[\w-]+", " ".join(file.relative_to(ROOT).with_suffix("").parts)))
+        comment = CODE[file.suffix]
+        for line in file.read_text().splitlines():
+            code = line if not comment else line.partition(comment)[0]
+            words.update(word.removeprefix("test_") for word in re.findall(r"\w+", code))
+    return words
+
+
+def is_path(named):
+    """Whether it is a path of this repository: one that begins with a folder of it."""
+    return PATH.fullmatch(named) and (ROOT / named.partition("/")[0]).is_dir()
+
+
+def is_there(named, words):
+    if named in REFERENCE:
+        return True
+    if is_path(named):
+        return any(ROOT.glob(PLACEHOLDER.sub("*", named).rstrip("/")))
+    target = TARGET.fullmatch(named)
+    if target:
+        return f"\n{target.group(1)}:" in (ROOT / "Makefile").read_text()
+    return all(part in words or PLACEHOLDER.fullmatch(part) for part in re.findall(r"\w+", named))
+
+
+def names_in(page):
+    """What stands in backticks and looks like a name or a path of this repository."""
+    for span in re.findall(r"`([^`\n]+)`", FENCE.sub("", page.read_text()).replace("\n", " ")):
+        if NAME.fullmatch(span) or is_path(span) or TARGET.fullmatch(span):
+            yield span
+
+
+def faults_of_names():
+    words = words_of_code() | {crate.strip("`") for _, crate, _, _, state in rows() if state == NOT_YET}
+    for page in NAMING:
+        for name in dict.fromkeys(names_in(page)):
+            if not is_there(name, words):
+                yield f"{page.relative_to(ROOT)} names {name}, which is not there"
+
+
 def main():
-    faults = [*faults_of_crates(), *faults_of_links()]
+    faults = [*faults_of_crates(), *faults_of_links(), *faults_of_names()]
     for fault in faults:
         print(fault)
     print(f"pages: {len(faults)} faults")
