@@ -1,6 +1,7 @@
 #!/usr/bin/env python3
 """Compares the pages with the repository: the table of crates in docs/architecture.md with crates.txt, the files that pages
-link to with those that are there, and the names in backticks with those of the code, the tests and the settings.
+link to with those that are there, the names in backticks with those of the code, the tests and the settings, and the
+example that has every key with docs/settings.md.
 """
 
 import re
@@ -133,6 +134,49 @@ def names_in(page):
             yield span
 
 
+# the tables of docs/settings.md, by their headings, and where their keys stand
+SETTINGS_TABLES = {"An input": "inputs.", "The table `multiline`": "inputs.multiline.", "Output, queue, harvest": "", "The document": ""}
+
+
+def documented_keys():
+    """Each key of docs/settings.md with its default; a default in words, as `required` and `absent`, is None."""
+    for part in (ROOT / "docs" / "settings.md").read_text().split("\n## ")[1:]:
+        heading = part.partition("\n")[0]
+        for key, default in re.findall(r"^\| `([\w.]+)` \| [^|]+ \| ([^|]+) \|", part, re.MULTILINE):
+            if heading in SETTINGS_TABLES:
+                value = default.strip("`")
+                words = default == value and not re.fullmatch(r"\d+|true|false|empty", value)
+                yield SETTINGS_TABLES[heading] + key, None if words else value.replace("empty", "[]")
+
+
+def example_keys():
+    """Each key of examples/every_key.toml with its value, also those of the table that is commented out."""
+    keys, table = {}, ""
+    for line in (ROOT / "examples" / "every_key.toml").read_text().splitlines():
+        header = re.fullmatch(r"#?\[+([\w.]+)\]+", line)
+        pair = re.fullmatch(r"#?([\w.]+) = (.*)", line)
+        if header:
+            table = header.group(1) + "."
+            keys[header.group(1)] = None
+        elif pair:
+            keys[table + pair.group(1)] = pair.group(2)
+    return keys
+
+
+def faults_of_example():
+    there = example_keys()
+    documented = dict(documented_keys())
+    # it belongs to tables of the other type, where the rest of the example would be unknown
+    del documented["inputs.multiline.count_lines"]
+    for key, default in documented.items():
+        if key not in there:
+            yield f"examples/every_key.toml has no {key}"
+        elif default is not None and there[key] not in (None, default):
+            yield f"examples/every_key.toml: {key} is {there[key]}, and docs/settings.md says {default}"
+    for key in there.keys() - documented.keys():
+        yield f"docs/settings.md has no {key} of examples/every_key.toml"
+
+
 def faults_of_names():
     words = words_of_code() | {crate.strip("`") for _, crate, _, _, state in rows() if state == NOT_YET}
     for page in NAMING:
@@ -142,7 +186,7 @@ def faults_of_names():
 
 
 def main():
-    faults = [*faults_of_crates(), *faults_of_links(), *faults_of_names()]
+    faults = [*faults_of_crates(), *faults_of_links(), *faults_of_example(), *faults_of_names()]
     for fault in faults:
         print(fault)
     print(f"pages: {len(faults)} faults")

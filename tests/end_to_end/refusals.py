@@ -1,5 +1,6 @@
 """Words, settings and folders that are refused, each by its name."""
 
+import re
 from pathlib import Path
 
 import program
@@ -68,6 +69,23 @@ SETTINGS_REFUSED = (
     (lambda valid: valid + "[[processors]]\nadd_tags.tags = ['x']\n", "status 13 unbuilt key processors"),
 )
 
+# the example with every key: what it says of its user's machine, and the one default that is not built
+EVERY_KEY = program.ROOT / "examples" / "every_key.toml"
+LOGS = '"/var/log/shop/*.log"'
+HOST = '"127.0.0.1:5044"'
+IDENTITY = 'file_identity = "fingerprint"'
+# what it says, and what may stand there that is not built; each has to be named
+EVERY_KEY_UNBUILT = (
+    ('ignore_older = "0ms"', 'ignore_older = "1m"', "inputs.0.ignore_older"),
+    ('clean_inactive = "0ms"', 'clean_inactive = "1m"', "inputs.0.clean_inactive"),
+    ('line_terminator = "auto"', 'line_terminator = "line_feed"', "inputs.0.line_terminator"),
+    ("message_max_bytes = 10485760", "message_max_bytes = 1024", "inputs.0.message_max_bytes"),
+    ("include_lines = []", "include_lines = ['a']", "inputs.0.include_lines"),
+    ("exclude_lines = []", "exclude_lines = ['b']", "inputs.0.exclude_lines"),
+    ("\nworkers = 1\n", "\nworkers = 2\n", "output.workers"),
+    ("processors = []", "processors = [{ add_tags = { tags = ['x'] } }]", "processors"),
+)
+
 # the same settings spelled otherwise
 SETTINGS_TAKEN = (
     lambda valid: valid[:-1],
@@ -103,6 +121,29 @@ class Refusals(Shipping):
             with Peer() as peer:
                 ran = self.run_settings(made_of(program.settings_text(self.path, peer.host)))
             self.assert_done(ran, [row(self.path, 2)], 1)
+
+    def test_every_key_with_its_default(self):
+        """An unknown key would be a fault, so each of them is read; with the one default that is not built replaced, the
+        file is shipped."""
+        Path(self.path).write_bytes(b"a\n")
+        with Peer() as peer:
+            settings = EVERY_KEY.read_text()
+            for said, meant in ((LOGS, f'"{self.path}"'), (HOST, f'"{peer.host}"')):
+                self.assertIn(said, settings)
+                settings = settings.replace(said, meant)
+            self.assert_wrote(self.run_settings(settings), "status 13 unbuilt key inputs.0.file_identity")
+            self.assertIn(IDENTITY, settings)
+            built = settings.replace(IDENTITY, 'file_identity = "path"')
+            for said, asked, key in EVERY_KEY_UNBUILT:
+                with self.subTest(key=key):
+                    self.assertIn(said, built)
+                    self.assert_wrote(self.run_settings(built.replace(said, asked)), f"status 13 unbuilt key {key}")
+            with_multiline = re.sub(r"^#(?=[^ \n])", "", built, flags=re.MULTILINE)
+            self.assert_wrote(self.run_settings(with_multiline), "status 13 unbuilt key inputs.0.multiline")
+            self.assertEqual(peer.connections, 0)
+            self.assertFalse(self.area.exists())
+            ran = self.run_settings(built)
+        self.assert_done(ran, [row(self.path, 2, "services")], 1)
 
     def test_settings_file_is_absent(self):
         self.assert_wrote(self.run_words("-c", "beat.toml", "--once"), "status 9 source fault")
