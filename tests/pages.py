@@ -73,6 +73,8 @@ def faults_of_crates():
     told = {}
     for _, crate, below, _, state in rows():
         told[crate.strip("`")] = (stands_on(below), state)
+    if [name for name in told if name in known] != [name for name in known if name in told]:
+        yield "docs/architecture.md has crates in another order than crates.txt"
     for name in known.keys() - told.keys():
         yield f"docs/architecture.md has no row for {name}"
     for name, (below, state) in told.items():
