@@ -1,6 +1,6 @@
 #!/usr/bin/env python3
-"""Makes docs/definitions.md of the definitions: for each crate, in the order of crates.txt, the first comment of each file of
-its specs/, and the names that the file makes public.
+"""Makes docs/definitions.md of the definitions: for each crate, in the order of crates.txt, the first comment of each
+file of its specs/, and the names that the file makes public.
 
     python3 -B tests/definitions.py            writes the page
     python3 -B tests/definitions.py --check    compares it, and changes nothing
@@ -25,11 +25,11 @@ BLOCK = re.compile(r"(?:(?:abbrev|unfoldable)\s+)?(?:mutual|module)\b")
 
 HEAD = """# Definitions
 
-Contracts name definitions, which stand in `specs/` of their crate, one concept a file. This page has the first comment of
-each file, which names the source of its rule, and the names that it makes public. "Filebeat reference" is Elastic's, with
-the section named; "this project's profile" is a choice that stands in [DECISIONS.md](DECISIONS.md). Crates come in the
-order of `crates.txt`; those without definitions are left out. Which worked values were computed by them, and which tests
-run them, stands in [promises.md](promises.md).
+Contracts name definitions, which stand in `specs/` of their crate, one concept a file. This page has the first comment
+of each file, which names the source of its rule, and the names that the file makes public. "Filebeat reference" is
+Elastic's, with the section named; "this project's profile" is a choice of this project ([DECISIONS.md](DECISIONS.md)).
+Crates come in the order of `crates.txt`; those without definitions are left out. Worked values are computed by the
+definitions in `proofs/Worked.antt` of a crate; [promises.md](promises.md) names the tests.
 
 The page is made by `tests/definitions.py`; the gate refuses one that differs.
 """
@@ -52,7 +52,7 @@ def first_comment(text):
     for line in text.splitlines():
         if not line.startswith("--"):
             break
-        lines.append(line.removeprefix("--").strip())
+        lines.append(line[2:].strip())
     return " ".join(line for line in lines if line)
 
 

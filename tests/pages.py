@@ -1,7 +1,7 @@
 #!/usr/bin/env python3
-"""Compares the pages with the repository: the table of crates in docs/architecture.md with crates.txt, the files that pages
-link to with those that are there, the names in backticks with those of the code, the tests and the settings, and the
-example that has every key with docs/settings.md.
+"""Compares the pages with the repository: the table of crates in docs/architecture.md with crates.txt, the files that
+pages link to with those that are there, the names in backticks with those of the code, the tests and the settings, and
+the example that has every key with docs/settings.md.
 """
 
 import re
@@ -14,8 +14,9 @@ BASE = "wire_base"
 NOT_YET = "not yet"
 
 # where names stand, and how a comment begins there; what a comment alone says is no name
-CODE = {".rt": "//", ".antt": "--", ".py": "#", ".rs": "//", ".c": "//", ".toml": "#", ".txt": "#", ".edit": "", "": "#"}
+COMMENTS = {".rt": "//", ".rs": "//", ".c": "//", ".antt": "--", ".py": "#", ".toml": "#", ".txt": "#", "": "#"}
 PLACES = ("crates", "tests", "bench", "examples", ".ci", "Makefile", "crates.txt")
+BUILT = {"out", "__pycache__"}
 # pages whose names are compared; the changelog and results of measurements speak of other days, too
 NAMING = [ROOT / "README.md", ROOT / "CONTRIBUTING.md", *sorted(ROOT.glob("docs/*.md"))]
 FENCE = re.compile(r"^```.*?^```$", re.MULTILINE | re.DOTALL)
@@ -42,6 +43,13 @@ REFERENCE = {
     "prospector.scanner.check_interval",
     "prospector.scanner.fingerprint.length",
     "prospector.scanner.fingerprint.offset",
+}
+# the tables of docs/settings.md, by their headings, and what stands in front of their keys
+SETTINGS_TABLES = {
+    "The document": "",
+    "An input": "inputs.",
+    "The table `multiline`": "inputs.multiline.",
+    "Output, queue, harvest": "",
 }
 
 
@@ -95,9 +103,11 @@ def faults_of_links():
 
 
 def files_of_code():
+    """What is built is left out, and so is this file, which has names of its own for the pages."""
     for place in map(ROOT.joinpath, PLACES):
         for file in [place] if place.is_file() else sorted(place.rglob("*")):
-            if file.is_file() and file.suffix in CODE and "out" not in file.relative_to(ROOT).parts:
+            built = BUILT.intersection(file.relative_to(ROOT).parts)
+            if file.is_file() and file.suffix in COMMENTS and not built and file != Path(__file__).resolve():
                 yield file
 
 
@@ -106,10 +116,10 @@ def words_of_code():
     words = set()
     for file in files_of_code():
         words.update(re.findall(r"[\w-]+", " ".join(file.relative_to(ROOT).with_suffix("").parts)))
-        comment = CODE[file.suffix]
+        comment = COMMENTS[file.suffix]
         for line in file.read_text().splitlines():
             code = line if not comment else line.partition(comment)[0]
-            words.update(word.removeprefix("test_") for word in re.findall(r"\w+", code))
+            words.update(re.findall(r"\b(?:test_)?(\w+)", code))
     return words
 
 
@@ -134,10 +144,6 @@ def names_in(page):
     for span in re.findall(r"`([^`\n]+)`", FENCE.sub("", page.read_text()).replace("\n", " ")):
         if NAME.fullmatch(span) or is_path(span) or TARGET.fullmatch(span):
             yield span
-
-
-# the tables of docs/settings.md, by their headings, and where their keys stand
-SETTINGS_TABLES = {"An input": "inputs.", "The table `multiline`": "inputs.multiline.", "Output, queue, harvest": "", "The document": ""}
 
 
 def documented_keys():
