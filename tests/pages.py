@@ -107,7 +107,7 @@ def files_of_code():
     for place in map(ROOT.joinpath, PLACES):
         for file in [place] if place.is_file() else sorted(place.rglob("*")):
             built = BUILT.intersection(file.relative_to(ROOT).parts)
-            if file.is_file() and file.suffix in COMMENTS and not built and file != Path(__file__).resolve():
+            if file.is_file() and not built and file != Path(__file__).resolve():
                 yield file
 
 
@@ -116,10 +116,10 @@ def words_of_code():
     words = set()
     for file in files_of_code():
         words.update(re.findall(r"[\w-]+", " ".join(file.relative_to(ROOT).with_suffix("").parts)))
-        comment = COMMENTS[file.suffix]
-        for line in file.read_text().splitlines():
-            code = line if not comment else line.partition(comment)[0]
-            words.update(re.findall(r"\b(?:test_)?(\w+)", code))
+        if file.suffix in COMMENTS:
+            for line in file.read_text().splitlines():
+                code = line.partition(COMMENTS[file.suffix])[0]
+                words.update(re.findall(r"\b(?:test_)?(\w+)", code))
     return words
 
 
