@@ -117,7 +117,7 @@ def words_of_code():
     for file in files_of_code():
         words.update(re.findall(r"[\w-]+", " ".join(file.relative_to(ROOT).with_suffix("").parts)))
         if file.suffix in COMMENTS:
-            for line in file.read_text().splitlines():
+            for line in file.read_text(errors="replace").splitlines():
                 code = line.partition(COMMENTS[file.suffix])[0]
                 words.update(re.findall(r"\b(?:test_)?(\w+)", code))
     return words
