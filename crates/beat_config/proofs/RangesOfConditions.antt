@@ -30,7 +30,7 @@ use Rattle.beat_config.specs.declared.settings_error.SettingsError.TheVariants.{
 use Rattle.beat_config.specs.declared.text.Form.{Form}
 use Rattle.beat_config.specs.declared.text.Form.TheVariants.{Any, FieldPath, TextPattern}
 use Rattle.beat_config.specs.Conditions.{kinds, key_of, kind_of, table_body, paths_findings, list_findings, body_findings, found_findings, kind_findings, table_condition, levels_below_sixteen, most_levels, deep_findings, condition_findings, AreListed, IsBody, IsFound, IsOfKind, IsCondition}
-use Rattle.beat_config.specs.ConditionsInRange.{IsFieldPath, IsScalarAt, IsTextAt, IsPatternAt, AreBoundsAt, AreSome, IsBodyInRange, IsConditionInRange}
+use Rattle.rules_in_range.specs.Conditions.{IsFieldPath, IsScalarAt, IsTextAt, IsPatternAt, AreBoundsAt, AreSome, IsBodyInRange, IsConditionInRange}
 use Rattle.beat_config.specs.Each.{each_findings, AreEach}
 use Rattle.beat_config.specs.Pairs.{scalar_of, set_scalar, scalars_after, kind_findings as scalar_kind_findings, scalar_findings, scalars_findings, text_at, texts_at_in, text_at_findings, texts_at_findings, integer_of, number_findings, bound_findings, some_member_findings, some_item_findings, given_findings, bound_keys, bounds_at, bounds_of, bounds_in, bound_value_findings, bounds_findings, ranges_findings}
 use Rattle.beat_config.specs.Path.{key_path, member_path}

@@ -12,7 +12,7 @@ use Rattle.beat_config.specs.InRange.{IsOutputInRange, AreInRange}
 use Rattle.beat_config.specs.Input.{inputs_findings}
 use Rattle.beat_config.specs.Output.{output_findings}
 use Rattle.beat_config.specs.Processors.{IsProcessor, AreListed, AreProcessorsOf, processor_findings, processor_list_findings, processors_findings}
-use Rattle.beat_config.specs.ProcessorsInRange.{IsProcessorInRange}
+use Rattle.rules_in_range.specs.Processors.{IsProcessorInRange}
 use Rattle.beat_config.specs.Table.{unknown_findings, missing_findings, members_at}
 use Rattle.beat_config.specs.Text.{item_count}
 use Rattle.beat_config.proofs.Faultless.{parts, required, count_within}

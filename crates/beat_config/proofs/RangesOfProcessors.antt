@@ -12,10 +12,10 @@ use Rattle.wire_base.proofs.Keyed.{All-with}
 use Rattle.beat_config.specs.declared.processor.ProcessorKind.{ProcessorKind}
 use Rattle.beat_config.specs.declared.processor.ProcessorKind.TheVariants.{AddFields, AddTags, DropEvent, DropFields, Rename}
 use Rattle.beat_config.specs.declared.text.Form.TheVariants.{FieldPath, Target}
-use Rattle.beat_config.specs.ConditionsInRange.{IsFieldPath}
+use Rattle.rules_in_range.specs.Conditions.{IsFieldPath}
 use Rattle.beat_config.specs.Path.{key_path, member_path}
 use Rattle.beat_config.specs.Processors.{kinds, key_of, kind_of, known_of, required_of, when_findings, IsWhen, added_findings, fields_findings, pair_of, pair_findings, pairs_in, pair_item_findings, pair_list_findings, list_pairs, pairs_of, pairs_findings, value_findings, IsOfKind, IsProcessorIn, processor_value_findings, IsKindIn, IsProcessor, of_kind_findings, kind_findings, as_processor_findings, processor_findings}
-use Rattle.beat_config.specs.ProcessorsInRange.{IsSettingsValue, AreSettingsValues, AreSettingsMembers, IsAddedPair, IsTarget, IsRenaming, IsWhenInRange, IsProcessorInRange}
+use Rattle.rules_in_range.specs.Processors.{IsSettingsValue, AreSettingsValues, AreSettingsMembers, IsAddedPair, IsTarget, IsRenaming, IsWhenInRange, IsProcessorInRange}
 use Rattle.beat_config.specs.Single.{flag_findings}
 use Rattle.beat_config.specs.Table.{members_of, members_at, members_or_none, missing_findings, table_findings, table_at_findings, unknown_findings}
 use Rattle.beat_config.specs.Text.{text_findings, text_of, key_findings}

@@ -14,7 +14,7 @@ use Rattle.glob_paths.specs.Fault.{fault_of}
 use Rattle.patterns.specs.Pattern.{IsLinePattern}
 use Rattle.wire_base.specs.declared.host.Host.{Host}
 use Rattle.beat_config.specs.Name.{IsName}
-use Rattle.beat_config.specs.ProcessorsInRange.{IsProcessorInRange}
+use Rattle.rules_in_range.specs.Processors.{IsProcessorInRange}
 
 -- the most bytes of a message that are kept
 abbrev pub IsMessageLimit : ℕ → Type 0

@@ -1,5 +1,4 @@
 pub mod Conditions
-pub mod ConditionsInRange
 pub mod Document
 pub mod Duration
 pub mod Each
@@ -15,7 +14,6 @@ pub mod Output
 pub mod Pairs
 pub mod Path
 pub mod Processors
-pub mod ProcessorsInRange
 pub mod Single
 pub mod Table
 pub mod Text

@@ -9,6 +9,33 @@ use std::alloc::Global;
 use std::marker::Model;
 use wire_base::{NoMemory, Text};
 
+/// The text of a pattern, seen as that.
+#[derive(Drop)]
+pub(crate) struct PatternText {
+    text: Text,
+}
+
+impl Model for PatternText {
+    ghost use Rattle.std.specs.Prelude.{List, ℕ};
+    ghost use Rattle.patterns.specs.Pattern.{IsTextPattern};
+
+    ghost Value = { List ℕ };
+
+    ghost view = { λ p. p.text };
+
+    ghost invariant = { λ p. IsTextPattern p.text };
+}
+
+impl PatternText {
+    pub fn of(alloc: Global, text: &Text) -> Result<PatternText, NoMemory>
+        requires { IsTextPattern text.now }
+        ensures { IfOk result (λ pattern. pattern ≡ text.now) }
+    {
+        let text = text.copy(alloc)?;
+        Ok(PatternText { text })
+    }
+}
+
 /// A compiled pattern, seen as its text.
 #[derive(Drop)]
 struct Compiled {
@@ -74,16 +101,24 @@ impl Patterns {
         Ok(())
     }
 
-    /// Whether the pattern matches in the text. Each pattern of the condition was compiled when it was made; one that
-    /// was not is told as want of memory, and none is compiled here.
-    pub fn matches(&mut self, alloc: Global, pattern: &Text, found: &Text) -> Result<bool, NoMemory>
+    /// Whether the pattern matches in the text. The patterns of a condition were compiled when it was made; one that
+    /// was not would be compiled here, once.
+    pub fn matches(
+        &mut self,
+        alloc: Global,
+        pattern: &PatternText,
+        found: &Text,
+    ) -> Result<bool, NoMemory>
         ensures { IfOk result (λ matched. matched ≡ matches_text pattern.now found.now) }
     {
         for compiled in self.compiled.iter_mut() {
-            if compiled.text() == pattern {
+            if *compiled.text() == pattern.text {
                 return compiled.matches(alloc, found);
             }
         }
-        Err(NoMemory)
+        let mut compiled = Compiled::of(alloc, &pattern.text)?;
+        let matched = compiled.matches(alloc, found)?;
+        self.compiled.push(compiled)?;
+        Ok(matched)
     }
 }

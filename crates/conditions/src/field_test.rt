@@ -3,7 +3,7 @@ ghost use Rattle.event_tree.specs.Tree.{value_of};
 ghost use Rattle.conditions.specs.Asked.{is_matched};
 ghost use Rattle.conditions.specs.Tests.{is_passed, value_passes};
 
-use crate::compiled::Patterns;
+use crate::compiled::{PatternText, Patterns};
 use crate::limits::Limits;
 use crate::scalar::Scalar;
 use crate::within::has_text;
@@ -22,7 +22,7 @@ pub(crate) struct FieldTest {
 pub(crate) enum Test {
     Same(Scalar),
     HasText(Text),
-    Matched(Text),
+    Matched(PatternText),
     Between(Limits),
     There,
 }
@@ -60,7 +60,7 @@ impl Test {
 
 fn is_matched(
     alloc: Global,
-    pattern: &Text,
+    pattern: &PatternText,
     patterns: &mut Patterns,
     value: &Tree,
 ) -> Result<bool, NoMemory>

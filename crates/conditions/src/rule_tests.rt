@@ -5,6 +5,7 @@ ghost use Rattle.rules_in_range.specs.Conditions.{IsFieldPath, IsScalar, IsScala
 ghost use Rattle.conditions.specs.Scalars.{scalar_of};
 ghost use Rattle.conditions.specs.Tests.{equality_test, text_test, pattern_test, bounds_test, presence_test};
 
+use crate::compiled::PatternText;
 use crate::field_test::{FieldTest, Test};
 use crate::limits::Limits;
 use crate::scalar::Scalar;
@@ -57,7 +58,7 @@ pub(crate) fn pattern_tests(alloc: Global, patterns: &[TextAt]) -> Result<Vec<Fi
     let mut tests = Vec::with_capacity(alloc, patterns.len())?;
     for one in patterns {
         let path = path_of(alloc, &one.path)?;
-        let test = Test::Matched(one.text.copy(alloc)?);
+        let test = Test::Matched(PatternText::of(alloc, &one.text)?);
         tests.push(FieldTest { path, test })?;
     }
     Ok(tests)
