@@ -80,7 +80,7 @@ module _ (opening : List Row) (notes : List Note) (has : (key : List ℕ) → Ha
 
 -- ---- the keys that a Begin names
 
-named_key : Note → Option (List ℕ)
+unfoldable pub named_key : Note → Option (List ℕ)
 named_key (Begin slot key path epoch base changed) = Some key
 named_key (Announce slot epoch) = None
 named_key (Settle slot epoch span cause) = None
@@ -89,7 +89,7 @@ named_key (Seen slot changed) = None
 named_key (Forget slot epoch end) = None
 
 -- a note names the key to a slot exactly where it is a Begin of that slot and key
-slot_named : (key : List ℕ) (note : Note) (slot : ℕ) → slot_for key note ≡ Some slot → (start : Start) × (start_of note ≡ Some start) × (start.key ≡ key) × (slot_of note ≡ slot)
+pub slot_named : (key : List ℕ) (note : Note) (slot : ℕ) → slot_for key note ≡ Some slot → (start : Start) × (start_of note ≡ Some start) × (start.key ≡ key) × (slot_of note ≡ slot)
 slot_named key (Begin s named path epoch base changed) slot e = by_case (compare key named) refl e
   where
     by_case : (o : Ordering) → compare key named ≡ o → (if is_eq o then Some s.0 else None) ≡ Some slot → (start : Start) × (Some (record { key = named; path = path; epoch = epoch.0; base = base }) ≡ Some start) × (start.key ≡ key) × (s.0 ≡ slot)
@@ -102,7 +102,7 @@ slot_named key (Rename s scan path) slot e = absurd (let q : None ≡ Some slot 
 slot_named key (Seen s changed) slot e = absurd (let q : None ≡ Some slot = e in cc)
 slot_named key (Forget s epoch end) slot e = absurd (let q : None ≡ Some slot = e in cc)
 
-named_slot : (key : List ℕ) (note : Note) → named_key note ≡ Some key → slot_for key note ≡ Some (slot_of note)
+pub named_slot : (key : List ℕ) (note : Note) → named_key note ≡ Some key → slot_for key note ≡ Some (slot_of note)
 unfolding named_key
 named_slot key (Begin s named path epoch base changed) e =
     let same : key ≡ named = let q : Some named ≡ Some key = e in cc in
@@ -138,7 +138,7 @@ find_key key (first ∷ rows) row e = by_case (compare key first.key) refl e (fi
     by_case Less is e h = h e
     by_case Greater is e h = h e
 
-greatest_there : (x : ℕ) (xs : List ℕ) → Contains (x ∷ xs) (fold max x xs)
+pub greatest_there : (x : ℕ) (xs : List ℕ) → Contains (x ∷ xs) (fold max x xs)
 greatest_there x [] = first_there x []
 greatest_there x (y ∷ ys) = elim (there_cases (max x y) (fold max (max x y) ys) ys (greatest_there (max x y) ys)) [
   | inl same ↦ by_order (cases_lt x y) same

@@ -8,3 +8,5 @@ mod Living
 pub mod Members
 mod Reordered
 mod Built
+mod Leading
+mod Slots

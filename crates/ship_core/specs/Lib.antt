@@ -1,3 +1,4 @@
+pub mod Changes
 pub mod CoveredEnd
 pub mod Forward
 pub mod OneLife
