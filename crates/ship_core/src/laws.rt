@@ -1,4 +1,4 @@
-ghost use Rattle.std.specs.Prelude.{◌≡◌, ◌≢◌, ◌≤◌, ◌<◌, ℕ, All, Contains, List, [], ◌∷◌, ◌++◌};
+ghost use Rattle.std.specs.Prelude.{◌≡◌, ◌≢◌, ◌≤◌, ◌<◌, ℕ, All, Contains, List, [], ◌∷◌, ◌++◌, Option};
 ghost use Rattle.wire_base.specs.Extent.{Extent};
 ghost use Rattle.wire_base.specs.declared.numbers.Slot.{Slot};
 ghost use Rattle.wire_base.specs.declared.numbers.Epoch.{Epoch};
@@ -149,6 +149,7 @@ pub fn changes_by_key()
         entries.find key_in key ops ≡ change_of key (find key from) (find key to) }
     ensures no_other { (from to : List Row) (first second : List Op) → LeadTo from to first →
         LeadTo from to second → first ≡ second }
+    ensures unchanged { (key : List ℕ) (row : Option Row) → change_of key row row ≡ None }
 {}
 
 /// The row of a key is the opening one where no Begin names the key, none where all its slots' rows went, and else that of
