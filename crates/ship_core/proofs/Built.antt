@@ -13,7 +13,8 @@ use Rattle.wire_base.specs.declared.row.Row.{Row}
 use Rattle.wire_base.specs.declared.note.Note.{Note}
 use Rattle.wire_base.specs.declared.note.Note.TheVariants.{Begin, Announce, Settle, Rename, Seen, Forget}
 use Rattle.ship_core.specs.Rows.{key_of, IsInOrder, find}
-use Rattle.ship_core.specs.Replay.{with_row, without_row}
+use Rattle.ship_core.specs.Changes.{op_for}
+use Rattle.ship_core.specs.Replay.{after_op, with_row, without_row}
 use Rattle.ship_core.specs.Orderly.{AreOrderly}
 use Rattle.ship_core.specs.RowOver.{Start, slot_of, start_of, notes_of, start_over, is_gone, row_of, row_over}
 use Rattle.ship_core.specs.RowsOver.{slot_for, slots_for, row_of_greatest, row_among, row_for, AreRowsOver}
@@ -22,30 +23,26 @@ use Rattle.ship_core.proofs.Reordered.{one_start, first_member}
 
 -- ---- one key after another
 
-put : List ℕ → Option Row → List Row → List Row
-put key None rows = without_row key rows
-put key (Some row) rows = with_row row rows
+abbrev pub put : List ℕ → Option Row → List Row → List Row
+put key row rows = after_op rows (op_for key row)
 
 built : List Row → List Note → List (List ℕ) → List Row
 built opening notes [] = opening
 built opening notes (key ∷ keys) = put key (row_for opening notes key) (built opening notes keys)
 
 -- the row, where there is one, has the key
-abbrev HasKey : List ℕ → Option Row → Type 0
+abbrev pub HasKey : List ℕ → Option Row → Type 0
 HasKey key o = (row : Row) → o ≡ Some row → row.key ≡ key
 
 put_in_order : (key : List ℕ) (o : Option Row) (rows : List Row) → IsInOrder rows → IsInOrder (put key o rows)
-unfolding put
 put_in_order key None rows ordered = in_order-without key_of key rows ordered
 put_in_order key (Some row) rows ordered = in_order-with key_of row rows ordered
 
-put_here : (key : List ℕ) (o : Option Row) (rows : List Row) → HasKey key o → find key (put key o rows) ≡ o
-unfolding put
+pub put_here : (key : List ℕ) (o : Option Row) (rows : List Row) → HasKey key o → find key (put key o rows) ≡ o
 put_here key None rows has = find-without key_of key rows
 put_here key (Some row) rows has = ap (λ (k : List ℕ). find k (with_row row rows)) (sym (has row refl)) ∙ find-with key_of row rows
 
-put_others : (key other : List ℕ) (o : Option Row) (rows : List Row) → HasKey key o → other ≢ key → find other (put key o rows) ≡ find other rows
-unfolding put
+pub put_others : (key other : List ℕ) (o : Option Row) (rows : List Row) → HasKey key o → other ≢ key → find other (put key o rows) ≡ find other rows
 put_others key other None rows has differs = find-without_not key_of key other rows differs
 put_others key other (Some row) rows has differs = find-with_not key_of row rows other (λ same. differs (same ∙ has row refl))
 
@@ -178,7 +175,7 @@ module _ (opening : List Row) (notes : List Note) (orderly : AreOrderly notes) w
   by_slots key [] within row e = find_key key opening row e
   by_slots key (slot ∷ slots) within row e = among_has key (filter (λ (given : ℕ). is_some (row_over given notes)) (slot ∷ slots)) (λ x there. within x (there_passed (λ (given : ℕ). is_some (row_over given notes)) (slot ∷ slots) x there).0) row e
 
-  has_key : (key : List ℕ) → HasKey key (row_for opening notes key)
+  pub has_key : (key : List ℕ) → HasKey key (row_for opening notes key)
   has_key key = by_slots key (slots_for key notes) (λ x there. there)
 
   each_key : (key : List ℕ) (slots : List ℕ) → slots_for key notes ≡ slots → find key (built opening notes (filter_map named_key notes)) ≡ row_for opening notes key

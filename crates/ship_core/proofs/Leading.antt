@@ -1,15 +1,16 @@
 -- What leads from rows to others, key by key.
-use Rattle.std.proofs.Common.{◌≡◌, ◌≢◌, ◌⊎◌, inl, inr, ℕ, Bool, true, false, List, [], ◌∷◌, All, Contains, Option, Some, None, if◌then◌else◌, ◌==◌, ◌&&◌, refl, sym, ap, ◌∙◌, subst}
-use Rattle.std.specs.List.{filter_map, cons_option, AllByRecursion}
+use Rattle.std.proofs.Common.{◌≡◌, ◌≢◌, ◌⊎◌, inl, inr, ℕ, Bool, true, false, List, [], ◌∷◌, All, Contains, length, get_or, set, Option, Some, None, IfSome, if◌then◌else◌, ◌==◌, ◌&&◌, refl, sym, ap, ◌∙◌, subst, arith}
+use Rattle.std.specs.List.{filter_map, cons_option, insert, remove, AllByRecursion}
 use Rattle.std.specs.Ordering.{is_eq}
 use Rattle.std.specs.Str.{bytes_eq}
 use Rattle.std.specs.declared.cmp.Ordering.{Ordering}
 use Rattle.std.specs.declared.cmp.Ordering.TheVariants.{Less, Equal, Greater}
 use Rattle.std.proofs.lemmas.Bool.{and_from, eq-eqb, eqb-true}
-use Rattle.std.proofs.lemmas.List.Elements.{All-from_recursion, All-contains}
+use Rattle.std.proofs.lemmas.List.Elements.{All-from_recursion, All-contains, Contains-get_or}
 use Rattle.std.proofs.lemmas.Slice.Eq.{bytes_eq-Decides}
-use Rattle.wire_base.proofs.ByteOrder.{same_key, compare_same}
-use Rattle.wire_base.proofs.Keyed.{find-with, find-with_not, find-without, find-without_not, find_before, same_entries}
+use Rattle.wire_base.proofs.ByteOrder.{same_key, compare_greater, compare_same}
+use Rattle.wire_base.proofs.Keyed.{find-with, find-with_not, find-without, find-without_not, find_before, find_gap, in_order-with, in_order-without, insert_in_gap, remove_at_place, set_at_place, same_entries, without_absent, All-with, All-without}
+use Rattle.wire_base.specs.Ranges.{IsOp}
 use Rattle.wire_base.specs.KeyOrder as entries
 use Rattle.wire_base.specs.KeyOrder.{compare}
 use Rattle.wire_base.specs.declared.row.Row.{Row}
@@ -18,6 +19,8 @@ use Rattle.wire_base.specs.declared.row.Op.TheVariants.{Set, Remove}
 use Rattle.ship_core.specs.Rows.{key_of, IsInOrder, find}
 use Rattle.ship_core.specs.Replay.{after_op, replay_on}
 use Rattle.ship_core.specs.Changes.{key_in, AreAscending, AreKeysAscending, LeadTo, same_row, is_same, op_for, change_of, changes_at}
+use Rattle.ship_core.specs.Machine.{with_change}
+use Rattle.ship_core.proofs.Built.{HasKey}
 use Rattle.ship_core.proofs.Applied.{in_order-op}
 use Rattle.ship_core.proofs.Members.{none_there, first_there, later_there, there_cases}
 
@@ -262,3 +265,125 @@ told_by_key from to ops lead key = by_case (entries.find key_in key ops) refl
 pub no_other : (from to : List Row) (first second : List Op) → LeadTo from to first → LeadTo from to second → first ≡ second
 no_other from to first second one other =
     same_entries key_in first second one.ascending other.ascending (λ key. told_by_key from to first one key ∙ sym (told_by_key from to second other key))
+
+pub key_cases : (a b : List ℕ) → (a ≡ b) ⊎ (a ≡ b → ⊥)
+key_cases a b = by_case (compare a b) refl
+  where
+    by_case : (o : Ordering) → compare a b ≡ o → (a ≡ b) ⊎ (a ≡ b → ⊥)
+    by_case Equal e = inl (same_key a b e)
+    by_case Less e = inr (λ same. let q : Less ≡ Equal = sym e ∙ compare_same a b same in cc)
+    by_case Greater e = inr (λ same. let q : Greater ≡ Equal = sym e ∙ compare_same a b same in cc)
+
+-- ---- rows that come by their changes
+
+row_for_op : (key : List ℕ) (row : Option Row) → row_in (op_for key row) ≡ row
+unfolding row_in
+row_for_op key None = refl
+row_for_op key (Some row) = refl
+
+after_change : (key : List ℕ) (was now : Option Row) → after (change_of key was now) was ≡ now
+unfolding after
+after_change key was now = by_case (change_of key was now) refl
+  where
+    by_case : (o : Option Op) → change_of key was now ≡ o → after o was ≡ now
+    by_case None is = unchanged key was now is
+    by_case (Some op) is = ap row_in (changed key was now op is).1 ∙ row_for_op key now
+
+found_member : (op : Op) (ops : List Op) → AreAscending ops → Contains ops op → entries.find key_in (key_in op) ops ≡ Some op
+found_member op [] ascending there = absurd (none_there op there)
+found_member op (first ∷ ops) ascending there = by_case (there_cases first op ops there) (found_member op ops ascending.1)
+  where
+    behind : (ops : List Op) → entries.IsBefore key_in (key_in first) ops → Contains ops op → compare (key_in op) (key_in first) ≡ Greater
+    behind [] before there = absurd (none_there op there)
+    behind (next ∷ ops) before there = elim (there_cases next op ops there) [
+      | inl same ↦ compare_greater (key_in first) (key_in op) (subst (λ (p : Op). compare (key_in first) (key_in p) ≡ Less) same before.0)
+      | inr later ↦ behind ops before.1 later
+    ]
+
+    by_case : (first ≡ op) ⊎ Contains ops op → (Contains ops op → entries.find key_in (key_in op) ops ≡ Some op) → (if is_eq (compare (key_in op) (key_in first)) then Some first else entries.find key_in (key_in op) ops) ≡ Some op
+    by_case (inl same) rest = rw (compare_same (key_in op) (key_in first) (ap key_in (sym same))) (ap Some same)
+    by_case (inr later) rest = rw (behind ops ascending.0 later) (rest later)
+
+-- what tells each key's change leads there
+pub leads_by_told : (from to : List Row) (ops : List Op) → IsInOrder from → IsInOrder to → AreAscending ops → ((key : List ℕ) → entries.find key_in key ops ≡ change_of key (find key from) (find key to)) → LeadTo from to ops
+leads_by_told from to ops ordered others_ordered ascending told = record {
+  ascending = ascending;
+  replayed = same_entries key_of (replay_on from ops) to (in_order-replay from ops ordered) others_ordered (λ key.
+      effect ops from key ascending ∙ ap (λ (o : Option Op). after o (find key from)) (told key) ∙ after_change key (find key from) (find key to));
+  changing = λ k d inside. differs (get_or ops k d) (Contains-get_or ops k d inside);
+}
+  where
+    differs : (op : Op) → Contains ops op → find (key_in op) from ≢ find (key_in op) to
+    differs op there = (changed (key_in op) (find (key_in op) from) (find (key_in op) to) op (sym (told (key_in op)) ∙ found_member op ops ascending there)).0
+
+-- with one key's change
+ascending_with : (key : List ℕ) (op : Option Op) (ops : List Op) → AreAscending ops → AreAscending (with_change key op ops)
+ascending_with key None ops ascending = in_order-without key_in key ops ascending
+ascending_with key (Some op) ops ascending = in_order-with key_in op ops ascending
+
+told_here : (key : List ℕ) (op : Option Op) (ops : List Op) → IfSome op (λ (o : Op). key_in o ≡ key) → entries.find key_in key (with_change key op ops) ≡ op
+told_here key None ops own = find-without key_in key ops
+told_here key (Some op) ops own = subst (λ (k : List ℕ). entries.find key_in k (entries.with_entry key_in op ops) ≡ Some op) own (find-with key_in op ops)
+
+told_others : (key other : List ℕ) (op : Option Op) (ops : List Op) → IfSome op (λ (o : Op). key_in o ≡ key) → other ≢ key → entries.find key_in other (with_change key op ops) ≡ entries.find key_in other ops
+told_others key other None ops own differs = find-without_not key_in key other ops differs
+told_others key other (Some op) ops own differs = find-with_not key_in op ops other (λ same. differs (same ∙ own))
+
+pub changed_own : (key : List ℕ) (was now : Option Row) → HasKey key now → IfSome (change_of key was now) (λ (o : Op). key_in o ≡ key)
+changed_own key was now has = by_case (is_same was now)
+  where
+    by_row : (o : Option Row) → HasKey key o → key_in (op_for key o) ≡ key
+    by_row None has = refl
+    by_row (Some row) has = has row refl
+
+    by_case : (b : Bool) → IfSome (if b then None else Some (op_for key now)) (λ (o : Op). key_in o ≡ key)
+    by_case true = tt
+    by_case false = by_row now has
+
+-- where one key has another row, its change alone is another
+pub lead_with : (from rows new : List Row) (ops : List Op) (key : List ℕ) (row : Option Row) → IsInOrder from → IsInOrder new → LeadTo from rows ops → HasKey key row → find key new ≡ row → ((other : List ℕ) → other ≢ key → find other new ≡ find other rows) → LeadTo from new (with_change key (change_of key (find key from) row) ops)
+lead_with from rows new ops key row ordered new_ordered lead has here others =
+    leads_by_told from new (with_change key (change_of key (find key from) row) ops) ordered new_ordered (ascending_with key (change_of key (find key from) row) ops lead.ascending) (λ q. by_key q (compare q key) refl)
+  where
+    elsewhere : (q : List ℕ) → q ≢ key → entries.find key_in q (with_change key (change_of key (find key from) row) ops) ≡ change_of q (find q from) (find q new)
+    elsewhere q differs =
+        told_others key q (change_of key (find key from) row) ops (changed_own key (find key from) row has) differs
+        ∙ told_by_key from rows ops lead q
+        ∙ ap (change_of q (find q from)) (sym (others q differs))
+
+    by_key : (q : List ℕ) (o : Ordering) → compare q key ≡ o → entries.find key_in q (with_change key (change_of key (find key from) row) ops) ≡ change_of q (find q from) (find q new)
+    by_key q Equal at =
+        let same : key ≡ q = sym (same_key q key at) in
+        subst (λ (k : List ℕ). entries.find key_in k (with_change key (change_of key (find key from) row) ops) ≡ change_of k (find k from) (find k new)) same
+        (told_here key (change_of key (find key from) row) ops (changed_own key (find key from) row has) ∙ ap (change_of key (find key from)) (sym here))
+    by_key q Less at = elsewhere q (λ same. let e : Less ≡ Equal = sym at ∙ compare_same q key same in cc)
+    by_key q Greater at = elsewhere q (λ same. let e : Greater ≡ Equal = sym at ∙ compare_same q key same in cc)
+
+pub nothing_leads : (rows : List Row) → LeadTo rows rows []
+nothing_leads rows = record { ascending = tt; replayed = refl; changing = λ k d inside. absurd (omega (arith, inside)) }
+
+-- ---- one operation among others, by its place
+
+module _ (ops : List Op) (key : List ℕ) where
+  own_key : (op : Op) (given : Option Op) → given ≡ Some op → IfSome given (λ (o : Op). key_in o ≡ key) → key_in op ≡ key
+  own_key op given is own = subst (λ (o : Option Op). IfSome o (λ (p : Op). key_in p ≡ key)) is own
+
+  pub set_change : (op : Op) (given : Option Op) (i : ℕ) → AreAscending ops → entries.IsAt key_in ops key i → given ≡ Some op → IfSome given (λ (o : Op). key_in o ≡ key) → set ops i op ≡ with_change key given ops
+  set_change op given i ascending at is own =
+      set_at_place key_in ops op i ascending (subst (λ (k : List ℕ). entries.IsAt key_in ops k i) (sym (own_key op given is own)) at)
+      ∙ ap (λ (o : Option Op). with_change key o ops) (sym is)
+
+  pub remove_change : (given : Option Op) (i : ℕ) → AreAscending ops → entries.IsAt key_in ops key i → given ≡ None → remove ops i ≡ with_change key given ops
+  remove_change given i ascending at is = remove_at_place key_in ops key i ascending at ∙ ap (λ (o : Option Op). with_change key o ops) (sym is)
+
+  pub insert_change : (op : Op) (given : Option Op) (i : ℕ) → entries.IsGap key_in ops key i → given ≡ Some op → IfSome given (λ (o : Op). key_in o ≡ key) → insert ops i op ≡ with_change key given ops
+  insert_change op given i gap is own =
+      insert_in_gap key_in ops op i (subst (λ (k : List ℕ). entries.IsGap key_in ops k i) (sym (own_key op given is own)) gap)
+      ∙ ap (λ (o : Option Op). with_change key o ops) (sym is)
+
+  pub no_change_there : (given : Option Op) (i : ℕ) → entries.IsGap key_in ops key i → given ≡ None → with_change key given ops ≡ ops
+  no_change_there given i gap is = ap (λ (o : Option Op). with_change key o ops) is ∙ without_absent key_in key ops (find_gap key_in ops key i gap)
+
+pub with_in_range : (key : List ℕ) (op : Option Op) (ops : List Op) → IfSome op IsOp → All IsOp ops → All IsOp (with_change key op ops)
+with_in_range key None ops is all = All-without key_in IsOp key ops all
+with_in_range key (Some op) ops is all = All-with key_in IsOp op ops is all

@@ -10,3 +10,5 @@ mod Reordered
 mod Built
 mod Leading
 mod Slots
+mod Passes
+mod Working

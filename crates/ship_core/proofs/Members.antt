@@ -104,7 +104,7 @@ module _ {X Y : Type 0} where
 
 -- ---- the greatest number
 
-greatest_least : (least most : ℕ) (xs : List ℕ) → least ≤ most → ((x : ℕ) → Contains xs x → x ≤ most) → fold max least xs ≤ most
+pub greatest_least : (least most : ℕ) (xs : List ℕ) → least ≤ most → ((x : ℕ) → Contains xs x → x ≤ most) → fold max least xs ≤ most
 greatest_least least most [] le each = le
 greatest_least least most (x ∷ xs) le each = greatest_least (max least x) most xs (let h = each x (first_there x xs) in omega (arith, h)) (λ y there. each y (later_there x y xs there))
 

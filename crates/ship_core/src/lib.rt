@@ -13,7 +13,11 @@
 
 mod changes;
 mod laws;
+mod pending;
+mod reading;
 mod rows;
+mod step;
+mod world;
 
 pub use changes::change;
 pub use laws::{
@@ -22,6 +26,8 @@ pub use laws::{
     orderly_by_one_more, row_by_slots, rows_by_key, slots_by_begin, update_by_key,
 };
 pub use rows::Rows;
+pub use step::CoreStep;
+pub use world::World;
 
 #[cfg(test)]
 mod tests;
