@@ -1,6 +1,7 @@
 -- Members of lists.
-use Rattle.std.proofs.Common.{◌≡◌, ◌⊎◌, inl, inr, ℕ, zero, suc, ◌<◌, List, [], ◌∷◌, ◌++◌, length, get_or, Contains, Option, Some, None, refl, sym, ap, ◌∙◌, subst, arith}
-use Rattle.std.specs.List.{filter_map, cons_option}
+use Rattle.std.proofs.Common.{◌≡◌, ◌⊎◌, inl, inr, ℕ, zero, suc, ◌<◌, Bool, true, false, List, [], ◌∷◌, ◌++◌, length, get_or, Contains, Option, Some, None, refl, sym, ap, ◌∙◌, subst, arith}
+use Rattle.std.specs.List.{filter_map, cons_option, list_any}
+use Rattle.std.proofs.lemmas.Bool.{or_cases, or_left, or_right}
 use Rattle.std.proofs.lemmas.List.Elements.{Contains-append_cases}
 
 module _ {X : Type 0} where
@@ -51,3 +52,20 @@ module _ {X Y : Type 0} where
         | inl same ↦ (first, first_there first xs, is ∙ ap Some same)
         | inr later ↦ let found = g later in (found.0, later_there first found.0 xs found.1, found.2)
       ]
+
+-- ---- a test of any
+
+module _ {X : Type 0} where
+  pub any_there : (p : X → Bool) (xs : List X) → list_any p xs ≡ true → (x : X) × Contains xs x × (p x ≡ true)
+  any_there p [] e = absurd (let q : false ≡ true = e in cc)
+  any_there p (first ∷ xs) e = elim (or_cases (p first) (list_any p xs) e) [
+    | inl here ↦ (first, first_there first xs, here)
+    | inr later ↦ let found = any_there p xs later in (found.0, later_there first found.0 xs found.1, found.2)
+  ]
+
+  pub there_any : (p : X → Bool) (xs : List X) (x : X) → Contains xs x → p x ≡ true → list_any p xs ≡ true
+  there_any p [] x there e = absurd (none_there x there)
+  there_any p (first ∷ xs) x there e = elim (there_cases first x xs there) [
+    | inl same ↦ or_left (p first) (list_any p xs) (ap p same ∙ e)
+    | inr later ↦ or_right (p first) (list_any p xs) (there_any p xs x later e)
+  ]

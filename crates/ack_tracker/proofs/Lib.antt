@@ -1,9 +1,14 @@
+mod Changing
+mod AtKey
 mod ByNumber
 mod Contained
 mod Covering
+mod Keeping
+mod Latest
 mod Leads
 mod Listed
 mod OneMore
+mod Passing
 mod Putting
 mod Reaches
 mod Settling

@@ -242,7 +242,7 @@ module _ (files : List (ℕ × FileState)) (notes : List Note) (are : AreOf file
 
   -- none where it is gone, and some where it is not
   module _ (file : FileState) (is : file_of files slot ≡ Some file) where
-    kept_not : is_gone file ≡ false → Contains (gone_among files) slot → ⊥
+    pub kept_not : is_gone file ≡ false → Contains (gone_among files) slot → ⊥
     kept_not kept there =
         let gone = listed_gone files slot there in
         let same : file ≡ gone.0 = let q : Some file ≡ Some gone.0 = sym is ∙ gone.1 in cc in

@@ -1,4 +1,5 @@
 pub mod Covered
 pub mod FileState
 pub mod Files
+pub mod Keys
 pub mod Tracked

@@ -1,4 +1,5 @@
 ghost use Rattle.std.specs.Prelude.{◌≡◌, ℕ, List, [], ◌∷◌, ◌++◌, max, IsTrue, IfOk, IfErr, IfSome, OnOk, OnErr, None, Some};
+ghost use Rattle.std.specs.Str.{bytes_eq};
 ghost use Rattle.wire_base.specs.Ranges.{IsKey, IsMoment, IsNote, IsPath, IsPlace, IsRow};
 ghost use Rattle.wire_base.specs.declared.note.Note.{Note};
 ghost use Rattle.wire_base.specs.declared.note.Note.TheVariants.{Begin};
@@ -92,6 +93,19 @@ impl File {
             base: coverage.end(),
             changed: Moment(changed),
         }
+    }
+
+    pub(crate) fn key(&self) -> &Text
+        ensures key { result.now ≡ self.now.key }
+        ensures in_range { IsKey result.now }
+    {
+        &self.key
+    }
+
+    pub(crate) fn has_key(&self, key: &Text) -> bool
+        ensures { result ≡ bytes_eq self.now.key key.now }
+    {
+        self.key == *key
     }
 
     // Notes one thing more of the file. `Err` is want of memory, and gives the note back.
@@ -200,7 +214,7 @@ impl File {
         self.least = Some(lesser(self.least, reach));
     }
 
-    fn is_gone(&self) -> bool
+    pub(crate) fn is_gone(&self) -> bool
         ensures { result ≡ is_gone self.now }
     {
         let reach = Reach {

@@ -26,6 +26,12 @@ impl History {
         History {}
     }
 
+    pub(crate) fn again(&self) -> History
+        ensures { result.notes ≡ self.now.notes }
+    {
+        History {}
+    }
+
     pub(crate) fn and(&self, _note: &Note) -> History
         ensures { result.notes ≡ self.now.notes ++ _note.now ∷ [] }
     {

@@ -15,7 +15,9 @@
 mod coverage;
 mod file;
 mod history;
+mod noted;
 mod reach;
+mod slots;
 mod tracker;
 
 pub use tracker::Tracker;

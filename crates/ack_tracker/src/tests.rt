@@ -1,5 +1,5 @@
 ghost use Rattle.std.specs.Prelude.{IfOk};
-ghost use Rattle.wire_base.specs.Ranges.{IsMoment, IsNote, IsPlace};
+ghost use Rattle.wire_base.specs.Ranges.{IsKey, IsMoment, IsNote, IsPlace, IsRow};
 
 mod listed;
 
@@ -8,7 +8,7 @@ use crate::tests::listed::Listed;
 use ship_core::Rows;
 use std::alloc::Global;
 use std::test::Fail;
-use wire_base::{Cause, Epoch, Moment, NoMemory, Note, Row, RuleNo, Slot, Span, Text};
+use wire_base::{Cause, Epoch, Moment, NoMemory, Note, Op, Row, RuleNo, Slot, Span, Text};
 
 const SLOT: Slot = Slot(0);
 
@@ -165,6 +165,67 @@ fn greatest_moment_seen(rt: HostRuntime) -> Result<(), Fail> {
     };
     assert_eq!(rt; tracker.row(alloc, SLOT)?, Some(row));
     assert!(rt; tracker.row(alloc, Slot(1))?.is_none());
+    Ok(())
+}
+
+fn row(alloc: Global, key: &[u8], epoch: u32, offset: u64) -> Result<Row, Fail>
+    requires key { IsKey key.now }
+    requires place { IsPlace offset }
+    ensures { IfOk result IsRow }
+{
+    Ok(Row {
+        key: Text::from_bytes(alloc, key)?,
+        path: Text::from_bytes(alloc, b"/w/a.log")?,
+        epoch: Epoch(epoch),
+        offset,
+        changed: Moment(4),
+    })
+}
+
+fn begin_at(alloc: Global, tracker: &mut Tracker, slot: u32, row: Row) -> Result<(), Fail>
+    requires { IsRow row }
+{
+    let begin = Note::Begin {
+        slot: Slot(slot),
+        key: row.key,
+        path: row.path,
+        epoch: row.epoch,
+        base: row.offset,
+        changed: row.changed,
+    };
+    tell(alloc, tracker, begin)
+}
+
+#[test]
+fn changes_since_the_last_commit(rt: HostRuntime) -> Result<(), Fail> {
+    let alloc = rt.alloc();
+    let mut opening = Rows::new(alloc);
+    opening.apply(alloc, Op::Set(row(alloc, b"a", 0, 7)?))?;
+    let mut tracker = Tracker::new(alloc, &opening)?;
+    assert_eq!(rt; tracker.changes(alloc)?.len(), 0);
+
+    // A key that begins where it was changes nothing, and new keys come in their order.
+    begin_at(alloc, &mut tracker, 1, row(alloc, b"c", 0, 0)?)?;
+    begin_at(alloc, &mut tracker, 2, row(alloc, b"a", 0, 7)?)?;
+    begin_at(alloc, &mut tracker, 0, row(alloc, b"b", 1, 0)?)?;
+    let mut changes = tracker.changes(alloc)?;
+    assert_eq!(rt; changes.pop(), Some(Op::Set(row(alloc, b"c", 0, 0)?)));
+    assert_eq!(rt; changes.pop(), Some(Op::Set(row(alloc, b"b", 1, 0)?)));
+    assert_eq!(rt; changes.pop(), None);
+    tracker.committed();
+    assert_eq!(rt; tracker.changes(alloc)?.len(), 0);
+
+    // A span that moves the offset, one that does not, and a row that goes.
+    settle(alloc, &mut tracker, 1, (0, 4), Cause::Acked)?;
+    settle(alloc, &mut tracker, 0, (4, 6), Cause::Acked)?;
+    let mut changes = tracker.changes(alloc)?;
+    assert_eq!(rt; changes.pop(), Some(Op::Set(row(alloc, b"b", 1, 4)?)));
+    assert_eq!(rt; changes.pop(), None);
+    tracker.committed();
+    forget(alloc, &mut tracker, 1, 4)?;
+    let mut changes = tracker.changes(alloc)?;
+    assert_eq!(rt; changes.pop(), Some(Op::Remove(Text::from_bytes(alloc, b"b")?)));
+    assert_eq!(rt; changes.pop(), None);
     Ok(())
 }
 

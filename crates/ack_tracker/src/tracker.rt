@@ -1,51 +1,68 @@
 ghost use Rattle.std.specs.Prelude.{◌≡◌, ◌++◌, ◌∷◌, [], All, Contains, IfOk, IfErr, OnOk, OnErr, IfSome, OnSome, IfNone, List, None};
-ghost use Rattle.wire_base.specs.Ranges.{IsNote, IsPlace, IsRow};
+ghost use Rattle.wire_base.specs.Ranges.{IsNote, IsOp, IsPlace, IsRow};
+ghost use Rattle.wire_base.specs.declared.row.Row.{Row};
 ghost use Rattle.wire_base.specs.declared.note.Note.{Note};
 ghost use Rattle.ship_core.specs.Orderly.{AreOrderly, IsBegun};
 ghost use Rattle.ship_core.specs.RowOver.{place_over, row_over, slot_of, start_of};
+ghost use Rattle.ship_core.specs.RowsOver.{AreRowsOver};
+ghost use Rattle.ship_core.specs.Changes.{AreAscending, LeadTo};
 ghost use Rattle.ack_tracker.specs.Files.{AreOf, Begins, gone_among};
+ghost use Rattle.ack_tracker.specs.Keys.{SetsBegun};
 
 use crate::file::File;
 use crate::history::History;
-use ship_core::{Rows, covered_end_by_spans};
+use crate::noted::{Files, Noted, SlotsByKey, changes, prepare};
+use ship_core::{
+    Rows, changes_by_key, covered_end_by_spans, note_by_key, row_by_slots, slots_by_begin,
+};
 use std::alloc::Global;
 use std::collections::BTreeMap;
 use std::marker::Model;
-use wire_base::{Epoch, NoMemory, Note, Row, Slot};
+use wire_base::{Epoch, NoMemory, Note, Op, Row, Slot};
 
 /// What notes tell of files, over the rows that the registry had at first.
 #[derive(Debug, Drop)]
 pub struct Tracker {
     opening: Rows,
-    files: BTreeMap<u32, File>,
+    files: Files,
+    slots: SlotsByKey,
+    noted: Noted,
     history: History,
+    // The notes before the last commit.
+    committed: History,
 }
 
 impl Model for Tracker {
     ghost use Rattle.ack_tracker.specs.Tracked.{Tracked};
-    ghost use Rattle.ack_tracker.specs.Files.{AreOf, gone_among};
+    ghost use Rattle.ack_tracker.specs.Files.{gone_among};
+    ghost use Rattle.ack_tracker.specs.Keys.{IsTracker};
 
     ghost Value = { Tracked };
 
     ghost view = { λ t. record {
       opening = t.opening;
       notes = t.history.notes;
+      committed = t.committed.notes;
       gone = gone_among t.files.entries;
     } };
 
-    ghost invariant = { λ t. AreOf t.files.entries t.history.notes };
+    ghost invariant = { λ t. IsTracker t.opening t.files.entries t.slots.entries t.noted.entries
+        t.history.notes t.committed.notes };
 }
 
 impl Tracker {
-    /// Over these rows, with no notes yet.
+    /// Over these rows, which are those last committed, with no notes yet.
     pub fn new(alloc: Global, rows: &Rows) -> Result<Tracker, NoMemory>
         ensures { IfOk result (λ tracker. tracker ≡
-            record { opening = rows.now; notes = []; gone = [] }) }
+            record { opening = rows.now; notes = []; committed = []; gone = [] }) }
     {
         Ok(Tracker {
             opening: rows.copy(alloc)?,
             files: BTreeMap::new(alloc),
+            slots: BTreeMap::new(alloc),
+            noted: BTreeMap::new(alloc),
             history: History::new(),
+            committed: History::new(),
         })
     }
 
@@ -54,14 +71,63 @@ impl Tracker {
         requires { IsNote note }
         ensures noted { OnOk result (self.new.notes ≡ self.old.notes ++ note ∷ []) }
         ensures opening_stays { self.new.opening ≡ self.old.opening }
+        ensures committed_stays { self.new.committed ≡ self.old.committed }
         ensures gone_stays { All (Contains self.new.gone) self.old.gone }
         ensures kept { OnErr result (self.new ≡ self.old) }
         ensures given_back { IfErr result (λ back. back ≡ note) }
     {
+        covered_end_by_spans();
+        row_by_slots();
+        slots_by_begin();
+        note_by_key();
         let history = self.history.and(&note);
+        match prepare(
+            &mut self.noted,
+            &mut self.slots,
+            alloc,
+            &self.opening,
+            &self.files,
+            &note,
+        ) {
+            Ok(()) => {}
+            Err(_) => return Err(note),
+        }
         add(&mut self.files, alloc, note)?;
         self.history = history;
         Ok(())
+    }
+
+    /// What leads from the rows last committed to the present ones, each in byte order of the keys: the opening rows
+    /// and the notes up to the last commit, or all of them, say which rows these are. Takes time for the keys that were
+    /// noted since then.
+    pub fn changes(&self, alloc: Global) -> Result<Vec<Op>, NoMemory>
+        ensures by_the_notes { AreOrderly self.now.notes → (from to : List Row) →
+            AreRowsOver self.now.opening self.now.committed from →
+            AreRowsOver self.now.opening self.now.notes to →
+            IfOk result (λ ops. LeadTo from to ops.items) }
+
+        // For notes of any order, too:
+        ensures ascending { IfOk result (λ ops. AreAscending ops.items) }
+        ensures sets_begun { IfOk result (λ ops.
+            All (SetsBegun self.now.notes self.now.gone) ops.items) }
+        ensures in_range { IfOk result (λ ops. All IsOp ops.items) }
+    {
+        covered_end_by_spans();
+        row_by_slots();
+        slots_by_begin();
+        changes_by_key();
+        changes(alloc, &self.files, &self.slots, &self.noted)
+    }
+
+    /// The present rows are those last committed. Takes no memory.
+    pub fn committed(&mut self)
+        ensures committed { self.new.committed ≡ self.old.notes }
+        ensures opening_stays { self.new.opening ≡ self.old.opening }
+        ensures notes_stay { self.new.notes ≡ self.old.notes }
+        ensures gone_stays { self.new.gone ≡ self.old.gone }
+    {
+        self.noted.clear();
+        self.committed = self.history.again();
     }
 
     /// How far the slot's file is done: its epoch, and the place in bytes up to which all is settled. `None` exactly
@@ -106,7 +172,7 @@ impl Tracker {
 }
 
 // Notes one thing more of the file that it names.
-fn add(files: &mut BTreeMap<u32, File>, alloc: Global, note: Note) -> Result<(), Note>
+fn add(files: &mut Files, alloc: Global, note: Note) -> Result<(), Note>
     requires { IsNote note }
     ensures noted { OnOk result ((notes : List Note) → AreOf files.old.entries notes →
         AreOf files.new.entries (notes ++ note ∷ [])) }
@@ -138,7 +204,7 @@ fn add(files: &mut BTreeMap<u32, File>, alloc: Global, note: Note) -> Result<(),
 }
 
 // The slot begins, unless it began already.
-fn begin(files: &mut BTreeMap<u32, File>, slot: Slot, file: File) -> Result<(), File>
+fn begin(files: &mut Files, slot: Slot, file: File) -> Result<(), File>
     ensures begun { OnOk result (Begins files.old.entries files.new.entries slot.0 file) }
     ensures gone_stays { All (Contains (gone_among files.new.entries))
         (gone_among files.old.entries) }
@@ -155,7 +221,7 @@ fn begin(files: &mut BTreeMap<u32, File>, slot: Slot, file: File) -> Result<(), 
 }
 
 // Notes one thing more of a file that began. Of a slot that was not begun a note says nothing.
-fn go_on(files: &mut BTreeMap<u32, File>, alloc: Global, note: Note) -> Result<(), Note>
+fn go_on(files: &mut Files, alloc: Global, note: Note) -> Result<(), Note>
     requires in_range { IsNote note }
     requires no_start { start_of note ≡ None }
     ensures noted { OnOk result ((notes : List Note) → AreOf files.old.entries notes →
@@ -174,7 +240,7 @@ fn go_on(files: &mut BTreeMap<u32, File>, alloc: Global, note: Note) -> Result<(
     }
 }
 
-fn slot_of(note: &Note) -> Slot
+pub(crate) fn slot_of(note: &Note) -> Slot
     ensures { result.0 ≡ slot_of note.now }
 {
     match note {

@@ -13,7 +13,8 @@ use Rattle.wire_base.specs.declared.row.Row.{Row}
 use Rattle.wire_base.specs.declared.note.Note.{Note}
 use Rattle.wire_base.specs.declared.note.Note.TheVariants.{Begin, Announce, Settle, Rename, Seen, Forget}
 use Rattle.ship_core.specs.Rows.{key_of, IsInOrder, find}
-use Rattle.ship_core.specs.Replay.{with_row, without_row}
+use Rattle.ship_core.specs.Changes.{op_for}
+use Rattle.ship_core.specs.Replay.{after_op, with_row, without_row}
 use Rattle.ship_core.specs.Orderly.{AreOrderly}
 use Rattle.ship_core.specs.RowOver.{Start, slot_of, start_of, notes_of, start_over, is_gone, row_of, row_over}
 use Rattle.ship_core.specs.RowsOver.{slot_for, slots_for, row_of_greatest, row_among, row_for, AreRowsOver}
@@ -22,30 +23,26 @@ use Rattle.ship_core.proofs.Reordered.{one_start, first_member}
 
 -- ---- one key after another
 
-put : List ℕ → Option Row → List Row → List Row
-put key None rows = without_row key rows
-put key (Some row) rows = with_row row rows
+abbrev pub put : List ℕ → Option Row → List Row → List Row
+put key row rows = after_op rows (op_for key row)
 
 built : List Row → List Note → List (List ℕ) → List Row
 built opening notes [] = opening
 built opening notes (key ∷ keys) = put key (row_for opening notes key) (built opening notes keys)
 
 -- the row, where there is one, has the key
-abbrev HasKey : List ℕ → Option Row → Type 0
+abbrev pub HasKey : List ℕ → Option Row → Type 0
 HasKey key o = (row : Row) → o ≡ Some row → row.key ≡ key
 
 put_in_order : (key : List ℕ) (o : Option Row) (rows : List Row) → IsInOrder rows → IsInOrder (put key o rows)
-unfolding put
 put_in_order key None rows ordered = in_order-without key_of key rows ordered
 put_in_order key (Some row) rows ordered = in_order-with key_of row rows ordered
 
-put_here : (key : List ℕ) (o : Option Row) (rows : List Row) → HasKey key o → find key (put key o rows) ≡ o
-unfolding put
+pub put_here : (key : List ℕ) (o : Option Row) (rows : List Row) → HasKey key o → find key (put key o rows) ≡ o
 put_here key None rows has = find-without key_of key rows
 put_here key (Some row) rows has = ap (λ (k : List ℕ). find k (with_row row rows)) (sym (has row refl)) ∙ find-with key_of row rows
 
-put_others : (key other : List ℕ) (o : Option Row) (rows : List Row) → HasKey key o → other ≢ key → find other (put key o rows) ≡ find other rows
-unfolding put
+pub put_others : (key other : List ℕ) (o : Option Row) (rows : List Row) → HasKey key o → other ≢ key → find other (put key o rows) ≡ find other rows
 put_others key other None rows has differs = find-without_not key_of key other rows differs
 put_others key other (Some row) rows has differs = find-with_not key_of row rows other (λ same. differs (same ∙ has row refl))
 
@@ -80,7 +77,7 @@ module _ (opening : List Row) (notes : List Note) (has : (key : List ℕ) → Ha
 
 -- ---- the keys that a Begin names
 
-named_key : Note → Option (List ℕ)
+unfoldable pub named_key : Note → Option (List ℕ)
 named_key (Begin slot key path epoch base changed) = Some key
 named_key (Announce slot epoch) = None
 named_key (Settle slot epoch span cause) = None
@@ -89,7 +86,7 @@ named_key (Seen slot changed) = None
 named_key (Forget slot epoch end) = None
 
 -- a note names the key to a slot exactly where it is a Begin of that slot and key
-slot_named : (key : List ℕ) (note : Note) (slot : ℕ) → slot_for key note ≡ Some slot → (start : Start) × (start_of note ≡ Some start) × (start.key ≡ key) × (slot_of note ≡ slot)
+pub slot_named : (key : List ℕ) (note : Note) (slot : ℕ) → slot_for key note ≡ Some slot → (start : Start) × (start_of note ≡ Some start) × (start.key ≡ key) × (slot_of note ≡ slot)
 slot_named key (Begin s named path epoch base changed) slot e = by_case (compare key named) refl e
   where
     by_case : (o : Ordering) → compare key named ≡ o → (if is_eq o then Some s.0 else None) ≡ Some slot → (start : Start) × (Some (record { key = named; path = path; epoch = epoch.0; base = base }) ≡ Some start) × (start.key ≡ key) × (s.0 ≡ slot)
@@ -102,7 +99,7 @@ slot_named key (Rename s scan path) slot e = absurd (let q : None ≡ Some slot 
 slot_named key (Seen s changed) slot e = absurd (let q : None ≡ Some slot = e in cc)
 slot_named key (Forget s epoch end) slot e = absurd (let q : None ≡ Some slot = e in cc)
 
-named_slot : (key : List ℕ) (note : Note) → named_key note ≡ Some key → slot_for key note ≡ Some (slot_of note)
+pub named_slot : (key : List ℕ) (note : Note) → named_key note ≡ Some key → slot_for key note ≡ Some (slot_of note)
 unfolding named_key
 named_slot key (Begin s named path epoch base changed) e =
     let same : key ≡ named = let q : Some named ≡ Some key = e in cc in
@@ -138,7 +135,7 @@ find_key key (first ∷ rows) row e = by_case (compare key first.key) refl e (fi
     by_case Less is e h = h e
     by_case Greater is e h = h e
 
-greatest_there : (x : ℕ) (xs : List ℕ) → Contains (x ∷ xs) (fold max x xs)
+pub greatest_there : (x : ℕ) (xs : List ℕ) → Contains (x ∷ xs) (fold max x xs)
 greatest_there x [] = first_there x []
 greatest_there x (y ∷ ys) = elim (there_cases (max x y) (fold max (max x y) ys) ys (greatest_there (max x y) ys)) [
   | inl same ↦ by_order (cases_lt x y) same
@@ -178,7 +175,7 @@ module _ (opening : List Row) (notes : List Note) (orderly : AreOrderly notes) w
   by_slots key [] within row e = find_key key opening row e
   by_slots key (slot ∷ slots) within row e = among_has key (filter (λ (given : ℕ). is_some (row_over given notes)) (slot ∷ slots)) (λ x there. within x (there_passed (λ (given : ℕ). is_some (row_over given notes)) (slot ∷ slots) x there).0) row e
 
-  has_key : (key : List ℕ) → HasKey key (row_for opening notes key)
+  pub has_key : (key : List ℕ) → HasKey key (row_for opening notes key)
   has_key key = by_slots key (slots_for key notes) (λ x there. there)
 
   each_key : (key : List ℕ) (slots : List ℕ) → slots_for key notes ≡ slots → find key (built opening notes (filter_map named_key notes)) ≡ row_for opening notes key

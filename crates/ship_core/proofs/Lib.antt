@@ -8,3 +8,7 @@ mod Living
 pub mod Members
 mod Reordered
 mod Built
+mod Leading
+mod Slots
+mod Passes
+mod Working

@@ -104,15 +104,15 @@ module _ {X Y : Type 0} where
 
 -- ---- the greatest number
 
-greatest_least : (least most : ℕ) (xs : List ℕ) → least ≤ most → ((x : ℕ) → Contains xs x → x ≤ most) → fold max least xs ≤ most
+pub greatest_least : (least most : ℕ) (xs : List ℕ) → least ≤ most → ((x : ℕ) → Contains xs x → x ≤ most) → fold max least xs ≤ most
 greatest_least least most [] le each = le
 greatest_least least most (x ∷ xs) le each = greatest_least (max least x) most xs (let h = each x (first_there x xs) in omega (arith, h)) (λ y there. each y (later_there x y xs there))
 
-least_within : (least : ℕ) (xs : List ℕ) → least ≤ fold max least xs
+pub least_within : (least : ℕ) (xs : List ℕ) → least ≤ fold max least xs
 least_within least [] = omega arith
 least_within least (x ∷ xs) = let h = least_within (max least x) xs in omega (arith, h)
 
-member_within : (least : ℕ) (xs : List ℕ) (x : ℕ) → Contains xs x → x ≤ fold max least xs
+pub member_within : (least : ℕ) (xs : List ℕ) (x : ℕ) → Contains xs x → x ≤ fold max least xs
 member_within least [] x there = absurd (none_there x there)
 member_within least (first ∷ xs) x there = elim (there_cases first x xs there) [
   | inl same ↦ let h = least_within (max least first) xs in omega (arith, h, same)

@@ -1,8 +1,12 @@
+pub mod Changes
 pub mod CoveredEnd
 pub mod Forward
+pub mod Machine
 pub mod OneLife
 pub mod Orderly
+pub mod Reading
 pub mod Replay
 pub mod RowOver
 pub mod Rows
 pub mod RowsOver
+pub mod Standing

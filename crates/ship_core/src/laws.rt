@@ -1,4 +1,4 @@
-ghost use Rattle.std.specs.Prelude.{◌≡◌, ◌≢◌, ◌≤◌, ◌<◌, ℕ, All, Contains, List, [], ◌∷◌, ◌++◌};
+ghost use Rattle.std.specs.Prelude.{◌≡◌, ◌≢◌, ◌≤◌, ◌<◌, ℕ, All, Contains, List, [], ◌∷◌, ◌++◌, Option};
 ghost use Rattle.wire_base.specs.Extent.{Extent};
 ghost use Rattle.wire_base.specs.declared.numbers.Slot.{Slot};
 ghost use Rattle.wire_base.specs.declared.numbers.Epoch.{Epoch};
@@ -11,10 +11,12 @@ ghost use Rattle.wire_base.specs.declared.row.Op.{Op};
 ghost use Rattle.wire_base.specs.declared.row.Op.TheVariants.{Set, Remove};
 ghost use Rattle.ship_core.specs.Rows.{IsInOrder, find};
 ghost use Rattle.ship_core.specs.Replay.{after_op};
-ghost use Rattle.ship_core.specs.RowsOver.{AreRowsOver, row_for};
+ghost use Rattle.ship_core.specs.Changes.{AreKeysAscending, LeadTo, change_of, changes_at, key_in};
+ghost use Rattle.wire_base.specs.KeyOrder as entries;
+ghost use Rattle.ship_core.specs.RowsOver.{AreRowsOver, row_for, slots_for};
 ghost use Rattle.ship_core.specs.CoveredEnd.{AreApart, Adjoin, ClosesPrefix, covered_end, last_end, next_end};
 ghost use Rattle.ship_core.specs.OneLife.{Settlement, spans_of, life_notes};
-ghost use Rattle.ship_core.specs.RowOver.{notes_of, greatest_epoch, place_over, row_over};
+ghost use Rattle.ship_core.specs.RowOver.{Start, notes_of, greatest_epoch, place_over, row_over, slot_of, start_over};
 ghost use Rattle.ship_core.specs.Forward.{RowGoesOn};
 ghost use Rattle.ship_core.specs.Orderly.{AreOrderly, IsBegun, MayFollow};
 
@@ -72,6 +74,9 @@ pub fn order_does_not_matter()
     ensures key { (opening : List Row) (first second : List Note) → AreOrderly second →
         All (Contains second) first → All (Contains first) second → (key : List ℕ) →
         row_for opening first key ≡ row_for opening second key }
+    ensures rows { (opening : List Row) (first second : List Note) (rows others : List Row) →
+        AreOrderly second → All (Contains second) first → All (Contains first) second →
+        AreRowsOver opening first rows → AreRowsOver opening second others → rows ≡ others }
 {}
 
 /// An update sets the row of its key, or takes it away, and changes no other key's; rows in order stay in order. A law; it
@@ -131,4 +136,51 @@ pub fn one_life()
         (changed : Moment) (settled : List Settlement) → AreApart (spans_of settled) →
         AreOrderly (life_notes slot key path epoch base changed settled) }
     ensures apart { (place : ℕ) (spans : List Extent) → Adjoin place spans → AreApart spans }
+{}
+
+/// What leads from rows to others is made key by key: of any keys in their order that are all whose rows differ, each with
+/// its change. There is no other such list. A law; it computes nothing.
+pub fn changes_by_key()
+    ensures lead { (from to : List Row) (keys : List (List ℕ)) → IsInOrder from → IsInOrder to →
+        AreKeysAscending keys →
+        ((key : List ℕ) → (Contains keys key → ⊥) → find key from ≡ find key to) →
+        LeadTo from to (changes_at keys from to) }
+    ensures told { (from to : List Row) (ops : List Op) → LeadTo from to ops → (key : List ℕ) →
+        entries.find key_in key ops ≡ change_of key (find key from) (find key to) }
+    ensures no_other { (from to : List Row) (first second : List Op) → LeadTo from to first →
+        LeadTo from to second → first ≡ second }
+    ensures unchanged { (key : List ℕ) (row : Option Row) → change_of key row row ≡ None }
+{}
+
+/// The row of a key is the opening one where no Begin names the key, none where all its slots' rows went, and else that of
+/// its slot above which none has a row. A law; it computes nothing.
+pub fn row_by_slots()
+    ensures none_given { (opening : List Row) (notes : List Note) (key : List ℕ) →
+        ((slot : ℕ) → Contains (slots_for key notes) slot → ⊥) →
+        row_for opening notes key ≡ find key opening }
+    ensures all_gone { (opening : List Row) (notes : List Note) (key : List ℕ) (one : ℕ) →
+        Contains (slots_for key notes) one →
+        ((slot : ℕ) → Contains (slots_for key notes) slot → row_over slot notes ≡ None) →
+        row_for opening notes key ≡ None }
+    ensures greatest { (opening : List Row) (notes : List Note) (key : List ℕ) (slot : ℕ) (row : Row) →
+        Contains (slots_for key notes) slot → row_over slot notes ≡ Some row →
+        ((other : ℕ) → Contains (slots_for key notes) other → slot < other →
+        row_over other notes ≡ None) → row_for opening notes key ≡ Some row }
+{}
+
+/// The slots of a key are those that a Begin gives it: each slot that was begun is its key's, and where notes are orderly no
+/// other key's. A law; it computes nothing.
+pub fn slots_by_begin()
+    ensures given { (notes : List Note) (key : List ℕ) (slot : ℕ) → AreOrderly notes →
+        Contains (slots_for key notes) slot →
+        (start : Start) × (start_over (notes_of slot notes) ≡ Some start) × (start.key ≡ key) }
+    ensures gives { (notes : List Note) (slot : ℕ) (start : Start) →
+        start_over (notes_of slot notes) ≡ Some start → Contains (slots_for start.key notes) slot }
+{}
+
+/// One note more changes the row of no key but its slot's. A law; it computes nothing.
+pub fn note_by_key()
+    ensures { (opening : List Row) (notes : List Note) (note : Note) (key : List ℕ) →
+        (Contains (slots_for key (notes ++ note ∷ [])) (slot_of note) → ⊥) →
+        row_for opening (notes ++ note ∷ []) key ≡ row_for opening notes key }
 {}

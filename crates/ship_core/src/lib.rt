@@ -11,15 +11,23 @@
 //! come does not matter. Nothing here collects notes or writes a disk.
 #![tactic(auto)]
 
+mod changes;
 mod laws;
+mod pending;
+mod reading;
 mod rows;
+mod step;
+mod world;
 
+pub use changes::change;
 pub use laws::{
-    covered_end_by_spans, covered_end_by_steps, covered_end_closes_a_prefix, no_row_goes_back,
-    older_epochs_change_nothing, one_life, order_does_not_matter, orderly_by_one_more, rows_by_key,
-    update_by_key,
+    changes_by_key, covered_end_by_spans, covered_end_by_steps, covered_end_closes_a_prefix,
+    no_row_goes_back, note_by_key, older_epochs_change_nothing, one_life, order_does_not_matter,
+    orderly_by_one_more, row_by_slots, rows_by_key, slots_by_begin, update_by_key,
 };
 pub use rows::Rows;
+pub use step::CoreStep;
+pub use world::World;
 
 #[cfg(test)]
 mod tests;

@@ -19,7 +19,7 @@ returns-in-Some-clause-by_the_notes c =
     let inside = c.self.inside in
     subst (λ (t : Tracked). AreOrderly t.notes → IfOk c.row.result (λ (row : Option Row). row ≡ row_over c.args.slot.0 t.notes)) c.self.view_is
     (λ orderly. IfOk-weaker c.row.result (λ (row : Option Row). row ≡ row_in c.in-Some.file.now) (λ (row : Option Row). row ≡ row_over c.args.slot.0 inside.history.notes)
-    (λ row is. is ∙ sym (row_some inside.files.entries inside.history.notes c.self.invariant c.args.slot.0 c.covered_end_by_spans.ensures.stays c.covered_end_by_spans.ensures.goes_on orderly c.in-Some.file.now (sym c.in-Some.ensures.value))) c.row.ensures.row)
+    (λ row is. is ∙ sym (row_some inside.files.entries inside.history.notes c.self.invariant.are c.args.slot.0 c.covered_end_by_spans.ensures.stays c.covered_end_by_spans.ensures.goes_on orderly c.in-Some.file.now (sym c.in-Some.ensures.value))) c.row.ensures.row)
 
 pub returns-in-Some-clause-none : goal.returns-in-Some-clause-none
 unfolding made
@@ -28,7 +28,7 @@ returns-in-Some-clause-none c =
     let file = c.in-Some.file.now in
     subst (λ (t : Tracked). IfOk c.row.result (λ (row : Option Row). IfNone row (IsBegun c.args.slot.0 t.notes → Contains t.gone c.args.slot.0))) c.self.view_is
     (IfOk-weaker c.row.result (λ (row : Option Row). row ≡ row_in file) _
-    (λ row is. says_none inside.files.entries inside.history.notes c.self.invariant c.args.slot.0 file (sym c.in-Some.ensures.value) (made file) row is) c.row.ensures.row)
+    (λ row is. says_none inside.files.entries inside.history.notes c.self.invariant.are c.args.slot.0 file (sym c.in-Some.ensures.value) (made file) row is) c.row.ensures.row)
 
 pub returns-in-Some-clause-some : goal.returns-in-Some-clause-some
 unfolding made
@@ -37,4 +37,4 @@ returns-in-Some-clause-some c =
     let file = c.in-Some.file.now in
     subst (λ (t : Tracked). IfOk c.row.result (λ (row : Option Row). OnSome row (IsBegun c.args.slot.0 t.notes × ¬ (Contains t.gone c.args.slot.0)))) c.self.view_is
     (IfOk-weaker c.row.result (λ (row : Option Row). row ≡ row_in file) _
-    (λ row is. says_some inside.files.entries inside.history.notes c.self.invariant c.args.slot.0 file (sym c.in-Some.ensures.value) (made file) row is) c.row.ensures.row)
+    (λ row is. says_some inside.files.entries inside.history.notes c.self.invariant.are c.args.slot.0 file (sym c.in-Some.ensures.value) (made file) row is) c.row.ensures.row)
