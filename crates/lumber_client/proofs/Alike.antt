@@ -4,7 +4,7 @@ use Rattle.wire_base.specs.declared.talk.Piece.{Piece}
 use Rattle.wire_base.specs.declared.talk.Piece.TheVariants.{Out, In}
 use Rattle.lumber_frame.specs.Talk.{in_bytes, out_bytes, out_before}
 use Rattle.lumber_frame.specs.Window.{AreWindows}
-use Rattle.lumber_frame.specs.Acknowledged.{Answer, acknowledgements, answers, asked, count_at, greatest}
+use Rattle.lumber_frame.specs.Acknowledged.{Acknowledges, Answer, acknowledgements, answers, asked, count_at, greatest, payloads_by}
 use Rattle.lumber_frame.specs.PeerFault.{BeginsNoAcknowledgement, HasPeerFault, IsAboveCount}
 use Rattle.lumber_frame.proofs.Staying.{in_append, out_append}
 use Rattle.lumber_client.specs.Exchange.{Exchange, given_in, parcels_by, windows_of, with_talk}
@@ -115,3 +115,21 @@ alike_stands w e a b alike s =
 -- a window stands for the talk with both pieces as one
 pub pieces_join : (w : Held) (e : Exchange) (talk : List Piece) (front back : List ℕ) → StandsFor w (with_talk e (talk ++ In front ∷ In back ∷ [])) → StandsFor w (with_talk e (talk ++ In (front ++ back) ∷ []))
 pieces_join w e talk front back s = alike_stands w e (talk ++ In front ∷ In back ∷ []) (talk ++ In (front ++ back) ∷ []) (joined_alike talk front back) s
+
+alike_acknowledges : (a b : List Piece) (payloads : List (List ℕ)) → AreAlike a b → Acknowledges a payloads → Acknowledges b payloads
+alike_acknowledges a b payloads alike r =
+    let windows = r.windows in
+    let given : answers windows b [] 0 (acknowledgements (in_bytes b)) ≡ answers windows a [] 0 (acknowledgements (in_bytes a)) =
+    ap (λ (bytes : List ℕ). answers windows b [] 0 (acknowledgements bytes)) alike.received ∙ alike_answers windows a b alike [] 0 (acknowledgements (in_bytes a)) in
+    record {
+      windows = windows;
+      sent = subst (λ (bytes : List ℕ). AreWindows bytes windows) (sym alike.out) r.sent;
+      are = r.are ∙ ap (λ (all : List Answer). payloads_by all 1 windows) (sym given);
+    }
+
+-- and the talk with both pieces as one acknowledges the same, and has the same faults
+pub joined_acknowledges : (talk : List Piece) (front back : List ℕ) (payloads : List (List ℕ)) → Acknowledges (talk ++ In front ∷ In back ∷ []) payloads → Acknowledges (talk ++ In (front ++ back) ∷ []) payloads
+joined_acknowledges talk front back payloads r = alike_acknowledges (talk ++ In front ∷ In back ∷ []) (talk ++ In (front ++ back) ∷ []) payloads (joined_alike talk front back) r
+
+pub joined_fault : (talk : List Piece) (front back : List ℕ) → HasPeerFault (talk ++ In front ∷ In back ∷ []) → HasPeerFault (talk ++ In (front ++ back) ∷ [])
+joined_fault talk front back f = alike_fault (talk ++ In front ∷ In back ∷ []) (talk ++ In (front ++ back) ∷ []) (joined_alike talk front back) f

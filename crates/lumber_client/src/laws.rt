@@ -15,11 +15,17 @@ pub fn acknowledged_is_of_the_talk()
 {}
 
 /// Received bytes may be given one by one or many at once: a window stands for the one talk where
-/// it stands for the other. A law; it computes nothing.
+/// it stands for the other, and both talks acknowledge the same. A law; it computes nothing.
 pub fn received_pieces_join()
-    ensures { (window : Held) (e : Exchange) (talk : List Piece) (front back : List ℕ) →
+    ensures window { (window : Held) (e : Exchange) (talk : List Piece) (front back : List ℕ) →
         StandsFor window (with_talk e (talk ++ In front ∷ In back ∷ [])) →
         StandsFor window (with_talk e (talk ++ In (front ++ back) ∷ [])) }
+    ensures acknowledged { (talk : List Piece) (front back : List ℕ) (payloads : List (List ℕ)) →
+        Acknowledges (talk ++ In front ∷ In back ∷ []) payloads →
+        Acknowledges (talk ++ In (front ++ back) ∷ []) payloads }
+    ensures fault { (talk : List Piece) (front back : List ℕ) →
+        HasPeerFault (talk ++ In front ∷ In back ∷ []) →
+        HasPeerFault (talk ++ In (front ++ back) ∷ []) }
 {}
 
 /// Behind a peer's fault nothing counts: whatever is sent and received afterwards, the talk

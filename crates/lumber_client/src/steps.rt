@@ -45,7 +45,8 @@ impl Window {
         requires range { IsParcel parcel }
         requires room { length (waiting_in self.old) < self.old.most }
         requires nothing_to_settle { self.old.acknowledged ≡ 0 }
-        ensures { self.new ≡ with_offered self.old parcel }
+        ensures offered { self.new ≡ with_offered self.old parcel }
+        ensures one_more_waits { length (waiting_in self.new) ≡ suc (length (waiting_in self.old)) }
     {
         self.parcels.push_back_reserved(parcel);
     }
@@ -159,12 +160,6 @@ impl Window {
         let _ = self.flights.pop_front();
         self.done = 0;
         self.last = number;
-    }
-
-    pub(crate) fn has_settled(&self) -> bool
-        ensures { IsTrue result ↔ (0 < self.now.acknowledged) }
-    {
-        self.acknowledged > 0
     }
 
     pub(crate) fn hand_out(&mut self) -> Parcel

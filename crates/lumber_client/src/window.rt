@@ -92,6 +92,30 @@ impl Window {
         0 < self.waiting() && self.flights.len() < self.depth as usize
     }
 
+    /// Whether as many windows are in flight as may be.
+    pub fn is_full(&self) -> bool
+        ensures { IsTrue result ↔ (self.now.depth ≤ length self.now.flights) }
+    {
+        self.depth as usize <= self.flights.len()
+    }
+
+    /// How many windows are begun and not acknowledged in full.
+    pub fn windows_in_flight(&self) -> usize
+        ensures windows { result ≡ length self.now.flights }
+        ensures no_parcel_without_a_window { self.now.flights ≡ [] → self.now.in_flight ≡ 0 }
+        ensures no_window_without_a_parcel { 0 < length self.now.flights → 0 < self.now.in_flight }
+    {
+        self.flights.len()
+    }
+
+    /// Whether parcels are acknowledged and not handed out.
+    pub fn has_settled(&self) -> bool
+        ensures some { IsTrue result ↔ (0 < self.now.acknowledged) }
+        ensures are_held { self.now.acknowledged ≤ length self.now.parcels }
+    {
+        self.acknowledged > 0
+    }
+
     /// Whether a fault of the peer was told since the window was made or made again.
     pub fn has_failed(&self) -> bool
         ensures { result ≡ self.now.hearing.failed }
@@ -106,6 +130,7 @@ impl Window {
         requires room { length (waiting_in self.old) < self.old.most }
         requires nothing_to_settle { self.old.acknowledged ≡ 0 }
         ensures offered { self.new ≡ with_offered self.old parcel }
+        ensures one_more_waits { length (waiting_in self.new) ≡ suc (length (waiting_in self.old)) }
         ensures stands { (e : Exchange) → StandsFor self.old e → StandsFor self.new e }
     {
         self.push(parcel);
@@ -118,6 +143,7 @@ impl Window {
         ensures begun { self.new ≡ begun_as self.old self.new.out self.new.behind }
         ensures written_behind { self.new.out ++ self.new.behind ≡
             (self.old.out ++ self.old.behind) ++ window_bytes (payloads_of (next_in self.old)) }
+        ensures something_goes_out { 0 < length self.new.out }
         ensures stands { (e : Exchange) → StandsFor self.old e →
             StandsFor self.new (with_begun e (next_in self.old)) }
     {
@@ -156,6 +182,7 @@ impl Window {
         ensures acknowledged { self.new.acknowledged ≡
             self.old.acknowledged + newly_acknowledged result }
         ensures kept { KeepsParcels self.old self.new }
+        ensures no_more_in_flight { length self.new.flights ≤ length self.old.flights }
         ensures failed_where_a_fault_is_told { self.new.hearing.failed ≡ is_fault result }
     {
         let place = self.given();

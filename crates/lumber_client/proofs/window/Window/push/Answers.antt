@@ -1,4 +1,4 @@
-use Rattle.std.proofs.Common.{◌+◌, ◌<◌, ◌≤◌, List, length, arith, ap, sym, subst, ◌∙◌}
+use Rattle.std.proofs.Common.{◌≡◌, ◌+◌, ◌<◌, ◌≤◌, ◌∷◌, [], List, length, drop, arith, ap, sym, subst, ◌∙◌, length-append}
 use Rattle.std.specs.List.{All}
 use Rattle.std.proofs.lemmas.List.{length-drop}
 use Rattle.std.proofs.lemmas.List.Elements.{All-push}
@@ -44,8 +44,8 @@ invariant_of-self c =
       idle = λ none. is.idle (sym (offered_piece w.outgoing w.parcels.items new.items c.args.parcel begun w.in_flight all within bound is.lent) ∙ none);
     }
 
-pub returns : goal.returns
-returns c =
+pub returns-clause-offered : goal.returns-clause-offered
+returns-clause-offered c =
     let w = c.self.inside in
     let is = c.self.invariant in
     let new = c.push_back_reserved.new.self in
@@ -67,3 +67,15 @@ returns c =
       behind = offered_behind w.outgoing w.parcels.items new.items c.args.parcel begun w.in_flight all within bound is.lent is.laying few k;
       hearing = w.incoming;
     })
+
+pub returns-clause-one_more_waits : goal.returns-clause-one_more_waits
+returns-clause-one_more_waits c =
+    let w = c.self.inside in
+    let is = c.self.invariant in
+    let new = c.push_back_reserved.new.self in
+    let begun = w.acknowledged + w.in_flight in
+    let within : begun ≤ length w.parcels.items = omega (arith, is.within, w.parcels.ok.0) in
+    let longer : length new.items ≡ length w.parcels.items + 1 = omega (arith, ap length c.push_back_reserved.ensures.items, length-append w.parcels.items (c.args.parcel ∷ [])) in
+    let before : length (drop begun w.parcels.items) + begun ≡ length w.parcels.items = omega (arith, length-drop begun w.parcels.items) in
+    let now : length (drop begun new.items) + begun ≡ length new.items = omega (arith, length-drop begun new.items) in
+    rw (← c.self.view_is) (omega (arith, before, now, longer))

@@ -1,0 +1,9 @@
+pub mod Beginning
+pub mod Feeding
+pub mod Finishing
+pub mod Hearing
+pub mod Keeping
+pub mod Linking
+pub mod Stepping
+pub mod Turning
+pub mod Worked

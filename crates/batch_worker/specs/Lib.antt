@@ -1,0 +1,17 @@
+pub mod Acknowledged
+pub mod Answers
+pub mod Begun
+pub mod Ending
+pub mod Feeding
+pub mod Held
+pub mod Keeping
+pub mod Receiving
+pub mod Rests
+pub mod Rule
+pub mod Seen
+pub mod Sent
+pub mod Sound
+pub mod Standing
+pub mod Steps
+pub mod Waits
+pub mod Working
