@@ -1,4 +1,5 @@
 pub mod Answers
+pub mod AskedAgain
 pub mod Asking
 pub mod Key
 pub mod Reading

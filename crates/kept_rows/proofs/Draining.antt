@@ -16,7 +16,7 @@ use Rattle.wire_base.specs.declared.row.Row.{Row}
 use Rattle.kept_rows.specs.Account.{EpochAccount, FollowedTail, Reading, SlotAccount}
 use Rattle.kept_rows.specs.Acknowledged.{WiresGoOn}
 use Rattle.kept_rows.specs.Drained.{HasRow, IsChanged, IsDoneWith, IsDrained, IsOfNoOther, IsPassedOver, IsReadToItsEnd, WasOpenedWith}
-use Rattle.kept_rows.specs.Followed.{HasOtherKey}
+use Rattle.file_identity.specs.AskedAgain.{HasOtherKey}
 use Rattle.kept_rows.specs.Going.{AccountReadsOn, EpochReadsOn, EpochRests, EpochsGoOn, IsMadeFrom, ReadingsGoOn, RunGoesOn, SlotRests, TailGoesOn, TailsGoOn}
 use Rattle.kept_rows.specs.Kept.{ClosesSettled}
 use Rattle.kept_rows.specs.Lost.{HadNoOpenTail, IsReadAndSettled, WasClosedBefore, WasClosedBehind, WasInactiveRightly, WasPassedOverAsOld, WasRemovedRightly, moment_or_first}

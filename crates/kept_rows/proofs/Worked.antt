@@ -41,7 +41,8 @@ use Rattle.kept_rows.specs.Account.{AccountedEvent, EpochAccount, FollowedTail, 
 use Rattle.kept_rows.specs.Acknowledged.{IsAcknowledgedAt}
 use Rattle.kept_rows.specs.Drained.{IsDoneWith, IsDrained}
 use Rattle.kept_rows.specs.Epochs.{GoesOnFrom, WasListedWith}
-use Rattle.kept_rows.specs.Followed.{AreFollowed, EachOpeningServes, StillHasKey}
+use Rattle.file_identity.specs.AskedAgain.{StillHasKey}
+use Rattle.kept_rows.specs.Followed.{AreFollowed, EachOpeningServes}
 use Rattle.kept_rows.specs.Kept.{IsKept}
 use Rattle.kept_rows.specs.Premises.{Premises, TailKeepsIdentity, WasKnown}
 use Rattle.kept_rows.specs.Run.{Asking, Run, Scan}

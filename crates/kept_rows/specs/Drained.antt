@@ -14,7 +14,7 @@ use Rattle.told_events.specs.Licence.{whole_lines_end}
 use Rattle.wire_base.specs.KeyOrder.{compare}
 use Rattle.wire_base.specs.declared.row.Row.{Row}
 use Rattle.kept_rows.specs.Account.{EpochAccount, FollowedTail, Reading, SlotAccount, epoch_at, key_of, slot_at}
-use Rattle.kept_rows.specs.Followed.{HasOtherKey}
+use Rattle.file_identity.specs.AskedAgain.{HasOtherKey}
 use Rattle.kept_rows.specs.Run.{Asking, Run, Scan}
 use Rattle.kept_rows.specs.Scans.{AsksFor, Gave, IsCovered, IsOld, IsWhole, ShowsEntry, ShowsFile, ShowsFileTo, moment_in}
 use Rattle.kept_rows.specs.Telling.{opening_moment}

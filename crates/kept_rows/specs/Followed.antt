@@ -1,14 +1,13 @@
 -- How the file of a slot is followed (Filebeat reference, filestream input, file identity; this project's profile): with
 -- which epoch and place it is begun, which tails read it, and where its key was asked again.
-use Rattle.std.specs.Prelude.{◌≡◌, ◌≢◌, ◌⊎◌, ℕ, zero, suc, ◌+◌, ◌<◌, ◌≤◌, nat_le, List, [], ◌∷◌, ◌++◌, map, flat_map, codes, Contains, slice_get, Option, Some, None, IsSomeAnd, if◌then◌else◌}
+use Rattle.std.specs.Prelude.{◌≡◌, ◌⊎◌, ℕ, zero, suc, ◌+◌, ◌<◌, ◌≤◌, nat_le, List, [], ◌∷◌, ◌++◌, map, flat_map, codes, Contains, slice_get, Option, Some, None, IsSomeAnd, if◌then◌else◌}
 use Rattle.std.specs.List.{AllByRecursion, filter_map}
 use Rattle.event_tree.specs.declared.input_rule.InputRule.{InputRule}
-use Rattle.file_identity.specs.Asking.{IsAsking, given_key}
+use Rattle.file_identity.specs.AskedAgain.{IsRead, KeepsKey, StillHasKey}
 use Rattle.file_looks.specs.Reading.{ReadOn}
 use Rattle.file_looks.specs.Segment.{Segment, read_to, segments_of, steps_in}
 use Rattle.outside.specs.declared.history.Look.{Look}
-use Rattle.outside.specs.declared.history.Question.{Question}
-use Rattle.outside.specs.declared.history.Question.TheVariants.{Length, ReadAt}
+use Rattle.outside.specs.declared.history.Question.TheVariants.{Length}
 use Rattle.outside.specs.declared.history.Shown.{Shown}
 use Rattle.outside.specs.declared.history.Sight.{Sight}
 use Rattle.outside.specs.Files.{File}
@@ -71,41 +70,7 @@ pub record IsBegun (run : Run) (following : Following) : Type 0 where
   pub scan_is : slice_get run.scans following.known_from ≡ Some scan
   pub starts : StartsAt following.known_from run scan following
 
--- ---- asked again
-
--- the looks are a whole asking that gave the key
-pub record GivesKey (rule : InputRule) (key path : List ℕ) (file : File) (looks : List Look) : Type 0 where
-  pub asking : IsAsking rule.file_identity looks
-  pub gave : given_key rule.id rule.file_identity path file looks ≡ Some key
-
-abbrev pub IsRead : Question → Type 0
-IsRead Length = ⊥
-IsRead (ReadAt place count) = Unit {0}
-
--- an asking gave the key, at once or again behind one that met a fault, before the length was asked
-pub record StillHasKey (rule : InputRule) (key path : List ℕ) (file : File) (looks : List Look) : Type 0 where
-  pub before : List Look
-  pub asked : List Look
-  pub behind : List Look
-  pub looks_are : looks ≡ before ++ (asked ++ behind)
-  pub only_reads : AllByRecursion (λ look. IsRead look.question) before
-  pub gives : GivesKey rule key path file asked
-
--- where a new life begins the file still has the key
-abbrev pub KeepsKey : InputRule → List ℕ → List ℕ → File → Segment → Type 0
-KeepsKey rule key path file segment = (segment.fall ≡ None) ⊎ StillHasKey rule key path file segment.looks
-
 -- ---- the tails
-
--- an asking behind these looks gave another key, or none
-pub record HasOtherKey (rule : InputRule) (key path : List ℕ) (file : File) (looks : List Look) : Type 0 where
-  pub before : List Look
-  pub asked : List Look
-  pub behind : List Look
-  pub looks_are : looks ≡ before ++ (asked ++ behind)
-  pub only_reads : AllByRecursion (λ look. IsRead look.question) before
-  pub asking : IsAsking rule.file_identity asked
-  pub other : given_key rule.id rule.file_identity path file asked ≢ Some key
 
 -- behind the looks of the tail the length was below the place up to which was read, and no asking gave the key any more
 pub record LostItsKey (rule : InputRule) (key path : List ℕ) (file : File) (tail : FollowedTail) : Type 0 where

@@ -11,7 +11,7 @@ use Rattle.file_looks.specs.Step.{Step, read_by}
 use Rattle.file_looks.specs.Truncation.{SeesTruncations}
 use Rattle.outside.specs.Files.{File, life_of}
 use Rattle.kept_rows.specs.Account.{FollowedTail, Following}
-use Rattle.kept_rows.specs.Followed.{StillHasKey}
+use Rattle.file_identity.specs.AskedAgain.{StillHasKey}
 use Rattle.kept_rows.specs.Run.{Run, Scan}
 use Rattle.kept_rows.specs.Scans.{ShowsFile}
 use Rattle.kept_rows.specs.Trace.{IsTail}

@@ -1,0 +1,29 @@
+-- What asking the tail for its key gave, where the length had fallen (Filebeat reference, file identity).
+use Rattle.std.specs.Prelude.{◌≡◌, ◌≢◌, ℕ, Bool, true, false, List, Option, Some, Result, Ok, Err, IfOk}
+use Rattle.file_identity.specs.Answers.{with_numbers}
+use Rattle.file_identity.specs.Asking.{IsAsking, IsPartOfAsking, given_key}
+use Rattle.file_identity.specs.Reading.{Adds}
+use Rattle.outside.specs.declared.history.Look.{Look}
+use Rattle.outside.specs.Files.{File}
+use Rattle.outside.specs.Tails.{TailHistory}
+use Rattle.harvester.specs.declared.turn.Turn.{Turn}
+use Rattle.harvester.specs.declared.turn.Turn.TheVariants.{Changed}
+use Rattle.harvester.specs.declared.turn_error.TurnError.{TurnError}
+use Rattle.harvester.specs.Held.{Held}
+
+-- whether it is the key with which the harvester was opened
+abbrev pub IsGivenKey : Held → File → List Look → Result Bool TurnError → Type 0
+IsGivenKey held file looks (Ok true) = IsAsking held.identity looks × (given_key held.input held.identity held.begin.path file looks ≡ Some held.begin.key)
+IsGivenKey held file looks (Ok false) = IsAsking held.identity looks × (given_key held.input held.identity held.begin.path file looks ≢ Some held.begin.key)
+IsGivenKey held file looks (Err error) = IsPartOfAsking held.identity looks
+
+pub record WasAsked (held : Held) (numbers : Option (ℕ × ℕ)) (told : TailHistory) (result : Result Bool TurnError) (after : Option TailHistory) : Type 0 where
+  pub looks : List Look
+  pub added : Adds told looks after
+  pub gave : IsGivenKey held (with_numbers numbers told.file) looks result
+
+-- the turn by that answer: a new life or the last epoch where it is the key, another key where it is not
+abbrev pub IsAnswerTo : Result Bool TurnError → Result Turn TurnError → Type 0
+IsAnswerTo (Ok true) result = IfOk result (λ turn. turn ≢ Changed)
+IsAnswerTo (Ok false) result = result ≡ Ok Changed
+IsAnswerTo (Err error) result = result ≡ Err error

@@ -1,0 +1,9 @@
+pub mod Asked
+pub mod Deciding
+pub mod Gathered
+pub mod Held
+pub mod History
+pub mod InRange
+pub mod Looked
+pub mod Standing
+pub mod Turned

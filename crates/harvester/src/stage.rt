@@ -1,0 +1,12 @@
+/// Where a file stands.
+#[derive(Clone, Copy, Debug, PartialEq, Eq)]
+pub(crate) enum Stage {
+    /// It is read on.
+    Reading,
+    /// Its length was below what was read, and its key was not told yet.
+    Asking,
+    /// Its end was found, and it is read no further.
+    Ended,
+    /// It has another key, or the last epoch is over.
+    Changed,
+}
