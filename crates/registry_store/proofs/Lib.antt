@@ -1,6 +1,7 @@
 mod Beside
 mod Bodies
 mod Choosing
+mod Few
 pub mod InARow
 mod Moments
 mod Opening

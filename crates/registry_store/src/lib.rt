@@ -17,7 +17,7 @@ mod store_error;
 mod writing;
 
 pub use choice::Pick;
-pub use laws::one_choice;
+pub use laws::{few_by_length, one_choice};
 pub use pick_error::PickError;
 pub use picking::pick;
 pub use starting::checkpoint;
