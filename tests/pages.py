@@ -30,6 +30,8 @@ PLACEHOLDER = re.compile(r"\b[A-Z]+\b")
 REFERENCE = {
     "SO_SNDTIMEO",
     "close.on_state_change.inactive",
+    "backoff.init",
+    "backoff.max",
     "close.reader.on_eof",
     "flock",
     "max_retries",
