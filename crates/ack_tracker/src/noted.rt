@@ -135,12 +135,7 @@ fn give(slots: &mut SlotsByKey, alloc: Global, key: &Text, slot: u32) -> Result<
     }
 }
 
-fn give_first(
-    slots: &mut SlotsByKey,
-    alloc: Global,
-    key: &Text,
-    slot: u32,
-) -> Result<(), NoMemory>
+fn give_first(slots: &mut SlotsByKey, alloc: Global, key: &Text, slot: u32) -> Result<(), NoMemory>
     requires { at_key slots.old.entries key.now ≡ None }
     ensures keeps { KeepsSlots slots.old.entries slots.new.entries }
     ensures given { OnOk result (Contains (slots_at slots.new.entries key.now) slot) }

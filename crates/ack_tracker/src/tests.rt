@@ -224,7 +224,10 @@ fn changes_since_the_last_commit(rt: HostRuntime) -> Result<(), Fail> {
     tracker.committed();
     forget(alloc, &mut tracker, 1, 4)?;
     let mut changes = tracker.changes(alloc)?;
-    assert_eq!(rt; changes.pop(), Some(Op::Remove(Text::from_bytes(alloc, b"b")?)));
+    assert_eq!(rt;
+        changes.pop(),
+        Some(Op::Remove(Text::from_bytes(alloc, b"b")?))
+    );
     assert_eq!(rt; changes.pop(), None);
     Ok(())
 }

@@ -289,7 +289,7 @@ after_change key was now = by_case (change_of key was now) refl
     by_case None is = unchanged key was now is
     by_case (Some op) is = ap row_in (changed key was now op is).1 ∙ row_for_op key now
 
-found_member : (op : Op) (ops : List Op) → AreAscending ops → Contains ops op → entries.find key_in (key_in op) ops ≡ Some op
+pub found_member : (op : Op) (ops : List Op) → AreAscending ops → Contains ops op → entries.find key_in (key_in op) ops ≡ Some op
 found_member op [] ascending there = absurd (none_there op there)
 found_member op (first ∷ ops) ascending there = by_case (there_cases first op ops there) (found_member op ops ascending.1)
   where

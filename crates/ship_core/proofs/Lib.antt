@@ -12,3 +12,4 @@ mod Leading
 mod Slots
 mod Passes
 mod Working
+mod Storing

@@ -13,7 +13,7 @@ use Rattle.wire_base.specs.KeyOrder as entries
 use Rattle.ship_core.specs.Changes.{LeadTo, change_of, key_in, op_for}
 use Rattle.ship_core.specs.Orderly.{MayFollow}
 use Rattle.ship_core.specs.Replay.{after_op, replay}
-use Rattle.ship_core.specs.RowOver.{Start, notes_of, start_over}
+use Rattle.ship_core.specs.RowOver.{Start, notes_of, row_over, start_over}
 use Rattle.ship_core.specs.Rows.{find}
 use Rattle.ship_core.specs.RowsOver.{AreRowsOver, row_for}
 
@@ -87,3 +87,22 @@ IsQuiet (Noted note) = Unit {0}
 IsQuiet Commit = Unit {0}
 IsQuiet (Crash left) = ⊥
 IsQuiet Restart = ⊥
+
+-- a commit or a crash
+abbrev pub IsStoring : CoreStep → Type 0
+IsStoring (Noted note) = ⊥
+IsStoring Commit = Unit {0}
+IsStoring (Crash left) = Unit {0}
+IsStoring Restart = ⊥
+
+-- one of the steps stores the row: a slot has it over the notes that stand there
+pub record IsStoredBy (core : Core) (steps : List CoreStep) (row : Row) : Type 0 where
+  pub front : List CoreStep
+  pub step : CoreStep
+  pub rest : List CoreStep
+  pub parts : steps ≡ front ++ step ∷ rest
+  pub stores : IsStoring step
+  pub before : Core
+  pub run : Runs core front before
+  pub slot : ℕ
+  pub is : row_over slot before.notes ≡ Some row

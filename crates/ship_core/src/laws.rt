@@ -9,6 +9,8 @@ ghost use Rattle.wire_base.specs.declared.note.Note.TheVariants.{Settle};
 ghost use Rattle.wire_base.specs.declared.row.Row.{Row};
 ghost use Rattle.wire_base.specs.declared.row.Op.{Op};
 ghost use Rattle.wire_base.specs.declared.row.Op.TheVariants.{Set, Remove};
+ghost use Rattle.ship_core.specs.declared.step.CoreStep.{CoreStep};
+ghost use Rattle.ship_core.specs.Machine.{Core, IsQuiet, IsStoredBy, Runs, at_start};
 ghost use Rattle.ship_core.specs.Rows.{IsInOrder, find};
 ghost use Rattle.ship_core.specs.Replay.{after_op};
 ghost use Rattle.ship_core.specs.Changes.{AreKeysAscending, LeadTo, change_of, changes_at, key_in};
@@ -183,4 +185,19 @@ pub fn note_by_key()
     ensures { (opening : List Row) (notes : List Note) (note : Note) (key : List ℕ) →
         (Contains (slots_for key (notes ++ note ∷ [])) (slot_of note) → ⊥) →
         row_for opening (notes ++ note ∷ []) key ≡ row_for opening notes key }
+{}
+
+/// Between crashes and restarts no row goes back: over notes and commits the row of a slot that was begun goes back in neither
+/// epoch, nor offset, nor the moment of its last change, and one that went stays gone. A law; it computes nothing.
+pub fn no_row_goes_back_while_it_runs()
+    ensures { (core new : Core) (steps : List CoreStep) → Runs core steps new → All IsQuiet steps →
+        (slot : ℕ) → IsBegun slot core.notes →
+        RowGoesOn (row_over slot core.notes) (row_over slot new.notes) }
+{}
+
+/// Each row that an update sets is the row of some slot over the notes that stand before a commit or a crash: so each offset
+/// that was stored is the covered end of spans that were settled before. A law; it computes nothing.
+pub fn updates_come_from_notes()
+    ensures { (steps : List CoreStep) (core : Core) (row : Row) → Runs at_start steps core →
+        Contains core.updates (Set row) → IsStoredBy at_start steps row }
 {}

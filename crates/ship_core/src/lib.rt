@@ -22,8 +22,9 @@ mod world;
 pub use changes::change;
 pub use laws::{
     changes_by_key, covered_end_by_spans, covered_end_by_steps, covered_end_closes_a_prefix,
-    no_row_goes_back, note_by_key, older_epochs_change_nothing, one_life, order_does_not_matter,
-    orderly_by_one_more, row_by_slots, rows_by_key, slots_by_begin, update_by_key,
+    no_row_goes_back, no_row_goes_back_while_it_runs, note_by_key, older_epochs_change_nothing,
+    one_life, order_does_not_matter, orderly_by_one_more, row_by_slots, rows_by_key,
+    slots_by_begin, update_by_key, updates_come_from_notes,
 };
 pub use rows::Rows;
 pub use step::CoreStep;

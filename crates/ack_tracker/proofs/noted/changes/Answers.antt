@@ -19,7 +19,7 @@ loop-key-preserved-in-Continue-branch-3 c =
     let op = c.in-Some-2.op in
     record {
       so_far = one_more_told (change_now c.args.files.now.entries c.args.slots.now.entries) c.loop-key.ops.items c.push.new.self.items c.loop-key.key-iterator c.next.new.self (c.in-Some.key.now, c.in-Some.was.now) op _ c.loop-key.invariant.so_far
-        (rest_more deref_pair c.loop-key.key-iterator c.next.new.self c.next.result (c.in-Some.key, c.in-Some.was) c.in-Some.is c.next.ensures.steps)
-        (sym c.in_ok-op.ensures.change ∙ c.in-Some-2.is) c.in_ok-push.ensures.items;
+          (rest_more deref_pair c.loop-key.key-iterator c.next.new.self c.next.result (c.in-Some.key, c.in-Some.was) c.in-Some.is c.next.ensures.steps)
+          (sym c.in_ok-op.ensures.change ∙ c.in-Some-2.is) c.in_ok-push.ensures.items;
       in_range = subst (λ (ops : List Op). All IsOp ops) (sym c.in_ok-push.ensures.items) (All-push IsOp c.loop-key.ops.items op c.loop-key.invariant.in_range (subst (λ (o : Option Op). IfSome o IsOp) c.in-Some-2.is c.in_ok-op.ensures.in_range));
     }
