@@ -43,6 +43,17 @@ ENVELOPE = len(
     '"log":{"file":{"path":"/var/log/app.log"},"offset":0},"message":""}'
 )
 
+# the bytes of a message that is filtered or processed
+LINE = 120
+
+FILTERS = [("one", "one literal"), ("ten", "ten alternations")]
+
+FINGERPRINTS = [1_024, 1_048_576]
+
+# the parts on scans, the parts beside them, and whether every file is renamed
+SCANS = [("compared", "mapped", False), ("renamed", "mapped-renamed", True)]
+FILES = [1_000, 10_000, 65_536]
+
 # each figure is the least of so many runs, and each run makes calls for at least so many seconds
 RUNS = 5
 LEAST = 0.2
@@ -85,6 +96,46 @@ escapes between quotation marks. Neither has anything to escape.
 |---:|---:|---:|---:|
 """
 
+FILTER = f"""
+## `Filter::verdict`
+
+A message of {LINE} bytes and a filter that excludes by one pattern, which is not found in it, beside a search for the same
+pattern by `regex` alone, over the same bytes.
+
+| Pattern | Verdicts a second | Searches a second | Times the time of `regex` |
+|---|---:|---:|---:|
+"""
+
+CHAIN = f"""
+## `Chain::run`
+
+An event whose message has {LINE} bytes: its tree is made, `add_fields`, `add_tags`, `rename` and `drop_fields` change it, a
+`drop_event` asks whether its message contains a text and drops nothing, and its payload is written. Beside it `serde_json`
+makes the same object of its fields and writes it, and `event_payload` writes the event without processors.
+
+| Events a second | Objects by `serde_json` a second | Times their time | Times an event without processors |
+|---:|---:|---:|---:|
+"""
+
+FINGERPRINT = """
+## `opened_key`
+
+The key of a file in memory by its SHA-256, read in pieces, beside `sha2` alone over the same bytes at once.
+
+| Bytes | Keys a second | Digests a second | Times the time of `sha2` |
+|---:|---:|---:|---:|
+"""
+
+SCAN = """
+## `Prospector::compare`
+
+A scan of so many files compared with what is known, where nothing changed and where every file has another path, beside a
+loop that looks each key up in a `BTreeMap` and tells the same changes.
+
+| Files | | Microseconds a scan | Nanoseconds a file | By the map, microseconds | Times its time |
+|---:|---|---:|---:|---:|---:|
+"""
+
 QUEUE = f"""
 ## The event queue
 
@@ -122,9 +173,8 @@ def least_time(part, length, turns, wanted=None):
     return min(time_of(part, length, turns, wanted) for _ in range(RUNS))
 
 
-def turns_for(part, length):
+def turns_for(part, length, turns=1000):
     """How many calls take long enough to be measured."""
-    turns = 1000
     while time_of(part, length, turns) < LEAST:
         turns *= 2
     return turns
@@ -133,6 +183,53 @@ def turns_for(part, length):
 def seconds_a_call(part, length, wanted, fixed):
     turns = turns_for(part, length)
     return (least_time(part, length, turns, wanted) - fixed) / turns
+
+
+def seconds_beside(part, length, each, turns=1000):
+    """Seconds a call, less what the part does before its first; each call adds so much to what is printed."""
+    turns = turns_for(part, length, turns)
+    return (least_time(part, length, turns, each * turns) - least_time(part, length, 0, 0)) / turns
+
+
+def filter_table():
+    text = FILTER
+    for part, name in FILTERS:
+        verdict, search = (seconds_beside(f"{what}-{part}", LINE, 1) for what in ("filter", "regex"))
+        print(f"{name:>17} {1 / verdict:>12.0f} verdicts a second, {verdict / search:.2f} times regex", flush=True)
+        text += f"| {name} | {1 / verdict:.0f} | {1 / search:.0f} | {verdict / search:.2f} |\n"
+    return text
+
+
+def chain_table(fixed):
+    sizes = {subprocess.check_output([PROGRAM, part, str(LINE), "1"]) for part in ("processed", "built")}
+    if len(sizes) != 1:
+        raise SystemExit(f"processed and built write payloads of other sizes: {sizes}")
+    size = int(sizes.pop())
+    event, made = (seconds_a_call(part, LINE, size, fixed) for part in ("processed", "built"))
+    plain = seconds_a_call("payloads", LINE, LINE + ENVELOPE, fixed)
+    print(f"{1 / event:>12.0f} events a second, {event / made:.2f} times serde_json, {event / plain:.2f} times without", flush=True)
+    return CHAIN + f"| {1 / event:.0f} | {1 / made:.0f} | {event / made:.2f} | {event / plain:.2f} |\n"
+
+
+def fingerprint_table():
+    text = FINGERPRINT
+    for length in FINGERPRINTS:
+        key, digest = (seconds_beside(part, length, 1, 16) for part in ("fingerprints", "digests"))
+        print(f"{length:>8} bytes {1 / key:>10.0f} keys a second, {key / digest:.2f} times sha2", flush=True)
+        text += f"| {length:,} | {1 / key:.0f} | {1 / digest:.0f} | {key / digest:.2f} |\n"
+    return text
+
+
+def scan_table():
+    text = SCAN
+    for part, other, renamed in SCANS:
+        for files in FILES:
+            told, what = (files, "all renamed") if renamed else (0, "nothing changed")
+            scan, beside = (seconds_beside(one, files, told, 4) for one in (part, other))
+            micros, nanos = scan * 1e6, scan / files * 1e9
+            print(f"{files:>6} files, {what:>15} {micros:>9.0f} microseconds, {scan / beside:.2f} times the map", flush=True)
+            text += f"| {files:,} | {what} | {micros:.0f} | {nanos:.0f} | {beside * 1e6:.0f} | {scan / beside:.2f} |\n"
+    return text
 
 
 def covers_table(fixed):
@@ -207,7 +304,10 @@ def main():
         runs=RUNS,
         fixed=fixed * 1e3,
     )
-    RESULTS.write_text(head + transport_table() + cut_table(fixed) + payloads_table(fixed) + queue_table() + covers_table(fixed))
+    leaves = [filter_table(), chain_table(fixed), fingerprint_table(), scan_table()]
+    RESULTS.write_text(
+        head + transport_table() + cut_table(fixed) + payloads_table(fixed) + "".join(leaves) + queue_table() + covers_table(fixed)
+    )
     print(f"written to {RESULTS.relative_to(ROOT)}")
 
 

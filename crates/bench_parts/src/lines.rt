@@ -31,8 +31,8 @@ pub(crate) fn single() -> GroupRule
     }
 }
 
-// The text, where it is a pattern.
-fn pattern(alloc: Global, text: &str) -> Result<Text, NoMemory>
+/// The text, where it is a pattern.
+pub(crate) fn pattern(alloc: Global, text: &str) -> Result<Text, NoMemory>
     ensures { IfOk result IsLinePattern }
 {
     if is_line_pattern(alloc, text)? {

@@ -10,20 +10,35 @@
 //! LENGTH letters, `line LENGTH TURNS` one long line in pieces of LENGTH letters, and `traces FRAMES
 //! TURNS` stack traces of FRAMES lines; each prints how many events have ended. `feeds-lines`,
 //! `feeds-line` and `feeds-traces` count the line feeds of the same bytes.
+//!
+//! `filter-one LENGTH TURNS` and `filter-ten` filter TURNS times a message of LENGTH bytes by a pattern of one literal and
+//! of ten, and `regex-one` and `regex-ten` look for them alone. `processed LENGTH TURNS` runs processors over TURNS events
+//! of such a message and writes their payloads, and `built` makes and writes the same object by `serde_json`.
+//! `fingerprints LENGTH TURNS` asks TURNS times for the key of a file by LENGTH bytes, and `digests` for their SHA-256
+//! alone. `compared FILES TURNS` compares TURNS scans of FILES files that do not change, `renamed` such that rename them
+//! all, and `mapped` and `mapped-renamed` do the same by a map.
 #![tactic(auto)]
 
+mod chains;
 mod escapes;
 mod exchange;
+mod filters;
+mod fingerprints;
 mod lines;
 mod locked;
+mod scans;
 
 ghost use Rattle.std.specs.Prelude.{◌≡◌};
 ghost use Rattle.glob_paths.specs.Cover.{Covers};
 
+use crate::chains::{built, processed};
 use crate::escapes::escaped;
 use crate::exchange::through_queue;
+use crate::filters::{ONE, TEN, kept, missed};
+use crate::fingerprints::{digests, keys};
 use crate::lines::{events, line_feeds, long_line, single, traces};
 use crate::locked::through_lock;
+use crate::scans::{compared, mapped};
 use event_json::event_payload;
 use glob_paths::Glob;
 use std::alloc::Global;
@@ -102,6 +117,30 @@ fn found_feeds(alloc: Global, kind: &str, length: usize, turns: u64) -> anyhow::
     Ok(line_feeds(piece(alloc, kind, length)?.as_bytes(), turns))
 }
 
+// What the parts on filters, processors, fingerprints and scans print; none for any other.
+fn leaf_figure(
+    alloc: Global,
+    name: &str,
+    length: usize,
+    turns: u64,
+) -> anyhow::Result<Option<u64>> {
+    Ok(Some(match name {
+        "filter-one" => kept(alloc, ONE, length, turns)?,
+        "filter-ten" => kept(alloc, TEN, length, turns)?,
+        "regex-one" => missed(alloc, ONE, length, turns)?,
+        "regex-ten" => missed(alloc, TEN, length, turns)?,
+        "processed" => processed(alloc, length, turns)?,
+        "built" => built(alloc, length, turns)?,
+        "fingerprints" => keys(alloc, length, turns)?,
+        "digests" => digests(alloc, length, turns)?,
+        "compared" => compared(alloc, length, turns, false)?,
+        "renamed" => compared(alloc, length, turns, true)?,
+        "mapped" => mapped(alloc, length, turns, false)?,
+        "mapped-renamed" => mapped(alloc, length, turns, true)?,
+        _ => return Ok(None),
+    }))
+}
+
 fn main(rt: HostRuntime) -> anyhow::Result<ExitCode> {
     let words: Vec<String> = env::args(&rt)?.collect(rt.alloc())?;
     let [_, name, length, turns] = words.as_slice() else {
@@ -124,7 +163,10 @@ fn main(rt: HostRuntime) -> anyhow::Result<ExitCode> {
         "feeds-lines" => found_feeds(rt.alloc(), "lines", length, turns)?,
         "feeds-line" => found_feeds(rt.alloc(), "line", length, turns)?,
         "feeds-traces" => found_feeds(rt.alloc(), "traces", length, turns)?,
-        _ => return usage(&rt),
+        other => match leaf_figure(rt.alloc(), other, length, turns)? {
+            Some(figure) => figure,
+            None => return usage(&rt),
+        },
     };
     println!(rt; "{figure}")?;
     Ok(ExitCode::SUCCESS)
