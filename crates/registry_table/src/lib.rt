@@ -6,4 +6,6 @@
 #[cfg(test)]
 mod reading_tests;
 #[cfg(test)]
+mod store_tests;
+#[cfg(test)]
 mod tests;

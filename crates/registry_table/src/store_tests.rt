@@ -1,0 +1,147 @@
+ghost use Rattle.std.specs.Prelude.{All, IfOk};
+ghost use Rattle.wire_base.specs.Ranges.{IsOp};
+
+use outside_mem::MemDisk;
+use registry_store::{Store, StoreError, checkpoint, few_by_length};
+use ship_core::Rows;
+use std::alloc::Global;
+use std::process::Abort;
+use std::test::Fail;
+use wire_base::{Epoch, Moment, Op, Row, Text, Which};
+
+const FIRST: &[u8] =
+    b"{beat 2 00000000000000000001\n{0000091 [{\"epoch\":0,\"key\":\"filestream::w::path::/w/a.log\",\"offset\":4,\"op\":\"set\",\"path\":\"/w/a.log\"}]\n.";
+
+const LATER: &[u8] =
+    b"{beat 2 00000000000000000001\n{0000091 [{\"epoch\":0,\"key\":\"filestream::w::path::/w/a.log\",\"offset\":6,\"op\":\"set\",\"path\":\"/w/a.log\"}]\n.";
+
+// All that a checkpoint of generation 2 writes, but for the opening of its first gate.
+const ABANDONED: &[u8] =
+    b".beat 2 00000000000000000002\n{0000091 [{\"epoch\":0,\"key\":\"filestream::w::path::/w/a.log\",\"offset\":4,\"op\":\"set\",\"path\":\"/w/a.log\"}]\n.";
+
+// What stands behind the gate of a record with the offset 6.
+const RECORD: &[u8] =
+    b"0000091 [{\"epoch\":0,\"key\":\"filestream::w::path::/w/a.log\",\"offset\":6,\"op\":\"set\",\"path\":\"/w/a.log\"}]\n.";
+
+const NO_AREA: &[u8] = b"{\"x\":1}";
+
+fn setting(rt: &impl Abort, alloc: Global, offset: u64) -> Result<Op, Fail>
+    ensures { IfOk result IsOp }
+{
+    let key = b"filestream::w::path::/w/a.log";
+    let path = b"/w/a.log";
+    assert!(rt; key.len() <= 8_192 && path.len() <= 4_096 && offset < 1 << 63);
+    Ok(Op::Set(Row {
+        key: Text::from_bytes(alloc, key)?,
+        path: Text::from_bytes(alloc, path)?,
+        epoch: Epoch(0),
+        offset,
+        changed: Moment(0),
+    }))
+}
+
+fn commit(
+    rt: &impl Abort,
+    alloc: Global,
+    store: &mut Store,
+    a: &mut MemDisk,
+    b: &mut MemDisk,
+    ops: &[Op],
+) -> Result<(), StoreError>
+    requires { All IsOp ops.now }
+{
+    few_by_length();
+    let rows = store.rows().len();
+    assert!(rt; rows <= 1_000 && ops.len() <= 1_000);
+    store.commit(alloc, a, b, ops)
+}
+
+// The offset of the one row that two areas choose; 0 where there is none.
+fn offset_of(alloc: Global, a: &[u8], b: &[u8]) -> Result<u64, StoreError> {
+    let mut a = MemDisk::new(alloc, a)?;
+    let mut b = MemDisk::new(alloc, b)?;
+    let store = Store::open(alloc, &mut a, &mut b)?;
+    let rows = store.rows();
+    Ok(if rows.len() == 1 {
+        rows.at(0).offset
+    } else {
+        0
+    })
+}
+
+#[test]
+fn both_areas_broken(rt: HostRuntime) -> Result<(), Fail> {
+    let alloc = rt.alloc();
+    let bad = |area, at| Err(StoreError::Bad { area, at });
+    let cases: [(&[u8], &[u8], Result<u64, StoreError>); 8] = [
+        (NO_AREA, NO_AREA, bad(Which::A, 1)),
+        (FIRST, NO_AREA, Ok(4)),
+        (NO_AREA, FIRST, Ok(4)),
+        (FIRST, LATER, Ok(4)),
+        (ABANDONED, NO_AREA, bad(Which::B, 1)),
+        (b"", ABANDONED, bad(Which::B, 0)),
+        (ABANDONED, b"{", Ok(0)),
+        (b"", b"", Ok(0)),
+    ];
+    for (i, (a, b, opened)) in cases.iter().enumerate() {
+        assert_eq!(rt; offset_of(alloc, a, b), *opened, "case {i}");
+    }
+    Ok(())
+}
+
+#[test]
+fn abandoned_checkpoint_is_never_chosen(rt: HostRuntime) -> Result<(), Fail> {
+    let alloc = rt.alloc();
+    let mut rows = Rows::new(alloc);
+    rows.apply(alloc, setting(&rt, alloc, 6)?)?;
+    assert!(rt; rows.len() == 1);
+    for calls in 0..9 {
+        let mut b = MemDisk::new(alloc, ABANDONED)?;
+        b.stop_after(calls);
+        let gate = checkpoint(alloc, &mut b, 2, &rows);
+        assert_eq!(rt; gate.is_ok(), calls == 8, "after {calls} calls");
+        for pick in 0..4 {
+            let image = b.image(pick)?;
+            let offset = offset_of(alloc, LATER, image.bytes());
+            assert_eq!(rt; offset, Ok(6), "image {pick} after {calls} calls");
+        }
+    }
+    Ok(())
+}
+
+// An image with the bytes of the last sync shows each sync: whether it has the record, and what it is opened with.
+#[test]
+fn commit_is_two_writes_and_two_syncs(rt: HostRuntime) -> Result<(), Fail> {
+    let alloc = rt.alloc();
+    let lefts = [(false, 4), (false, 4), (true, 4), (true, 4), (true, 6)];
+    for (calls, (recorded, offset)) in lefts.iter().enumerate() {
+        let mut a = MemDisk::new(alloc, FIRST)?;
+        let mut b = MemDisk::new(alloc, b"")?;
+        let mut store = Store::open(alloc, &mut a, &mut b)?;
+        a = MemDisk::new(alloc, FIRST)?;
+        a.stop_after(calls as u64);
+        b.stop_after(0);
+        let ops = [setting(&rt, alloc, 6)?];
+        let empty = commit(&rt, alloc, &mut store, &mut a, &mut b, &[]);
+        let first = commit(&rt, alloc, &mut store, &mut a, &mut b, &ops);
+        let again = commit(&rt, alloc, &mut store, &mut a, &mut b, &[]);
+        let answers = if calls == 4 {
+            (Ok(()), Ok(()), Ok(()))
+        } else {
+            (Ok(()), Err(StoreError::DiskFault), Err(StoreError::Closed))
+        };
+        assert_eq!(rt; (empty, first, again), answers, "after {calls} calls");
+        let image = a.image(1)?;
+        assert_eq!(rt;
+            image.bytes().ends_with(RECORD),
+            *recorded,
+            "after {calls} calls"
+        );
+        assert_eq!(rt;
+            offset_of(alloc, image.bytes(), b""),
+            Ok(*offset),
+            "after {calls} calls"
+        );
+    }
+    Ok(())
+}
