@@ -1,5 +1,5 @@
 -- What is gathered, step by step.
-use Rattle.std.proofs.Common.{◌≡◌, ◌≢◌, ◌⊎◌, inl, inr, ℕ, suc, ◌+◌, ◌-◌, ◌<◌, ◌≤◌, Bool, true, false, List, [], ◌∷◌, ◌++◌, length, Contains, Option, Some, None, IfSome, IfNone, IfOk, OnOk, Result, Ok, Err, IsErr, IsTrue, IsSome, is_some, ◌↔◌, option_to_list, refl, sym, ap, subst, ◌∙◌, append_assoc, append-nil, arith}
+use Rattle.std.proofs.Common.{◌≡◌, ◌⊎◌, inl, inr, ℕ, ◌+◌, ◌<◌, ◌≤◌, Bool, true, false, List, [], ◌∷◌, ◌++◌, length, Contains, Option, Some, None, IfSome, IfNone, IfOk, OnOk, Result, Ok, Err, IsErr, IsTrue, IsSome, is_some, ◌↔◌, option_to_list, refl, sym, ap, subst, ◌∙◌, append_assoc, append-nil, arith}
 use Rattle.std.specs.Option.{ForSome}
 use Rattle.std.proofs.lemmas.List.Elements.{Contains-append_right}
 use Rattle.event_tree.specs.declared.group_rule.GroupRule.{GroupRule}
@@ -16,7 +16,7 @@ use Rattle.told_events.specs.Rules.{Rules}
 use Rattle.wire_base.specs.declared.memory.NoMemory.{NoMemory}
 use Rattle.wire_base.specs.declared.numbers.Moment.{Moment}
 use Rattle.harvester.specs.declared.events.Events.{Events}
-use Rattle.harvester.specs.Gathered.{AreClosed, AreCut, Gathered, IsClosedEvent, IsEnded, IsGathered, IsGatheredBut, Moved, all_flushed, all_told, flushed_at, lines_of}
+use Rattle.harvester.specs.Gathered.{AreClosed, AreCut, Gathered, IsGathered, IsGatheredBut, Moved, all_flushed, all_told, flushed_at, lines_of}
 
 pub on_ok : (r : Result (Unit {0}) NoMemory) (P Q : Type 0) → (P → Q) → OnOk r P → OnOk r Q
 on_ok (Ok done) P Q so here = so here

@@ -1,27 +1,21 @@
 -- The looks of a harvester's tail, as its history goes on.
-use Rattle.std.proofs.Common.{◌≡◌, ◌⊎◌, inl, inr, ℕ, ◌+◌, ◌<◌, ◌≤◌, Bool, true, false, List, [], ◌∷◌, ◌++◌, take, drop, Option, Some, None, IfSome, refl, sym, ap, subst, ◌∙◌, length, append_assoc, append-nil, length-append, arith}
+use Rattle.std.proofs.Common.{◌≡◌, inl, inr, ℕ, ◌+◌, true, List, [], ◌∷◌, ◌++◌, refl, sym, ap, subst, ◌∙◌, length, append_assoc, append-nil, length-append, arith}
 use Rattle.std.specs.List.{AllByRecursion}
 use Rattle.event_tree.specs.declared.input_rule.InputRule.{InputRule}
 use Rattle.event_tree.specs.declared.line_rule.LineRule.{LineRule}
-use Rattle.file_identity.specs.Answers.{with_numbers}
-use Rattle.file_identity.specs.AskedAgain.{HasOtherKey, IsRead, KeepsKey, StillHasKey}
+use Rattle.file_identity.specs.AskedAgain.{KeepsKey}
 use Rattle.file_looks.proofs.Going.{end_look_stays, place_stays}
-use Rattle.file_looks.specs.EndLook.{HadReadTo, HasEndLook}
 use Rattle.file_looks.specs.Going.{GoesOn}
-use Rattle.file_looks.specs.Segment.{Segment, read_to, segments_of, steps_in}
+use Rattle.file_looks.specs.Segment.{Segment, read_to}
 use Rattle.multiline_core.specs.Rule.{timeout_of}
 use Rattle.outside.specs.declared.history.Look.{Look}
-use Rattle.outside.specs.declared.history.Question.TheVariants.{Length, ReadAt}
-use Rattle.outside.specs.declared.history.Sight.{Sight}
-use Rattle.outside.specs.Files.{File, life_of}
-use Rattle.outside.specs.Tails.{TailHistory}
-use Rattle.told_events.proofs.Going.{all_behind}
-use Rattle.told_events.specs.Licence.{EndsAtEndLook, EndsWhatWasRead, IsLicensed, LieApart}
+use Rattle.outside.specs.Files.{File}
+use Rattle.told_events.specs.Licence.{IsLicensed, LieApart}
 use Rattle.wire_base.specs.declared.note.Begin.{Begin}
 use Rattle.harvester.specs.History.{HasBytes, History, Stage, Telling}
 use Rattle.harvester.specs.History as history
-use Rattle.harvester.specs.Looked.{AreReadBy, HasChanged, HasFallen, IsLicensedIn, IsLookedAt, IsReadBy, StandBehind}
-use Rattle.harvester.proofs.Segments.{ReadsMore, asks_length, asks_and_reads, begins_segment, last_goes_on, reads_nothing}
+use Rattle.harvester.specs.Looked.{AreReadBy, IsLicensedIn, IsReadBy}
+use Rattle.harvester.proofs.Segments.{ReadsMore}
 
 -- ---- licences stay
 

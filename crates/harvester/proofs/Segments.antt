@@ -8,9 +8,8 @@ use Rattle.outside.specs.declared.history.Sight.{Sight}
 use Rattle.outside.specs.Files.{File, life_of}
 use Rattle.file_identity.specs.AskedAgain.{IsRead}
 use Rattle.file_looks.proofs.Cutting.{segments_are}
-use Rattle.file_looks.specs.Going.{GoesOn}
 use Rattle.file_looks.specs.Reading.{ReadOn, StandsAt, bytes_at, bytes_read}
-use Rattle.file_looks.specs.Segment.{AreSegments, Cut, NoneFalls, Segment, cut_from, read_to, segments_of, steps_in, with_fall, with_look}
+use Rattle.file_looks.specs.Segment.{Cut, NoneFalls, Segment, cut_from, read_to, segments_of, steps_in, with_fall, with_look}
 use Rattle.file_looks.specs.Step.{Step, falls_below, place_behind, read_by, reaches, step_at, steps_from}
 use Rattle.told_events.proofs.Going.{all_behind, all_others}
 

@@ -1,6 +1,5 @@
 -- For which histories a harvester stands, step by step.
-use Rattle.std.proofs.Common.{◌≡◌, ◌≢◌, ◌⊎◌, inl, inr, ℕ, ◌+◌, ◌-◌, ◌<◌, ◌≤◌, Bool, true, false, List, [], ◌∷◌, ◌++◌, length, take, drop, Contains, Option, Some, None, option_to_list, refl, sym, ap, subst, ◌∙◌, append_assoc, append-nil, length-append, le_refl, add-zero, Result, arith}
-use Rattle.std.specs.List.{AllByRecursion}
+use Rattle.std.proofs.Common.{◌≡◌, ◌⊎◌, inl, inr, ℕ, ◌+◌, ◌-◌, ◌<◌, ◌≤◌, Bool, false, List, [], ◌∷◌, ◌++◌, length, take, drop, Contains, Option, Some, None, option_to_list, refl, sym, ap, subst, ◌∙◌, append_assoc, append-nil, length-append, le_refl, add-zero, Result, arith}
 use Rattle.std.proofs.lemmas.List.{length-take-le}
 use Rattle.event_tree.specs.declared.input_rule.IdentityRule.{IdentityRule}
 use Rattle.event_tree.specs.declared.input_rule.InputRule.{InputRule}
@@ -10,7 +9,7 @@ use Rattle.event_tree.specs.declared.line_rule.LineRule.{LineRule}
 use Rattle.line_cutter.specs.Lines.{complete_lines}
 use Rattle.line_cutter.specs.declared.line.Line.{Line}
 use Rattle.multiline_core.specs.Event.{IsNatural}
-use Rattle.multiline_core.specs.Message.{group_of, row_end, row_start}
+use Rattle.multiline_core.specs.Message.{row_end, row_start}
 use Rattle.multiline_core.specs.declared.group.Group.{Group}
 use Rattle.ship_core.specs.CoveredEnd.{last_end}
 use Rattle.told_events.specs.Fate.{fate_of}
@@ -31,11 +30,11 @@ use Rattle.harvester.specs.InRange.{IsReadable}
 use Rattle.harvester.specs.declared.events.Events.{Events}
 use Rattle.harvester.specs.Gathered.{AreClosed, AreCut, Found, Gathered, IsClosedEvent, IsGathered, all_told, lines_of, none_gathered}
 use Rattle.harvester.specs.Held.{Held}
-use Rattle.harvester.specs.History.{HasBytes, History, IsTelling, Telling, opened, rules_in, told_to, with_bytes, with_epoch, with_events, with_present, with_stage}
+use Rattle.harvester.specs.History.{History, IsTelling, opened, rules_in, told_to, with_bytes, with_epoch, with_events, with_present, with_stage}
 use Rattle.harvester.specs.Standing.{AllGathered, StandsFor, given_path, stage_of}
 use Rattle.harvester.proofs.Gathering.{row_end-append}
 use Rattle.harvester.proofs.Looking.{shorter}
-use Rattle.harvester.proofs.Telling.{SpanWithin, any_place, last_end-append, not_empty, one_told, span_within, spans_of-append}
+use Rattle.harvester.proofs.Telling.{any_place, last_end-append, not_empty, one_told, span_within, spans_of-append}
 
 -- ---- the closed event
 

@@ -1,5 +1,5 @@
 -- The closed event is told of each life that has what was read.
-use Rattle.std.proofs.Common.{◌≡◌, ◌≢◌, ◌⊎◌, inl, inr, ℕ, suc, ◌+◌, ◌-◌, ◌<◌, ◌≤◌, List, [], ◌∷◌, ◌++◌, length, take, drop, Contains, Option, Some, None, option_to_list, refl, sym, ap, subst, ◌∙◌, append_assoc, append-nil, drop-drop, length-append, le_refl, arith}
+use Rattle.std.proofs.Common.{◌≡◌, ◌≢◌, ◌⊎◌, inl, inr, ℕ, ◌+◌, ◌-◌, ◌<◌, ◌≤◌, List, [], ◌∷◌, ◌++◌, length, drop, Contains, refl, sym, ap, subst, ◌∙◌, append_assoc, drop-drop, length-append, le_refl, arith}
 use Rattle.event_tree.specs.declared.group_rule.GroupRule.{GroupRule}
 use Rattle.event_tree.specs.declared.line_rule.LineRule.{LineRule}
 use Rattle.line_cutter.specs.Cutting.{Cutting}
@@ -7,18 +7,16 @@ use Rattle.line_cutter.specs.Lines.{complete_lines}
 use Rattle.line_cutter.specs.Row.{AreAdjoining}
 use Rattle.line_cutter.specs.declared.line.Line.{Line}
 use Rattle.multiline_core.specs.Event.{IsNatural, IsUnended}
-use Rattle.multiline_core.specs.Gathering.{IsFlushable}
 use Rattle.multiline_core.specs.Message.{group_of, message_of, row_end, row_start}
 use Rattle.multiline_core.specs.Partition.{IsFlushedEvent, IsNaturalEvent, lines_from}
 use Rattle.multiline_core.specs.declared.group.Group.{Group}
 use Rattle.ship_core.specs.CoveredEnd.{last_end}
-use Rattle.told_events.specs.Fate.{Fate, fate_of}
+use Rattle.told_events.specs.Fate.{fate_of}
 use Rattle.told_events.specs.Rules.{Rules}
-use Rattle.told_events.specs.Told.{AreTold, HasFate, ToldEvent, spans_of}
-use Rattle.told_events.proofs.Going.{behind}
+use Rattle.told_events.specs.Told.{AreTold, ToldEvent, spans_of}
 use Rattle.wire_base.specs.Extent.{Extent}
-use Rattle.harvester.specs.Gathered.{AreCut, Gathered, IsClosedEvent, IsEnded, IsGatheredBut, lines_of}
-use Rattle.harvester.specs.History.{HasBytes, IsTelling, Telling, told_to, with_events}
+use Rattle.harvester.specs.Gathered.{AreCut, IsClosedEvent, IsEnded}
+use Rattle.harvester.specs.History.{HasBytes}
 use Rattle.harvester.proofs.Gathering.{row_end-append}
 
 pub last_end-append : (place : ℕ) (xs ys : List Extent) → last_end place (xs ++ ys) ≡ last_end (last_end place xs) ys

@@ -1,6 +1,6 @@
 -- What is gathered of the bytes that were fed of one life (Filebeat reference, filestream input and multiline messages;
 -- this project's profile): their complete lines, by what became of them.
-use Rattle.std.specs.Prelude.{◌≡◌, ◌≢◌, ◌⊎◌, ℕ, ◌+◌, ◌-◌, ◌≤◌, Bool, false, List, [], ◌∷◌, ◌++◌, length, Contains, Option, Some, None, Result, IfOk, option_to_list, map}
+use Rattle.std.specs.Prelude.{◌≡◌, ◌⊎◌, ℕ, ◌+◌, ◌-◌, ◌≤◌, Bool, false, List, [], ◌++◌, length, Contains, Option, Some, None, Result, IfOk, option_to_list, map}
 use Rattle.event_tree.specs.declared.line_rule.LineRule.{LineRule}
 use Rattle.line_cutter.specs.Cutting.{Cutting, HasCut, fed_to}
 use Rattle.line_cutter.specs.Lines.{complete_lines}

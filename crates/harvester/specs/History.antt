@@ -1,7 +1,7 @@
 -- What a harvester told of its file so far (Filebeat reference, filestream input and multiline messages; this project's
 -- profile): for each epoch what was read of it, where an event may be flushed, and the events that were told, each with
 -- its fate. The file of an epoch is told from its start on: the place with which the harvester began, or the first byte.
-use Rattle.std.specs.Prelude.{◌≡◌, ℕ, ◌+◌, ◌≤◌, Bool, false, true, List, [], ◌∷◌, ◌++◌, drop, length}
+use Rattle.std.specs.Prelude.{◌≡◌, ℕ, ◌+◌, ◌≤◌, Bool, false, List, [], ◌∷◌, ◌++◌, drop, length}
 use Rattle.event_tree.specs.declared.input_rule.InputRule.{InputRule}
 use Rattle.event_tree.specs.declared.processor_rule.ProcessorRule.{ProcessorRule}
 use Rattle.multiline_core.specs.Rule.{timeout_of}

@@ -1,5 +1,5 @@
 -- For which histories a harvester stands, the looks of its tail aside.
-use Rattle.std.specs.Prelude.{◌≡◌, ◌⊎◌, ℕ, ◌+◌, ◌<◌, ◌≤◌, Bool, true, List, [], ◌++◌, take, length, Contains, Option, Some, None}
+use Rattle.std.specs.Prelude.{◌≡◌, ◌⊎◌, ℕ, ◌<◌, ◌≤◌, Bool, true, List, [], ◌++◌, take, length, Contains, Option, Some, None}
 use Rattle.std.specs.List.{AllByRecursion}
 use Rattle.line_cutter.specs.Lines.{IsMessageLimit, complete_lines}
 use Rattle.multiline_core.specs.Message.{row_end}

@@ -8,7 +8,6 @@ use Rattle.wire_base.specs.declared.numbers.Slot.{Slot}
 use Rattle.harvester.specs.History.{Changed, History, with_epoch, with_stage}
 use Rattle.harvester.specs.declared.turn.Turn.{Turn}
 use Rattle.harvester.specs.declared.turn.Turn.TheVariants.{Issued, Passed, NewLife, EpochsOut}
-use Rattle.harvester.specs.declared.turn.Turn.TheVariants as Turn
 
 -- the event that the turn told of the file of this path
 abbrev pub events_told : List ℕ → ℕ → Turn → List ToldEvent

@@ -1,11 +1,11 @@
-use Rattle.std.proofs.Common.{◌≡◌, ◌⊎◌, IfNone, ℕ, Bool, true, false, List, [], ◌∷◌, Option, Some, None, option_to_list, refl, sym, ap, subst, ◌∙◌}
+use Rattle.std.proofs.Common.{◌≡◌, ◌⊎◌, IfNone, ℕ, Bool, false, List, [], ◌∷◌, Option, None, option_to_list, sym, ap, subst, ◌∙◌}
 use Rattle.line_cutter.specs.Cutting.{Cutting, fed_to}
 use Rattle.line_cutter.specs.Lines.{complete_lines}
 use Rattle.line_cutter.specs.declared.line.Line.{Line}
 use Rattle.told_events.specs.Rules.{Rules}
 use Rattle.wire_base.specs.declared.numbers.Moment.{Moment}
 use Rattle.harvester.specs.declared.events.Events.{Events}
-use Rattle.harvester.specs.Gathered.{Gathered, IsGathered, IsGatheredBut, Moved, lines_of}
+use Rattle.harvester.specs.Gathered.{Gathered, IsGathered, IsGatheredBut, lines_of}
 use Rattle.harvester.proofs.Gathering.{adjoins, moves_on, none_where_false, where_err}
 use Rattle.harvester.proofs.events.Events.find.Goals as goal
 

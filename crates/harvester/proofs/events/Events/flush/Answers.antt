@@ -1,4 +1,4 @@
-use Rattle.std.proofs.Common.{[], option_to_list}
+use Rattle.std.proofs.Common.{option_to_list}
 use Rattle.harvester.proofs.Gathering.{flushed, none_closed, none_too}
 use Rattle.harvester.proofs.events.Events.flush.Goals as goal
 
