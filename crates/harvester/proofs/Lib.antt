@@ -1,6 +1,9 @@
+pub mod Closing
 pub mod Deciding
 pub mod Gathering
 pub mod Looking
+pub mod LookSteps
+pub mod LookingOn
 pub mod Segments
 pub mod Standings
 pub mod Telling

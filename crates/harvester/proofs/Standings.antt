@@ -1,6 +1,7 @@
 -- For which histories a harvester stands, step by step.
-use Rattle.std.proofs.Common.{◌≡◌, ◌⊎◌, inl, inr, ℕ, ◌+◌, ◌-◌, ◌<◌, ◌≤◌, Bool, false, List, [], ◌∷◌, ◌++◌, length, take, drop, Contains, Option, Some, None, option_to_list, refl, sym, ap, subst, ◌∙◌, append_assoc, append-nil, length-append, le_refl, add-zero, Result, arith}
+use Rattle.std.proofs.Common.{◌≡◌, ◌⊎◌, inl, inr, ℕ, zero, suc, ◌+◌, ◌-◌, ◌<◌, ◌≤◌, Bool, true, false, IfOk, IfSome, OnErr, IsSome, IsTrue, ◌↔◌, List, [], ◌∷◌, ◌++◌, length, take, drop, Contains, Option, Some, None, option_to_list, refl, sym, ap, subst, ◌∙◌, append_assoc, append-nil, length-append, le_refl, add-zero, Result, Ok, Err, arith}
 use Rattle.std.proofs.lemmas.List.{length-take-le}
+use Rattle.std.proofs.lemmas.List.Elements.{Contains-append_left}
 use Rattle.event_tree.specs.declared.input_rule.IdentityRule.{IdentityRule}
 use Rattle.event_tree.specs.declared.input_rule.InputRule.{InputRule}
 use Rattle.event_tree.specs.declared.processor_rule.ProcessorRule.{ProcessorRule}
@@ -30,9 +31,9 @@ use Rattle.harvester.specs.InRange.{IsReadable}
 use Rattle.harvester.specs.declared.events.Events.{Events}
 use Rattle.harvester.specs.Gathered.{AreClosed, AreCut, Found, Gathered, IsClosedEvent, IsGathered, all_told, lines_of, none_gathered}
 use Rattle.harvester.specs.Held.{Held}
-use Rattle.harvester.specs.History.{History, IsTelling, opened, rules_in, told_to, with_bytes, with_epoch, with_events, with_present, with_stage}
+use Rattle.harvester.specs.History.{History, IsTelling, opened, rules_in, told_to, with_bytes, with_ending, with_epoch, with_events, with_path, with_present, with_stage}
 use Rattle.harvester.specs.Standing.{AllGathered, StandsFor, given_path, stage_of}
-use Rattle.harvester.proofs.Gathering.{row_end-append}
+use Rattle.harvester.proofs.Gathering.{none_where_false, row_end-append}
 use Rattle.harvester.proofs.Looking.{shorter}
 use Rattle.harvester.proofs.Telling.{any_place, last_end-append, not_empty, one_told, span_within, spans_of-append}
 
@@ -235,6 +236,31 @@ module _ (h : History) (held : Held) (t : StandsFor h held) where
         present = λ life has. t.present life (shorter h.present.start h.present.bytes (take count buffer) life has);
       }
 
+place_on : (at count : ℕ) → IsPlace at → (0 < count → IsPlace (at + count)) → IsPlace (at + count)
+place_on at zero here there = omega (arith, here)
+place_on at (suc count) here there = there (omega arith)
+
+-- bytes were read into the front of the buffer
+pub read_on : (h : History) (held : Held) → StandsFor h held → (buffer : List ℕ) (count : ℕ) (now : Moment) → held.filled ≡ 0 →
+    length buffer ≡ length held.buffer → count ≤ length buffer → (0 < count → IsPlace (held.position + count)) → Contains h.moments now.0 → IsMoment now →
+    StandsFor (with_present (with_bytes (take count buffer) h.present) h)
+    (record held { buffer = buffer; filled = count; position = held.position + count; read_at = now })
+read_on h held t buffer count now none room within in_range given moment =
+    read_stands h held t buffer count now none (omega (arith, room, t.position.some_room)) within
+    (place_on held.position count t.position.in_range in_range) given moment
+
+-- where no event is found, all complete lines are gathered
+pub all_where_found : (held old : Held) → held ≡ old → (events : Events) (r : Result Bool NoMemory) →
+    ((rules : Rules) (start : ℕ) (fed licences : List ℕ) (of : Gathered) → IsGathered rules start fed licences of held.events →
+    Found rules start fed licences of held.events.last_line held.read_at r events) → held.filled ≡ 0 →
+    IfOk r (λ (found : Bool). IsTrue found ↔ IsSome events.closed) →
+    IfOk r (λ (found : Bool). found ≡ false → (h : History) → StandsFor h old → AllGathered h (record held { events = events }))
+all_where_found held old same events (Ok b) finds none closed = λ no h stands.
+    let t = subst (λ (v : Held). StandsFor h v) (sym same) stands in
+    let found = finds (rules_in h) h.present.start t.has.fed h.present.licences t.has.of t.has.gathered in
+    all_found h held t events (Ok b) none (none_where_false b events.closed closed no) found (found.all no)
+all_where_found held old same events (Err error) finds none closed = tt
+
 -- ---- where the file stands, and with a small buffer
 
 module _ (h : History) (held : Held) (t : StandsFor h held) where
@@ -251,6 +277,77 @@ module _ (h : History) (held : Held) (t : StandsFor h held) where
       stage = refl;
       ends = t.follows.ends;
       forgets = t.follows.forgets;
+    };
+    moments = record { read_at = t.moments.read_at; last_line = t.moments.last_line; in_range = t.moments.in_range };
+    position = record { position = t.position.position; in_range = t.position.in_range; some_room = t.position.some_room; within = t.position.within };
+    has = record { fed = t.has.fed; of = t.has.of; bytes = t.has.bytes; gathered = t.has.gathered; told_to = t.has.told_to };
+    told_place = t.told_place;
+    past = t.past;
+    present = t.present;
+  }
+
+  -- with a further moment
+  pub turned_stands : (now : ℕ) (may_end : Bool) → StandsFor (record h { moments = h.moments ++ now ∷ []; may_end = may_end }) held
+  turned_stands now may_end = record {
+    follows = record {
+      begin = t.follows.begin;
+      path = t.follows.path;
+      input = t.follows.input;
+      identity = t.follows.identity;
+      askable = t.follows.askable;
+      limit = t.follows.limit;
+      epoch = t.follows.epoch;
+      stage = t.follows.stage;
+      ends = t.follows.ends;
+      forgets = t.follows.forgets;
+    };
+    moments = record {
+      read_at = Contains-append_left h.moments (now ∷ []) held.read_at.0 t.moments.read_at;
+      last_line = Contains-append_left h.moments (now ∷ []) held.events.last_line.0 t.moments.last_line;
+      in_range = t.moments.in_range;
+    };
+    position = record { position = t.position.position; in_range = t.position.in_range; some_room = t.position.some_room; within = t.position.within };
+    has = record { fed = t.has.fed; of = t.has.of; bytes = t.has.bytes; gathered = t.has.gathered; told_to = t.has.told_to };
+    told_place = t.told_place;
+    past = t.past;
+    present = t.present;
+  }
+
+  pub path_stands : (path : List ℕ) → StandsFor (with_path path h) (record held { renamed = Some path })
+  path_stands path = record {
+    follows = record {
+      begin = t.follows.begin;
+      path = refl;
+      input = t.follows.input;
+      identity = t.follows.identity;
+      askable = t.follows.askable;
+      limit = t.follows.limit;
+      epoch = t.follows.epoch;
+      stage = t.follows.stage;
+      ends = t.follows.ends;
+      forgets = t.follows.forgets;
+    };
+    moments = record { read_at = t.moments.read_at; last_line = t.moments.last_line; in_range = t.moments.in_range };
+    position = record { position = t.position.position; in_range = t.position.in_range; some_room = t.position.some_room; within = t.position.within };
+    has = record { fed = t.has.fed; of = t.has.of; bytes = t.has.bytes; gathered = t.has.gathered; told_to = t.has.told_to };
+    told_place = t.told_place;
+    past = t.past;
+    present = t.present;
+  }
+
+  pub ending_stands : (forget : Bool) → StandsFor (with_ending forget h) (record held { ends = true; forgets = forget })
+  ending_stands forget = record {
+    follows = record {
+      begin = t.follows.begin;
+      path = t.follows.path;
+      input = t.follows.input;
+      identity = t.follows.identity;
+      askable = t.follows.askable;
+      limit = t.follows.limit;
+      epoch = t.follows.epoch;
+      stage = t.follows.stage;
+      ends = refl;
+      forgets = refl;
     };
     moments = record { read_at = t.moments.read_at; last_line = t.moments.last_line; in_range = t.moments.in_range };
     position = record { position = t.position.position; in_range = t.position.in_range; some_room = t.position.some_room; within = t.position.within };
@@ -360,3 +457,35 @@ opened_stands rule processors begin before now held readable base moment is_begi
       past = tt;
       present = λ life has. record { partition = tt; fates = tt };
     }
+
+-- ---- steps one behind the other
+
+pub on_err : {A E : Type 0} (r : Result A E) (P : Type 0) → P → OnErr r P
+on_err (Ok value) P is = tt
+on_err (Err error) P is = is
+
+pub told_of : {A : Type 0} (o : Option A) (value : A) (P : A → Type 0) → o ≡ Some value → P value → IfSome o P
+told_of {A} o value P is holds = subst (λ (p : Option A). IfSome p P) (sym is) holds
+
+pub all_through : (r : Result Bool NoMemory) (old mid new : Held) → ((h : History) → StandsFor h old → StandsFor h mid) →
+    IfOk r (λ (found : Bool). found ≡ false → (h : History) → StandsFor h mid → AllGathered h new) →
+    IfOk r (λ (found : Bool). found ≡ false → (h : History) → StandsFor h old → AllGathered h new)
+all_through (Ok b) old mid new stands all = λ no h t. all no h (stands h t)
+all_through (Err error) old mid new stands all = tt
+
+-- the closed event was told, and it ends at this place
+pub passes : (h : History) (held : Held) → StandsFor h held → (group : Group) → held.events.closed ≡ Some group →
+    ((rule : LineRule) (start : ℕ) (bytes more : List ℕ) →
+    (later : List Line) × (complete_lines rule start (bytes ++ more) ≡ complete_lines rule start bytes ++ later)) →
+    ((rule : LineRule) (start : ℕ) (bytes : List ℕ) (given : List Line) (line : Line) (more : List Line) →
+    complete_lines rule start bytes ≡ given ++ line ∷ more → complete_lines rule line.span.end (drop (line.span.end - start) bytes) ≡ more) →
+    ((rule : GroupRule) (lines more row : List Line) → IsNatural rule lines row → IsNatural rule (lines ++ more) row) →
+    (event : ToldEvent) → event.span ≡ group.span → group.span.start < group.span.end →
+    event.fate ≡ fate_of (rules_in h) event.path group.span.start group.message event.now → (events : Events) (place : ℕ) → place ≡ group.span.end →
+    ((rules : Rules) (start : ℕ) (fed licences : List ℕ) (of : Gathered) → IsGathered rules start fed licences of held.events →
+    IsGathered rules start fed licences (all_told of) events) → events.last_line ≡ held.events.last_line →
+    StandsFor (with_present (with_events (event ∷ []) h.present) h) (record held { events = events; told_to = place })
+passes h held t group closed stay later natural event span some fate events place at passed last =
+    subst (λ (n : ℕ). StandsFor (with_present (with_events (event ∷ []) h.present) h) (record held { events = events; told_to = n })) (sym at)
+    (told_stands h held t group closed stay later natural event span some fate events
+    (passed (rules_in h) h.present.start t.has.fed h.present.licences t.has.of t.has.gathered) last)

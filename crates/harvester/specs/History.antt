@@ -1,7 +1,7 @@
 -- What a harvester told of its file so far (Filebeat reference, filestream input and multiline messages; this project's
 -- profile): for each epoch what was read of it, where an event may be flushed, and the events that were told, each with
 -- its fate. The file of an epoch is told from its start on: the place with which the harvester began, or the first byte.
-use Rattle.std.specs.Prelude.{◌≡◌, ℕ, ◌+◌, ◌≤◌, Bool, false, List, [], ◌∷◌, ◌++◌, drop, length}
+use Rattle.std.specs.Prelude.{◌≡◌, ℕ, ◌+◌, ◌≤◌, Bool, true, false, List, [], ◌∷◌, ◌++◌, drop, length}
 use Rattle.event_tree.specs.declared.input_rule.InputRule.{InputRule}
 use Rattle.event_tree.specs.declared.processor_rule.ProcessorRule.{ProcessorRule}
 use Rattle.multiline_core.specs.Rule.{timeout_of}
@@ -116,3 +116,10 @@ with_epoch history = record history { past = history.past ++ history.present ∷
 
 abbrev pub with_stage : Stage → History → History
 with_stage stage history = record history { stage = stage }
+
+abbrev pub with_path : List ℕ → History → History
+with_path path history = record history { path = path }
+
+-- later turns may find the end; whether the file is to be forgotten then
+abbrev pub with_ending : Bool → History → History
+with_ending forget history = record history { ends = true; forgets = forget }

@@ -1,9 +1,13 @@
 pub mod Asked
+pub mod Buffers
 pub mod Deciding
+pub mod Found
 pub mod Gathered
+pub mod HasTold
 pub mod Held
 pub mod History
 pub mod InRange
 pub mod Looked
 pub mod Standing
 pub mod Turned
+pub mod Turns

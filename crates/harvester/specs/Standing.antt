@@ -1,5 +1,5 @@
 -- For which histories a harvester stands, the looks of its tail aside.
-use Rattle.std.specs.Prelude.{◌≡◌, ◌⊎◌, ℕ, ◌<◌, ◌≤◌, Bool, true, List, [], ◌++◌, take, length, Contains, Option, Some, None}
+use Rattle.std.specs.Prelude.{◌≡◌, ◌⊎◌, ℕ, ◌<◌, ◌≤◌, Bool, true, List, [], ◌∷◌, ◌++◌, take, length, Contains, Option, Some, None}
 use Rattle.std.specs.List.{AllByRecursion}
 use Rattle.line_cutter.specs.Lines.{IsMessageLimit, complete_lines}
 use Rattle.multiline_core.specs.Message.{row_end}
@@ -11,11 +11,12 @@ use Rattle.harvester.specs.declared.stage.Stage.TheVariants as reader
 use Rattle.multiline_core.specs.declared.group.Group.{Group}
 use Rattle.told_events.specs.Fate.{fate_of}
 use Rattle.told_events.specs.Rules.{Rules}
+use Rattle.told_events.specs.Told.{ToldEvent}
 use Rattle.wire_base.specs.Extent.{Extent}
 use Rattle.harvester.specs.declared.fate_rules.EventFate.{EventFate}
 use Rattle.harvester.specs.Deciding.{shown}
 use Rattle.harvester.specs.Gathered.{Gathered, IsGathered, lines_of}
-use Rattle.harvester.specs.History.{HasBytes, History, IsTelling, Stage, Reads, Asks, Ended, Changed, read_to, rules_in, timeout_in, told_to, with_licences, with_present}
+use Rattle.harvester.specs.History.{HasBytes, History, IsTelling, Stage, Reads, Asks, Ended, Changed, read_to, rules_in, timeout_in, told_to, with_events, with_licences, with_present}
 use Rattle.harvester.specs.Held.{Held}
 
 abbrev pub stage_of : ReaderStage → Stage
@@ -102,3 +103,14 @@ pub record WasClosed (history : History) (ended : Bool) (held : Held) : Type 0 w
 -- its fate by the rules
 abbrev pub IsFateBy : Rules → List ℕ → ℕ → EventFate × Extent → Group → Type 0
 IsFateBy rules path now told group = shown told.0 ≡ fate_of rules path group.span.start group.message now
+
+-- the last of the moments is this one
+pub record EndsAt (moments : List ℕ) (now : ℕ) : Type 0 where
+  pub earlier : List ℕ
+  pub are : moments ≡ earlier ++ now ∷ []
+
+-- where an event is closed that is told with this span and fate, the history goes on with it
+abbrev pub TellsOne : History → ToldEvent → Held → Group → Type 0
+TellsOne history event after group =
+    event.span ≡ group.span → event.fate ≡ fate_of (rules_in history) event.path group.span.start group.message event.now →
+    StandsFor (with_present (with_events (event ∷ []) history.present) history) after

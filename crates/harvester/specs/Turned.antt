@@ -36,3 +36,9 @@ IsAskedIn before turn = ⊥
 -- at this moment; `last` says that its end may be found
 abbrev pub with_turn : ℕ → Bool → History → History
 with_turn now last history = record history { moments = history.moments ++ now ∷ []; may_end = history.may_end || (last || history.ends) }
+
+-- an event was told
+abbrev pub HasOneEvent : Turn → Type 0
+HasOneEvent (Issued parcel) = Unit {0}
+HasOneEvent (Passed span rule) = Unit {0}
+HasOneEvent turn = ⊥

@@ -1,4 +1,4 @@
-ghost use Rattle.std.specs.Prelude.{◌≡◌, ℕ, ◌+◌, ◌<◌, List, [], ◌∷◌, ◌++◌, true, false, length, IfOk, IfSome, IfNone, IsNone, IsSome, IsTrue, OnOk, OnErr, None, ◌↔◌, option_map};
+ghost use Rattle.std.specs.Prelude.{◌≡◌, ◌⊎◌, ℕ, ◌+◌, ◌<◌, List, [], ◌∷◌, ◌++◌, true, false, length, IfOk, IfSome, IfNone, IsNone, IsSome, IsTrue, OnOk, OnErr, None, ◌↔◌, option_map};
 ghost use Rattle.std.specs.Option.{ForSome, option_to_list};
 ghost use Rattle.event_tree.specs.declared.line_rule.LineRule.{LineRule};
 ghost use Rattle.line_cutter.specs.declared.line.Line.{Line};
@@ -111,6 +111,7 @@ impl Events {
         ensures flushed { (rules : Rules) (start : ℕ) (fed licences : List ℕ) (of : Gathered) →
             IsGathered rules start fed licences of self.old →
             IsGathered rules start fed (licences ++ flushed_at self.new.closed) (all_flushed of) self.new }
+        ensures closed_where_one_waited { IsSome self.new.closed ↔ IsSome self.old.grouper.gathered }
         ensures others { self.new ≡ (record self.old { grouper = self.new.grouper; closed = self.new.closed }) }
     {
         self.closed = self.grouper.flush();
@@ -139,6 +140,15 @@ impl Events {
         ensures { IsTrue result ↔ IsDue self.now.grouper now }
     {
         self.grouper.due(now)
+    }
+
+    /// Whether the event that waits may be closed as it is: the file's end was found, or the event is due.
+    pub(crate) fn may_close(&self, ended: bool, now: Moment) -> bool
+        requires { IsMoment now }
+        ensures why { result ≡ true → (ended ≡ true) ⊎ IsDue self.now.grouper now }
+        ensures why_not { result ≡ false → (ended ≡ false) × (¬ (IsDue self.now.grouper now)) }
+    {
+        ended || self.due(now)
     }
 
     /// The next line that was not gathered yet.

@@ -11,10 +11,18 @@
 //! were read, that segments go on by reads and begin anew by falls, and that what was licensed stays so.
 #![tactic(auto)]
 
+mod asking;
+mod buffer;
 mod events;
 mod fate_rules;
+mod harvester;
+mod look;
+mod reader;
 mod stage;
+mod tell;
 mod turn;
 mod turn_error;
+mod turns;
 
+pub use harvester::Harvester;
 pub use turn::Turn;

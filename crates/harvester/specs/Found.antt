@@ -1,0 +1,53 @@
+-- What one look at the length of a harvester's tail gave, with the read behind it (Filebeat reference, filestream input; this
+-- project's profile).
+use Rattle.std.specs.Prelude.{◌≡◌, ℕ, ◌<◌, ◌≤◌, List, [], ◌∷◌, ◌++◌, length, Option, Some, Result, Ok, Err, IfSome}
+use Rattle.file_looks.specs.EndLook.{HasEndLook}
+use Rattle.outside.specs.declared.history.Look.{Look}
+use Rattle.outside.specs.declared.history.Question.TheVariants.{Length, ReadAt}
+use Rattle.outside.specs.Tails.{TailHistory}
+use Rattle.harvester.specs.declared.harvester.Harvester.{Harvester}
+use Rattle.harvester.specs.declared.look.Found.{Found}
+use Rattle.harvester.specs.declared.look.Found.TheVariants.{Less, More, End}
+use Rattle.harvester.specs.declared.turn_error.TurnError.{TurnError}
+use Rattle.harvester.specs.HasTold.{HasTold}
+use Rattle.harvester.specs.History.{Asks, History, Reads, Stage, read_to, with_bytes, with_present, with_stage}
+use Rattle.harvester.specs.Looked.{IsLookedAt}
+
+-- where the file then stands
+abbrev pub stage_after : Result Found TurnError → Stage
+stage_after (Ok Less) = Asks
+stage_after (Ok More) = Reads
+stage_after (Ok End) = Reads
+stage_after (Err error) = Reads
+
+-- the bytes that were read, of which there are at most so many
+abbrev pub GaveBytes : ℕ → Result Found TurnError → List ℕ → Type 0
+GaveBytes most (Ok Less) bytes = bytes ≡ []
+GaveBytes most (Ok More) bytes = (0 < length bytes) × (length bytes ≤ most)
+GaveBytes most (Ok End) bytes = bytes ≡ []
+GaveBytes most (Err error) bytes = bytes ≡ []
+
+-- the last segment of the looks found the file's end
+pub record FoundEnd (numbers : Option (ℕ × ℕ)) (history : History) (told : TailHistory) : Type 0 where
+  pub looked : IsLookedAt numbers history told
+  pub end_look : HasEndLook looked.last (read_to history.present)
+
+-- the tail told two looks more: the length was not below the place, and the read at the place gave nothing
+pub record LooksAtEnd (place : ℕ) (told : TailHistory) (after : Option TailHistory) : Type 0 where
+  pub asked : Look
+  pub read : Look
+  pub asks : asked.question ≡ Length
+  pub not_below : place ≤ asked.sight.length
+  pub gives_nothing : read.question ≡ ReadAt place 0
+  pub kept : after ≡ Some (record told { looks = told.looks ++ asked ∷ read ∷ [] })
+
+-- where the tail tells its looks, these found the end
+pub record IsAtEnd {T : Type 0} (numbers : T → Option (ℕ × ℕ)) (told : T → Option TailHistory) (before after : History) (old new : Harvester T) : Type 0 where
+  pub looks : IfSome (told old.tail) (λ earlier. LooksAtEnd (read_to before.present) earlier (told new.tail))
+  pub found : IfSome (told new.tail) (FoundEnd (numbers new.tail) after)
+
+pub record HasLooked {T : Type 0} (numbers : T → Option (ℕ × ℕ)) (told : T → Option TailHistory) (most : ℕ) (history : History) (old : Harvester T) (result : Result Found TurnError) (new : Harvester T) : Type 0 where
+  pub bytes : List ℕ
+  pub gave : GaveBytes most result bytes
+  pub has_told : HasTold numbers told (with_stage (stage_after result) (with_present (with_bytes bytes history.present) history)) new
+  pub at_end : result ≡ Ok End → IsAtEnd numbers told history (with_present (with_bytes bytes history.present) history) old new

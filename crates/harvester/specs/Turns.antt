@@ -1,0 +1,122 @@
+-- What one turn of a harvester did, by its answer (Filebeat reference, filestream input; this project's profile).
+use Rattle.std.specs.Prelude.{◌≡◌, ◌⊎◌, ℕ, ◌<◌, ◌≤◌, ◌-◌, Bool, true, false, List, [], drop, length, Option, Some, None, Result, Ok, Err, IfSome}
+use Rattle.line_cutter.specs.Lines.{complete_lines}
+use Rattle.multiline_core.specs.Gathering.{MayGoOn}
+use Rattle.outside.specs.Tails.{TailHistory}
+use Rattle.told_events.specs.Told.{ToldEvent}
+use Rattle.wire_base.specs.declared.memory.NoMemory.{NoMemory}
+use Rattle.harvester.specs.declared.harvester.Harvester.{Harvester}
+use Rattle.harvester.specs.declared.turn.Turn.{Turn}
+use Rattle.harvester.specs.declared.turn.Turn.TheVariants as turn
+use Rattle.harvester.specs.declared.turn_error.TurnError.{TurnError}
+use Rattle.harvester.specs.declared.turn_error.TurnError.TheVariants as error
+use Rattle.harvester.specs.Asked.{WasAsked}
+use Rattle.harvester.specs.Found.{FoundEnd, LooksAtEnd}
+use Rattle.harvester.specs.HasTold.{HasTold}
+use Rattle.harvester.specs.Held.{Held}
+use Rattle.harvester.specs.History.{Changed, Ended, History, Stage, read_to, told_to, with_bytes, with_epoch, with_events, with_licences, with_present, with_stage}
+use Rattle.harvester.specs.Turned.{HasOneEvent, IsAskedIn, events_told}
+
+-- the bytes that it read, the places at which it found that an event may be flushed, and where the file stands then
+pub record Did : Type 0 where
+  pub bytes : List ℕ
+  pub licences : List ℕ
+  pub stage : Stage
+
+-- these events were told, too
+abbrev pub did_with : List ToldEvent → Did → History → History
+did_with events did history =
+    with_stage did.stage (with_present (with_events events (with_licences did.licences (with_bytes did.bytes history.present))) history)
+
+-- a new life begins an epoch; every other turn adds to the present one
+abbrev pub after_did : ℕ → Turn → Did → History → History
+after_did now (turn.NewLife epoch) did history = with_epoch history
+after_did now answer did history = did_with (events_told history.path now answer) did history
+
+-- the complete lines behind what was told are the first ones of an event that may go on
+abbrev pub NoneCloses : History → Type 0
+NoneCloses history =
+    MayGoOn history.rule.multiline
+    (complete_lines history.rule.lines (told_to history.present) (drop (told_to history.present - history.present.start) history.present.bytes))
+
+-- the file may be turned again
+abbrev pub MayTurn : Stage → Type 0
+MayTurn stage = ¬ (stage ≡ Changed)
+
+-- the end was found by an earlier turn, or by the looks of this one, and then no event closes
+abbrev pub IsEnd : {T : Type 0} → (T → Option TailHistory) → History → History → Harvester T → Harvester T → Type 0
+IsEnd told before after old new =
+    (before.stage ≡ Ended)
+    ⊎ (NoneCloses after × IfSome (told old.tail) (λ earlier. LooksAtEnd (read_to before.present) earlier (told new.tail)))
+
+-- whether the key was that of the opening, by the answer
+abbrev pub key_by : Turn → Result Bool TurnError
+key_by turn.Changed = Ok false
+key_by turn.ReadFault = Err error.ReadFault
+key_by turn.NoMemory = Err error.NoMemory
+key_by answer = Ok true
+
+-- the last looks asked for the key
+pub record AskedTheKey (held : Held) (numbers : Option (ℕ × ℕ)) (answer : Turn) (after : TailHistory) : Type 0 where
+  pub earlier : TailHistory
+  pub asked : WasAsked held numbers earlier (key_by answer) (Some after)
+
+abbrev pub IsByKey : {T : Type 0} → (T → Option (ℕ × ℕ)) → (T → Option TailHistory) → History → Harvester T → Turn → Harvester T → Type 0
+IsByKey numbers told before old answer new =
+    IsAskedIn before.present.epoch answer × IfSome (told new.tail) (AskedTheKey old.reader (numbers old.tail) answer)
+
+-- when each answer comes; a fault is told by the tail's count, and want of memory is free
+abbrev pub IsCaused : {T : Type 0} → (T → Option (ℕ × ℕ)) → (T → Option TailHistory) → History → Did → History → Harvester T → Turn → Harvester T → Type 0
+IsCaused numbers told before did after old (turn.Issued parcel) new = MayTurn did.stage
+IsCaused numbers told before did after old (turn.Passed span rule) new = MayTurn did.stage
+IsCaused numbers told before did after old turn.More new = (0 < length did.bytes) × MayTurn did.stage × NoneCloses after
+IsCaused numbers told before did after old turn.AtEnd new = (did.bytes ≡ []) × MayTurn did.stage × IsEnd told before after old new
+IsCaused numbers told before did after old (turn.NewLife epoch) new = IsByKey numbers told before old (turn.NewLife epoch) new
+IsCaused numbers told before did after old turn.Changed new = (did.stage ≡ Changed) × IsByKey numbers told before old turn.Changed new
+IsCaused numbers told before did after old turn.EpochsOut new = (did.stage ≡ Changed) × IsByKey numbers told before old turn.EpochsOut new
+IsCaused numbers told before did after old turn.ReadFault new = MayTurn did.stage
+IsCaused numbers told before did after old turn.NoMemory new = MayTurn did.stage
+
+-- at this moment, of which the history knows
+pub record Goes {T : Type 0} (numbers : T → Option (ℕ × ℕ)) (told : T → Option TailHistory) (most now : ℕ) (history : History) (old : Harvester T) (answer : Turn) (new : Harvester T) : Type 0 where
+  pub did : Did
+  pub has_told : HasTold numbers told (after_did now answer did history) new
+  pub few : length did.bytes ≤ most
+  pub reads_where_none_closes : 0 < length did.bytes → NoneCloses history
+  pub caused : IsCaused numbers told history did (after_did now answer did history) old answer new
+
+abbrev pub answer_of : Result Turn TurnError → Turn
+answer_of (Ok answer) = answer
+answer_of (Err error.ReadFault) = turn.ReadFault
+answer_of (Err error.NoMemory) = turn.NoMemory
+
+-- the event that was told, where one was closed
+abbrev pub events_of : List ℕ → ℕ → Result (Option Turn) NoMemory → List ToldEvent
+events_of path now (Ok (Some answer)) = events_told path now answer
+events_of path now (Ok None) = []
+events_of path now (Err error) = []
+
+abbrev pub ToldOne : Result (Option Turn) NoMemory → Type 0
+ToldOne (Ok (Some answer)) = HasOneEvent answer
+ToldOne (Ok None) = Unit {0}
+ToldOne (Err error) = Unit {0}
+
+-- the end may be found, and was
+pub record MayBeEnded {T : Type 0} (numbers : T → Option (ℕ × ℕ)) (told : T → Option TailHistory) (history : History) (harvester : Harvester T) : Type 0 where
+  pub may : history.may_end ≡ true
+  pub found : IfSome (told harvester.tail) (FoundEnd (numbers harvester.tail) history)
+
+-- once more was read: what was told, where an event may be flushed, and where the file stands then
+pub record Settled {T : Type 0} (numbers : T → Option (ℕ × ℕ)) (told : T → Option TailHistory) (now : ℕ) (history : History) (result : Result (Option Turn) NoMemory) (new : Harvester T) : Type 0 where
+  pub licences : List ℕ
+  pub stage : Stage
+  pub goes_on : MayTurn stage
+  pub has_told : HasTold numbers told (did_with (events_of history.path now result) (record { bytes = []; licences = licences; stage = stage }) history) new
+  pub one : ToldOne result
+  pub none_closes : result ≡ Ok None → NoneCloses history
+
+-- the answers after which the harvester is turned no more
+abbrev pub IsLast : Turn → Type 0
+IsLast turn.Changed = Unit {0}
+IsLast turn.EpochsOut = Unit {0}
+IsLast answer = ⊥

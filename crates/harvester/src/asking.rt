@@ -1,0 +1,70 @@
+ghost use Rattle.std.specs.Prelude.{◌≡◌, ◌≤◌, IfSome, IsErrOf, IsNone, IsSome, OnOk};
+ghost use Rattle.outside.specs.Counts.{Rose};
+ghost use Rattle.harvester.specs.Asked.{HasAsked, WasAsked};
+ghost use Rattle.harvester.specs.HasTold.{HasTold};
+ghost use Rattle.harvester.specs.History.{History};
+
+use crate::harvester::Harvester;
+use crate::stage::Stage;
+use crate::turn::Turn;
+use crate::turn_error::TurnError;
+use file_identity::{Identity, IdentityError, opened_key};
+use outside::Tail;
+use std::alloc::Global;
+use wire_base::Epoch;
+
+impl<T: Tail> Harvester<T> {
+    /// Asks the file for its key, where its length was below what was read: a new life begins where it is the one with
+    /// which the file was opened.
+    pub(crate) fn ask_again(&mut self, alloc: Global) -> Result<Turn, TurnError>
+        requires asks { self.old.reader.stage ≡ Stage.Asking }
+        ensures asked { (history : History) → HasTold T.numbers T.told history self.old →
+            HasAsked T.numbers T.told history self.old result self.new }
+        ensures rests_kept { self.new.rests ≡ self.old.rests }
+        ensures begin_kept { self.new.reader.begin ≡ self.old.reader.begin }
+        ensures faults_never_fall { T.faults self.old.tail ≤ T.faults self.new.tail }
+        ensures read_fault_only_where_faults_rose { IsErrOf result TurnError.ReadFault →
+            Rose (T.faults self.old.tail) (T.faults self.new.tail) }
+        ensures faults_told_only_by_failures { IsSome (T.told self.old.tail) →
+            OnOk result (T.faults self.new.tail ≡ T.faults self.old.tail) }
+    {
+        if !self.ask(alloc)? {
+            self.reader.stand(Stage::Changed);
+            return Ok(Turn::Changed);
+        }
+        let Some(number) = self.reader.epoch.0.checked_add(1) else {
+            self.reader.stand(Stage::Changed);
+            return Ok(Turn::EpochsOut);
+        };
+        self.reader.begin_life(alloc, Epoch(number));
+        Ok(Turn::NewLife(Epoch(number)))
+    }
+
+    /// Whether the file has the key with which it was opened.
+    fn ask(&mut self, alloc: Global) -> Result<bool, TurnError>
+        ensures asked { IfSome (T.told self.old.tail) (λ told.
+            WasAsked self.old.reader (T.numbers self.old.tail) told result (T.told self.new.tail)) }
+        ensures untold { IsNone (T.told self.old.tail) → IsNone (T.told self.new.tail) }
+        ensures others { self.new ≡ (record self.old { tail = self.new.tail }) }
+        ensures numbers_kept { T.numbers self.new.tail ≡ T.numbers self.old.tail }
+        ensures faults_never_fall { T.faults self.old.tail ≤ T.faults self.new.tail }
+        ensures read_fault_only_where_faults_rose { IsErrOf result TurnError.ReadFault →
+            Rose (T.faults self.old.tail) (T.faults self.new.tail) }
+        ensures faults_told_only_by_failures { IsSome (T.told self.old.tail) →
+            OnOk result (T.faults self.new.tail ≡ T.faults self.old.tail) }
+    {
+        let reader = &self.reader;
+        match opened_key(
+            alloc,
+            &reader.input,
+            &reader.identity,
+            &reader.begin.path,
+            &mut self.tail,
+        ) {
+            Ok(Identity::Key(key)) => Ok(key == reader.begin.key),
+            Ok(Identity::TooSmall(_)) | Err(IdentityError::NoNative) => Ok(false),
+            Err(IdentityError::ReadFault) => Err(TurnError::ReadFault),
+            Err(IdentityError::NoMemory) => Err(TurnError::NoMemory),
+        }
+    }
+}

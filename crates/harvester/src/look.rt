@@ -1,0 +1,52 @@
+ghost use Rattle.std.specs.Prelude.{◌≡◌, ◌≤◌, Contains, IsErrOf, IsSome, OnOk};
+ghost use Rattle.outside.specs.Counts.{Rose};
+ghost use Rattle.wire_base.specs.Ranges.{IsMoment};
+ghost use Rattle.harvester.specs.Found.{HasLooked};
+ghost use Rattle.harvester.specs.HasTold.{HasTold};
+ghost use Rattle.harvester.specs.History.{History};
+
+use crate::buffer::READ_SIZE;
+use crate::harvester::Harvester;
+use crate::stage::Stage;
+use crate::turn_error::TurnError;
+use outside::Tail;
+use wire_base::Moment;
+
+/// What a look at the file gave.
+#[derive(Clone, Copy, Debug, PartialEq, Eq)]
+pub(crate) enum Found {
+    /// The length is below what was read.
+    Less,
+    /// Bytes were read.
+    More,
+    /// The length is not below what was read, and nothing was read.
+    End,
+}
+
+impl<T: Tail> Harvester<T> {
+    /// Asks the length, and reads where it is not below what was read.
+    pub(crate) fn look(&mut self, now: Moment) -> Result<Found, TurnError>
+        requires all_fed { self.old.reader.filled ≡ 0 }
+        requires reads { self.old.reader.stage ≡ Stage.Reading }
+        requires moment { IsMoment now }
+        ensures looked { (history : History) → Contains history.moments now.0 →
+            HasTold T.numbers T.told history self.old →
+            HasLooked T.numbers T.told READ_SIZE history self.old result self.new }
+        ensures rests_kept { self.new.rests ≡ self.old.rests }
+        ensures begin_kept { self.new.reader.begin ≡ self.old.reader.begin }
+        ensures faults_never_fall { T.faults self.old.tail ≤ T.faults self.new.tail }
+        ensures read_fault_only_where_faults_rose { IsErrOf result TurnError.ReadFault →
+            Rose (T.faults self.old.tail) (T.faults self.new.tail) }
+        ensures faults_told_only_by_failures { IsSome (T.told self.old.tail) →
+            OnOk result (T.faults self.new.tail ≡ T.faults self.old.tail) }
+    {
+        let length = self.tail.length()?;
+        if length < self.reader.position {
+            self.reader.stand(Stage::Asking);
+            return Ok(Found::Less);
+        }
+        self.reader.make_room(length)?;
+        let count = self.reader.read(&mut self.tail, now)?;
+        Ok(if count == 0 { Found::End } else { Found::More })
+    }
+}

@@ -1,0 +1,126 @@
+ghost use Rattle.std.specs.Prelude.{◌≡◌, ◌↔◌, ◌<◌, ◌≤◌, ◌||◌, true, IfOk, IfSome, IsErrOf, None, Ok};
+ghost use Rattle.outside.specs.Counts.{Rose};
+ghost use Rattle.wire_base.specs.Ranges.{IsMoment};
+ghost use Rattle.harvester.specs.HasTold.{HasTold, IsChanged, begin_of};
+ghost use Rattle.harvester.specs.History.{History};
+ghost use Rattle.harvester.specs.Standing.{EndsAt};
+ghost use Rattle.harvester.specs.Turned.{IsOfFile, with_turn};
+ghost use Rattle.harvester.specs.Turns.{Goes, IsLast, MayBeEnded, Settled, answer_of};
+
+use crate::buffer::READ_SIZE;
+use crate::harvester::Harvester;
+use crate::look::Found;
+use crate::stage::Stage;
+use crate::turn::Turn;
+use crate::turn_error::TurnError;
+use outside::Tail;
+use std::alloc::Global;
+use wire_base::{Moment, NoMemory};
+
+impl<T: Tail> Harvester<T> {
+    /// Tells the next event, or looks for more: asks the length, and reads at most once and at most 16,384 bytes, where
+    /// no event is closed by what was read. With `last` the file's end may be found, at which the event that waits is
+    /// closed as it is.
+    pub fn turn(&mut self, alloc: Global, now: Moment, last: bool) -> Turn
+        requires goes_on { ¬ (IsChanged self.old) }
+        requires moment { IsMoment now }
+        ensures goes { (history : History) → HasTold T.numbers T.told history self.old →
+            Goes T.numbers T.told READ_SIZE now.0 (with_turn now.0 last history) self.old result self.new }
+        ensures of_file { IsOfFile (begin_of self.old).slot self.old.reader.epoch result }
+        ensures changed { IsChanged self.new ↔ IsLast result }
+        ensures begin_kept { begin_of self.new ≡ begin_of self.old }
+        ensures faults_never_fall { T.faults self.old.tail ≤ T.faults self.new.tail }
+        ensures read_fault_only_where_faults_rose { result ≡ Turn.ReadFault →
+            Rose (T.faults self.old.tail) (T.faults self.new.tail) }
+    {
+        let turn = match self.step(alloc, now, last) {
+            Ok(turn) => turn,
+            Err(TurnError::ReadFault) => Turn::ReadFault,
+            Err(TurnError::NoMemory) => Turn::NoMemory,
+        };
+        self.rests = matches!(turn, Turn::AtEnd);
+        turn
+    }
+    /// One turn, by where the file stands.
+    fn step(&mut self, alloc: Global, now: Moment, last: bool) -> Result<Turn, TurnError>
+        requires goes_on { ¬ (IsChanged self.old) }
+        requires moment { IsMoment now }
+        ensures goes { (history : History) → EndsAt history.moments now.0 →
+            ((last || history.ends) ≡ true → history.may_end ≡ true) →
+            HasTold T.numbers T.told history self.old →
+            Goes T.numbers T.told READ_SIZE now.0 history self.old (answer_of result) self.new }
+        ensures of_file { IfOk result (IsOfFile self.old.reader.begin.slot self.old.reader.epoch) }
+        ensures begin_kept { self.new.reader.begin ≡ self.old.reader.begin }
+        ensures faults_never_fall { T.faults self.old.tail ≤ T.faults self.new.tail }
+        ensures read_fault_only_where_faults_rose { IsErrOf result TurnError.ReadFault →
+            Rose (T.faults self.old.tail) (T.faults self.new.tail) }
+    {
+        match self.reader.stage {
+            Stage::Reading => {
+                let ended = last || self.reader.ends;
+                self.go_on(alloc, now, ended)
+            }
+            Stage::Asking => self.ask_again(alloc),
+            Stage::Ended if self.reader.events.closed.is_some() => Ok(self.tell(alloc, now)?),
+            Stage::Ended => Ok(Turn::AtEnd),
+            Stage::Changed => unreachable!(),
+        }
+    }
+
+    /// Tells the event that is closed by what was read, or looks for more.
+    fn go_on(&mut self, alloc: Global, now: Moment, ended: bool) -> Result<Turn, TurnError>
+        requires reads { self.old.reader.stage ≡ Stage.Reading }
+        requires moment { IsMoment now }
+        ensures goes { (history : History) → EndsAt history.moments now.0 →
+            (ended ≡ true → history.may_end ≡ true) → HasTold T.numbers T.told history self.old →
+            Goes T.numbers T.told READ_SIZE now.0 history self.old (answer_of result) self.new }
+        ensures of_file { IfOk result (IsOfFile self.old.reader.begin.slot self.old.reader.epoch) }
+        ensures begin_kept { self.new.reader.begin ≡ self.old.reader.begin }
+        ensures faults_never_fall { T.faults self.old.tail ≤ T.faults self.new.tail }
+        ensures read_fault_only_where_faults_rose { IsErrOf result TurnError.ReadFault →
+            Rose (T.faults self.old.tail) (T.faults self.new.tail) }
+    {
+        if self.reader.gather(alloc)? {
+            return Ok(self.tell(alloc, now)?);
+        }
+        let found = self.look(now)?;
+        if found == Found::Less {
+            return self.ask_again(alloc);
+        }
+        let at_end = found == Found::End;
+        match self.settle(alloc, now, ended && at_end)? {
+            Some(turn) => Ok(turn),
+            None if at_end => {
+                self.reader.shrink();
+                Ok(Turn::AtEnd)
+            }
+            None => Ok(Turn::More),
+        }
+    }
+
+    /// Tells the event that is closed by what was read, by its timeout, or where the file's end was found.
+    fn settle(&mut self, alloc: Global, now: Moment, ended: bool) -> Result<Option<Turn>, NoMemory>
+        requires reads { self.old.reader.stage ≡ Stage.Reading }
+        requires moment { IsMoment now }
+        ensures settled { (history : History) → EndsAt history.moments now.0 →
+            (ended ≡ true → MayBeEnded T.numbers T.told history self.old) →
+            HasTold T.numbers T.told history self.old →
+            Settled T.numbers T.told now.0 history result self.new }
+        ensures all_fed { result ≡ Ok None → self.new.reader.filled ≡ 0 }
+        ensures of_file { IfOk result (λ told. IfSome told
+            (IsOfFile self.old.reader.begin.slot self.old.reader.epoch)) }
+        ensures begin_kept { self.new.reader.begin ≡ self.old.reader.begin }
+        ensures tail_kept { self.new.tail ≡ self.old.tail }
+    {
+        if !self.reader.gather(alloc)? {
+            let closed = self.reader.close(ended, now);
+            if ended {
+                self.reader.stand(Stage::Ended);
+            }
+            if !closed {
+                return Ok(None);
+            }
+        }
+        Ok(Some(self.tell(alloc, now)?))
+    }
+}
