@@ -1,9 +1,11 @@
+pub mod AskedGiven
 pub mod Closing
 pub mod Deciding
 pub mod Gathering
 pub mod Looking
 pub mod LookSteps
 pub mod LookingOn
+pub mod LooksGiven
 pub mod Segments
 pub mod Standings
 pub mod Telling

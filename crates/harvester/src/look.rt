@@ -41,12 +41,15 @@ impl<T: Tail> Harvester<T> {
             OnOk result (T.faults self.new.tail ≡ T.faults self.old.tail) }
     {
         let length = self.tail.length()?;
-        if length < self.reader.position {
+        if length < self.reader.position() {
             self.reader.stand(Stage::Asking);
             return Ok(Found::Less);
         }
         self.reader.make_room(length)?;
         let count = self.reader.read(&mut self.tail, now)?;
-        Ok(if count == 0 { Found::End } else { Found::More })
+        if count == 0 {
+            return Ok(Found::End);
+        }
+        Ok(Found::More)
     }
 }

@@ -10,7 +10,7 @@ ghost use Rattle.harvester.specs.History.{History, opened, with_bytes, with_endi
 ghost use Rattle.harvester.specs.InRange.{IsReadable};
 ghost use Rattle.harvester.specs.Standing.{AllGathered, EndsAt, StandsFor, TellsOne, WasClosed, given_path, stage_of};
 
-use crate::buffer::Buffer;
+use crate::buffer::{Buffer, READ_SIZE};
 use crate::events::Events;
 use crate::stage::Stage;
 use event_tree::{IdentityRule, InputRule};
@@ -19,7 +19,7 @@ use multiline_core::events_stay;
 use outside::{Failed, Tail};
 use std::alloc::Global;
 use std::marker::Model;
-use wire_base::{Begin, Epoch, Moment, NoMemory, Text};
+use wire_base::{Begin, Epoch, Moment, NoMemory, Slot, Text};
 
 /// What a harvester holds beside its tail and its compiled rules.
 #[derive(Drop)]
@@ -165,9 +165,13 @@ impl Reader {
         ensures stands_on_refusal { OnErr result ((history : History) → StandsFor history self.old →
             StandsFor history self.new) }
         ensures within { IfOk result (λ count. count ≤ length self.new.buffer) }
+        ensures bounded { IfOk result (λ count. count ≤ READ_SIZE) }
+        ensures some_room { 0 < length self.new.buffer }
         ensures same_room { length self.new.buffer ≡ length self.old.buffer }
         ensures told { TellsRead (T.told tail.old) self.old.position self.new.buffer result (T.told tail.new) }
-        ensures events { self.new.events ≡ self.old.events }
+        ensures begin_kept { self.new.begin ≡ self.old.begin }
+        ensures epoch_kept { self.new.epoch ≡ self.old.epoch }
+        ensures stage_kept { self.new.stage ≡ self.old.stage }
         ensures others { OnErr result (self.new ≡ (record self.old { buffer = self.new.buffer })) }
         ensures numbers_kept { T.numbers tail.new ≡ T.numbers tail.old }
         ensures faults_never_fall { T.faults tail.old ≤ T.faults tail.new }
@@ -287,6 +291,45 @@ impl Reader {
     {
         self.ends = true;
         self.forgets = forget;
+    }
+
+    /// The place of the next byte to read.
+    pub(crate) fn position(&self) -> u64
+        ensures { result ≡ self.now.position }
+    {
+        self.position
+    }
+
+    pub(crate) fn stage(&self) -> Stage
+        ensures { result ≡ self.now.stage }
+    {
+        self.stage
+    }
+
+    /// Whether an event is closed and not told yet.
+    pub(crate) fn has_closed(&self) -> bool
+        ensures { IsTrue result ↔ IsSome self.now.events.closed }
+    {
+        self.events.closed.is_some()
+    }
+
+    /// Whether later turns may find the file's end.
+    pub(crate) fn ends(&self) -> bool
+        ensures { result ≡ self.now.ends }
+    {
+        self.ends
+    }
+
+    pub(crate) fn epoch(&self) -> Epoch
+        ensures { result ≡ self.now.epoch }
+    {
+        self.epoch
+    }
+
+    pub(crate) fn slot(&self) -> Slot
+        ensures { result ≡ self.now.begin.slot }
+    {
+        self.begin.slot
     }
 
     /// The path that was given last.

@@ -35,8 +35,8 @@ impl<T: Tail> Harvester<T> {
         self.reader.pass();
         Ok(match fate {
             EventFate::Shipped(payload) => Turn::Issued(Parcel {
-                slot: self.reader.begin.slot,
-                epoch: self.reader.epoch,
+                slot: self.reader.slot(),
+                epoch: self.reader.epoch(),
                 span,
                 payload,
             }),

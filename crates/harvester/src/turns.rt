@@ -55,13 +55,13 @@ impl<T: Tail> Harvester<T> {
         ensures read_fault_only_where_faults_rose { IsErrOf result TurnError.ReadFault →
             Rose (T.faults self.old.tail) (T.faults self.new.tail) }
     {
-        match self.reader.stage {
+        match self.reader.stage() {
             Stage::Reading => {
-                let ended = last || self.reader.ends;
+                let ended = last || self.reader.ends();
                 self.go_on(alloc, now, ended)
             }
             Stage::Asking => self.ask_again(alloc),
-            Stage::Ended if self.reader.events.closed.is_some() => Ok(self.tell(alloc, now)?),
+            Stage::Ended if self.reader.has_closed() => Ok(self.tell(alloc, now)?),
             Stage::Ended => Ok(Turn::AtEnd),
             Stage::Changed => unreachable!(),
         }
