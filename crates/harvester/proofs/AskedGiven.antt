@@ -28,32 +28,34 @@ use Rattle.harvester.specs.Asked.{HasAsked, IsGivenKey, WasAsked}
 use Rattle.harvester.specs.Deciding.{Decides}
 use Rattle.harvester.specs.HasTold.{HasTold}
 use Rattle.harvester.specs.Held.{Held}
-use Rattle.harvester.specs.History.{Asks, Changed, History, rules_in, with_epoch, with_stage}
+use Rattle.harvester.specs.History.{Asks, Changed, History, Over, rules_in, with_epoch, with_stage}
 use Rattle.harvester.specs.Looked.{AreLookedAt, HasFallen, IsLookedAt}
 use Rattle.harvester.specs.Standing.{StandsFor, stage_of}
-use Rattle.harvester.proofs.LookingOn.{asks_on, begins_epoch, changes, was, with_looks}
+use Rattle.harvester.proofs.LookingOn.{asks_on, begins_epoch, changes, is_over, was, with_looks}
 
 -- ---- the looks of an asking are reads
 
 parts_read : (looks : List Look) (place wanted : ℕ) → ArePartReads looks place wanted → AllByRecursion (λ look. IsRead look.question) looks
 parts_read [] place wanted are = tt
-parts_read (look ∷ looks) place wanted are = by look.question look.sight are.1
+parts_read (look ∷ looks) place wanted are = by look.question look.sight are.1 (parts_read looks)
   where
     by : (question : Question) (sight : Sight) → ReadsOn place wanted (λ next left. ArePartReads looks next left) (looks ≡ []) question →
+        ((next left : ℕ) → ArePartReads looks next left → AllByRecursion (λ (one : Look). IsRead one.question) looks) →
         AllByRecursion (λ (one : Look). IsRead one.question) (record { question = question; sight = sight } ∷ looks)
-    by Length sight on = absurd on
-    by (ReadAt at zero) sight on = (tt, subst (λ (l : List Look). AllByRecursion (λ (one : Look). IsRead one.question) l) (sym on.1) tt)
-    by (ReadAt at (suc more)) sight on = (tt, parts_read looks (place + suc more) (wanted - suc more) on.2)
+    by Length sight on others = absurd on
+    by (ReadAt at zero) sight on others = (tt, subst (λ (l : List Look). AllByRecursion (λ (one : Look). IsRead one.question) l) (sym on.1) tt)
+    by (ReadAt at (suc more)) sight on others = (tt, others (place + suc more) (wanted - suc more) on.2)
 
 all_read : (looks : List Look) (place wanted : ℕ) → AreReads looks place wanted → AllByRecursion (λ look. IsRead look.question) looks
 all_read [] place wanted are = tt
-all_read (look ∷ looks) place wanted are = by look.question look.sight are.1
+all_read (look ∷ looks) place wanted are = by look.question look.sight are.1 (all_read looks)
   where
     by : (question : Question) (sight : Sight) → ReadsOn place wanted (λ next left. AreReads looks next left) (looks ≡ []) question →
+        ((next left : ℕ) → AreReads looks next left → AllByRecursion (λ (one : Look). IsRead one.question) looks) →
         AllByRecursion (λ (one : Look). IsRead one.question) (record { question = question; sight = sight } ∷ looks)
-    by Length sight on = absurd on
-    by (ReadAt at zero) sight on = (tt, subst (λ (l : List Look). AllByRecursion (λ (one : Look). IsRead one.question) l) (sym on.1) tt)
-    by (ReadAt at (suc more)) sight on = (tt, all_read looks (place + suc more) (wanted - suc more) on.2)
+    by Length sight on others = absurd on
+    by (ReadAt at zero) sight on others = (tt, subst (λ (l : List Look). AllByRecursion (λ (one : Look). IsRead one.question) l) (sym on.1) tt)
+    by (ReadAt at (suc more)) sight on others = (tt, others (place + suc more) (wanted - suc more) on.2)
 
 none_read : (looks : List Look) → looks ≡ [] → AllByRecursion (λ look. IsRead look.question) looks
 none_read looks none = subst (λ (l : List Look). AllByRecursion (λ (one : Look). IsRead one.question) l) (sym none) tt
@@ -133,18 +135,18 @@ module _ {T : Type 0} (numbers : T → Option (ℕ × ℕ)) (told : T → Option
     where
       none_too : (o : Option TailHistory) → IsNone o → AreLookedAt (numbers old.tail) g o
       none_too None none = tt
-      none_too (Some value) none = absurd (let no : false ≡ true = none in cc)
+      none_too (Some value) none = absurd (let no : true ≡ false = none in cc)
   looked_then g result step (Some before) after looked asked untold =
       subst (λ (o : Option TailHistory). AreLookedAt (numbers old.tail) g o) (sym asked.added.kept) (step before looked asked.looks asked.gave)
 
   same_step : (before : TailHistory) → IsLookedAt (numbers old.tail) h before → (looks : List Look) →
       IsGivenKey old.reader (with_numbers (numbers old.tail) before.file) looks (Ok true) →
-      IsLookedAt (numbers old.tail) (with_epoch h) (with_looks before looks) × IsLookedAt (numbers old.tail) (with_stage Changed h) (with_looks before looks)
+      IsLookedAt (numbers old.tail) (with_epoch h) (with_looks before looks) × IsLookedAt (numbers old.tail) (with_stage Over h) (with_looks before looks)
   same_step before looked looks gave =
       let only = asking_reads old.reader.identity looks gave.0 in
       let has_key = still before looked looks only (key_of_opening (with_numbers (numbers old.tail) before.file) looks gave.0 gave.1) in (
         begins_epoch (numbers old.tail) h before looked asks looks only has_key,
-        changes (numbers old.tail) h before looked asks looks only (inr has_key),
+        is_over (numbers old.tail) h before looked asks looks only has_key,
       )
 
   other_step : (before : TailHistory) → IsLookedAt (numbers old.tail) h before → (looks : List Look) →
@@ -152,8 +154,8 @@ module _ {T : Type 0} (numbers : T → Option (ℕ × ℕ)) (told : T → Option
   other_step before looked looks gave =
       let only = asking_reads old.reader.identity looks gave.0 in
       changes (numbers old.tail) h before looked asks looks only
-      (inl (other before looked looks only (subst (λ (r : IdentityRule). IsAsking r looks) has.held.follows.identity gave.0)
-      (key_is_other (with_numbers (numbers old.tail) before.file) looks gave.1)))
+      (other before looked looks only (subst (λ (r : IdentityRule). IsAsking r looks) has.held.follows.identity gave.0)
+      (key_is_other (with_numbers (numbers old.tail) before.file) looks gave.1))
 
   fault_step : (error : TurnError) (before : TailHistory) → IsLookedAt (numbers old.tail) h before → (looks : List Look) →
       IsGivenKey old.reader (with_numbers (numbers old.tail) before.file) looks (Err error) → IsLookedAt (numbers old.tail) h (with_looks before looks)
@@ -169,39 +171,34 @@ module _ {T : Type 0} (numbers : T → Option (ℕ × ℕ)) (told : T → Option
     }
 
     pub begins : (epoch : Epoch) → IfSome (told old.tail) (λ earlier. WasAsked old.reader (numbers old.tail) earlier (Ok true) (told tail)) →
-        StandsFor (with_epoch h) reader → epoch.0 ≡ old.reader.epoch.0 + 1 → HasAsked numbers told h old (Ok (turn.NewLife epoch)) (record old { tail = tail; reader = reader })
+        StandsFor (with_epoch h) reader → epoch.0 ≡ old.reader.epoch.0 + 1 → HasAsked numbers told h (Ok (turn.NewLife epoch)) (record old { tail = tail; reader = reader })
     begins epoch asked stands next = record {
       has_told = now_has (with_epoch h) refl stands
           (looked_then (with_epoch h) (Ok true) (λ before looked looks gave. (same_step before looked looks gave).0) (told old.tail) (told tail) has.looked asked untold);
       asked_in = next ∙ ap (λ (n : ℕ). n + 1) has.held.follows.epoch;
-      by_looks = asked;
     }
 
     pub epochs_out : IfSome (told old.tail) (λ earlier. WasAsked old.reader (numbers old.tail) earlier (Ok true) (told tail)) →
-        StandsFor (with_stage Changed h) reader → old.reader.epoch.0 ≡ 4294967295 → HasAsked numbers told h old (Ok turn.EpochsOut) (record old { tail = tail; reader = reader })
+        StandsFor (with_stage Over h) reader → old.reader.epoch.0 ≡ 4294967295 → HasAsked numbers told h (Ok turn.EpochsOut) (record old { tail = tail; reader = reader })
     epochs_out asked stands last = record {
-      has_told = now_has (with_stage Changed h) refl stands
-          (looked_then (with_stage Changed h) (Ok true) (λ before looked looks gave. (same_step before looked looks gave).1) (told old.tail) (told tail) has.looked asked untold);
+      has_told = now_has (with_stage Over h) refl stands
+          (looked_then (with_stage Over h) (Ok true) (λ before looked looks gave. (same_step before looked looks gave).1) (told old.tail) (told tail) has.looked asked untold);
       asked_in = sym has.held.follows.epoch ∙ last;
-      by_looks = asked;
     }
 
     pub has_other : IfSome (told old.tail) (λ earlier. WasAsked old.reader (numbers old.tail) earlier (Ok false) (told tail)) →
-        StandsFor (with_stage Changed h) reader → HasAsked numbers told h old (Ok turn.Changed) (record old { tail = tail; reader = reader })
+        StandsFor (with_stage Changed h) reader → HasAsked numbers told h (Ok turn.Changed) (record old { tail = tail; reader = reader })
     has_other asked stands = record {
       has_told = now_has (with_stage Changed h) refl stands
           (looked_then (with_stage Changed h) (Ok false) other_step (told old.tail) (told tail) has.looked asked untold);
       asked_in = tt;
-      by_looks = asked;
     }
 
-    pub met_fault : (error : TurnError) (result : Result Turn TurnError) → result ≡ Err error →
+    pub met_fault : (result : Result Turn TurnError) → IsErr result → (error : TurnError) →
         IfSome (told old.tail) (λ earlier. WasAsked old.reader (numbers old.tail) earlier (Err error) (told tail)) →
-        StandsFor h reader → HasAsked numbers told h old result (record old { tail = tail; reader = reader })
-    met_fault error result is asked stands =
-        subst (λ (r : Result Turn TurnError). HasAsked numbers told h old r (record old { tail = tail; reader = reader })) (sym is)
-        (record {
-          has_told = now_has h refl stands (looked_then h (Err error) (fault_step error) (told old.tail) (told tail) has.looked asked untold);
-          asked_in = tt;
-          by_looks = asked;
-        })
+        StandsFor h reader → HasAsked numbers told h result (record old { tail = tail; reader = reader })
+    met_fault (Ok answer) err error asked stands = absurd (let no : false ≡ true = err in cc)
+    met_fault (Err other) err error asked stands = record {
+      has_told = now_has h refl stands (looked_then h (Err error) (fault_step error) (told old.tail) (told tail) has.looked asked untold);
+      asked_in = tt;
+    }

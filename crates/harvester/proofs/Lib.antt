@@ -1,6 +1,7 @@
 pub mod AskedGiven
 pub mod Closing
 pub mod Deciding
+pub mod Did
 pub mod Gathering
 pub mod Looking
 pub mod LookSteps
@@ -9,3 +10,4 @@ pub mod LooksGiven
 pub mod Segments
 pub mod Standings
 pub mod Telling
+pub mod TellsGiven

@@ -3,7 +3,8 @@ use Rattle.std.proofs.Common.{◌≡◌, ◌⊎◌, inl, inr, ℕ, ◌+◌, ◌<
 use Rattle.std.specs.List.{AllByRecursion}
 use Rattle.file_identity.specs.Answers.{with_numbers}
 use Rattle.file_identity.specs.AskedAgain.{HasOtherKey, IsRead, KeepsKey, StillHasKey}
-use Rattle.file_looks.specs.EndLook.{HasEndLook}
+use Rattle.file_looks.proofs.Going.{had_read_all}
+use Rattle.file_looks.specs.EndLook.{HadReadTo, HasEndLook}
 use Rattle.file_looks.specs.Segment.{Segment, segments_of}
 use Rattle.file_looks.specs.Segment as segment
 use Rattle.outside.specs.declared.history.Look.{Look}
@@ -16,9 +17,10 @@ use Rattle.told_events.proofs.Going.{all_behind}
 use Rattle.told_events.specs.Licence.{LieApart}
 use Rattle.told_events.specs.Told.{ToldEvent}
 use Rattle.harvester.specs.Found.{FoundEnd}
-use Rattle.harvester.specs.History.{Asks, Changed, Ended, History, Reads, Stage, Telling, beginning, with_bytes, with_epoch, with_events, with_licences, with_present, with_stage}
+use Rattle.harvester.specs.History.{Asks, Changed, Ended, History, Over, Reads, Stage, Telling, beginning, with_bytes, with_epoch, with_events, with_licences, with_present, with_stage}
 use Rattle.harvester.specs.History as history
-use Rattle.harvester.specs.Looked.{AreReadBy, HasChanged, HasFallen, IsLicensedIn, IsLookedAt, IsReadBy, StandBehind}
+use Rattle.harvester.specs.Looked.{AreReadBy, HasFallen, IsLicensedIn, IsLookedAt, IsReadBy, StandBehind}
+use Rattle.harvester.specs.Standing.{EndsLines}
 use Rattle.harvester.proofs.Looking.{GoesOnAs, all_stay, read_stays, reads_on}
 use Rattle.harvester.proofs.Segments.{ReadsMore, begins_segment, last_goes_on, reads_nothing}
 
@@ -74,7 +76,8 @@ module _ (numbers : Option (ℕ × ℕ)) (h : History) (told : TailHistory) (l :
       behind Reads looks is = is
       behind Asks looks is = fallen looks is
       behind Ended looks is = is
-      behind Changed looks is = record { fallen = fallen looks is.fallen; asked = is.asked }
+      behind Changed looks is = record { fallen = fallen looks is.fallen; other = is.other }
+      behind Over looks is = record { fallen = fallen looks is.fallen; same = is.same }
 
   -- ---- while it is read
 
@@ -83,6 +86,7 @@ module _ (numbers : Option (ℕ × ℕ)) (h : History) (told : TailHistory) (l :
   none_beyond Asks reads is = absurd cc
   none_beyond Ended reads is = absurd cc
   none_beyond Changed reads is = absurd cc
+  none_beyond Over reads is = absurd cc
 
   module _ (reads : h.stage ≡ Reads) where
     pub all_since : told.looks ≡ h.before ++ l.since
@@ -171,7 +175,8 @@ module _ (numbers : Option (ℕ × ℕ)) (h : History) (told : TailHistory) (l :
       behind Reads looks is = is
       behind Asks looks is = fallen looks is
       behind Ended looks is = is
-      behind Changed looks is = record { fallen = fallen looks is.fallen; asked = is.asked }
+      behind Changed looks is = record { fallen = fallen looks is.fallen; other = is.other }
+      behind Over looks is = record { fallen = fallen looks is.fallen; same = is.same }
 
   pub tells_more : (events : List ToldEvent) → IsLookedAt numbers (with_present (with_events events h.present) h) told
   tells_more events =
@@ -226,6 +231,7 @@ module _ (numbers : Option (ℕ × ℕ)) (h : History) (told : TailHistory) (l :
   fallen_in Asks asks is = is
   fallen_in Ended asks is = absurd cc
   fallen_in Changed asks is = absurd cc
+  fallen_in Over asks is = absurd cc
 
   module _ (asks : h.stage ≡ Asks) (more : List Look) (only : AllByRecursion (λ look. IsRead look.question) more) where
     pub was : HasFallen h l.beyond
@@ -261,12 +267,11 @@ module _ (numbers : Option (ℕ × ℕ)) (h : History) (told : TailHistory) (l :
       end_look = λ ended. absurd (let no : Asks ≡ Ended = sym asks ∙ ended in cc);
     }
 
-    -- it has another key, or the last epoch is over
-    pub changes : HasOtherKey h.rule h.begin.key h.begin.path (with_numbers numbers told.file) (was.later ++ more)
-        ⊎ StillHasKey h.rule h.begin.key h.begin.path (with_numbers numbers told.file) (was.later ++ more) →
+    -- it has another key
+    pub changes : HasOtherKey h.rule h.begin.key h.begin.path (with_numbers numbers told.file) (was.later ++ more) →
         IsLookedAt numbers (with_stage Changed h) (with_looks told more)
     unfolding now was
-    changes asked =
+    changes key =
         let file = with_numbers numbers told.file in
         let new = with_stage Changed h in
         let on = same_history h new refl refl (λ may. may) refl in
@@ -281,9 +286,33 @@ module _ (numbers : Option (ℕ × ℕ)) (h : History) (told : TailHistory) (l :
           present = read_stays h new on file h.present l.last l.present;
           stand_behind = record {
             fallen = record { fall = now.fall; later = now.later; looks_are = now.looks_are; asks = now.asks; below = now.below; only_reads = now.only_reads };
-            asked = asked;
+            other = key;
           };
           end_look = λ ended. absurd (let no : Changed ≡ Ended = ended in cc);
+        }
+
+    -- it still has its key, and the last epoch is over
+    pub is_over : StillHasKey h.rule h.begin.key h.begin.path (with_numbers numbers told.file) (was.later ++ more) →
+        IsLookedAt numbers (with_stage Over h) (with_looks told more)
+    unfolding now was
+    is_over key =
+        let file = with_numbers numbers told.file in
+        let new = with_stage Over h in
+        let on = same_history h new refl refl (λ may. may) refl in
+        record {
+          since = l.since;
+          beyond = l.beyond ++ more;
+          looks_are = looks_now;
+          front = l.front;
+          last = l.last;
+          segments = l.segments;
+          past = all_stay h new on file h.past l.front l.past;
+          present = read_stays h new on file h.present l.last l.present;
+          stand_behind = record {
+            fallen = record { fall = now.fall; later = now.later; looks_are = now.looks_are; asks = now.asks; below = now.below; only_reads = now.only_reads };
+            same = key;
+          };
+          end_look = λ ended. absurd (let no : Over ≡ Ended = ended in cc);
         }
 
     -- it still has its key: the next epoch begins
@@ -331,3 +360,39 @@ module _ (numbers : Option (ℕ × ℕ)) (h : History) (told : TailHistory) (l :
             (sym fall_is)
             (begins_segment h.begin.base l.since l.front l.last l.segments was.fall.sight reads
             (subst (λ (n : ℕ). was.fall.sight.length < n) (sym l.present.to) was.below) only_reads)
+
+-- ---- an event is flushed
+
+module _ (numbers : Option (ℕ × ℕ)) (h : History) (told : TailHistory) (l : IsLookedAt numbers h told) where
+  -- the last complete line ends there, and the end may be found and was, or the timeout has passed
+  licensed_by : (why : ((h.may_end ≡ true) × HasEndLook l.last (history.read_to h.present)) ⊎ LieApart h.moments (history.timeout_in h)) →
+      (place : ℕ) → EndsLines h place → IsLicensedIn h h.present l.last place
+  licensed_by (inl ended) place ends = λ life has. inl (ended.0, record { place = history.read_to h.present; found = ended.1; last = ends life has })
+  licensed_by (inr waited) place ends = λ life has.
+      inr (waited, record { place = history.read_to h.present; had_read = subst (λ (n : ℕ). HadReadTo l.last n) l.present.to (had_read_all l.last); last = ends life has })
+
+  all_licensed : (why : ((h.may_end ≡ true) × HasEndLook l.last (history.read_to h.present)) ⊎ LieApart h.moments (history.timeout_in h)) →
+      (places : List ℕ) → AllByRecursion (EndsLines h) places → AllByRecursion (IsLicensedIn h h.present l.last) places
+  all_licensed why [] ends = tt
+  all_licensed why (place ∷ places) ends = (licensed_by why place ends.0, all_licensed why places ends.1)
+
+  none_licensed : (places : List ℕ) → places ≡ [] → AllByRecursion (IsLicensedIn h h.present l.last) places
+  none_licensed places none = subst (λ (p : List ℕ). AllByRecursion (IsLicensedIn h h.present l.last) p) (sym none) tt
+
+  -- its end was not asked for
+  pub flushes : (places : List ℕ) → AllByRecursion (EndsLines h) places → (places ≡ []) ⊎ LieApart h.moments (history.timeout_in h) →
+      IsLookedAt numbers (with_present (with_licences places h.present) h) told
+  flushes places ends (inl none) = licences_more numbers h told l places (none_licensed places none)
+  flushes places ends (inr waited) = licences_more numbers h told l places (all_licensed (inr waited) places ends)
+
+  -- and where the end was found
+  module _ (reads : h.stage ≡ Reads) (found : HasEndLook l.last (history.read_to h.present)) where
+    ends_with : (places : List ℕ) → AllByRecursion (IsLicensedIn h h.present l.last) places →
+        IsLookedAt numbers (with_stage Ended (with_present (with_licences places h.present) h)) told
+    unfolding licences_more
+    ends_with places licensed =
+        ends_there numbers (with_present (with_licences places h.present) h) told (licences_more numbers h told l places licensed) reads found
+
+    pub flushes_at_end : h.may_end ≡ true → (places : List ℕ) → AllByRecursion (EndsLines h) places →
+        IsLookedAt numbers (with_stage Ended (with_present (with_licences places h.present) h)) told
+    flushes_at_end may places ends = ends_with places (all_licensed (inl (may, found)) places ends)

@@ -1,5 +1,5 @@
 -- What asking the tail for its key gave, where the length had fallen (Filebeat reference, file identity).
-use Rattle.std.specs.Prelude.{◌≡◌, ◌≢◌, ℕ, Bool, true, false, List, Option, Some, Result, Ok, Err, IfOk, IfSome}
+use Rattle.std.specs.Prelude.{◌≡◌, ◌≢◌, ℕ, Bool, true, false, List, Option, Some, Result, Ok, Err, IfOk}
 use Rattle.file_identity.specs.Answers.{with_numbers}
 use Rattle.file_identity.specs.Asking.{IsAsking, IsPartOfAsking, given_key}
 use Rattle.file_identity.specs.Reading.{Adds}
@@ -7,7 +7,6 @@ use Rattle.outside.specs.declared.history.Look.{Look}
 use Rattle.outside.specs.Files.{File}
 use Rattle.outside.specs.Tails.{TailHistory}
 use Rattle.harvester.specs.declared.turn.Turn.{Turn}
-use Rattle.harvester.specs.declared.turn.Turn.TheVariants.{Changed}
 use Rattle.harvester.specs.declared.turn_error.TurnError.{TurnError}
 use Rattle.harvester.specs.declared.harvester.Harvester.{Harvester}
 use Rattle.harvester.specs.HasTold.{HasTold}
@@ -26,18 +25,11 @@ pub record WasAsked (held : Held) (numbers : Option (ℕ × ℕ)) (told : TailHi
   pub added : Adds told looks after
   pub gave : IsGivenKey held (with_numbers numbers told.file) looks result
 
--- whether it was that key, by the turn
-abbrev pub same_key : Result Turn TurnError → Result Bool TurnError
-same_key (Ok Changed) = Ok false
-same_key (Ok turn) = Ok true
-same_key (Err error) = Err error
-
 -- the history by that turn
 abbrev pub after_result : Result Turn TurnError → History → History
 after_result (Ok turn) history = after_asking turn history
 after_result (Err error) history = history
 
-pub record HasAsked {T : Type 0} (numbers : T → Option (ℕ × ℕ)) (told : T → Option TailHistory) (history : History) (old : Harvester T) (result : Result Turn TurnError) (new : Harvester T) : Type 0 where
+pub record HasAsked {T : Type 0} (numbers : T → Option (ℕ × ℕ)) (told : T → Option TailHistory) (history : History) (result : Result Turn TurnError) (new : Harvester T) : Type 0 where
   pub has_told : HasTold numbers told (after_result result history) new
   pub asked_in : IfOk result (IsAskedIn history.present.epoch)
-  pub by_looks : IfSome (told old.tail) (λ earlier. WasAsked old.reader (numbers old.tail) earlier (same_key result) (told new.tail))

@@ -36,8 +36,10 @@ pub data Stage : Type 0 where
   Asks : Stage
   -- its end was found, and it is read no further
   Ended : Stage
-  -- it has another key, or the last epoch is over
+  -- it has another key
   Changed : Stage
+  -- it has the same key, and the last epoch is over
+  Over : Stage
 
 pub record History : Type 0 where
   pub rule : InputRule

@@ -1,7 +1,7 @@
 -- What the looks of a harvester's tail have to do with its history (Filebeat reference, filestream input; this project's
 -- profile): each epoch was read through one segment of the looks since the opening. Behind these stand the looks from where
 -- the length was below what was read and the key was not told, or was another.
-use Rattle.std.specs.Prelude.{◌≡◌, ◌⊎◌, ℕ, ◌<◌, true, List, [], ◌∷◌, ◌++◌, Option, IfSome}
+use Rattle.std.specs.Prelude.{◌≡◌, ℕ, ◌<◌, true, List, [], ◌∷◌, ◌++◌, Option, IfSome}
 use Rattle.std.specs.List.{AllByRecursion}
 use Rattle.file_identity.specs.Answers.{with_numbers}
 use Rattle.file_identity.specs.AskedAgain.{HasOtherKey, IsRead, KeepsKey, StillHasKey}
@@ -13,7 +13,7 @@ use Rattle.outside.specs.declared.history.Question.TheVariants.{Length}
 use Rattle.outside.specs.Files.{File}
 use Rattle.outside.specs.Tails.{TailHistory}
 use Rattle.told_events.specs.Licence.{IsLicensed, LieApart}
-use Rattle.harvester.specs.History.{Changed, Ended, Asks, Reads, HasBytes, History, Stage, Telling}
+use Rattle.harvester.specs.History.{Changed, Ended, Asks, Over, Reads, HasBytes, History, Stage, Telling}
 use Rattle.harvester.specs.History as history
 
 -- an event of the epoch may be flushed at the place: the file's end was found and might be, or its timeout had passed
@@ -45,16 +45,22 @@ pub record HasFallen (h : History) (looks : List Look) : Type 0 where
   pub below : fall.sight.length < history.read_to h.present
   pub only_reads : AllByRecursion (λ look. IsRead look.question) later
 
--- and it was another, or the last epoch is over
+-- and it was another
 pub record HasChanged (h : History) (file : File) (looks : List Look) : Type 0 where
   pub fallen : HasFallen h looks
-  pub asked : HasOtherKey h.rule h.begin.key h.begin.path file fallen.later ⊎ StillHasKey h.rule h.begin.key h.begin.path file fallen.later
+  pub other : HasOtherKey h.rule h.begin.key h.begin.path file fallen.later
+
+-- or the same, where no epoch is left
+pub record IsOver (h : History) (file : File) (looks : List Look) : Type 0 where
+  pub fallen : HasFallen h looks
+  pub same : StillHasKey h.rule h.begin.key h.begin.path file fallen.later
 
 abbrev pub StandBehind : History → File → Stage → List Look → Type 0
 StandBehind h file Reads looks = looks ≡ []
 StandBehind h file Asks looks = HasFallen h looks
 StandBehind h file Ended looks = looks ≡ []
 StandBehind h file Changed looks = HasChanged h file looks
+StandBehind h file Over looks = IsOver h file looks
 
 pub record IsLookedAt (numbers : Option (ℕ × ℕ)) (h : History) (told : TailHistory) : Type 0 where
   pub since : List Look

@@ -1,5 +1,5 @@
 -- For which histories a harvester stands, the looks of its tail aside.
-use Rattle.std.specs.Prelude.{◌≡◌, ◌⊎◌, ℕ, ◌<◌, ◌≤◌, Bool, true, List, [], ◌∷◌, ◌++◌, take, length, Contains, Option, Some, None}
+use Rattle.std.specs.Prelude.{◌≡◌, ◌⊎◌, ℕ, ◌<◌, ◌≤◌, Bool, true, false, List, [], ◌∷◌, ◌++◌, take, length, Contains, Option, Some, None}
 use Rattle.std.specs.List.{AllByRecursion}
 use Rattle.line_cutter.specs.Lines.{IsMessageLimit, complete_lines}
 use Rattle.multiline_core.specs.Message.{row_end}
@@ -16,7 +16,7 @@ use Rattle.wire_base.specs.Extent.{Extent}
 use Rattle.harvester.specs.declared.fate_rules.EventFate.{EventFate}
 use Rattle.harvester.specs.Deciding.{shown}
 use Rattle.harvester.specs.Gathered.{Gathered, IsGathered, lines_of}
-use Rattle.harvester.specs.History.{HasBytes, History, IsTelling, Stage, Reads, Asks, Ended, Changed, read_to, rules_in, timeout_in, told_to, with_events, with_licences, with_present}
+use Rattle.harvester.specs.History.{HasBytes, History, IsTelling, Stage, Reads, Asks, Ended, Changed, Over, read_to, rules_in, timeout_in, told_to, with_events, with_licences, with_present}
 use Rattle.harvester.specs.Held.{Held}
 
 abbrev pub stage_of : ReaderStage → Stage
@@ -24,6 +24,12 @@ stage_of reader.Reading = Reads
 stage_of reader.Asking = Asks
 stage_of reader.Ended = Ended
 stage_of reader.Changed = Changed
+stage_of reader.Over = Over
+
+-- where the end may be found, it is
+abbrev pub stage_behind_end : Bool → ReaderStage
+stage_behind_end true = reader.Ended
+stage_behind_end false = reader.Reading
 
 abbrev pub given_path : List ℕ → Option (List ℕ) → List ℕ
 given_path first None = first

@@ -5,7 +5,7 @@ use Rattle.told_events.specs.Told.{ToldEvent}
 use Rattle.wire_base.specs.Ranges.{IsParcel, IsPlace}
 use Rattle.wire_base.specs.declared.numbers.Epoch.{Epoch}
 use Rattle.wire_base.specs.declared.numbers.Slot.{Slot}
-use Rattle.harvester.specs.History.{Changed, History, with_epoch, with_stage}
+use Rattle.harvester.specs.History.{Changed, History, Over, with_epoch, with_stage}
 use Rattle.harvester.specs.declared.turn.Turn.{Turn}
 use Rattle.harvester.specs.declared.turn.Turn.TheVariants.{Issued, Passed, NewLife, EpochsOut}
 
@@ -24,6 +24,7 @@ IsOfFile slot epoch turn = Unit {0}
 -- the history once the key was asked where the length had fallen
 abbrev pub after_asking : Turn → History → History
 after_asking (NewLife epoch) history = with_epoch history
+after_asking EpochsOut history = with_stage Over history
 after_asking turn history = with_stage Changed history
 
 -- what asking comes to in this epoch: the next epoch, or that it was the last one

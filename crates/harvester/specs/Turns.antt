@@ -10,11 +10,9 @@ use Rattle.harvester.specs.declared.turn.Turn.{Turn}
 use Rattle.harvester.specs.declared.turn.Turn.TheVariants as turn
 use Rattle.harvester.specs.declared.turn_error.TurnError.{TurnError}
 use Rattle.harvester.specs.declared.turn_error.TurnError.TheVariants as error
-use Rattle.harvester.specs.Asked.{WasAsked}
 use Rattle.harvester.specs.Found.{FoundEnd, LooksAtEnd}
 use Rattle.harvester.specs.HasTold.{HasTold}
-use Rattle.harvester.specs.Held.{Held}
-use Rattle.harvester.specs.History.{Changed, Ended, History, Stage, read_to, told_to, with_bytes, with_epoch, with_events, with_licences, with_present, with_stage}
+use Rattle.harvester.specs.History.{Asks, Changed, Ended, History, Over, Reads, Stage, read_to, told_to, with_bytes, with_epoch, with_events, with_licences, with_present, with_stage}
 use Rattle.harvester.specs.Turned.{HasOneEvent, IsAskedIn, events_told}
 
 -- the bytes that it read, the places at which it found that an event may be flushed, and where the file stands then
@@ -41,7 +39,11 @@ NoneCloses history =
 
 -- the file may be turned again
 abbrev pub MayTurn : Stage → Type 0
-MayTurn stage = ¬ (stage ≡ Changed)
+MayTurn Reads = Unit {0}
+MayTurn Asks = Unit {0}
+MayTurn Ended = Unit {0}
+MayTurn Changed = ⊥
+MayTurn Over = ⊥
 
 -- the end was found by an earlier turn, or by the looks of this one, and then no event closes
 abbrev pub IsEnd : {T : Type 0} → (T → Option TailHistory) → History → History → Harvester T → Harvester T → Type 0
@@ -49,33 +51,18 @@ IsEnd told before after old new =
     (before.stage ≡ Ended)
     ⊎ (NoneCloses after × IfSome (told old.tail) (λ earlier. LooksAtEnd (read_to before.present) earlier (told new.tail)))
 
--- whether the key was that of the opening, by the answer
-abbrev pub key_by : Turn → Result Bool TurnError
-key_by turn.Changed = Ok false
-key_by turn.ReadFault = Err error.ReadFault
-key_by turn.NoMemory = Err error.NoMemory
-key_by answer = Ok true
-
--- the last looks asked for the key
-pub record AskedTheKey (held : Held) (numbers : Option (ℕ × ℕ)) (answer : Turn) (after : TailHistory) : Type 0 where
-  pub earlier : TailHistory
-  pub asked : WasAsked held numbers earlier (key_by answer) (Some after)
-
-abbrev pub IsByKey : {T : Type 0} → (T → Option (ℕ × ℕ)) → (T → Option TailHistory) → History → Harvester T → Turn → Harvester T → Type 0
-IsByKey numbers told before old answer new =
-    IsAskedIn before.present.epoch answer × IfSome (told new.tail) (AskedTheKey old.reader (numbers old.tail) answer)
-
--- when each answer comes; a fault is told by the tail's count, and want of memory is free
-abbrev pub IsCaused : {T : Type 0} → (T → Option (ℕ × ℕ)) → (T → Option TailHistory) → History → Did → History → Harvester T → Turn → Harvester T → Type 0
-IsCaused numbers told before did after old (turn.Issued parcel) new = MayTurn did.stage
-IsCaused numbers told before did after old (turn.Passed span rule) new = MayTurn did.stage
-IsCaused numbers told before did after old turn.More new = (0 < length did.bytes) × MayTurn did.stage × NoneCloses after
-IsCaused numbers told before did after old turn.AtEnd new = (did.bytes ≡ []) × MayTurn did.stage × IsEnd told before after old new
-IsCaused numbers told before did after old (turn.NewLife epoch) new = IsByKey numbers told before old (turn.NewLife epoch) new
-IsCaused numbers told before did after old turn.Changed new = (did.stage ≡ Changed) × IsByKey numbers told before old turn.Changed new
-IsCaused numbers told before did after old turn.EpochsOut new = (did.stage ≡ Changed) × IsByKey numbers told before old turn.EpochsOut new
-IsCaused numbers told before did after old turn.ReadFault new = MayTurn did.stage
-IsCaused numbers told before did after old turn.NoMemory new = MayTurn did.stage
+-- when each answer comes; a fault is told by the tail's count, and want of memory is free. Which key the file had the looks
+-- tell: where it is read or asked on, has another key, or its last epoch is over
+abbrev pub IsCaused : {T : Type 0} → (T → Option TailHistory) → History → Did → History → Harvester T → Turn → Harvester T → Type 0
+IsCaused told before did after old (turn.Issued parcel) new = MayTurn did.stage
+IsCaused told before did after old (turn.Passed span rule) new = MayTurn did.stage
+IsCaused told before did after old turn.More new = (0 < length did.bytes) × MayTurn did.stage × NoneCloses after
+IsCaused told before did after old turn.AtEnd new = (did.bytes ≡ []) × MayTurn did.stage × IsEnd told before after old new
+IsCaused told before did after old (turn.NewLife epoch) new = IsAskedIn before.present.epoch (turn.NewLife epoch)
+IsCaused told before did after old turn.Changed new = did.stage ≡ Changed
+IsCaused told before did after old turn.EpochsOut new = (did.stage ≡ Over) × IsAskedIn before.present.epoch turn.EpochsOut
+IsCaused told before did after old turn.ReadFault new = MayTurn did.stage
+IsCaused told before did after old turn.NoMemory new = MayTurn did.stage
 
 -- at this moment, of which the history knows
 pub record Goes {T : Type 0} (numbers : T → Option (ℕ × ℕ)) (told : T → Option TailHistory) (most now : ℕ) (history : History) (old : Harvester T) (answer : Turn) (new : Harvester T) : Type 0 where
@@ -83,7 +70,7 @@ pub record Goes {T : Type 0} (numbers : T → Option (ℕ × ℕ)) (told : T →
   pub has_told : HasTold numbers told (after_did now answer did history) new
   pub few : length did.bytes ≤ most
   pub reads_where_none_closes : 0 < length did.bytes → NoneCloses history
-  pub caused : IsCaused numbers told history did (after_did now answer did history) old answer new
+  pub caused : IsCaused told history did (after_did now answer did history) old answer new
 
 abbrev pub answer_of : Result Turn TurnError → Turn
 answer_of (Ok answer) = answer

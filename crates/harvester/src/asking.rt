@@ -5,6 +5,7 @@ ghost use Rattle.harvester.specs.HasTold.{HasTold};
 ghost use Rattle.harvester.specs.History.{History};
 
 use crate::harvester::Harvester;
+use crate::reader::Reader;
 use crate::stage::Stage;
 use crate::turn::Turn;
 use crate::turn_error::TurnError;
@@ -19,49 +20,48 @@ impl<T: Tail> Harvester<T> {
     pub(crate) fn ask_again(&mut self, alloc: Global) -> Result<Turn, TurnError>
         requires asks { self.old.reader.stage ≡ Stage.Asking }
         ensures asked { (history : History) → HasTold T.numbers T.told history self.old →
-            HasAsked T.numbers T.told history self.old result self.new }
+            HasAsked T.numbers T.told history result self.new }
         ensures rests_kept { self.new.rests ≡ self.old.rests }
         ensures begin_kept { self.new.reader.begin ≡ self.old.reader.begin }
         ensures faults_never_fall { T.faults self.old.tail ≤ T.faults self.new.tail }
         ensures read_fault_only_where_faults_rose { IsErrOf result TurnError.ReadFault →
             Rose (T.faults self.old.tail) (T.faults self.new.tail) }
     {
-        if !self.ask(alloc)? {
+        if !ask(alloc, &self.reader, &mut self.tail)? {
             self.reader.stand(Stage::Changed);
             return Ok(Turn::Changed);
         }
-        let Some(number) = self.reader.epoch().0.checked_add(1) else {
-            self.reader.stand(Stage::Changed);
+        let epoch = self.reader.epoch().0;
+        if epoch == u32::MAX {
+            self.reader.stand(Stage::Over);
             return Ok(Turn::EpochsOut);
-        };
-        self.reader.begin_life(alloc, Epoch(number));
-        Ok(Turn::NewLife(Epoch(number)))
-    }
-
-    /// Whether the file has the key with which it was opened.
-    fn ask(&mut self, alloc: Global) -> Result<bool, TurnError>
-        ensures asked { IfSome (T.told self.old.tail) (λ told.
-            WasAsked self.old.reader (T.numbers self.old.tail) told result (T.told self.new.tail)) }
-        ensures untold { IsNone (T.told self.old.tail) → IsNone (T.told self.new.tail) }
-        ensures others { self.new ≡ (record self.old { tail = self.new.tail }) }
-        ensures numbers_kept { T.numbers self.new.tail ≡ T.numbers self.old.tail }
-        ensures faults_never_fall { T.faults self.old.tail ≤ T.faults self.new.tail }
-        ensures read_fault_only_where_faults_rose { IsErrOf result TurnError.ReadFault →
-            Rose (T.faults self.old.tail) (T.faults self.new.tail) }
-    {
-        let reader = &self.reader;
-        match opened_key(
-            alloc,
-            &reader.input,
-            &reader.identity,
-            &reader.begin.path,
-            &mut self.tail,
-        ) {
-            Ok(Identity::Key(key)) => Ok(is_same(&key, &reader.begin.key)),
-            Ok(Identity::TooSmall(_)) | Err(IdentityError::NoNative) => Ok(false),
-            Err(IdentityError::ReadFault) => Err(TurnError::ReadFault),
-            Err(IdentityError::NoMemory) => Err(TurnError::NoMemory),
         }
+        self.reader.begin_life(alloc, Epoch(epoch + 1));
+        Ok(Turn::NewLife(Epoch(epoch + 1)))
+    }
+}
+
+/// Whether the file has the key with which it was opened.
+fn ask<T: Tail>(alloc: Global, reader: &Reader, tail: &mut T) -> Result<bool, TurnError>
+    ensures asked { IfSome (T.told tail.old) (λ told.
+        WasAsked reader.now (T.numbers tail.old) told result (T.told tail.new)) }
+    ensures untold { IsNone (T.told tail.old) → IsNone (T.told tail.new) }
+    ensures numbers_kept { T.numbers tail.new ≡ T.numbers tail.old }
+    ensures faults_never_fall { T.faults tail.old ≤ T.faults tail.new }
+    ensures read_fault_only_where_faults_rose { IsErrOf result TurnError.ReadFault →
+        Rose (T.faults tail.old) (T.faults tail.new) }
+{
+    match opened_key(
+        alloc,
+        &reader.input,
+        &reader.identity,
+        &reader.begin.path,
+        tail,
+    ) {
+        Ok(Identity::Key(key)) => Ok(is_same(&key, &reader.begin.key)),
+        Ok(Identity::TooSmall(_)) | Err(IdentityError::NoNative) => Ok(false),
+        Err(IdentityError::ReadFault) => Err(TurnError::ReadFault),
+        Err(IdentityError::NoMemory) => Err(TurnError::NoMemory),
     }
 }
 

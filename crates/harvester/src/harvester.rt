@@ -72,7 +72,10 @@ impl<T: Tail> Harvester<T> {
     pub fn changed(&self) -> bool
         ensures { IsTrue result ↔ IsChanged self.now }
     {
-        self.reader.stage == Stage::Changed
+        match self.reader.stage() {
+            Stage::Changed | Stage::Over => true,
+            Stage::Reading | Stage::Asking | Stage::Ended => false,
+        }
     }
 
     pub fn slot(&self) -> Slot

@@ -7,6 +7,8 @@ pub(crate) enum Stage {
     Asking,
     /// Its end was found, and it is read no further.
     Ended,
-    /// It has another key, or the last epoch is over.
+    /// It has another key.
     Changed,
+    /// The last epoch is over.
+    Over,
 }

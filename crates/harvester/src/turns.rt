@@ -3,7 +3,7 @@ ghost use Rattle.outside.specs.Counts.{Rose};
 ghost use Rattle.wire_base.specs.Ranges.{IsMoment};
 ghost use Rattle.harvester.specs.HasTold.{HasTold, IsChanged, begin_of};
 ghost use Rattle.harvester.specs.History.{History};
-ghost use Rattle.harvester.specs.Standing.{EndsAt};
+ghost use Rattle.harvester.specs.Standing.{EndsAt, stage_behind_end};
 ghost use Rattle.harvester.specs.Turned.{IsOfFile, with_turn};
 ghost use Rattle.harvester.specs.Turns.{Goes, IsLast, MayBeEnded, Settled, answer_of};
 
@@ -13,6 +13,7 @@ use crate::look::Found;
 use crate::stage::Stage;
 use crate::turn::Turn;
 use crate::turn_error::TurnError;
+use line_cutter::later_lines;
 use outside::Tail;
 use std::alloc::Global;
 use wire_base::{Moment, NoMemory};
@@ -26,7 +27,8 @@ impl<T: Tail> Harvester<T> {
         requires moment { IsMoment now }
         ensures goes { (history : History) → HasTold T.numbers T.told history self.old →
             Goes T.numbers T.told READ_SIZE now.0 (with_turn now.0 last history) self.old result self.new }
-        ensures of_file { IsOfFile (begin_of self.old).slot self.old.reader.epoch result }
+        ensures of_file { (history : History) → HasTold T.numbers T.told history self.old →
+            IsOfFile (begin_of self.old).slot self.old.reader.epoch result }
         ensures changed { IsChanged self.new ↔ IsLast result }
         ensures begin_kept { begin_of self.new ≡ begin_of self.old }
         ensures faults_never_fall { T.faults self.old.tail ≤ T.faults self.new.tail }
@@ -49,7 +51,8 @@ impl<T: Tail> Harvester<T> {
             ((last || history.ends) ≡ true → history.may_end ≡ true) →
             HasTold T.numbers T.told history self.old →
             Goes T.numbers T.told READ_SIZE now.0 history self.old (answer_of result) self.new }
-        ensures of_file { IfOk result (IsOfFile self.old.reader.begin.slot self.old.reader.epoch) }
+        ensures of_file { (history : History) → HasTold T.numbers T.told history self.old →
+            IfOk result (IsOfFile self.old.reader.begin.slot self.old.reader.epoch) }
         ensures begin_kept { self.new.reader.begin ≡ self.old.reader.begin }
         ensures faults_never_fall { T.faults self.old.tail ≤ T.faults self.new.tail }
         ensures read_fault_only_where_faults_rose { IsErrOf result TurnError.ReadFault →
@@ -63,7 +66,7 @@ impl<T: Tail> Harvester<T> {
             Stage::Asking => self.ask_again(alloc),
             Stage::Ended if self.reader.has_closed() => Ok(self.tell(alloc, now)?),
             Stage::Ended => Ok(Turn::AtEnd),
-            Stage::Changed => unreachable!(),
+            Stage::Changed | Stage::Over => unreachable!(),
         }
     }
 
@@ -74,7 +77,8 @@ impl<T: Tail> Harvester<T> {
         ensures goes { (history : History) → EndsAt history.moments now.0 →
             (ended ≡ true → history.may_end ≡ true) → HasTold T.numbers T.told history self.old →
             Goes T.numbers T.told READ_SIZE now.0 history self.old (answer_of result) self.new }
-        ensures of_file { IfOk result (IsOfFile self.old.reader.begin.slot self.old.reader.epoch) }
+        ensures of_file { (history : History) → HasTold T.numbers T.told history self.old →
+            IfOk result (IsOfFile self.old.reader.begin.slot self.old.reader.epoch) }
         ensures begin_kept { self.new.reader.begin ≡ self.old.reader.begin }
         ensures faults_never_fall { T.faults self.old.tail ≤ T.faults self.new.tail }
         ensures read_fault_only_where_faults_rose { IsErrOf result TurnError.ReadFault →
@@ -107,20 +111,27 @@ impl<T: Tail> Harvester<T> {
             HasTold T.numbers T.told history self.old →
             Settled T.numbers T.told now.0 history result self.new }
         ensures all_fed { result ≡ Ok None → self.new.reader.filled ≡ 0 }
-        ensures of_file { IfOk result (λ told. IfSome told
+        ensures of_file { (history : History) → HasTold T.numbers T.told history self.old →
+            IfOk result (λ told. IfSome told
             (IsOfFile self.old.reader.begin.slot self.old.reader.epoch)) }
         ensures begin_kept { self.new.reader.begin ≡ self.old.reader.begin }
         ensures tail_kept { self.new.tail ≡ self.old.tail }
     {
-        if !self.reader.gather(alloc)? {
-            let closed = self.reader.close(ended, now);
-            if ended {
-                self.reader.stand(Stage::Ended);
-            }
-            if !closed {
-                return Ok(None);
-            }
+        if self.reader.gather(alloc)? {
+            return Ok(Some(self.tell(alloc, now)?));
         }
-        Ok(Some(self.tell(alloc, now)?))
+        later_lines();
+        let closed = self.reader.close(ended, now);
+        self.reader.stand(stage_behind(ended));
+        if closed {
+            return Ok(Some(self.tell(alloc, now)?));
+        }
+        Ok(None)
     }
+}
+
+fn stage_behind(ended: bool) -> Stage
+    ensures { result ≡ stage_behind_end ended }
+{
+    if ended { Stage::Ended } else { Stage::Reading }
 }
