@@ -17,6 +17,11 @@ module _ (h : History) (stage : Stage) where
       did_both licences []
       ∙ ap (λ (t : List ToldEvent). with_stage stage (with_present (record (with_licences licences h.present) { told = t }) h)) (append-nil h.present.told)
 
+  -- it only stands elsewhere
+  pub did_stage : did_with [] (record { bytes = []; licences = []; stage = stage }) h ≡ with_stage stage h
+  did_stage =
+      did_licences [] ∙ ap (λ (l : List ℕ). with_stage stage (with_present (record h.present { licences = l }) h)) (append-nil h.present.licences)
+
   module _ (same : h.stage ≡ stage) where
     pub did_events : (events : List ToldEvent) → did_with events (record { bytes = []; licences = []; stage = stage }) h ≡ with_present (with_events events h.present) h
     did_events events =

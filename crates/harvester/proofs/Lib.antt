@@ -11,3 +11,4 @@ pub mod Segments
 pub mod Standings
 pub mod Telling
 pub mod TellsGiven
+pub mod TurnsGiven

@@ -8,6 +8,8 @@ use Rattle.outside.specs.Tails.{TailHistory}
 use Rattle.harvester.specs.declared.harvester.Harvester.{Harvester}
 use Rattle.harvester.specs.declared.look.Found.{Found}
 use Rattle.harvester.specs.declared.look.Found.TheVariants.{Less, More, End}
+use Rattle.harvester.specs.declared.stage.Stage.{Stage as ReaderStage}
+use Rattle.harvester.specs.declared.stage.Stage.TheVariants.{Asking, Reading}
 use Rattle.harvester.specs.declared.turn_error.TurnError.{TurnError}
 use Rattle.harvester.specs.HasTold.{HasTold}
 use Rattle.harvester.specs.History.{Asks, History, Reads, Stage, read_to, with_bytes, with_present, with_stage}
@@ -19,6 +21,11 @@ stage_after (Ok Less) = Asks
 stage_after (Ok More) = Reads
 stage_after (Ok End) = Reads
 stage_after (Err error) = Reads
+
+abbrev pub stage_found : Found → ReaderStage
+stage_found Less = Asking
+stage_found More = Reading
+stage_found End = Reading
 
 -- the bytes that were read, of which there are at most so many
 abbrev pub GaveBytes : ℕ → Result Found TurnError → List ℕ → Type 0

@@ -1,7 +1,7 @@
-ghost use Rattle.std.specs.Prelude.{◌≡◌, ◌≤◌, Contains, IsErrOf, IsSome, OnOk};
+ghost use Rattle.std.specs.Prelude.{◌≡◌, ◌≤◌, Contains, IfOk, IsErrOf, IsSome, OnOk};
 ghost use Rattle.outside.specs.Counts.{Rose};
 ghost use Rattle.wire_base.specs.Ranges.{IsMoment};
-ghost use Rattle.harvester.specs.Found.{HasLooked};
+ghost use Rattle.harvester.specs.Found.{HasLooked, stage_found};
 ghost use Rattle.harvester.specs.HasTold.{HasTold};
 ghost use Rattle.harvester.specs.History.{History};
 
@@ -34,6 +34,9 @@ impl<T: Tail> Harvester<T> {
             HasLooked T.numbers T.told READ_SIZE history self.old result self.new }
         ensures rests_kept { self.new.rests ≡ self.old.rests }
         ensures begin_kept { self.new.reader.begin ≡ self.old.reader.begin }
+        ensures epoch_kept { self.new.reader.epoch ≡ self.old.reader.epoch }
+        ensures stage_by_result { IfOk result (λ found. self.new.reader.stage ≡ stage_found found) }
+        ensures rules_kept { self.new.rules ≡ self.old.rules }
         ensures faults_never_fall { T.faults self.old.tail ≤ T.faults self.new.tail }
         ensures read_fault_only_where_faults_rose { IsErrOf result TurnError.ReadFault →
             Rose (T.faults self.old.tail) (T.faults self.new.tail) }

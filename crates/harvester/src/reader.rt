@@ -121,6 +121,7 @@ impl Reader {
         ensures closed { IfOk result (λ found. IsTrue found ↔ IsSome self.new.events.closed) }
         ensures all { IfOk result (λ found. found ≡ false → (history : History) → StandsFor history self.old →
             AllGathered history self.new) }
+        ensures fed { OnOk result (self.new.filled ≡ 0) }
         ensures others { self.new ≡ (record self.old { events = self.new.events; filled = self.new.filled }) }
     {
         self.feed()?;

@@ -24,7 +24,7 @@ impl<T: Tail> Harvester<T> {
             IfOk result (λ turn. HasTold T.numbers T.told (with_present
                 (with_events (events_told history.path now.0 turn) history.present) history) self.new) }
         ensures one { IfOk result (λ turn. HasOneEvent turn) }
-        ensures of_file { (history : History) → HasTold T.numbers T.told history self.old →
+        ensures of_file { (rules : Rules) → Decides rules self.old.rules →
             IfOk result (IsOfFile self.old.reader.begin.slot self.old.reader.epoch) }
         ensures stage_kept { self.new.reader.stage ≡ self.old.reader.stage }
         ensures same_on_refusal { (history : History) → HasTold T.numbers T.told history self.old →

@@ -1,6 +1,8 @@
 ghost use Rattle.std.specs.Prelude.{◌≡◌, ◌↔◌, ◌<◌, ◌≤◌, ◌||◌, true, IfOk, IfSome, IsErrOf, None, Ok};
 ghost use Rattle.outside.specs.Counts.{Rose};
 ghost use Rattle.wire_base.specs.Ranges.{IsMoment};
+ghost use Rattle.told_events.specs.Rules.{Rules};
+ghost use Rattle.harvester.specs.Deciding.{Decides};
 ghost use Rattle.harvester.specs.HasTold.{HasTold, IsChanged, begin_of};
 ghost use Rattle.harvester.specs.History.{History};
 ghost use Rattle.harvester.specs.Standing.{EndsAt, stage_behind_end};
@@ -51,7 +53,7 @@ impl<T: Tail> Harvester<T> {
             ((last || history.ends) ≡ true → history.may_end ≡ true) →
             HasTold T.numbers T.told history self.old →
             Goes T.numbers T.told READ_SIZE now.0 history self.old (answer_of result) self.new }
-        ensures of_file { (history : History) → HasTold T.numbers T.told history self.old →
+        ensures of_file { (rules : Rules) → Decides rules self.old.rules →
             IfOk result (IsOfFile self.old.reader.begin.slot self.old.reader.epoch) }
         ensures begin_kept { self.new.reader.begin ≡ self.old.reader.begin }
         ensures faults_never_fall { T.faults self.old.tail ≤ T.faults self.new.tail }
@@ -77,7 +79,7 @@ impl<T: Tail> Harvester<T> {
         ensures goes { (history : History) → EndsAt history.moments now.0 →
             (ended ≡ true → history.may_end ≡ true) → HasTold T.numbers T.told history self.old →
             Goes T.numbers T.told READ_SIZE now.0 history self.old (answer_of result) self.new }
-        ensures of_file { (history : History) → HasTold T.numbers T.told history self.old →
+        ensures of_file { (rules : Rules) → Decides rules self.old.rules →
             IfOk result (IsOfFile self.old.reader.begin.slot self.old.reader.epoch) }
         ensures begin_kept { self.new.reader.begin ≡ self.old.reader.begin }
         ensures faults_never_fall { T.faults self.old.tail ≤ T.faults self.new.tail }
@@ -111,7 +113,7 @@ impl<T: Tail> Harvester<T> {
             HasTold T.numbers T.told history self.old →
             Settled T.numbers T.told now.0 history result self.new }
         ensures all_fed { result ≡ Ok None → self.new.reader.filled ≡ 0 }
-        ensures of_file { (history : History) → HasTold T.numbers T.told history self.old →
+        ensures of_file { (rules : Rules) → Decides rules self.old.rules →
             IfOk result (λ told. IfSome told
             (IsOfFile self.old.reader.begin.slot self.old.reader.epoch)) }
         ensures begin_kept { self.new.reader.begin ≡ self.old.reader.begin }

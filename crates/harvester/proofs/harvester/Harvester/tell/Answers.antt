@@ -2,7 +2,6 @@ use Rattle.std.proofs.Common.{ap, ◌∙◌}
 use Rattle.told_events.specs.Fate.{DroppedBy, ShippedAs}
 use Rattle.harvester.specs.Deciding.{shown}
 use Rattle.harvester.specs.Held.{Held}
-use Rattle.harvester.specs.History.{rules_in}
 use Rattle.harvester.proofs.Standings.{on_err}
 use Rattle.harvester.proofs.TellsGiven.{payload_fits, same_told, told_one}
 use Rattle.harvester.proofs.harvester.Harvester.tell.Goals as goal
@@ -18,12 +17,12 @@ returns-in-Shipped-clause-told g c = λ h has.
     (ap shown c.in-Shipped.is)
 
 pub returns-in-Shipped-clause-of_file : goal.returns-in-Shipped-clause-of_file
-returns-in-Shipped-clause-of_file g c = λ h has. (
+returns-in-Shipped-clause-of_file g c = λ rules decides. (
   c.slot.ensures ∙ ap (λ (held : Held). held.begin.slot) c.pass.ensures.others,
   c.epoch.ensures ∙ ap (λ (held : Held). held.epoch) c.pass.ensures.others,
   record {
     payload = payload_fits c.args.self.now.reader.events.closed c.requires.closed c.args.self.now.rules _ c.args.now.0 (c.in_ok-fate.fate, c.in_ok-fate.span)
-        c.in-Shipped.payload (ap shown c.in-Shipped.is) (rules_in h) has.decides c.in_ok-fate.ensures.by_the_rules;
+        c.in-Shipped.payload (ap shown c.in-Shipped.is) rules decides c.in_ok-fate.ensures.by_the_rules;
     span = c.in_ok-fate.ensures.in_range;
   },
 )
