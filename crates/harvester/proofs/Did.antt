@@ -31,3 +31,10 @@ module _ (h : History) (stage : Stage) where
 
     pub did_nothing : did_with [] (record { bytes = []; licences = []; stage = stage }) h ≡ h
     did_nothing = did_events [] ∙ ap (λ (t : List ToldEvent). with_present (record h.present { told = t }) h) (append-nil h.present.told)
+
+-- with some bytes more, and nothing told
+pub did_bytes : (h : History) (stage : Stage) (bytes : List ℕ) → did_with [] (record { bytes = bytes; licences = []; stage = stage }) h
+    ≡ with_stage stage (with_present (with_bytes bytes h.present) h)
+did_bytes h stage bytes =
+    ap (λ (l : List ℕ). with_stage stage (with_present (with_events [] (record (with_bytes bytes h.present) { licences = l })) h)) (append-nil h.present.licences)
+    ∙ ap (λ (t : List ToldEvent). with_stage stage (with_present (record (with_bytes bytes h.present) { told = t }) h)) (append-nil h.present.told)

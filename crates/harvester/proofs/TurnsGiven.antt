@@ -1,29 +1,38 @@
 -- What the steps of a turn give, as contracts tell it.
-use Rattle.std.proofs.Common.{◌≡◌, ◌⊎◌, inl, inr, ℕ, ◌<◌, ◌≤◌, Bool, true, false, List, [], ◌∷◌, length, Option, Some, None, IfSome, IsErr, Result, Ok, Err, refl, sym, ap, subst, ◌∙◌, arith}
+use Rattle.std.proofs.Common.{◌≡◌, ◌⊎◌, inl, inr, ℕ, ◌<◌, ◌≤◌, Bool, true, false, List, [], ◌∷◌, ◌++◌, length, Contains, Option, Some, None, ◌↔◌, ◌||◌, IfOk, IfSome, IsErr, IsErrOf, Result, Ok, Err, refl, sym, ap, subst, ◌∙◌, append-nil, arith}
+use Rattle.std.proofs.lemmas.Bool.{or_left, or_right}
+use Rattle.std.proofs.lemmas.List.Elements.{Contains-append_right}
 use Rattle.outside.specs.Tails.{TailHistory}
 use Rattle.told_events.specs.Licence.{LieApart}
 use Rattle.told_events.specs.Told.{ToldEvent}
 use Rattle.wire_base.specs.declared.note.Begin.{Begin}
 use Rattle.wire_base.specs.declared.numbers.Epoch.{Epoch}
+use Rattle.wire_base.specs.declared.numbers.Slot.{Slot}
 use Rattle.wire_base.specs.declared.memory.NoMemory.{NoMemory}
 use Rattle.harvester.specs.declared.harvester.Harvester.{Harvester}
+use Rattle.harvester.specs.declared.look.Found.{Found}
+use Rattle.harvester.specs.declared.look.Found.TheVariants.{End, Less}
+use Rattle.harvester.specs.declared.stage.Stage.{Stage as ReaderStage}
+use Rattle.harvester.specs.declared.stage.Stage.TheVariants as reader
 use Rattle.harvester.specs.declared.stage.Stage.TheVariants.{Reading}
 use Rattle.harvester.specs.declared.turn.Turn.{Turn}
 use Rattle.harvester.specs.declared.turn.Turn.TheVariants as turn
 use Rattle.harvester.specs.declared.turn_error.TurnError.{TurnError}
 use Rattle.harvester.specs.declared.turn_error.TurnError.TheVariants as error
 use Rattle.harvester.specs.Asked.{HasAsked}
-use Rattle.harvester.specs.Found.{FoundEnd}
-use Rattle.harvester.specs.HasTold.{HasTold}
+use Rattle.harvester.specs.Found.{FoundEnd, HasLooked, LooksAtEnd}
+use Rattle.harvester.specs.HasTold.{HasTold, IsChanged}
 use Rattle.harvester.specs.Held.{Held}
-use Rattle.harvester.specs.History.{Asks, Changed, Ended, History, Over, Reads, Stage, rules_in, timeout_in, with_bytes, with_events, with_licences, with_present, with_stage}
+use Rattle.harvester.specs.History.{Asks, Changed, Ended, History, Over, Reads, Stage, read_to, timeout_in, with_bytes, with_epoch, with_events, with_licences, with_present, with_stage}
 use Rattle.harvester.specs.Looked.{AreLookedAt}
-use Rattle.harvester.specs.Standing.{StandsFor, WasClosed, stage_behind_end, stage_of}
-use Rattle.harvester.specs.Turned.{HasOneEvent, IsOfFile, events_told}
-use Rattle.harvester.specs.Turns.{Did, Goes, IsCaused, MayBeEnded, MayTurn, NoneCloses, Settled, after_did, answer_of, did_with}
-use Rattle.harvester.proofs.Did.{did_both, did_events, did_licences, did_nothing, did_stage}
-use Rattle.harvester.proofs.LookingOn.{flushes, flushes_at_end}
+use Rattle.harvester.specs.Standing.{EndsAt, StandsFor, WasClosed, stage_behind_end, stage_of}
+use Rattle.harvester.specs.Turned.{HasOneEvent, IsAskedIn, IsByKey, IsAnswerFor, IsOfFile, events_told, with_turn}
+use Rattle.harvester.specs.Turns.{Did, Goes, MayBeEnded, MayTurn, IsLast, NoneCloses, Settled, answer_of, did_with, events_of}
+use Rattle.harvester.proofs.Did.{did_both, did_bytes, did_events, did_licences, did_nothing, did_stage}
 use Rattle.harvester.proofs.LookSteps.{same_bytes}
+use Rattle.harvester.proofs.Looking.{apart_stays}
+use Rattle.harvester.proofs.LookingOn.{flushes, flushes_at_end, other_turn}
+use Rattle.harvester.proofs.Standings.{turned_stands}
 
 -- where the file stands behind an end that may be found
 abbrev pub behind_end : Bool → Stage
@@ -42,10 +51,10 @@ pub with_reader : {T : Type 0} (numbers : T → Option (ℕ × ℕ)) (told : T �
 with_reader numbers told h old has reader stands = record { held = stands; decides = has.decides; looked = has.looked }
 
 -- of the same file and epoch
-pub of_same : (held old : Held) (answer : Turn) → held.begin ≡ old.begin → held.epoch ≡ old.epoch → IsOfFile held.begin.slot held.epoch answer →
-    IsOfFile old.begin.slot old.epoch answer
+pub of_same : (held old : Held) (answer : Turn) → held.begin ≡ old.begin → held.epoch ≡ old.epoch → IsAnswerFor held.begin.slot held.epoch answer →
+    IsAnswerFor old.begin.slot old.epoch answer
 of_same held old answer begin epoch is =
-    subst (λ (b : Begin). IsOfFile b.slot old.epoch answer) begin (subst (λ (e : Epoch). IsOfFile held.begin.slot e answer) epoch is)
+    subst (λ (b : Begin). IsAnswerFor b.slot old.epoch answer) begin (subst (λ (e : Epoch). IsAnswerFor held.begin.slot e answer) epoch is)
 
 module _ {T : Type 0} (numbers : T → Option (ℕ × ℕ)) (told : T → Option TailHistory) (now : ℕ) (h : History) (reads : h.stage ≡ Reads) (new : Harvester T) where
   -- ---- settling
@@ -143,49 +152,292 @@ module _ {T : Type 0} (numbers : T → Option (ℕ × ℕ)) (told : T → Option
 
 -- ---- a whole turn
 
-with_no_bytes : (h : History) (stage : Stage) → with_stage stage (with_present (with_bytes [] h.present) h) ≡ with_stage stage h
-with_no_bytes h stage = ap (λ (g : History). with_stage stage g) (same_bytes h)
-
 module _ {T : Type 0} (numbers : T → Option (ℕ × ℕ)) (told : T → Option TailHistory) (most now : ℕ) (h : History) (old : Harvester T) (new : Harvester T) where
-  -- a fault, or want of memory, where no byte was read
-  refused_at : (stage : Stage) → MayTurn stage → HasTold numbers told (with_stage stage h) new → (result : Result Turn TurnError) → IsErr result →
-      Goes numbers told most now h old (answer_of result) new
-  refused_at stage may has (Ok answer) err = absurd (let no : false ≡ true = err in cc)
-  refused_at stage may has (Err error.ReadFault) err = record {
-    did = record { bytes = []; licences = []; stage = stage };
-    has_told = subst (λ (g : History). HasTold numbers told g new) (sym (did_stage h stage)) has;
-    few = omega arith;
-    reads_where_none_closes = λ some. absurd (let no : 0 < 0 = some in omega arith);
-    caused = may;
-  }
-  refused_at stage may has (Err error.NoMemory) err = record {
-    did = record { bytes = []; licences = []; stage = stage };
-    has_told = subst (λ (g : History). HasTold numbers told g new) (sym (did_stage h stage)) has;
-    few = omega arith;
-    reads_where_none_closes = λ some. absurd (let no : 0 < 0 = some in omega arith);
-    caused = may;
-  }
+  module _ (did : Did) (may : MayTurn did.stage) (few : length did.bytes ≤ most) (none : 0 < length did.bytes → NoneCloses h) where
+    -- a fault, or want of memory
+    pub goes_refused : HasTold numbers told (did_with [] did h) new → (result : Result Turn TurnError) → IsErr result →
+        Goes numbers told most now h old (answer_of result) new
+    goes_refused has (Ok answer) err = absurd (let no : false ≡ true = err in cc)
+    goes_refused has (Err error.ReadFault) err = record { did = did; has_told = has; few = few; reads_where_none_closes = none; caused = may }
+    goes_refused has (Err error.NoMemory) err = record { did = did; has_told = has; few = few; reads_where_none_closes = none; caused = may }
 
+    -- an event was told
+    pub goes_told : (answer : Turn) → HasOneEvent answer → HasTold numbers told (did_with (events_told h.path now answer) did h) new →
+        Goes numbers told most now h old answer new
+    goes_told (turn.Issued parcel) one has = record { did = did; has_told = has; few = few; reads_where_none_closes = none; caused = may }
+    goes_told (turn.Passed span rule) one has = record { did = did; has_told = has; few = few; reads_where_none_closes = none; caused = may }
+    goes_told turn.More one has = absurd one
+    goes_told turn.AtEnd one has = absurd one
+    goes_told (turn.NewLife epoch) one has = absurd one
+    goes_told turn.Changed one has = absurd one
+    goes_told turn.EpochsOut one has = absurd one
+    goes_told turn.ReadFault one has = absurd one
+    goes_told turn.NoMemory one has = absurd one
+
+  no_more : (most : ℕ) → 0 ≤ most
+  no_more most = omega arith
+
+  never : 0 < 0 → NoneCloses h
+  never some = absurd (omega (arith, some))
+
+  -- where nothing was read
   module _ (stage : Stage) (stands : h.stage ≡ stage) (may : MayTurn stage) where
     pub turn_refused : HasTold numbers told h new → (result : Result Turn TurnError) → IsErr result → Goes numbers told most now h old (answer_of result) new
-    turn_refused has result err =
-        refused_at stage may (subst (λ (g : History). HasTold numbers told g new) (ap (λ (s : Stage). with_stage s h) stands) has) result err
+    turn_refused has =
+        goes_refused (record { bytes = []; licences = []; stage = stage }) may (no_more most) never
+        (subst (λ (g : History). HasTold numbers told g new) (sym (did_nothing h stage stands)) has)
 
-    one_event : (answer : Turn) → HasOneEvent answer → (did : Did) → MayTurn did.stage → length did.bytes ≤ most → (0 < length did.bytes → NoneCloses h) →
-        HasTold numbers told (did_with (events_told h.path now answer) did h) new → Goes numbers told most now h old answer new
-    one_event (turn.Issued parcel) one did goes few none has = record { did = did; has_told = has; few = few; reads_where_none_closes = none; caused = goes }
-    one_event (turn.Passed span rule) one did goes few none has = record { did = did; has_told = has; few = few; reads_where_none_closes = none; caused = goes }
-    one_event turn.More one did goes few none has = absurd one
-    one_event turn.AtEnd one did goes few none has = absurd one
-    one_event (turn.NewLife epoch) one did goes few none has = absurd one
-    one_event turn.Changed one did goes few none has = absurd one
-    one_event turn.EpochsOut one did goes few none has = absurd one
-    one_event turn.ReadFault one did goes few none has = absurd one
-    one_event turn.NoMemory one did goes few none has = absurd one
-
-    -- the closed event was told
     pub turn_told : (answer : Turn) → HasOneEvent answer → HasTold numbers told (with_present (with_events (events_told h.path now answer) h.present) h) new →
         Goes numbers told most now h old answer new
     turn_told answer one has =
-        one_event answer one (record { bytes = []; licences = []; stage = stage }) may (omega arith) (λ some. absurd (let no : 0 < 0 = some in omega arith))
+        goes_told (record { bytes = []; licences = []; stage = stage }) may (no_more most) never answer one
         (subst (λ (g : History). HasTold numbers told g new) (sym (did_events h stage stands (events_told h.path now answer))) has)
+
+  -- the end was found before
+  pub turn_ended : h.stage ≡ Ended → HasTold numbers told h new → Goes numbers told most now h old turn.AtEnd new
+  turn_ended stands has = record {
+    did = record { bytes = []; licences = []; stage = Ended };
+    has_told = subst (λ (g : History). HasTold numbers told g new) (sym (did_nothing h Ended stands)) has;
+    few = no_more most;
+    reads_where_none_closes = never;
+    caused = (refl, tt, inl stands);
+  }
+
+  -- the key was asked, where the history is this one but for the stage
+  module _ (was : History) (is : with_stage Asks was ≡ with_stage Asks h) where
+    at_stage : (stage : Stage) → with_stage stage was ≡ with_stage stage h
+    at_stage stage = ap (λ (g : History). with_stage stage g) is
+
+    pub turn_asked : (result : Result Turn TurnError) → HasAsked numbers told (with_stage Asks was) result new → Goes numbers told most now h old (answer_of result) new
+    turn_asked (Ok (turn.NewLife epoch)) asked = record {
+      did = record { bytes = []; licences = []; stage = Reads };
+      has_told = subst (λ (g : History). HasTold numbers told (with_epoch g) new) is asked.has_told;
+      few = no_more most;
+      reads_where_none_closes = never;
+      caused = subst (λ (g : History). IsAskedIn g.present.epoch (turn.NewLife epoch)) is asked.asked_in;
+    }
+    turn_asked (Ok turn.Changed) asked = record {
+      did = record { bytes = []; licences = []; stage = Changed };
+      has_told = subst (λ (g : History). HasTold numbers told g new) (at_stage Changed ∙ sym (did_stage h Changed)) asked.has_told;
+      few = no_more most;
+      reads_where_none_closes = never;
+      caused = refl;
+    }
+    turn_asked (Ok turn.EpochsOut) asked = record {
+      did = record { bytes = []; licences = []; stage = Over };
+      has_told = subst (λ (g : History). HasTold numbers told g new) (at_stage Over ∙ sym (did_stage h Over)) asked.has_told;
+      few = no_more most;
+      reads_where_none_closes = never;
+      caused = (refl, subst (λ (g : History). IsAskedIn g.present.epoch turn.EpochsOut) is asked.asked_in);
+    }
+    turn_asked (Ok (turn.Issued parcel)) asked = absurd asked.asked_in
+    turn_asked (Ok (turn.Passed span rule)) asked = absurd asked.asked_in
+    turn_asked (Ok turn.More) asked = absurd asked.asked_in
+    turn_asked (Ok turn.AtEnd) asked = absurd asked.asked_in
+    turn_asked (Ok turn.ReadFault) asked = absurd asked.asked_in
+    turn_asked (Ok turn.NoMemory) asked = absurd asked.asked_in
+    turn_asked (Err error) asked =
+        goes_refused (record { bytes = []; licences = []; stage = Asks }) tt (no_more most) never
+        (subst (λ (g : History). HasTold numbers told g new) (is ∙ sym (did_stage h Asks)) asked.has_told) (Err error) refl
+
+  -- bytes were read, or the end was found, and it was settled
+  module _ (bytes : List ℕ) (few : length bytes ≤ most) (none : 0 < length bytes → NoneCloses h) where
+    through : (events : List ToldEvent) (licences : List ℕ) (stage : Stage) →
+        did_with events (record { bytes = []; licences = licences; stage = stage }) (with_stage Reads (with_present (with_bytes bytes h.present) h))
+        ≡ did_with events (record { bytes = bytes; licences = licences; stage = stage }) h
+    through events licences stage =
+        ap (λ (b : List ℕ). with_stage stage (with_present (with_events events (with_licences licences (record h.present { bytes = b }))) h))
+        (append-nil (h.present.bytes ++ bytes))
+
+    pub settled_told : (answer : Turn) →
+        Settled numbers told now (with_stage Reads (with_present (with_bytes bytes h.present) h)) (Ok (Some answer)) new → Goes numbers told most now h old answer new
+    settled_told answer s =
+        goes_told (record { bytes = bytes; licences = s.licences; stage = s.stage }) s.goes_on few none answer s.one
+        (subst (λ (g : History). HasTold numbers told g new) (through (events_told h.path now answer) s.licences s.stage) s.has_told)
+
+    nothing_told : (result : Result (Option Turn) NoMemory) (settled : Settled numbers told now (with_stage Reads (with_present (with_bytes bytes h.present) h)) result new) →
+        events_of h.path now result ≡ [] →
+        HasTold numbers told (did_with [] (record { bytes = bytes; licences = settled.licences; stage = settled.stage }) h) new
+    nothing_told result settled is =
+        subst (λ (g : History). HasTold numbers told g new)
+        (ap (λ (e : List ToldEvent). did_with e (record { bytes = []; licences = settled.licences; stage = settled.stage }) (with_stage Reads (with_present (with_bytes bytes h.present) h))) is
+        ∙ through [] settled.licences settled.stage) settled.has_told
+
+    pub settled_refused : (error : NoMemory) → Settled numbers told now (with_stage Reads (with_present (with_bytes bytes h.present) h)) (Err error) new →
+        (result : Result Turn TurnError) → IsErr result → Goes numbers told most now h old (answer_of result) new
+    settled_refused error s = goes_refused (record { bytes = bytes; licences = s.licences; stage = s.stage }) s.goes_on few none (nothing_told (Err error) s refl)
+
+    none_closes_then : (licences : List ℕ) (stage : Stage) → NoneCloses (with_stage Reads (with_present (with_bytes bytes h.present) h)) →
+        NoneCloses (did_with [] (record { bytes = bytes; licences = licences; stage = stage }) h)
+    none_closes_then licences stage closes =
+        subst (λ (t : List ToldEvent). NoneCloses (with_stage stage (with_present (record (with_licences licences (with_bytes bytes h.present)) { told = t }) h)))
+        (sym (append-nil h.present.told)) closes
+
+    pub settled_more : 0 < length bytes → Settled numbers told now (with_stage Reads (with_present (with_bytes bytes h.present) h)) (Ok None) new →
+        Goes numbers told most now h old turn.More new
+    settled_more some s = record {
+      did = record { bytes = bytes; licences = s.licences; stage = s.stage };
+      has_told = nothing_told (Ok None) s refl;
+      few = few;
+      reads_where_none_closes = none;
+      caused = (some, s.goes_on, none_closes_then s.licences s.stage (s.none_closes refl));
+    }
+
+    pub settled_end : bytes ≡ [] → (mid : Harvester T) → Settled numbers told now (with_stage Reads (with_present (with_bytes bytes h.present) h)) (Ok None) mid →
+        ((g : History) → HasTold numbers told g mid → HasTold numbers told g new) →
+        IfSome (told old.tail) (λ earlier. LooksAtEnd (read_to h.present) earlier (told new.tail)) → Goes numbers told most now h old turn.AtEnd new
+    settled_end no_byte mid s then looks = record {
+      did = record { bytes = bytes; licences = s.licences; stage = s.stage };
+      has_told = then _ (nothing_told_mid mid s);
+      few = few;
+      reads_where_none_closes = none;
+      caused = (no_byte, s.goes_on, inr (none_closes_then s.licences s.stage (s.none_closes refl), looks));
+    }
+      where
+        nothing_told_mid : (mid : Harvester T) (settled : Settled numbers told now (with_stage Reads (with_present (with_bytes bytes h.present) h)) (Ok None) mid) →
+            HasTold numbers told (did_with [] (record { bytes = bytes; licences = settled.licences; stage = settled.stage }) h) mid
+        nothing_told_mid mid settled = subst (λ (g : History). HasTold numbers told g mid) (through [] settled.licences settled.stage) settled.has_told
+
+-- ---- behind a look
+
+pub ends_given : (moments : List ℕ) (now : ℕ) → EndsAt moments now → Contains moments now
+ends_given moments now ends = subst (λ (l : List ℕ). Contains l now) (sym ends.are) (Contains-append_right ends.earlier (now ∷ []) now (0, omega arith, refl))
+
+-- where the key was asked no event is of any file
+pub no_event : (result : Result Turn TurnError) (slot : Slot) (epoch : Epoch) → IfOk result IsByKey → IfOk result (IsAnswerFor slot epoch)
+no_event (Ok (turn.Issued parcel)) slot epoch is = absurd is
+no_event (Ok (turn.Passed span rule)) slot epoch is = absurd is
+no_event (Ok turn.More) slot epoch is = absurd is
+no_event (Ok turn.AtEnd) slot epoch is = absurd is
+no_event (Ok (turn.NewLife other)) slot epoch is = tt
+no_event (Ok turn.Changed) slot epoch is = tt
+no_event (Ok turn.EpochsOut) slot epoch is = tt
+no_event (Ok turn.ReadFault) slot epoch is = absurd is
+no_event (Ok turn.NoMemory) slot epoch is = absurd is
+no_event (Err error) slot epoch is = tt
+
+pub some_of : (found : Option Turn) (answer : Turn) (slot : Slot) (epoch : Epoch) → found ≡ Some answer → IfSome found (IsAnswerFor slot epoch) → IsAnswerFor slot epoch answer
+some_of found answer slot epoch is of = subst (λ (o : Option Turn). IfSome o (IsAnswerFor slot epoch)) is of
+
+module _ {T : Type 0} (numbers : T → Option (ℕ × ℕ)) (told : T → Option TailHistory) (most now : ℕ) (h : History) (reads : h.stage ≡ Reads) (old gathered mid : Harvester T) where
+  pub found_as : (found other : Found) → found ≡ other → HasLooked numbers told most h gathered (Ok found) mid → HasLooked numbers told most h gathered (Ok other) mid
+  found_as found other is looked = subst (λ (f : Found). HasLooked numbers told most h gathered (Ok f) mid) is looked
+
+  pub look_refused : (error : TurnError) → HasLooked numbers told most h gathered (Err error) mid → (result : Result Turn TurnError) → IsErr result →
+      Goes numbers told most now h old (answer_of result) mid
+  look_refused error looked =
+      goes_refused numbers told most now h old mid (record { bytes = looked.bytes; licences = []; stage = Reads }) tt
+      (let long : length looked.bytes ≡ 0 = ap (λ (l : List ℕ). length l) looked.gave in omega (arith, long))
+      (λ some. absurd (let long : length looked.bytes ≡ 0 = ap (λ (l : List ℕ). length l) looked.gave in omega (arith, long, some)))
+      (subst (λ (g : History). HasTold numbers told g mid) (sym (did_bytes h Reads looked.bytes)) looked.has_told)
+
+  pub look_asked : HasLooked numbers told most h gathered (Ok Less) mid → (new : Harvester T) (result : Result Turn TurnError) →
+      ((g : History) → HasTold numbers told g mid → HasAsked numbers told g result new) → Goes numbers told most now h old (answer_of result) new
+  look_asked looked new result asks =
+      turn_asked numbers told most now h old new (with_present (with_bytes looked.bytes h.present) h)
+      (ap (λ (l : List ℕ). with_stage Asks (with_present (with_bytes l h.present) h)) looked.gave
+      ∙ ap (λ (g : History). with_stage Asks g) (same_bytes h)) result (asks _ looked.has_told)
+
+  -- where the end was found, the file may be ended
+  pub may_be_ended : (looked : HasLooked numbers told most h gathered (Ok End) mid) → h.may_end ≡ true →
+      MayBeEnded numbers told (with_stage Reads (with_present (with_bytes looked.bytes h.present) h)) mid
+  may_be_ended looked may = record {
+    may = may;
+    found = subst (λ (g : History). IfSome (told mid.tail) (FoundEnd (numbers mid.tail) g))
+        (ap (λ (s : Stage). with_stage s (with_present (with_bytes looked.bytes h.present) h)) reads) (looked.at_end refl).found;
+  }
+
+  pub few_at_end : (looked : HasLooked numbers told most h gathered (Ok End) mid) → length looked.bytes ≤ most
+  few_at_end looked = let long : length looked.bytes ≡ 0 = ap (λ (l : List ℕ). length l) looked.gave in omega (arith, long)
+
+module _ {T : Type 0} (numbers : T → Option (ℕ × ℕ)) (told : T → Option TailHistory) where
+  pub settled_as : (now : ℕ) (h : History) (new : Harvester T) (found other : Option Turn) → found ≡ other → Settled numbers told now h (Ok found) new →
+      Settled numbers told now h (Ok other) new
+  settled_as now h new found other is settled = subst (λ (o : Option Turn). Settled numbers told now h (Ok o) new) is settled
+
+  pub looks_kept : (place : ℕ) (old mid new : T) → new ≡ mid → IfSome (told old) (λ earlier. LooksAtEnd place earlier (told mid)) →
+      IfSome (told old) (λ earlier. LooksAtEnd place earlier (told new))
+  looks_kept place old mid new same looks = subst (λ (t : T). IfSome (told old) (λ earlier. LooksAtEnd place earlier (told t))) (sym same) looks
+
+  -- the key is asked in the turn behind the look
+  pub asked_here : (most now : ℕ) (h : History) (old new : Harvester T) (result : Result Turn TurnError) → h.stage ≡ Asks →
+      HasAsked numbers told h result new → Goes numbers told most now h old (answer_of result) new
+  asked_here most now h old new result asks asked =
+      turn_asked numbers told most now h old new h refl result
+      (subst (λ (g : History). HasAsked numbers told g result new) (ap (λ (s : Stage). with_stage s h) asks) asked)
+
+  -- with the moment of a turn
+  pub turned_told : (h : History) (old : Harvester T) (now : ℕ) (last : Bool) → HasTold numbers told h old → HasTold numbers told (with_turn now last h) old
+  turned_told h old now last has = record {
+    held = turned_stands h old.reader has.held now (h.may_end || (last || h.ends));
+    decides = has.decides;
+    looked = go (told old.tail) has.looked;
+  }
+    where
+      or_still : h.may_end ≡ true → (h.may_end || (last || h.ends)) ≡ true
+      or_still may = or_left h.may_end (last || h.ends) may
+
+      go : (o : Option TailHistory) → AreLookedAt (numbers old.tail) h o → AreLookedAt (numbers old.tail) (with_turn now last h) o
+      go None looked = tt
+      go (Some earlier) looked =
+          other_turn (numbers old.tail) h earlier looked h.path (h.moments ++ now ∷ []) h.ends (h.may_end || (last || h.ends)) h.forgets or_still
+          (λ distance apart. apart_stays h.moments now distance apart)
+
+-- ---- what follows for the answer
+
+pub is_of_file : (result : Result Turn TurnError) (slot : Slot) (epoch : Epoch) → IfOk result (IsAnswerFor slot epoch) → IsOfFile slot epoch (answer_of result)
+is_of_file (Ok (turn.Issued parcel)) slot epoch is = is
+is_of_file (Ok (turn.Passed span rule)) slot epoch is = is
+is_of_file (Ok turn.More) slot epoch is = tt
+is_of_file (Ok turn.AtEnd) slot epoch is = tt
+is_of_file (Ok (turn.NewLife other)) slot epoch is = tt
+is_of_file (Ok turn.Changed) slot epoch is = tt
+is_of_file (Ok turn.EpochsOut) slot epoch is = tt
+is_of_file (Ok turn.ReadFault) slot epoch is = tt
+is_of_file (Ok turn.NoMemory) slot epoch is = tt
+is_of_file (Err error.ReadFault) slot epoch is = tt
+is_of_file (Err error.NoMemory) slot epoch is = tt
+
+pub is_fault : (result : Result Turn TurnError) (slot : Slot) (epoch : Epoch) → IfOk result (IsAnswerFor slot epoch) → answer_of result ≡ turn.ReadFault →
+    IsErrOf result error.ReadFault
+is_fault (Ok (turn.Issued parcel)) slot epoch is same = absurd cc
+is_fault (Ok (turn.Passed span rule)) slot epoch is same = absurd cc
+is_fault (Ok turn.More) slot epoch is same = absurd cc
+is_fault (Ok turn.AtEnd) slot epoch is same = absurd cc
+is_fault (Ok (turn.NewLife other)) slot epoch is same = absurd cc
+is_fault (Ok turn.Changed) slot epoch is same = absurd cc
+is_fault (Ok turn.EpochsOut) slot epoch is same = absurd cc
+is_fault (Ok turn.ReadFault) slot epoch is same = absurd is
+is_fault (Ok turn.NoMemory) slot epoch is same = absurd is
+is_fault (Err error.ReadFault) slot epoch is same = refl
+is_fault (Err error.NoMemory) slot epoch is same = absurd cc
+
+changed_by : (stage : ReaderStage) → stage_of stage ≡ Changed → (stage ≡ reader.Changed) ⊎ (stage ≡ reader.Over)
+changed_by reader.Reading is = absurd cc
+changed_by reader.Asking is = absurd cc
+changed_by reader.Ended is = absurd cc
+changed_by reader.Changed is = inl refl
+changed_by reader.Over is = absurd cc
+
+over_by : (stage : ReaderStage) → stage_of stage ≡ Over → (stage ≡ reader.Changed) ⊎ (stage ≡ reader.Over)
+over_by reader.Reading is = absurd cc
+over_by reader.Asking is = absurd cc
+over_by reader.Ended is = absurd cc
+over_by reader.Changed is = absurd cc
+over_by reader.Over is = inr refl
+
+not_changed : (stage : ReaderStage) (now : Stage) → stage_of stage ≡ now → MayTurn now → (stage ≡ reader.Changed) ⊎ (stage ≡ reader.Over) → ⊥
+not_changed stage now is may (inl changed) = subst (λ (s : Stage). MayTurn s) (sym is ∙ ap stage_of changed) may
+not_changed stage now is may (inr over) = subst (λ (s : Stage). MayTurn s) (sym is ∙ ap stage_of over) may
+
+module _ {T : Type 0} (numbers : T → Option (ℕ × ℕ)) (told : T → Option TailHistory) (most now : ℕ) (h : History) (old new : Harvester T) where
+  pub changed_with : (answer : Turn) → Goes numbers told most now h old answer new → (IsChanged new ↔ IsLast answer)
+  changed_with (turn.Issued parcel) goes = ((λ is. not_changed new.reader.stage goes.did.stage goes.has_told.held.follows.stage goes.caused is), (λ no_last. absurd no_last))
+  changed_with (turn.Passed span rule) goes = ((λ is. not_changed new.reader.stage goes.did.stage goes.has_told.held.follows.stage goes.caused is), (λ no_last. absurd no_last))
+  changed_with turn.More goes = ((λ is. not_changed new.reader.stage goes.did.stage goes.has_told.held.follows.stage goes.caused.1 is), (λ no_last. absurd no_last))
+  changed_with turn.AtEnd goes = ((λ is. not_changed new.reader.stage goes.did.stage goes.has_told.held.follows.stage goes.caused.1 is), (λ no_last. absurd no_last))
+  changed_with (turn.NewLife epoch) goes = ((λ is. not_changed new.reader.stage Reads goes.has_told.held.follows.stage tt is), (λ no_last. absurd no_last))
+  changed_with turn.Changed goes = ((λ is. tt), (λ last. changed_by new.reader.stage (goes.has_told.held.follows.stage ∙ goes.caused)))
+  changed_with turn.EpochsOut goes = ((λ is. tt), (λ last. over_by new.reader.stage (goes.has_told.held.follows.stage ∙ goes.caused.0)))
+  changed_with turn.ReadFault goes = ((λ is. not_changed new.reader.stage goes.did.stage goes.has_told.held.follows.stage goes.caused is), (λ no_last. absurd no_last))
+  changed_with turn.NoMemory goes = ((λ is. not_changed new.reader.stage goes.did.stage goes.has_told.held.follows.stage goes.caused is), (λ no_last. absurd no_last))

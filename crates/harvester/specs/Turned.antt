@@ -7,7 +7,7 @@ use Rattle.wire_base.specs.declared.numbers.Epoch.{Epoch}
 use Rattle.wire_base.specs.declared.numbers.Slot.{Slot}
 use Rattle.harvester.specs.History.{Changed, History, Over, with_epoch, with_stage}
 use Rattle.harvester.specs.declared.turn.Turn.{Turn}
-use Rattle.harvester.specs.declared.turn.Turn.TheVariants.{Issued, Passed, NewLife, EpochsOut}
+use Rattle.harvester.specs.declared.turn.Turn.TheVariants.{Issued, Passed, NewLife, EpochsOut, ReadFault, NoMemory}
 
 -- the event that the turn told of the file of this path
 abbrev pub events_told : List ℕ → ℕ → Turn → List ToldEvent
@@ -20,6 +20,14 @@ abbrev pub IsOfFile : Slot → Epoch → Turn → Type 0
 IsOfFile slot epoch (Issued parcel) = (parcel.slot ≡ slot) × (parcel.epoch ≡ epoch) × IsParcel parcel
 IsOfFile slot epoch (Passed span rule) = IsPlace span.end
 IsOfFile slot epoch turn = Unit {0}
+
+-- a step of a turn has this answer, which is no fault
+abbrev pub IsAnswerFor : Slot → Epoch → Turn → Type 0
+IsAnswerFor slot epoch (Issued parcel) = (parcel.slot ≡ slot) × (parcel.epoch ≡ epoch) × IsParcel parcel
+IsAnswerFor slot epoch (Passed span rule) = IsPlace span.end
+IsAnswerFor slot epoch ReadFault = ⊥
+IsAnswerFor slot epoch NoMemory = ⊥
+IsAnswerFor slot epoch turn = Unit {0}
 
 -- the history once the key was asked where the length had fallen
 abbrev pub after_asking : Turn → History → History
@@ -43,3 +51,10 @@ abbrev pub HasOneEvent : Turn → Type 0
 HasOneEvent (Issued parcel) = Unit {0}
 HasOneEvent (Passed span rule) = Unit {0}
 HasOneEvent turn = ⊥
+
+-- none was told: the key was asked
+abbrev pub IsByKey : Turn → Type 0
+IsByKey (NewLife epoch) = Unit {0}
+IsByKey Turn.Changed = Unit {0}
+IsByKey EpochsOut = Unit {0}
+IsByKey turn = ⊥

@@ -1,8 +1,9 @@
-ghost use Rattle.std.specs.Prelude.{◌≡◌, ◌≢◌, ◌≤◌, IfSome, IsErrOf, IsNone, false, true};
+ghost use Rattle.std.specs.Prelude.{◌≡◌, ◌≢◌, ◌≤◌, IfOk, IfSome, IsErrOf, IsNone, false, true};
 ghost use Rattle.outside.specs.Counts.{Rose};
 ghost use Rattle.harvester.specs.Asked.{HasAsked, WasAsked};
 ghost use Rattle.harvester.specs.HasTold.{HasTold};
 ghost use Rattle.harvester.specs.History.{History};
+ghost use Rattle.harvester.specs.Turned.{IsByKey};
 
 use crate::harvester::Harvester;
 use crate::reader::Reader;
@@ -21,6 +22,7 @@ impl<T: Tail> Harvester<T> {
         requires asks { self.old.reader.stage ≡ Stage.Asking }
         ensures asked { (history : History) → HasTold T.numbers T.told history self.old →
             HasAsked T.numbers T.told history result self.new }
+        ensures tells_nothing { IfOk result IsByKey }
         ensures rests_kept { self.new.rests ≡ self.old.rests }
         ensures begin_kept { self.new.reader.begin ≡ self.old.reader.begin }
         ensures faults_never_fall { T.faults self.old.tail ≤ T.faults self.new.tail }

@@ -1,4 +1,4 @@
-ghost use Rattle.std.specs.Prelude.{◌≡◌, ◌⊎◌, ◌↔◌, ℕ, ◌+◌, ◌<◌, ◌≤◌, Bool, true, false, List, [], ◌∷◌, ◌++◌, Contains, IfOk, IfSome, IsSome, IsTrue, None, OnErr, OnOk, Some, length, take};
+ghost use Rattle.std.specs.Prelude.{◌≡◌, ◌⊎◌, ◌||◌, ◌↔◌, ℕ, ◌+◌, ◌<◌, ◌≤◌, Bool, true, false, List, [], ◌∷◌, ◌++◌, Contains, IfOk, IfSome, IsSome, IsTrue, None, OnErr, OnOk, Some, length, take};
 ghost use Rattle.event_tree.specs.declared.processor_rule.ProcessorRule.{ProcessorRule};
 ghost use Rattle.multiline_core.specs.declared.group.Group.{Group};
 ghost use Rattle.outside.specs.Counts.{Rose};
@@ -314,11 +314,11 @@ impl Reader {
         self.events.closed.is_some()
     }
 
-    /// Whether later turns may find the file's end.
-    pub(crate) fn ends(&self) -> bool
-        ensures { result ≡ self.now.ends }
+    /// Whether the file's end may be found, in a turn that is the last one or is not.
+    pub(crate) fn may_end(&self, last: bool) -> bool
+        ensures { result ≡ (last || self.now.ends) }
     {
-        self.ends
+        last || self.ends
     }
 
     pub(crate) fn epoch(&self) -> Epoch

@@ -5,7 +5,7 @@ ghost use Rattle.harvester.specs.Deciding.{Decides};
 ghost use Rattle.harvester.specs.HasTold.{HasTold};
 ghost use Rattle.harvester.specs.History.{History, with_events, with_present};
 ghost use Rattle.harvester.specs.Standing.{IsFateBy, given_path};
-ghost use Rattle.harvester.specs.Turned.{HasOneEvent, IsOfFile, events_told};
+ghost use Rattle.harvester.specs.Turned.{HasOneEvent, IsAnswerFor, events_told};
 
 use crate::fate_rules::{EventFate, FateRules};
 use crate::harvester::Harvester;
@@ -25,7 +25,7 @@ impl<T: Tail> Harvester<T> {
                 (with_events (events_told history.path now.0 turn) history.present) history) self.new) }
         ensures one { IfOk result (λ turn. HasOneEvent turn) }
         ensures of_file { (rules : Rules) → Decides rules self.old.rules →
-            IfOk result (IsOfFile self.old.reader.begin.slot self.old.reader.epoch) }
+            IfOk result (IsAnswerFor self.old.reader.begin.slot self.old.reader.epoch) }
         ensures stage_kept { self.new.reader.stage ≡ self.old.reader.stage }
         ensures same_on_refusal { (history : History) → HasTold T.numbers T.told history self.old →
             OnErr result (HasTold T.numbers T.told history self.new) }

@@ -1,4 +1,4 @@
-ghost use Rattle.std.specs.Prelude.{◌≡◌, ◌↔◌, ◌<◌, ◌≤◌, ◌||◌, true, IfOk, IfSome, IsErrOf, None, Ok};
+ghost use Rattle.std.specs.Prelude.{◌≡◌, ◌↔◌, ◌<◌, ◌≤◌, ◌||◌, true, IfOk, IfSome, IsErrOf, IsTrue, None, Ok};
 ghost use Rattle.outside.specs.Counts.{Rose};
 ghost use Rattle.wire_base.specs.Ranges.{IsMoment};
 ghost use Rattle.told_events.specs.Rules.{Rules};
@@ -6,7 +6,7 @@ ghost use Rattle.harvester.specs.Deciding.{Decides};
 ghost use Rattle.harvester.specs.HasTold.{HasTold, IsChanged, begin_of};
 ghost use Rattle.harvester.specs.History.{History};
 ghost use Rattle.harvester.specs.Standing.{EndsAt, stage_behind_end};
-ghost use Rattle.harvester.specs.Turned.{IsOfFile, with_turn};
+ghost use Rattle.harvester.specs.Turned.{IsAnswerFor, IsOfFile, with_turn};
 ghost use Rattle.harvester.specs.Turns.{Goes, IsLast, MayBeEnded, Settled, answer_of};
 
 use crate::buffer::READ_SIZE;
@@ -31,18 +31,17 @@ impl<T: Tail> Harvester<T> {
             Goes T.numbers T.told READ_SIZE now.0 (with_turn now.0 last history) self.old result self.new }
         ensures of_file { (history : History) → HasTold T.numbers T.told history self.old →
             IsOfFile (begin_of self.old).slot self.old.reader.epoch result }
-        ensures changed { IsChanged self.new ↔ IsLast result }
+        ensures changed { (history : History) → HasTold T.numbers T.told history self.old →
+            (IsChanged self.new ↔ IsLast result) }
+        ensures rests { IsTrue self.new.rests ↔ (result ≡ Turn.AtEnd) }
         ensures begin_kept { begin_of self.new ≡ begin_of self.old }
         ensures faults_never_fall { T.faults self.old.tail ≤ T.faults self.new.tail }
-        ensures read_fault_only_where_faults_rose { result ≡ Turn.ReadFault →
+        ensures read_fault_only_where_faults_rose { (history : History) →
+            HasTold T.numbers T.told history self.old → result ≡ Turn.ReadFault →
             Rose (T.faults self.old.tail) (T.faults self.new.tail) }
     {
-        let turn = match self.step(alloc, now, last) {
-            Ok(turn) => turn,
-            Err(TurnError::ReadFault) => Turn::ReadFault,
-            Err(TurnError::NoMemory) => Turn::NoMemory,
-        };
-        self.rests = matches!(turn, Turn::AtEnd);
+        let turn = answer(self.step(alloc, now, last));
+        self.rests = is_end(&turn);
         turn
     }
     /// One turn, by where the file stands.
@@ -54,7 +53,7 @@ impl<T: Tail> Harvester<T> {
             HasTold T.numbers T.told history self.old →
             Goes T.numbers T.told READ_SIZE now.0 history self.old (answer_of result) self.new }
         ensures of_file { (rules : Rules) → Decides rules self.old.rules →
-            IfOk result (IsOfFile self.old.reader.begin.slot self.old.reader.epoch) }
+            IfOk result (IsAnswerFor self.old.reader.begin.slot self.old.reader.epoch) }
         ensures begin_kept { self.new.reader.begin ≡ self.old.reader.begin }
         ensures faults_never_fall { T.faults self.old.tail ≤ T.faults self.new.tail }
         ensures read_fault_only_where_faults_rose { IsErrOf result TurnError.ReadFault →
@@ -62,12 +61,16 @@ impl<T: Tail> Harvester<T> {
     {
         match self.reader.stage() {
             Stage::Reading => {
-                let ended = last || self.reader.ends();
+                let ended = self.reader.may_end(last);
                 self.go_on(alloc, now, ended)
             }
             Stage::Asking => self.ask_again(alloc),
-            Stage::Ended if self.reader.has_closed() => Ok(self.tell(alloc, now)?),
-            Stage::Ended => Ok(Turn::AtEnd),
+            Stage::Ended => {
+                if self.reader.has_closed() {
+                    return Ok(self.tell(alloc, now)?);
+                }
+                Ok(Turn::AtEnd)
+            }
             Stage::Changed | Stage::Over => unreachable!(),
         }
     }
@@ -80,7 +83,7 @@ impl<T: Tail> Harvester<T> {
             (ended ≡ true → history.may_end ≡ true) → HasTold T.numbers T.told history self.old →
             Goes T.numbers T.told READ_SIZE now.0 history self.old (answer_of result) self.new }
         ensures of_file { (rules : Rules) → Decides rules self.old.rules →
-            IfOk result (IsOfFile self.old.reader.begin.slot self.old.reader.epoch) }
+            IfOk result (IsAnswerFor self.old.reader.begin.slot self.old.reader.epoch) }
         ensures begin_kept { self.new.reader.begin ≡ self.old.reader.begin }
         ensures faults_never_fall { T.faults self.old.tail ≤ T.faults self.new.tail }
         ensures read_fault_only_where_faults_rose { IsErrOf result TurnError.ReadFault →
@@ -89,18 +92,20 @@ impl<T: Tail> Harvester<T> {
         if self.reader.gather(alloc)? {
             return Ok(self.tell(alloc, now)?);
         }
-        let found = self.look(now)?;
-        if found == Found::Less {
-            return self.ask_again(alloc);
-        }
-        let at_end = found == Found::End;
-        match self.settle(alloc, now, ended && at_end)? {
-            Some(turn) => Ok(turn),
-            None if at_end => {
-                self.reader.shrink();
-                Ok(Turn::AtEnd)
-            }
-            None => Ok(Turn::More),
+        later_lines();
+        match self.look(now)? {
+            Found::Less => self.ask_again(alloc),
+            Found::More => match self.settle(alloc, now, false)? {
+                Some(turn) => Ok(turn),
+                None => Ok(Turn::More),
+            },
+            Found::End => match self.settle(alloc, now, ended)? {
+                Some(turn) => Ok(turn),
+                None => {
+                    self.reader.shrink();
+                    Ok(Turn::AtEnd)
+                }
+            },
         }
     }
 
@@ -115,7 +120,7 @@ impl<T: Tail> Harvester<T> {
         ensures all_fed { result ≡ Ok None → self.new.reader.filled ≡ 0 }
         ensures of_file { (rules : Rules) → Decides rules self.old.rules →
             IfOk result (λ told. IfSome told
-            (IsOfFile self.old.reader.begin.slot self.old.reader.epoch)) }
+            (IsAnswerFor self.old.reader.begin.slot self.old.reader.epoch)) }
         ensures begin_kept { self.new.reader.begin ≡ self.old.reader.begin }
         ensures tail_kept { self.new.tail ≡ self.old.tail }
     {
@@ -136,4 +141,30 @@ fn stage_behind(ended: bool) -> Stage
     ensures { result ≡ stage_behind_end ended }
 {
     if ended { Stage::Ended } else { Stage::Reading }
+}
+
+fn answer(step: Result<Turn, TurnError>) -> Turn
+    ensures { result ≡ answer_of step }
+{
+    match step {
+        Ok(turn) => turn,
+        Err(TurnError::ReadFault) => Turn::ReadFault,
+        Err(TurnError::NoMemory) => Turn::NoMemory,
+    }
+}
+
+fn is_end(turn: &Turn) -> bool
+    ensures { IsTrue result ↔ (turn.now ≡ Turn.AtEnd) }
+{
+    match turn {
+        Turn::AtEnd => true,
+        Turn::Issued(_)
+        | Turn::Passed(_, _)
+        | Turn::More
+        | Turn::NewLife(_)
+        | Turn::Changed
+        | Turn::EpochsOut
+        | Turn::ReadFault
+        | Turn::NoMemory => false,
+    }
 }
