@@ -4,6 +4,7 @@ pub mod Deciding
 pub mod Did
 pub mod Gathering
 pub mod Looking
+pub mod HasToldGiven
 pub mod LookSteps
 pub mod LookingOn
 pub mod LooksGiven

@@ -27,7 +27,7 @@ use Rattle.harvester.specs.History.{Asks, Changed, Ended, History, Over, Reads, 
 use Rattle.harvester.specs.Looked.{AreLookedAt}
 use Rattle.harvester.specs.Standing.{EndsAt, StandsFor, WasClosed, stage_behind_end, stage_of}
 use Rattle.harvester.specs.Turned.{HasOneEvent, IsAskedIn, IsByKey, IsAnswerFor, IsOfFile, events_told, with_turn}
-use Rattle.harvester.specs.Turns.{Did, Goes, MayBeEnded, MayTurn, IsLast, NoneCloses, Settled, answer_of, did_with, events_of}
+use Rattle.harvester.specs.Turns.{Did, Goes, IsCaused, MayBeEnded, MayTurn, IsLast, NoneCloses, Settled, after_did, answer_of, did_with, events_of}
 use Rattle.harvester.proofs.Did.{did_both, did_bytes, did_events, did_licences, did_nothing, did_stage}
 use Rattle.harvester.proofs.LookSteps.{same_bytes}
 use Rattle.harvester.proofs.Looking.{apart_stays}
@@ -431,6 +431,30 @@ not_changed stage now is may (inl changed) = subst (λ (s : Stage). MayTurn s) (
 not_changed stage now is may (inr over) = subst (λ (s : Stage). MayTurn s) (sym is ∙ ap stage_of over) may
 
 module _ {T : Type 0} (numbers : T → Option (ℕ × ℕ)) (told : T → Option TailHistory) (most now : ℕ) (h : History) (old new : Harvester T) where
+  -- whether it rests is no part of what was told
+  pub rested : (rests : Bool) (answer : Turn) {other : Turn} → other ≡ answer → Goes numbers told most now h old other new →
+      Goes numbers told most now h old answer (record new { rests = rests })
+  rested rests answer same goes =
+      let there = subst (λ (a : Turn). Goes numbers told most now h old a new) same goes in
+      record {
+        did = there.did;
+        has_told = record { held = there.has_told.held; decides = there.has_told.decides; looked = there.has_told.looked };
+        few = there.few;
+        reads_where_none_closes = there.reads_where_none_closes;
+        caused = as_caused answer there.did (after_did now answer there.did h) there.caused;
+      }
+    where
+      as_caused : (answer : Turn) (did : Did) (after : History) → IsCaused told h did after old answer new → IsCaused told h did after old answer (record new { rests = rests })
+      as_caused (turn.Issued parcel) did after is = is
+      as_caused (turn.Passed span rule) did after is = is
+      as_caused turn.More did after is = is
+      as_caused turn.AtEnd did after is = is
+      as_caused (turn.NewLife epoch) did after is = is
+      as_caused turn.Changed did after is = is
+      as_caused turn.EpochsOut did after is = is
+      as_caused turn.ReadFault did after is = is
+      as_caused turn.NoMemory did after is = is
+
   pub changed_with : (answer : Turn) → Goes numbers told most now h old answer new → (IsChanged new ↔ IsLast answer)
   changed_with (turn.Issued parcel) goes = ((λ is. not_changed new.reader.stage goes.did.stage goes.has_told.held.follows.stage goes.caused is), (λ no_last. absurd no_last))
   changed_with (turn.Passed span rule) goes = ((λ is. not_changed new.reader.stage goes.did.stage goes.has_told.held.follows.stage goes.caused is), (λ no_last. absurd no_last))
