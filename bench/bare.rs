@@ -2,24 +2,31 @@
 //!
 //! `bare send FOLDER HOST` reads the lines of the files of a folder, one file after the other by their names, and sends
 //! them as the program does: the same payloads but for the moment, in windows of at most 2,048 lines of one file, each
-//! acknowledged in full before the next. `bare receive TIMES` prints the port at which it listens, takes so many
-//! connections one after another, acknowledges each window once it is there, and prints for each connection how many
-//! events it had.
+//! acknowledged in full before the next. `bare windows PORT DEPTH EVENTS` sends so many events of 240 bytes to that port of
+//! 127.0.0.1, in windows of which so many may wait for their acknowledgement. `bare receive TIMES LATE` prints the port at
+//! which it listens, takes so many connections one after another, acknowledges each window LATE milliseconds after it is
+//! there, and prints for each connection how many events it had.
 
+use std::collections::VecDeque;
 use std::env;
 use std::error::Error;
 use std::fs::{self, File};
 use std::io::{BufRead, BufReader, Read, Write};
 use std::net::{TcpListener, TcpStream};
+use std::sync::mpsc::{self, Sender};
+use std::thread;
+use std::time::{Duration, Instant};
 
 const EVENTS: u32 = 2_048;
+const PAYLOAD: [u8; 240] = [b'x'; 240];
 
 fn main() -> Result<(), Box<dyn Error>> {
     let words: Vec<String> = env::args().skip(1).collect();
     match words.iter().map(String::as_str).collect::<Vec<_>>()[..] {
         ["send", folder, host] => send(folder, host),
-        ["receive", times] => receive(times.parse()?),
-        _ => Err("usage: bare send FOLDER HOST | bare receive TIMES".into()),
+        ["windows", port, depth, events] => send_windows(port.parse()?, depth.parse()?, events.parse()?),
+        ["receive", times, late] => receive(times.parse()?, Duration::from_millis(late.parse()?)),
+        _ => Err("usage: bare send FOLDER HOST | bare windows PORT DEPTH EVENTS | bare receive TIMES LATE".into()),
     }
 }
 
@@ -86,29 +93,89 @@ fn put_escaped(frames: &mut Vec<u8>, text: &[u8]) {
     }
 }
 
+fn send_windows(port: u16, depth: usize, events: u32) -> Result<(), Box<dyn Error>> {
+    let mut peer = TcpStream::connect(("127.0.0.1", port))?;
+    peer.set_nodelay(true)?;
+    let (mut frames, mut in_flight) = (Vec::new(), VecDeque::new());
+    let mut left = events;
+    while left > 0 {
+        let count = left.min(EVENTS);
+        put_window(&mut frames, count);
+        if in_flight.len() == depth {
+            hear(&mut peer, in_flight.pop_front())?;
+        }
+        peer.write_all(&frames)?;
+        in_flight.push_back(count);
+        left -= count;
+    }
+    while !in_flight.is_empty() {
+        hear(&mut peer, in_flight.pop_front())?;
+    }
+    println!("{events}");
+    Ok(())
+}
+
+fn put_window(frames: &mut Vec<u8>, count: u32) {
+    frames.clear();
+    frames.extend_from_slice(b"2W");
+    frames.extend_from_slice(&count.to_be_bytes());
+    for sequence in 1..=count {
+        frames.extend_from_slice(b"2J");
+        frames.extend_from_slice(&sequence.to_be_bytes());
+        frames.extend_from_slice(&(PAYLOAD.len() as u32).to_be_bytes());
+        frames.extend_from_slice(&PAYLOAD);
+    }
+}
+
 fn send_window(peer: &mut TcpStream, frames: &[u8], count: u32) -> Result<(), Box<dyn Error>> {
     let mut head = *b"2W\0\0\0\0";
     head[2..].copy_from_slice(&count.to_be_bytes());
     peer.write_all(&head)?;
     peer.write_all(frames)?;
-    let mut answer = [0; 6];
-    peer.read_exact(&mut answer)?;
-    head[1] = b'A';
-    if answer == head { Ok(()) } else { Err("the window was not acknowledged in full".into()) }
+    hear(peer, Some(count))
 }
 
-fn receive(times: usize) -> Result<(), Box<dyn Error>> {
+/// Waits for the acknowledgement of a window of so many events.
+fn hear(peer: &mut TcpStream, count: Option<u32>) -> Result<(), Box<dyn Error>> {
+    let mut answer = [0; 6];
+    peer.read_exact(&mut answer)?;
+    if count.map(acknowledgement) == Some(answer) { Ok(()) } else { Err("a window was not acknowledged in full".into()) }
+}
+
+fn acknowledgement(count: u32) -> [u8; 6] {
+    let mut answer = *b"2A\0\0\0\0";
+    answer[2..].copy_from_slice(&count.to_be_bytes());
+    answer
+}
+
+fn receive(times: usize, late: Duration) -> Result<(), Box<dyn Error>> {
     let listener = TcpListener::bind("127.0.0.1:0")?;
     println!("{}", listener.local_addr()?.port());
     for _ in 0..times {
-        println!("{}", receive_events(listener.accept()?.0)?);
+        println!("{}", receive_events(listener.accept()?.0, late)?);
     }
     Ok(())
 }
 
+/// What sends the acknowledgements, each at its moment, while further windows come.
+fn answering(mut to: TcpStream) -> Sender<(Instant, u32)> {
+    let (due, dues) = mpsc::channel::<(Instant, u32)>();
+    thread::spawn(move || {
+        for (at, count) in dues {
+            thread::sleep(at.saturating_duration_since(Instant::now()));
+            if to.write_all(&acknowledgement(count)).is_err() {
+                return;
+            }
+        }
+    });
+    due
+}
+
 /// How many events came until the peer closed.
-fn receive_events(peer: TcpStream) -> Result<u64, Box<dyn Error>> {
+fn receive_events(peer: TcpStream, late: Duration) -> Result<u64, Box<dyn Error>> {
+    peer.set_nodelay(true)?;
     let mut from = BufReader::with_capacity(65_536, peer.try_clone()?);
+    let later = if late.is_zero() { None } else { Some(answering(peer.try_clone()?)) };
     let (mut to, mut events, mut window) = (peer, 0, 0);
     while !from.fill_buf()?.is_empty() {
         match take(&mut from)? {
@@ -118,10 +185,10 @@ fn receive_events(peer: TcpStream) -> Result<u64, Box<dyn Error>> {
                 let size = u32::from_be_bytes(take(&mut from)?);
                 std::io::copy(&mut from.by_ref().take(size.into()), &mut std::io::sink())?;
                 events += 1;
-                if sequence == window {
-                    let mut answer = *b"2A\0\0\0\0";
-                    answer[2..].copy_from_slice(&window.to_be_bytes());
-                    to.write_all(&answer)?;
+                match &later {
+                    _ if sequence != window => {}
+                    Some(due) => due.send((Instant::now() + late, window))?,
+                    None => to.write_all(&acknowledgement(window))?,
                 }
             }
             other => return Err(format!("no frame begins with {other:?}").into()),

@@ -2,7 +2,7 @@
 """Times the program and single calls from outside, and writes bench/RESULTS.md.
 
 The program `bench_parts` makes one call as often as it is told. What is counted of it is the processor time of the
-whole program, less that of a run that makes no call.
+whole program, less that of a run that makes no call. The program `bench_worker` has one worker ship events.
 """
 
 import datetime
@@ -14,6 +14,7 @@ import time
 from pathlib import Path
 
 from transport import peak_memory, transport_table
+from worker import worker_table
 
 ROOT = Path(__file__).resolve().parents[1]
 CRATE = ROOT / "crates" / "bench_parts"
@@ -306,7 +307,7 @@ def main():
     )
     leaves = [filter_table(), chain_table(fixed), fingerprint_table(), scan_table()]
     RESULTS.write_text(
-        head + transport_table() + cut_table(fixed) + payloads_table(fixed) + "".join(leaves) + queue_table() + covers_table(fixed)
+        head + transport_table() + worker_table() + cut_table(fixed) + payloads_table(fixed) + "".join(leaves) + queue_table() + covers_table(fixed)
     )
     print(f"written to {RESULTS.relative_to(ROOT)}")
 

@@ -109,7 +109,7 @@ class Loopback:
         self.folder = Path(folder)
         self.bare = make_bare(folder)
         times = str(len(FILES) * (2 * RUNS + 2))
-        self.receiver = subprocess.Popen([self.bare, "receive", times], stdout=subprocess.PIPE, text=True)
+        self.receiver = subprocess.Popen([self.bare, "receive", times, "0"], stdout=subprocess.PIPE, text=True)
         self.host = f"127.0.0.1:{int(self.receiver.stdout.readline())}"
 
     def over(self, measure, command, logs):

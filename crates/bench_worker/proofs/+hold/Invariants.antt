@@ -1,0 +1,4 @@
+use Rattle.bench_worker.proofs.+hold.Given as goal
+
+abbrev pub decreases-hold : goal.decreases-hold
+decreases-hold g l = l.workers

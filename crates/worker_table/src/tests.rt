@@ -1,0 +1,8 @@
+mod counting;
+mod loopback;
+mod peers;
+mod rests;
+mod rig;
+mod rows;
+mod scripts;
+mod talks;
