@@ -13,6 +13,7 @@ import subprocess
 import time
 from pathlib import Path
 
+from memory import memory_tables
 from transport import peak_memory, transport_table
 
 ROOT = Path(__file__).resolve().parents[1]
@@ -305,9 +306,8 @@ def main():
         fixed=fixed * 1e3,
     )
     leaves = [filter_table(), chain_table(fixed), fingerprint_table(), scan_table()]
-    RESULTS.write_text(
-        head + transport_table() + cut_table(fixed) + payloads_table(fixed) + "".join(leaves) + queue_table() + covers_table(fixed)
-    )
+    leaves += [queue_table(), memory_tables(), covers_table(fixed)]
+    RESULTS.write_text(head + transport_table() + cut_table(fixed) + payloads_table(fixed) + "".join(leaves))
     print(f"written to {RESULTS.relative_to(ROOT)}")
 
 
