@@ -18,7 +18,7 @@ fn short(text: String) -> Result<Text, NoMemory>
 }
 
 /// The key of the file of this number; keys are in the order of the numbers.
-pub(crate) fn key(alloc: Global, number: u64) -> Result<Text, NoMemory>
+fn key(alloc: Global, number: u64) -> Result<Text, NoMemory>
     ensures { IfOk result (λ text. length text ≤ MAX_PATH) }
 {
     short(format!(in alloc; "filestream::nginx::native::{number:08}-64513")?)
