@@ -13,6 +13,7 @@ import subprocess
 import time
 from pathlib import Path
 
+from memory import memory_tables
 from transport import peak_memory, transport_table
 from worker import worker_table
 
@@ -306,8 +307,9 @@ def main():
         fixed=fixed * 1e3,
     )
     leaves = [filter_table(), chain_table(fixed), fingerprint_table(), scan_table()]
+    leaves += [queue_table(), memory_tables(), covers_table(fixed)]
     RESULTS.write_text(
-        head + transport_table() + worker_table() + cut_table(fixed) + payloads_table(fixed) + "".join(leaves) + queue_table() + covers_table(fixed)
+        head + transport_table() + worker_table() + cut_table(fixed) + payloads_table(fixed) + "".join(leaves)
     )
     print(f"written to {RESULTS.relative_to(ROOT)}")
 

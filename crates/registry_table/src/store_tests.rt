@@ -1,8 +1,9 @@
 ghost use Rattle.std.specs.Prelude.{All, IfOk};
 ghost use Rattle.wire_base.specs.Ranges.{IsOp};
 
+use crate::tests::long_key;
 use outside_mem::MemDisk;
-use registry_store::{Store, StoreError, checkpoint, few_by_length};
+use registry_store::{Pick, PickError, Store, StoreError, checkpoint, few_by_length, pick};
 use ship_core::Rows;
 use std::alloc::Global;
 use std::process::Abort;
@@ -143,5 +144,73 @@ fn commit_is_two_writes_and_two_syncs(rt: HostRuntime) -> Result<(), Fail> {
             "after {calls} calls"
         );
     }
+    Ok(())
+}
+
+fn setting_key(rt: &impl Abort, alloc: Global, key: &[u8]) -> Result<Op, Fail>
+    ensures { IfOk result IsOp }
+{
+    assert!(rt; key.len() <= 8_192);
+    Ok(Op::Set(Row {
+        key: Text::from_bytes(alloc, key)?,
+        path: Text::from_bytes(alloc, b"/p")?,
+        epoch: Epoch(0),
+        offset: 0,
+        changed: Moment(0),
+    }))
+}
+
+// Operations whose body has 1,048,566 bytes, so that their record has 1,048,576.
+fn full_record(rt: &impl Abort, alloc: Global) -> Result<Vec<Op>, Fail>
+    ensures { IfOk result (λ ops. All IsOp ops.items) }
+{
+    let mut ops = Vec::new(alloc);
+    for first in b'a'..b'v' {
+        let key = long_key(alloc, first, 8_191, 0)?;
+        ops.push(setting_key(rt, alloc, &key)?)?;
+    }
+    let key = long_key(alloc, b'z', 2_000, 3_267)?;
+    ops.push(setting_key(rt, alloc, &key)?)?;
+    Ok(ops)
+}
+
+// The area that is chosen, its generation and how many rows it has.
+fn chosen_of(
+    alloc: Global,
+    a: &mut MemDisk,
+    b: &mut MemDisk,
+) -> Result<Option<(Which, u64, usize)>, PickError> {
+    match pick(alloc, a, b)? {
+        Pick::Chosen {
+            area,
+            generation,
+            rows,
+            ..
+        } => Ok(Some((area, generation, rows.len()))),
+        Pick::Fresh => Ok(None),
+    }
+}
+
+// Ten records of 1,048,576 bytes make the part behind the start exactly as long as it may be; the next commit still appends,
+// and the one behind it starts B.
+#[test]
+fn checkpoint_behind_ten_full_records(rt: HostRuntime) -> Result<(), Fail> {
+    let alloc = rt.alloc();
+    let mut a = MemDisk::new(alloc, b"")?;
+    let mut b = MemDisk::new(alloc, b"")?;
+    let mut store = Store::open(alloc, &mut a, &mut b)?;
+    let full = full_record(&rt, alloc)?;
+    for _ in 0..10 {
+        commit(&rt, alloc, &mut store, &mut a, &mut b, &full)?;
+    }
+    assert_eq!(rt; (a.bytes().len(), b.bytes().len()), (10_485_790, 0));
+    let ops = [setting(&rt, alloc, 6)?];
+    commit(&rt, alloc, &mut store, &mut a, &mut b, &ops)?;
+    assert_eq!(rt; (a.bytes().len(), b.bytes().len()), (10_485_891, 0));
+    commit(&rt, alloc, &mut store, &mut a, &mut b, &ops)?;
+    assert_eq!(rt; a.bytes().len(), 10_485_891);
+    assert!(rt; b.bytes().starts_with(b"{beat 2 00000000000000000002\n"));
+    let chosen = chosen_of(alloc, &mut a, &mut b)?;
+    assert_eq!(rt; chosen, Some((Which::B, 2, 23)));
     Ok(())
 }

@@ -60,7 +60,12 @@ fn many_rows(rt: &impl Abort, alloc: Global, plain: usize) -> Result<Rows, Fail>
     Ok(rows)
 }
 
-fn long_key(alloc: Global, first: u8, escaped: usize, plain: usize) -> Result<Vec<u8>, Fail> {
+pub(crate) fn long_key(
+    alloc: Global,
+    first: u8,
+    escaped: usize,
+    plain: usize,
+) -> Result<Vec<u8>, Fail> {
     let mut key = vec![in alloc; first]?;
     key.extend_from_slice(&vec![in alloc; 1u8; escaped]?)?;
     key.extend_from_slice(&vec![in alloc; b'x'; plain]?)?;

@@ -1,0 +1,203 @@
+ghost use Rattle.std.specs.Prelude.{◌≡◌, true, IfOk, OnOk};
+ghost use Rattle.wire_base.specs.Ranges.{IsKey, IsNote, IsPlace};
+
+mod machine;
+mod orderly;
+
+use crate::tests::machine::Told;
+use ship_core::Rows;
+use std::alloc::Global;
+use std::process::Abort;
+use std::test::Fail;
+use wire_base::{Cause, Epoch, MAX_PLACE, Moment, Note, RuleNo, Slot, Span, Text};
+
+fn begin(alloc: Global, slot: u32, key: &[u8], base: u64) -> Result<Note, Fail>
+    requires key { IsKey key.now }
+    requires base { IsPlace base }
+    ensures { IfOk result IsNote }
+{
+    Ok(Note::Begin {
+        slot: Slot(slot),
+        key: Text::from_bytes(alloc, key)?,
+        path: Text::from_bytes(alloc, b"/w/a.log")?,
+        epoch: Epoch(0),
+        base,
+        changed: Moment(4),
+    })
+}
+
+fn settle(rt: &impl Abort, slot: u32, epoch: u32, places: (u64, u64), cause: Cause) -> Note
+    ensures { IsNote result }
+{
+    let span = Span::new(places.0, places.1).expect(rt, "a span");
+    assert!(rt; span.end() <= MAX_PLACE);
+    Note::Settle {
+        slot: Slot(slot),
+        epoch: Epoch(epoch),
+        span,
+        cause,
+    }
+}
+
+fn acked(rt: &impl Abort, epoch: u32, start: u64, end: u64) -> Note
+    ensures { IsNote result }
+{
+    settle(rt, 0, epoch, (start, end), Cause::Acked)
+}
+
+fn announce(epoch: u32) -> Note
+    ensures { IsNote result }
+{
+    Note::Announce {
+        slot: Slot(0),
+        epoch: Epoch(epoch),
+    }
+}
+
+fn begun(rt: &impl Abort, alloc: Global) -> Result<Told, Fail>
+    ensures runs { IfOk result (λ told. told.world.runs ≡ true) }
+    ensures same { IfOk result (λ told. told.world.notes ≡ told.notes.items) }
+{
+    let mut told = Told::new(alloc)?;
+    told.note(rt, alloc, begin(alloc, 0, b"k", 0)?)?;
+    Ok(told)
+}
+
+// One more note of the slot 0, after which the machine's row and the tracker have this epoch and offset.
+fn check(
+    rt: &impl Abort,
+    alloc: Global,
+    told: &mut Told,
+    note: Note,
+    expected: (u32, u64),
+) -> Result<(), Fail>
+    requires in_range { IsNote note }
+    requires runs { told.old.world.runs ≡ true }
+    requires same { told.old.world.notes ≡ told.old.notes.items }
+    ensures runs { OnOk result (told.new.world.runs ≡ true) }
+    ensures same { OnOk result (told.new.world.notes ≡ told.new.notes.items) }
+{
+    told.note(rt, alloc, note)?;
+    let place = Some((Epoch(expected.0), expected.1));
+    let row = told.world.rows().get(b"k");
+    assert_eq!(rt; row.map(|row| (row.epoch, row.offset)), place);
+    assert_eq!(rt; told.tracker.offset(Slot(0)), place);
+    Ok(())
+}
+
+#[test]
+fn covered_end_over_gaps(rt: HostRuntime) -> Result<(), Fail> {
+    let alloc = rt.alloc();
+    let mut told = begun(&rt, alloc)?;
+    check(&rt, alloc, &mut told, acked(&rt, 0, 5, 9), (0, 0))?;
+    check(&rt, alloc, &mut told, acked(&rt, 0, 0, 5), (0, 9))?;
+    check(&rt, alloc, &mut told, acked(&rt, 0, 0, 5), (0, 9))
+}
+
+#[test]
+fn older_epoch_changes_nothing(rt: HostRuntime) -> Result<(), Fail> {
+    let alloc = rt.alloc();
+    let mut announced = begun(&rt, alloc)?;
+    check(&rt, alloc, &mut announced, announce(1), (1, 0))?;
+    check(&rt, alloc, &mut announced, acked(&rt, 1, 0, 2), (1, 2))?;
+    check(&rt, alloc, &mut announced, acked(&rt, 0, 0, 2), (1, 2))?;
+    check(&rt, alloc, &mut announced, acked(&rt, 0, 2, 4), (1, 2))?;
+    let mut settled = begun(&rt, alloc)?;
+    check(&rt, alloc, &mut settled, acked(&rt, 1, 0, 2), (1, 2))?;
+    check(&rt, alloc, &mut settled, announce(1), (1, 2))?;
+    check(&rt, alloc, &mut settled, acked(&rt, 0, 0, 2), (1, 2))?;
+    check(&rt, alloc, &mut settled, acked(&rt, 0, 2, 4), (1, 2))
+}
+
+#[test]
+fn dropped_span_within_prefix(rt: HostRuntime) -> Result<(), Fail> {
+    let alloc = rt.alloc();
+    let mut told = begun(&rt, alloc)?;
+    let dropped = settle(&rt, 0, 0, (2, 4), Cause::Dropped(RuleNo(10)));
+    check(&rt, alloc, &mut told, dropped, (0, 0))?;
+    check(&rt, alloc, &mut told, acked(&rt, 0, 4, 6), (0, 0))?;
+    check(&rt, alloc, &mut told, acked(&rt, 0, 0, 2), (0, 6))
+}
+
+fn commit(alloc: Global, told: &mut Told, wanted: bool) -> Result<(), Fail>
+    requires runs { told.old.world.runs ≡ true }
+    requires same { told.old.world.notes ≡ told.old.notes.items }
+    ensures runs { OnOk result (told.new.world.runs ≡ true) }
+    ensures same { OnOk result (told.new.world.notes ≡ told.new.notes.items) }
+{
+    if wanted {
+        told.commit(alloc)?;
+    }
+    Ok(())
+}
+
+// Two files that begin, perhaps a commit, and then a span of the first, the going of the second and a third that begins.
+fn three_files(rt: &impl Abort, alloc: Global, commits: bool) -> Result<Told, Fail>
+    ensures runs { IfOk result (λ told. told.world.runs ≡ true) }
+    ensures same { IfOk result (λ told. told.world.notes ≡ told.notes.items) }
+{
+    let mut told = Told::new(alloc)?;
+    told.note(rt, alloc, begin(alloc, 0, b"a", 0)?)?;
+    told.note(rt, alloc, begin(alloc, 1, b"b", 0)?)?;
+    commit(alloc, &mut told, commits)?;
+    told.note(rt, alloc, acked(rt, 0, 0, 4))?;
+    let forget = Note::Forget {
+        slot: Slot(1),
+        epoch: Epoch(0),
+        end: 0,
+    };
+    told.note(rt, alloc, forget)?;
+    told.note(rt, alloc, begin(alloc, 2, b"c", 0)?)?;
+    Ok(told)
+}
+
+// The rows are these, by their keys and offsets.
+fn check_rows(rt: &impl Abort, rows: &Rows, expected: &[(&[u8], u64)]) {
+    assert_eq!(rt; rows.len(), expected.len());
+    for (key, offset) in expected {
+        assert_eq!(rt; rows.get(key).map(|row| row.offset), Some(*offset));
+    }
+}
+
+// The first file begins again where its row left it, and its next span is settled.
+fn go_on(rt: &impl Abort, alloc: Global, told: &mut Told) -> Result<(), Fail>
+    requires runs { told.old.world.runs ≡ true }
+    requires same { told.old.world.notes ≡ told.old.notes.items }
+{
+    let base = told.world.rows().get(b"a").map_or(0, |row| row.offset);
+    assert!(rt; base <= 4);
+    told.note(rt, alloc, begin(alloc, 0, b"a", base)?)?;
+    told.note(rt, alloc, acked(rt, 0, base, base + 2))?;
+    let offset = told.world.rows().get(b"a").map(|row| row.offset);
+    assert_eq!(rt; offset, Some(base + 2));
+    assert_eq!(rt; told.tracker.offset(Slot(0)), Some((Epoch(0), base + 2)));
+    Ok(())
+}
+
+// With no commit the updates are a and c; with one they are a and b, and then a, the end of b, and c.
+#[test]
+fn crash_leaves_the_rows_of_as_many_updates(rt: HostRuntime) -> Result<(), Fail> {
+    let alloc = rt.alloc();
+    let cases: [(bool, u64, &[(&[u8], u64)]); 7] = [
+        (false, 0, &[]),
+        (false, 1, &[(b"a", 4)]),
+        (false, 2, &[(b"a", 4), (b"c", 0)]),
+        (true, 2, &[(b"a", 0), (b"b", 0)]),
+        (true, 3, &[(b"a", 4), (b"b", 0)]),
+        (true, 4, &[(b"a", 4)]),
+        (true, 5, &[(b"a", 4), (b"c", 0)]),
+    ];
+    for (commits, left, expected) in cases {
+        let mut told = three_files(&rt, alloc, commits)?;
+        let (committed, all) = if commits { (2, 5) } else { (0, 2) };
+        assert_eq!(rt; told.world.updates(), (committed, all));
+        let changes = told.tracker.changes(alloc)?;
+        assert_eq!(rt; changes.len() as u64, all - committed);
+        let rows = told.crash(&rt, alloc, left)?;
+        check_rows(&rt, &rows, expected);
+        check_rows(&rt, told.world.rows(), expected);
+        assert_eq!(rt; told.world.updates(), (left, left));
+        go_on(&rt, alloc, &mut told)?;
+    }
+    Ok(())
+}
