@@ -1,0 +1,6 @@
+pub mod Answers
+pub mod Collecting
+pub mod FewKeys
+pub mod Keeping
+pub mod Sound
+pub mod Storing
