@@ -1,24 +1,28 @@
 -- How many keys rows and Begins have, as notes come and changes are committed.
-use Rattle.std.proofs.Common.{◌≡◌, ◌≢◌, ◌⊎◌, inl, inr, ℕ, suc, ◌+◌, ◌≤◌, Bool, true, false, All, Contains, List, [], ◌∷◌, ◌++◌, length, take, map, Option, Some, None, if◌then◌else◌, refl, sym, ap, ◌∙◌, subst, arith}
-use Rattle.std.proofs.lemmas.List.{length-append}
-use Rattle.std.proofs.lemmas.List.Elements.{ByRecursion, All-contains, All-take, recursion_from_All, filter-append, filter_map-append}
-use Rattle.std.specs.List.{filter, filter_map}
+use Rattle.std.proofs.Common.{◌≡◌, ◌≢◌, ◌⊎◌, inl, inr, ℕ, suc, ◌+◌, ◌≤◌, ◌==◌, Bool, true, false, All, Contains, List, [], ◌∷◌, ◌++◌, length, append-nil, take, map, Option, Some, None, IfSome, if◌then◌else◌, refl, sym, ap, ◌∙◌, subst, arith}
+use Rattle.std.proofs.lemmas.List.{length-append, length-map}
+use Rattle.std.proofs.lemmas.List.Elements.{All-contains, All-from_recursion, All-take, All-weaker, recursion_from_All, filter-append, filter_map-append}
+use Rattle.std.specs.List.{AllByRecursion, cons_option, filter, filter_map}
+use Rattle.std.specs.Option.{option_map}
 use Rattle.std.specs.declared.cmp.Ordering.{Ordering}
 use Rattle.std.specs.declared.cmp.Ordering.TheVariants.{Less, Equal}
 use Rattle.wire_base.proofs.ByteOrder.{compare_same}
 use Rattle.wire_base.proofs.Keyed.{All-with, All-without, in_order-with, in_order-without}
 use Rattle.wire_base.specs.KeyOrder.{compare}
 use Rattle.wire_base.specs.declared.note.Note.{Note}
+use Rattle.wire_base.specs.declared.note.Note.TheVariants.{Begin, Announce, Settle, Rename, Seen, Forget}
 use Rattle.wire_base.specs.declared.row.Row.{Row}
 use Rattle.wire_base.specs.declared.row.Op.{Op}
 use Rattle.wire_base.specs.declared.row.Op.TheVariants.{Set, Remove}
-use Rattle.ack_tracker.specs.Keys.{SetsBegun}
+use Rattle.ack_tracker.specs.Keys.{SetsBegun, key_of_begin}
+use Rattle.ack_tracker.specs.Tracked.{Tracked}
 use Rattle.registry_store.specs.Committing.{AreAfterSome, AreFewThroughout}
-use Rattle.ship_core.proofs.Members.{first_there, later_there, none_there, there_cases}
+use Rattle.settle_box.specs.Notes.{IsPostable}
+use Rattle.ship_core.proofs.Members.{first_there, given_there, later_there, none_there, there_cases, there_given, there_passed}
 use Rattle.ship_core.specs.Replay.{after_op, replay_on}
 use Rattle.ship_core.specs.RowOver.{Start, first_start, notes_of, slot_of, start_of, start_over}
 use Rattle.ship_core.specs.Rows.{IsBefore, IsInOrder, key_of}
-use Rattle.keeper.specs.FewKeys.{AreFewKeys}
+use Rattle.keeper.specs.FewKeys.{AreFewKeys, HasRoomFor}
 
 -- ---- rows whose keys are among others are no more than these
 
@@ -47,7 +51,7 @@ take_out key (first ∷ keys) there = elim (there_cases first key keys there) [
 ]
 
 abbrev AreAmong : List (List ℕ) → List Row → Type 0
-AreAmong keys rows = ByRecursion (λ (row : Row). Contains keys row.key) rows
+AreAmong keys rows = AllByRecursion (λ (row : Row). Contains keys row.key) rows
 
 other_key : (a b : List ℕ) → compare a b ≡ Less → b ≢ a
 other_key a b less same = let q : Less ≡ Equal = sym less ∙ compare_same a b (sym same) in cc
@@ -77,7 +81,7 @@ module _ (rows : List Row) (notes : List Note) (gone : List ℕ) (few : AreFewKe
   after_one (Set row) before begun have = All-with key_of (λ (r : Row). Contains few.keys r.key) row before (set_key row begun) have
   after_one (Remove key) before begun have = All-without key_of (λ (r : Row). Contains few.keys r.key) key before have
 
-  after_all : (ops : List Op) (before : List Row) → ByRecursion (SetsBegun notes gone) ops → HaveKeys few.keys before → HaveKeys few.keys (replay_on before ops)
+  after_all : (ops : List Op) (before : List Row) → AllByRecursion (SetsBegun notes gone) ops → HaveKeys few.keys before → HaveKeys few.keys (replay_on before ops)
   after_all [] before begun have = have
   after_all (op ∷ ops) before begun have = after_all ops (after_op before op) begun.1 (after_one op before begun.0 have)
 
@@ -141,4 +145,77 @@ few_with_no_begin rows notes gone note none few = record {
   few = few.few;
   of_rows = few.of_rows;
   of_begins = λ slot start begun stands. few.of_begins slot start (sym (no_start_more slot notes note none) ∙ begun) stands;
+}
+
+-- a note that comes from the box begins no file
+pub no_start : (note : Note) → IsPostable note → start_of note ≡ None
+no_start (Begin slot key path epoch base changed) postable = absurd postable
+no_start (Announce slot epoch) postable = refl
+no_start (Settle slot epoch span cause) postable = refl
+no_start (Rename slot scan path) postable = absurd postable
+no_start (Seen slot changed) postable = absurd postable
+no_start (Forget slot epoch end) postable = refl
+
+pub few_with : (rows : List Row) (tracked : Tracked) (note : Note) → HasRoomFor rows tracked note → AreFewKeys rows tracked.notes tracked.gone → AreFewKeys rows (tracked.notes ++ note ∷ []) tracked.gone
+few_with rows tracked (Begin slot key path epoch base changed) room few = room
+few_with rows tracked (Announce slot epoch) room few = few_with_no_begin rows tracked.notes tracked.gone (Announce slot epoch) refl few
+few_with rows tracked (Settle slot epoch span cause) room few = few_with_no_begin rows tracked.notes tracked.gone (Settle slot epoch span cause) refl few
+few_with rows tracked (Rename slot scan path) room few = few_with_no_begin rows tracked.notes tracked.gone (Rename slot scan path) refl few
+few_with rows tracked (Seen slot changed) room few = few_with_no_begin rows tracked.notes tracked.gone (Seen slot changed) refl few
+few_with rows tracked (Forget slot epoch end) room few = few_with_no_begin rows tracked.notes tracked.gone (Forget slot epoch end) refl few
+
+-- ---- by their number
+
+there_before : (xs ys : List (List ℕ)) (x : List ℕ) → Contains xs x → Contains (xs ++ ys) x
+there_before [] ys x there = absurd (none_there x there)
+there_before (first ∷ xs) ys x there = elim (there_cases first x xs there) [
+  | inl same ↦ subst (λ (k : List ℕ). Contains (first ∷ (xs ++ ys)) k) same (first_there first (xs ++ ys))
+  | inr later ↦ later_there first x (xs ++ ys) (there_before xs ys x later)
+]
+
+there_behind : (xs ys : List (List ℕ)) (x : List ℕ) → Contains ys x → Contains (xs ++ ys) x
+there_behind [] ys x there = there
+there_behind (first ∷ xs) ys x there = later_there first x (xs ++ ys) (there_behind xs ys x there)
+
+row_keys : (rows : List Row) → AllByRecursion (λ (row : Row). Contains (map key_of rows) row.key) rows
+row_keys [] = tt
+row_keys (row ∷ rows) = (first_there row.key (map key_of rows), later rows (row_keys rows))
+  where
+    later : (others : List Row) → AllByRecursion (λ (r : Row). Contains (map key_of rows) r.key) others → AllByRecursion (λ (r : Row). Contains (row.key ∷ map key_of rows) r.key) others
+    later [] among = tt
+    later (other ∷ others) among = (later_there row.key other.key (map key_of rows) among.0, later others among.1)
+
+begun_key : (note : Note) (start : Start) → start_of note ≡ Some start → key_of_begin note ≡ Some start.key
+begun_key (Begin slot key path epoch base changed) start e = ap (option_map (λ (s : Start). s.key)) e
+begun_key (Announce slot epoch) start e = absurd (let q : None ≡ Some start = e in cc)
+begun_key (Settle slot epoch span cause) start e = absurd (let q : None ≡ Some start = e in cc)
+begun_key (Rename slot scan path) start e = absurd (let q : None ≡ Some start = e in cc)
+begun_key (Seen slot changed) start e = absurd (let q : None ≡ Some start = e in cc)
+begun_key (Forget slot epoch end) start e = absurd (let q : None ≡ Some start = e in cc)
+
+first_of_starts : (starts : List Start) (start : Start) → first_start starts ≡ Some start → Contains starts start
+first_of_starts [] start e = absurd (let q : None ≡ Some start = e in cc)
+first_of_starts (first ∷ starts) start e = subst (λ (o : Option Start). IfSome o (λ s. Contains (first ∷ starts) s)) e (first_there first starts)
+
+begin_keys : (notes : List Note) (slot : ℕ) (start : Start) → start_over (notes_of slot notes) ≡ Some start → Contains (filter_map key_of_begin notes) start.key
+begin_keys notes slot start e =
+    let starts = there_given start_of (notes_of slot notes) start (first_of_starts (filter_map start_of (notes_of slot notes)) start e) in
+    let there = there_passed (λ (n : Note). slot_of n == slot) notes starts.0 starts.1 in
+    given_there key_of_begin notes starts.0 start.key there.0 (begun_key starts.0 start starts.2)
+
+no_more_keys : (notes : List Note) → length (filter_map key_of_begin notes) ≤ length notes
+no_more_keys [] = omega arith
+no_more_keys (note ∷ notes) = by_note (key_of_begin note) (no_more_keys notes)
+  where
+    by_note : (o : Option (List ℕ)) → length (filter_map key_of_begin notes) ≤ length notes → length (cons_option o (filter_map key_of_begin notes)) ≤ suc (length notes)
+    by_note None fewer = omega (arith, fewer)
+    by_note (Some key) fewer = omega (arith, fewer)
+
+pub few_keys_by_length : (rows : List Row) (notes : List Note) (gone : List ℕ) → length rows + length notes ≤ 65_536 → AreFewKeys rows notes gone
+few_keys_by_length rows notes gone few = record {
+  keys = map key_of rows ++ filter_map key_of_begin notes;
+  few = let begins = no_more_keys notes in omega (arith, few, begins, length-map rows key_of, length-append (map key_of rows) (filter_map key_of_begin notes));
+  of_rows = All-weaker (λ (row : Row). Contains (map key_of rows) row.key) (λ (row : Row). Contains (map key_of rows ++ filter_map key_of_begin notes) row.key) (λ (row : Row) there. there_before (map key_of rows) (filter_map key_of_begin notes) row.key there) rows
+      (All-from_recursion (λ (row : Row). Contains (map key_of rows) row.key) rows (row_keys rows));
+  of_begins = λ slot start begun stands. there_behind (map key_of rows) (filter_map key_of_begin notes) start.key (begin_keys notes slot start begun);
 }

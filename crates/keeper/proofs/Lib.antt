@@ -1,1 +1,4 @@
+mod Committing
 mod Few
+mod Gathering
+mod Sounding

@@ -1,6 +1,7 @@
 -- What a turn collects (this project's profile): what its pass collected in this turn is noted behind all else, in order, but for
 -- a note that memory refused, which is held; one that was held before comes first.
-use Rattle.std.specs.Prelude.{◌≡◌, ℕ, ◌+◌, ◌-◌, ◌^◌, min, Bool, true, false, All, Contains, List, [], ◌∷◌, ◌++◌, length, count_by}
+use Rattle.std.specs.Prelude.{◌≡◌, ℕ, Bool, true, false, All, Contains, List, [], ◌∷◌, ◌++◌, length, count_by}
+use Rattle.outside.specs.Counts.{added_counts}
 use Rattle.settle_box.specs.Collector.{Collector, collector}
 use Rattle.settle_box.specs.Notes.{IsPostable}
 use Rattle.settle_box.specs.Senders.{notes}
@@ -38,10 +39,6 @@ is_dropped (Rename slot scan path) = false
 is_dropped (Seen slot changed) = false
 is_dropped (Forget slot epoch end) = false
 
--- a count with more; it stands still at 2^64 - 1
-abbrev pub counted : ℕ → ℕ → ℕ
-counted count more = min (count + more) (2 ^ 64 - 1)
-
 pub record Collects (old new : Keeping) : Type 0 where
   -- what the pass collected, and what was noted, each in order
   pub sent : List Sent
@@ -53,9 +50,9 @@ pub record Collects (old new : Keeping) : Type 0 where
   pub ranges : All IsNote (notes sent)
   pub opening : new.tracked.opening ≡ old.tracked.opening
   pub gone : All (Contains new.tracked.gone) old.tracked.gone
-  pub shipped : new.shipped ≡ counted old.shipped (count_by is_shipped (notes sent))
-  pub dropped : new.dropped ≡ counted old.dropped (count_by is_dropped (notes sent))
-  pub collected : new.collected ≡ counted old.collected (length sent)
+  pub shipped : new.shipped ≡ added_counts old.shipped (count_by is_shipped (notes sent))
+  pub dropped : new.dropped ≡ added_counts old.dropped (count_by is_dropped (notes sent))
+  pub collected : new.collected ≡ added_counts old.collected (length sent)
 
 -- ---- for private clauses
 

@@ -31,16 +31,15 @@ pub record AreRowsBetween (opening : List Row) (committed notes : List Note) (ro
   pub each : (key : List ℕ) → (find key rows ≡ row_for opening committed key) ⊎ (find key rows ≡ row_for opening notes key)
 
 -- there is nothing to store, or this leads from the stored rows to the rows over all notes
-abbrev pub LeadOn : List Row → Tracked → List Op → Type 0
-LeadOn rows tracked ops =
-    (ops ≡ []) ⊎ ((to : List Row) × AreRowsOver tracked.opening tracked.notes to × LeadTo rows to ops)
+abbrev pub LeadOn : List Row → List Note → List Row → List Op → Type 0
+LeadOn opening notes rows ops = (ops ≡ []) ⊎ ((to : List Row) × AreRowsOver opening notes to × LeadTo rows to ops)
 
 -- the updates of a turn, in the words of the store's commit: what each area may hold at any moment of it, and afterwards
 pub record Commits {D : Type 0} (contents : D → Option (List ℕ)) (images : D → List ℕ → Type 0) (moment : D → ℕ) (images_since : D → ℕ → List ℕ → Type 0)
-    (before after : Standing) (committed : List Note) (tracked : Tracked) (a b later_a later_b : D) : Type 0 where
+    (before after : Standing) (opening : List Row) (committed notes : List Note) (a b later_a later_b : D) : Type 0 where
   pub ops : List Op
-  pub lead : AreOrderly tracked.notes → LeadOn before.rows tracked ops
-  pub between : AreOrderly tracked.notes → (rows : List Row) → AreAfterSome before.rows ops rows → AreRowsBetween tracked.opening committed tracked.notes rows
+  pub lead : AreOrderly notes → LeadOn opening notes before.rows ops
+  pub between : AreOrderly notes → (rows : List Row) → AreAfterSome before.rows ops rows → AreRowsBetween opening committed notes rows
   pub stored : AreAfterSome before.rows ops after.rows
   -- while the store is open, all of them are stored
   pub all_stored : after.closed ≡ false → after.rows ≡ replay_on before.rows ops

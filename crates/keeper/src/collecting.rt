@@ -1,9 +1,10 @@
 ghost use Rattle.std.specs.Prelude.{◌≡◌, ◌+◌, ◌≤◌, ◌∷◌, ◌++◌, suc, All, Contains, [], IfOk, IsSome, None, Some, OnErr, OnOk, count_by, length};
 ghost use Rattle.std.specs.Bool.{OnFalse, OnTrue};
+ghost use Rattle.outside.specs.Counts.{added_counts};
 ghost use Rattle.settle_box.specs.Notes.{IsPostable};
 ghost use Rattle.settle_box.specs.Rule.{WasEmpty};
 ghost use Rattle.wire_base.specs.Ranges.{IsNote};
-ghost use Rattle.keeper.specs.Collecting.{Gathers, counted, is_dropped, is_shipped};
+ghost use Rattle.keeper.specs.Collecting.{Gathers, is_dropped, is_shipped};
 ghost use Rattle.keeper.specs.Storing.{IsStoredInFull, Stores};
 
 use crate::{Keeper, MAX_COLLECTED};
@@ -120,9 +121,9 @@ impl Keeper {
     // Counts a note that was collected.
     fn count(&mut self, note: &Note)
         ensures { self.new ≡ record self.old {
-          shipped = counted self.old.shipped (count_by is_shipped (note.now ∷ []));
-          dropped = counted self.old.dropped (count_by is_dropped (note.now ∷ []));
-          collected = counted self.old.collected 1;
+          shipped = added_counts self.old.shipped (count_by is_shipped (note.now ∷ []));
+          dropped = added_counts self.old.dropped (count_by is_dropped (note.now ∷ []));
+          collected = added_counts self.old.collected 1;
         } }
     {
         let (shipped, dropped) = settled_by(note);

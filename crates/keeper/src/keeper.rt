@@ -1,4 +1,5 @@
 ghost use Rattle.std.specs.Prelude.{◌≡◌, ◌⊎◌, ◌+◌, ◌<◌, ◌≤◌, ◌∷◌, ◌++◌, ℕ, [], false, All, Contains, IfErr, IfNone, IfOk, IfSome, IsSome, List, OnErr, OnOk, OnSome, None, Some, length};
+ghost use Rattle.std.specs.Borrow.{sem};
 ghost use Rattle.outside.specs.Counts.{Rose};
 ghost use Rattle.registry_store.specs.Settled.{AreSettled};
 ghost use Rattle.registry_store.specs.Standing.{chosen_by};
@@ -11,6 +12,7 @@ ghost use Rattle.keeper.specs.Answers.{IfDiskFault, IfEmpty, IfKept, IfNotKept};
 ghost use Rattle.keeper.specs.Collecting.{Collects};
 ghost use Rattle.keeper.specs.FewKeys.{HasRoomFor};
 ghost use Rattle.keeper.specs.Keeping.{begun_with};
+ghost use Rattle.keeper.specs.Lending.{LendsPass};
 ghost use Rattle.keeper.specs.Storing.{Commits, IsStoredInFull, Stores};
 
 use crate::KeeperTurn;
@@ -99,7 +101,7 @@ impl Keeper {
     /// Notes one thing more. `Err` is want of memory, and gives the note back.
     pub fn tell(&mut self, alloc: Global, note: Note) -> Result<(), Note>
         requires range { IsNote note }
-        requires few { HasRoomFor self.old note }
+        requires few { HasRoomFor self.old.store.rows self.old.tracked note }
         ensures told { OnOk result
             (self.new.tracked.notes ≡ self.old.tracked.notes ++ note ∷ []) }
         ensures opening_stays { self.new.tracked.opening ≡ self.old.tracked.opening }
@@ -156,7 +158,8 @@ impl Keeper {
         // of the updates. Where the store is open then, they are as the next turn wants them.
         ensures commits { AreSettled D.contents D.images a.old b.old (chosen_by self.old.store) →
             Commits D.contents D.images D.moment D.images_since self.old.store self.new.store
-            self.old.tracked.committed self.new.tracked a.old b.old a.new b.new }
+            self.old.tracked.opening self.old.tracked.committed self.new.tracked.notes
+            a.old b.old a.new b.new }
         ensures settled { AreSettled D.contents D.images a.old b.old (chosen_by self.old.store) →
             self.new.store.closed ≡ false →
             AreSettled D.contents D.images a.new b.new (chosen_by self.new.store) }
@@ -169,7 +172,9 @@ impl Keeper {
         ensures b_faults_never_fall { D.faults b.old ≤ D.faults b.new }
     {
         let nothing_before = self.is_stored_in_full();
-        let Ok(count) = self.collect(rt, alloc, desk) else {
+        let collected = self.collect(rt, alloc, desk);
+        self.tell_stored();
+        let Ok(count) = collected else {
             return KeeperTurn::NoMemory;
         };
         if count == 0 && nothing_before {
@@ -184,7 +189,10 @@ impl Keeper {
     }
 
     /// Lends the pass by which it collects.
-    pub fn collect_pass(&mut self) -> &mut CollectPass {
+    pub fn collect_pass(&mut self) -> &mut CollectPass
+        ensures lent { result.now ≡ self.entry.now.pass }
+        ensures* lends { sem 𝓛 (LendsPass self.entry result) }
+    {
         &mut self.pass
     }
 

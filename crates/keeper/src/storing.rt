@@ -28,7 +28,8 @@ impl Keeper {
         ensures open { OnOk result (self.new.store.closed ≡ false) }
         ensures commits { AreSettled D.contents D.images a.old b.old (chosen_by self.old.store) →
             Commits D.contents D.images D.moment D.images_since self.old.store self.new.store
-            self.old.tracked.committed self.new.tracked a.old b.old a.new b.new }
+            self.old.tracked.opening self.old.tracked.committed self.new.tracked.notes
+            a.old b.old a.new b.new }
         ensures settled { AreSettled D.contents D.images a.old b.old (chosen_by self.old.store) →
             self.new.store.closed ≡ false →
             AreSettled D.contents D.images a.new b.new (chosen_by self.new.store) }
