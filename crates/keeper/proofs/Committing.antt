@@ -1,19 +1,21 @@
 -- Rows between two commits, and areas to which nothing is committed.
 use Rattle.std.proofs.Common.{◌≡◌, ◌≢◌, ◌⊎◌, inl, inr, ℕ, false, zero, suc, ◌≤◌, List, [], ◌∷◌, length, take, Option, Some, unwrap_or, refl, sym, ap, ◌∙◌, subst, arith}
+use Rattle.std.proofs.lemmas.List.{take_all}
 use Rattle.std.proofs.lemmas.List.Elements.{All-from_recursion, All-take, recursion_from_All}
 use Rattle.std.specs.List.{AllByRecursion}
 use Rattle.std.specs.declared.cmp.Ordering.{Ordering}
 use Rattle.std.specs.declared.cmp.Ordering.TheVariants.{Less, Equal, Greater}
+use Rattle.ack_tracker.specs.Tracked.{Tracked}
 use Rattle.outside.specs.DiskImages.{LeavesOnly}
 use Rattle.registry_store.specs.Choice.{IsChoice}
-use Rattle.registry_store.specs.Committing.{AreAfterSome, GivesSome, MayHold}
+use Rattle.registry_store.specs.Committing.{AreAfterSome, GivesSome, GoesOn, MayHold}
 use Rattle.registry_store.specs.Settled.{AreSettled}
 use Rattle.registry_store.specs.Sides.{of_area, other_area}
-use Rattle.registry_store.specs.Standing.{Standing, chosen_by}
+use Rattle.registry_store.specs.Standing.{Standing, chosen_by, generation_after, written_area}
 use Rattle.ship_core.specs.Changes.{AreAscending, LeadTo, key_in}
 use Rattle.ship_core.specs.Orderly.{AreOrderly}
 use Rattle.ship_core.specs.Replay.{after_op, replay_on}
-use Rattle.ship_core.specs.Rows.{find, key_of}
+use Rattle.ship_core.specs.Rows.{IsInOrder, find, key_of}
 use Rattle.ship_core.specs.RowsOver.{AreRowsOver, row_for}
 use Rattle.wire_base.proofs.ByteOrder.{compare_same, same_key}
 use Rattle.wire_base.proofs.Keyed.{find-with_not, find-without_not}
@@ -86,6 +88,22 @@ rows_between opening committed notes from to rows ops before behind lead after =
   ];
 }
 
+-- the updates of a tracker lead to the rows over all its notes
+pub leads : (tracked : Tracked) (store : Standing) (ops items : List Op) → ops ≡ items → Stores tracked store → store.closed ≡ false → IsInOrder tracked.opening
+    → ((opening : List Row) (notes : List Note) → IsInOrder opening → AreOrderly notes → (rows : List Row) × AreRowsOver opening notes rows)
+    → (AreOrderly tracked.notes → (from to : List Row) → AreRowsOver tracked.opening tracked.committed from → AreRowsOver tracked.opening tracked.notes to → LeadTo from to items)
+    → AreOrderly tracked.notes → (to : List Row) × AreRowsOver tracked.opening tracked.notes to × LeadTo store.rows to ops
+leads tracked store ops items is stored closed ordered there_is_one by_the_notes orderly =
+    let to = there_is_one tracked.opening tracked.notes ordered orderly in
+    (to.0, to.1, subst (LeadTo store.rows to.0) (sym is) (by_the_notes orderly store.rows to.0 (stored orderly closed) to.1))
+
+pub after_all : (rows found : List Row) (ops : List Op) → found ≡ replay_on rows ops → AreAfterSome rows ops found
+after_all rows found ops is = record {
+  count = length ops;
+  within = omega arith;
+  replayed = ap (replay_on rows) (take_all (length ops) ops (omega arith)) ∙ sym is;
+}
+
 -- ---- nothing is committed
 
 none_taken : (count : ℕ) → take {A = Op} count [] ≡ []
@@ -148,6 +166,28 @@ module _ {D : Type 0} (contents : D → Option (List ℕ)) (images : D → List 
         of_b = stays b (MayHold (contents b) store.generation store.rows []) (λ image is. inl (settled.b_settled image is));
       };
       left = still_gives;
+    }
+
+  module _ (tracked : Tracked) (store after : Standing) (ops : List Op) (a b later_a later_b : D) where
+    pub some_commits : Stores tracked store → store.closed ≡ false → (AreOrderly tracked.notes → (to : List Row) × AreRowsOver tracked.opening tracked.notes to × LeadTo store.rows to ops)
+        → AreAfterSome store.rows ops after.rows → (after.closed ≡ false → after.rows ≡ replay_on store.rows ops) → (after.closed ≡ false → after.generation ≡ generation_after store ops)
+        → LeavesOnly moment images_since (of_area (written_area store ops) a b) (of_area (written_area store ops) later_a later_b)
+        (λ image. (other : List ℕ) → images (of_area (other_area (written_area store ops)) a b) other → GivesSome store.rows ops (of_area (written_area store ops) image other) (of_area (written_area store ops) other image))
+        → of_area (other_area (written_area store ops)) later_a later_b ≡ of_area (other_area (written_area store ops)) a b
+        → GoesOn contents moment images_since store.generation store.rows ops a b later_a later_b
+        → ((first second : List ℕ) → contents later_a ≡ Some first → contents later_b ≡ Some second → GivesSome store.rows ops first second)
+        → Commits contents images moment images_since store after tracked.opening tracked.committed tracked.notes a b later_a later_b
+    some_commits stores closed lead stored all generation each other goes left = record {
+      ops = ops;
+      lead = λ orderly. inr (lead orderly);
+      between = λ orderly rows some. let to = lead orderly in rows_between tracked.opening tracked.committed tracked.notes store.rows to.0 rows ops (stores orderly closed) to.1 to.2 some;
+      stored = stored;
+      all_stored = all;
+      generation = generation;
+      each_moment = each;
+      other_area_kept = other;
+      goes_on = goes;
+      left = left;
     }
 
   -- ---- what was collected before changes nothing of it

@@ -1,8 +1,12 @@
-use Rattle.std.proofs.Common.{◌≡◌, ◌∙◌, ap, refl, sym, arith}
-use Rattle.keeper.specs.Collecting.{Gathers}
-use Rattle.keeper.specs.Keeping.{Keeping}
+use Rattle.std.specs.Bool.{OnTrue}
+use Rattle.std.proofs.Common.{Bool, true, false, ◌≡◌, ◌∙◌, ap, refl, sym, arith}
+use Rattle.settle_box.specs.Collector.{Collector}
 use Rattle.keeper.proofs.Gathering.{gathers_more, gathers_none}
 use Rattle.keeper.proofs.keeper.Keeper.collect.Goals as goal
+
+on_true : {P : Type 0} (b : Bool) → b ≡ true → OnTrue b P → P
+on_true true is p = p
+on_true false is p = absurd (let q : false ≡ true = is in cc)
 
 pub notes-init : goal.notes-init
 notes-init g c = record {
@@ -24,11 +28,11 @@ returns-then-not-branch-clause-gathers g c =
 
 pub notes-preserved : goal.notes-preserved
 notes-preserved g c =
-    let one = c.if-not-branch.ensures.one in
+    let one = on_true c.in_ok-collect_one.field-0 c.if-not-branch.false c.in_ok-collect_one.ensures.one in
     record {
       gathers = gathers_more c.note_held.new.self c.notes.self c.collect_one.new.self c.notes.invariant.gathers c.collect_one.ensures.gathers;
       none_held = c.in_ok-collect_one.ensures.none_held;
-      desk = ap (λ (k : Keeping). k.pass.desk) refl ∙ c.notes.invariant.desk;
+      desk = ap (λ (p : Collector). p.desk) c.collect_one.ensures.gathers.collects.pass ∙ c.notes.invariant.desk;
       count = omega (arith, one, c.notes.invariant.count);
       within = omega (arith, c.notes-test.true);
       nothing = λ none. absurd (omega (arith, none));
