@@ -146,7 +146,9 @@ impl Keeper {
         ensures kept_only_for_something { IfKept result (λ count.
             (0 < count) ⊎ (¬ IsStoredInFull self.old)) }
         ensures open_where_kept { IfKept result (λ _. self.new.store.closed ≡ false) }
-        ensures open_where_held { IsSome self.new.held → self.new.store.closed ≡ false }
+        ensures store_kept_where_held { IsSome self.new.held → self.new.store ≡ self.old.store }
+        ensures a_kept_where_held { IsSome self.new.held → a.new ≡ a.old }
+        ensures b_kept_where_held { IsSome self.new.held → b.new ≡ b.old }
 
         ensures empty { IfEmpty result (WasEmpty self.old.pass) }
         ensures nothing_to_store { IfEmpty result (IsStoredInFull self.old) }

@@ -1,8 +1,10 @@
 ghost use Rattle.std.specs.Prelude.{◌≡◌, ◌+◌, ◌<◌, ◌≤◌, ◌^◌, false, IfOk, IfSome, IsSome, OnOk, OnSome, length};
 ghost use Rattle.wire_base.specs.Ranges.{IsNote};
 ghost use Rattle.settle_box.specs.Notes.{IsPostable};
+ghost use Rattle.keeper.specs.Answers.{IfEmpty, IfKept};
 
 use keeper::{Keeper, KeeperTurn, few_keys_by_length};
+use outside::Disk;
 use outside_mem::MemDisk;
 use registry_store::Store;
 use settle_box::{PostPass, SettleBox};
@@ -82,29 +84,43 @@ fn tell_begin(
     Ok(())
 }
 
-// Turns until nothing is left; how many notes were collected.
-fn turn_out<R: Wait>(
+fn turn_once<R: Wait, D: Disk>(
     rt: &R,
     alloc: Global,
     desk: &SettleBox,
     keeper: &mut Keeper,
-    disks: (&mut MemDisk, &mut MemDisk),
+    disks: (&mut D, &mut D),
+) -> KeeperTurn
+    requires of_this_box { keeper.old.pass.desk ≡ desk.now.id }
+    requires open { keeper.old.store.closed ≡ false }
+    ensures of_this_box { keeper.new.pass.desk ≡ keeper.old.pass.desk }
+    ensures open_where_kept { IfKept result (λ _. keeper.new.store.closed ≡ false) }
+    ensures open_where_empty { IfEmpty result (keeper.new.store.closed ≡ false) }
+{
+    keeper.turn(rt, alloc, desk, disks.0, disks.1)
+}
+
+// Turns until nothing is left; how many notes were collected.
+fn turn_out<R: Wait, D: Disk>(
+    rt: &R,
+    alloc: Global,
+    desk: &SettleBox,
+    keeper: &mut Keeper,
+    disks: (&mut D, &mut D),
 ) -> Option<u32>
     requires of_this_box { keeper.old.pass.desk ≡ desk.now.id }
     requires open { keeper.old.store.closed ≡ false }
     ensures of_this_box { OnSome result (keeper.new.pass.desk ≡ keeper.old.pass.desk) }
     ensures open { OnSome result (keeper.new.store.closed ≡ false) }
 {
-    let mut collected = 0u32;
     let (a, b) = disks;
-    for _ in 0..4 {
-        match keeper.turn(rt, alloc, desk, a, b) {
-            KeeperTurn::Kept(count) => collected = collected.saturating_add(count),
-            KeeperTurn::Empty => return Some(collected),
-            KeeperTurn::DiskFault | KeeperTurn::NoMemory => return None,
-        }
+    let KeeperTurn::Kept(count) = turn_once(rt, alloc, desk, keeper, (&mut *a, &mut *b)) else {
+        return None;
+    };
+    match turn_once(rt, alloc, desk, keeper, (&mut *a, &mut *b)) {
+        KeeperTurn::Empty => Some(count),
+        _ => None,
     }
-    None
 }
 
 // The offset of a key's row; none where it has no row.
@@ -116,11 +132,11 @@ fn offset_of(keeper: &Keeper, key: &[u8]) -> Option<u64> {
 }
 
 // A keeper over an empty registry, with its box.
-fn start(
+fn start<D: Disk>(
     alloc: Global,
     capacity: u32,
-    a: &mut MemDisk,
-    b: &mut MemDisk,
+    a: &mut D,
+    b: &mut D,
 ) -> Result<(SettleBox, PostPass, Keeper), Fail>
     requires { 0 < capacity }
     ensures posts { IfOk result (λ made. made.1.desk ≡ made.0.id) }
@@ -134,6 +150,11 @@ fn start(
         Ok(keeper) => Ok((desk, post, keeper)),
         Err(_) => Err(NoMemory.into()),
     }
+}
+
+// How many rows the areas of two disks have.
+fn rows_on<D: Disk>(alloc: Global, a: &mut D, b: &mut D) -> Result<usize, Fail> {
+    Ok(Store::open(alloc, a, b)?.rows().len())
 }
 
 #[test]
@@ -156,10 +177,9 @@ fn collected_notes_are_stored(rt: HostRuntime) -> Result<(), Fail> {
         (keeper.shipped(), keeper.dropped(), keeper.collected()),
         (2, 1, 3)
     );
-    let (kept, mut collect) = keeper.end();
-    desk.meet(&mut pass, &mut collect);
-    let opened = Store::open(alloc, &mut a, &mut b)?;
-    assert_eq!(rt; (kept.rows().len(), opened.rows().len()), (2, 2));
+    let (kept, _) = keeper.end();
+    assert_eq!(rt; kept.rows().len(), 2);
+    assert_eq!(rt; rows_on(alloc, &mut a, &mut b)?, 2);
     Ok(())
 }
 
@@ -173,10 +193,10 @@ fn capacity_one(rt: HostRuntime) -> Result<(), Fail> {
     tell_begin(&rt, alloc, &mut keeper, 0, KEY)?;
     assert!(rt; post(&rt, &desk, &mut pass, (0, 4), Cause::Acked));
     assert!(rt; !post(&rt, &desk, &mut pass, (4, 9), Cause::Acked));
-    let turn = keeper.turn(&rt, alloc, &desk, &mut a, &mut b);
+    let turn = turn_once(&rt, alloc, &desk, &mut keeper, (&mut a, &mut b));
     assert!(rt; turn == KeeperTurn::Kept(1));
     assert!(rt; post(&rt, &desk, &mut pass, (4, 9), Cause::Acked));
-    let turn = keeper.turn(&rt, alloc, &desk, &mut a, &mut b);
+    let turn = turn_once(&rt, alloc, &desk, &mut keeper, (&mut a, &mut b));
     assert!(rt; turn == KeeperTurn::Kept(1));
     assert_eq!(rt; offset_of(&keeper, KEY), Some(9));
     Ok(())
@@ -225,7 +245,7 @@ fn disk_that_stops_is_a_fault(rt: HostRuntime) -> Result<(), Fail> {
         assert!(rt; post(&rt, &desk, &mut pass, (0, 4), Cause::Acked));
         let mut stopping = MemDisk::new(alloc, a.bytes())?;
         stopping.stop_after(calls);
-        let turn = keeper.turn(&rt, alloc, &desk, &mut stopping, &mut b);
+        let turn = turn_once(&rt, alloc, &desk, &mut keeper, (&mut stopping, &mut b));
         let expected = if calls == 4 {
             KeeperTurn::Kept(1)
         } else {
@@ -237,8 +257,8 @@ fn disk_that_stops_is_a_fault(rt: HostRuntime) -> Result<(), Fail> {
             (1, Some((Epoch(0), 4)))
         );
         let mut image = stopping.image(0)?;
-        let opened = Store::open(alloc, &mut image, &mut b)?;
-        assert_eq!(rt; opened.rows().len() == 1, calls == 4, "after {calls} calls");
+        let rows = rows_on(alloc, &mut image, &mut b)?;
+        assert_eq!(rt; rows == 1, calls == 4, "after {calls} calls");
     }
     Ok(())
 }

@@ -76,7 +76,9 @@ returns-in-Err g c =
       committed_stays = ap (λ (t : Tracked). t.committed) c.in-Err.ensures.nothing_committed ∙ gathers.committed;
       kept_only_for_something = tt;
       open_where_kept = tt;
-      open_where_held = λ some. absurd (let q : false ≡ true = subst IsSome none some in cc);
+      store_kept_where_held = λ some. absurd (let q : false ≡ true = subst IsSome none some in cc);
+      a_kept_where_held = λ some. absurd (let q : false ≡ true = subst IsSome none some in cc);
+      b_kept_where_held = λ some. absurd (let q : false ≡ true = subst IsSome none some in cc);
       empty = tt;
       nothing_to_store = tt;
       kept_where_empty = tt;
