@@ -1,5 +1,5 @@
 -- Rows between two commits, and areas to which nothing is committed.
-use Rattle.std.proofs.Common.{◌≡◌, ◌≢◌, ◌⊎◌, inl, inr, ℕ, false, zero, suc, ◌≤◌, List, [], ◌∷◌, length, take, Option, Some, unwrap_or, refl, sym, ap, ◌∙◌, subst, arith}
+use Rattle.std.proofs.Common.{◌≡◌, ◌≢◌, ◌⊎◌, inl, inr, ℕ, false, zero, suc, List, [], ◌∷◌, length, take, Option, Some, unwrap_or, refl, sym, ap, ◌∙◌, subst, arith}
 use Rattle.std.proofs.lemmas.List.{take_all}
 use Rattle.std.proofs.lemmas.List.Elements.{All-from_recursion, All-take, recursion_from_All}
 use Rattle.std.specs.List.{AllByRecursion}
@@ -16,7 +16,7 @@ use Rattle.ship_core.specs.Changes.{AreAscending, LeadTo, key_in}
 use Rattle.ship_core.specs.Orderly.{AreOrderly}
 use Rattle.ship_core.specs.Replay.{after_op, replay_on}
 use Rattle.ship_core.specs.Rows.{IsInOrder, find, key_of}
-use Rattle.ship_core.specs.RowsOver.{AreRowsOver, row_for}
+use Rattle.ship_core.specs.RowsOver.{AreRowsOver}
 use Rattle.wire_base.proofs.ByteOrder.{compare_same, same_key}
 use Rattle.wire_base.proofs.Keyed.{find-with_not, find-without_not}
 use Rattle.wire_base.specs.KeyOrder as entries

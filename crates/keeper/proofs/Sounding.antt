@@ -1,5 +1,5 @@
 -- What holds of any keeper: as it begins, as notes come, and as changes are committed.
-use Rattle.std.proofs.Common.{◌≡◌, ℕ, ◌≤◌, Bool, true, false, All, Contains, List, [], ◌∷◌, ◌++◌, length, append-nil, Option, None, IsErr, IsTrue, refl, sym, ap, ◌∙◌, subst, arith}
+use Rattle.std.proofs.Common.{◌≡◌, ◌≤◌, Bool, true, false, All, Contains, List, [], ◌∷◌, ◌++◌, length, append-nil, Option, None, refl, sym, ap, ◌∙◌, subst, arith}
 use Rattle.std.proofs.lemmas.List.{append_assoc, length-append}
 use Rattle.std.proofs.lemmas.List.Elements.{All-nil}
 use Rattle.wire_base.specs.Ranges.{IsNote}
@@ -17,9 +17,7 @@ use Rattle.ship_core.specs.Replay.{replay_on}
 use Rattle.ship_core.specs.Rows.{IsInOrder, find}
 use Rattle.ship_core.specs.RowsOver.{AreRowsOver}
 use Rattle.keeper.specs.FewKeys.{AreFewKeys}
-use Rattle.keeper.specs.Keeping.{held_in}
 use Rattle.keeper.specs.Sound.{IsSound, are_some}
-use Rattle.keeper.specs.Storing.{Stores}
 use Rattle.keeper.proofs.Few.{few_after, few_after_some, few_keys_by_length, few_while_more_go, in_order_after, in_order_after_some}
 
 -- a keeper begins

@@ -1,8 +1,8 @@
 -- What a turn collects (this project's profile): what its pass collected in this turn is noted behind all else, in order, but for
 -- a note that memory refused, which is held; one that was held before comes first.
-use Rattle.std.specs.Prelude.{◌≡◌, ℕ, Bool, true, false, All, Contains, List, [], ◌∷◌, ◌++◌, length, count_by}
+use Rattle.std.specs.Prelude.{◌≡◌, Bool, true, false, All, Contains, List, ◌++◌, length, count_by}
 use Rattle.outside.specs.Counts.{added_counts}
-use Rattle.settle_box.specs.Collector.{Collector, collector}
+use Rattle.settle_box.specs.Collector.{collector}
 use Rattle.settle_box.specs.Notes.{IsPostable}
 use Rattle.settle_box.specs.Senders.{notes}
 use Rattle.settle_box.specs.declared.sender.Sent.{Sent}

@@ -97,7 +97,8 @@ fn turn_once<R: Wait, D: Disk>(
     ensures open_where_kept { IfKept result (λ _. keeper.new.store.closed ≡ false) }
     ensures open_where_empty { IfEmpty result (keeper.new.store.closed ≡ false) }
 {
-    keeper.turn(rt, alloc, desk, disks.0, disks.1)
+    let (a, b) = disks;
+    keeper.turn(rt, alloc, desk, a, b)
 }
 
 // Turns until nothing is left; how many notes were collected.

@@ -1,5 +1,5 @@
 use Rattle.std.specs.Bool.{OnTrue}
-use Rattle.std.proofs.Common.{Bool, true, false, ◌≡◌, ◌∙◌, ap, refl, sym, arith}
+use Rattle.std.proofs.Common.{Bool, true, false, ◌≡◌, ◌∙◌, ap, refl, arith}
 use Rattle.settle_box.specs.Collector.{Collector}
 use Rattle.keeper.proofs.Gathering.{gathers_more, gathers_none}
 use Rattle.keeper.proofs.keeper.Keeper.collect.Goals as goal

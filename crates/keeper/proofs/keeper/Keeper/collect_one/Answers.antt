@@ -1,4 +1,4 @@
-use Rattle.std.proofs.Common.{◌≡◌, ◌∙◌, List, ℕ, ◌∷◌, [], None, ap, sym, subst}
+use Rattle.std.proofs.Common.{◌≡◌, ◌∙◌, ◌∷◌, [], None, ap, sym, subst}
 use Rattle.std.specs.List.{count_by}
 use Rattle.outside.specs.Counts.{added_counts}
 use Rattle.settle_box.specs.Collector.{Collector}

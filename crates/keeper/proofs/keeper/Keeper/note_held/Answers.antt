@@ -1,4 +1,4 @@
-use Rattle.std.proofs.Common.{◌≡◌, ◌∙◌, sym}
+use Rattle.std.proofs.Common.{◌∙◌, sym}
 use Rattle.keeper.specs.Keeping.{Keeping}
 use Rattle.keeper.proofs.Gathering.{gathers_held, gathers_none_held}
 use Rattle.keeper.proofs.keeper.Keeper.note_held.Goals as goal

@@ -1,4 +1,4 @@
-use Rattle.std.proofs.Common.{◌≡◌, ◌⊎◌, inl, inr, ◌<◌, ℕ, zero, suc, Bool, true, false, None, IsSome, length, ◌∙◌, ap, refl, sym, subst, arith}
+use Rattle.std.proofs.Common.{◌≡◌, inl, inr, ◌<◌, ℕ, zero, suc, Bool, true, false, None, IsSome, length, ◌∙◌, ap, refl, subst, arith}
 use Rattle.std.specs.Bool.{OnFalse}
 use Rattle.ack_tracker.specs.Tracked.{Tracked}
 use Rattle.registry_store.specs.Settled.{AreSettled}
