@@ -184,7 +184,7 @@ fn collected_notes_are_stored(rt: HostRuntime) -> Result<(), Fail> {
     Ok(())
 }
 
-// A box of one place takes a note only once the one before it was collected. What is told is stored from an empty box.
+// A box of one place takes a note only once the one before it was collected.
 #[test]
 fn capacity_one(rt: HostRuntime) -> Result<(), Fail> {
     let alloc = rt.alloc();
@@ -200,66 +200,5 @@ fn capacity_one(rt: HostRuntime) -> Result<(), Fail> {
     let turn = turn_once(&rt, alloc, &desk, &mut keeper, (&mut a, &mut b));
     assert!(rt; turn == KeeperTurn::Kept(1));
     assert_eq!(rt; offset_of(&keeper, KEY), Some(9));
-    Ok(())
-}
-
-#[test]
-fn told_notes_are_stored_from_an_empty_box(rt: HostRuntime) -> Result<(), Fail> {
-    let alloc = rt.alloc();
-    let mut a = MemDisk::new(alloc, b"")?;
-    let mut b = MemDisk::new(alloc, b"")?;
-    let (desk, mut pass, mut keeper) = start(alloc, 1, &mut a, &mut b)?;
-    tell_begin(&rt, alloc, &mut keeper, 0, KEY)?;
-    let seen = Note::Seen {
-        slot: Slot(0),
-        changed: Moment(7),
-    };
-    assert!(rt; keeper.tell(alloc, seen).is_ok());
-    assert_eq!(rt; offset_of(&keeper, KEY), None);
-    let turned = turn_out(&rt, alloc, &desk, &mut keeper, (&mut a, &mut b));
-    assert_eq!(rt; turned, Some(0));
-    assert_eq!(rt; offset_of(&keeper, KEY), Some(0));
-    let forget = Note::Forget {
-        slot: Slot(0),
-        epoch: Epoch(0),
-        end: 0,
-    };
-    assert!(rt; desk.post(&rt, &mut pass, forget).is_ok());
-    let again = turn_out(&rt, alloc, &desk, &mut keeper, (&mut a, &mut b));
-    assert_eq!(rt; (turned, again), (Some(0), Some(1)));
-    assert_eq!(rt;
-        (offset_of(&keeper, KEY), keeper.offset(Slot(0))),
-        (None, None)
-    );
-    Ok(())
-}
-
-// After a fault the notes are noted, and what is read again has the rows that were stored before.
-#[test]
-fn disk_that_stops_is_a_fault(rt: HostRuntime) -> Result<(), Fail> {
-    let alloc = rt.alloc();
-    for calls in 0..5 {
-        let mut a = MemDisk::new(alloc, b"")?;
-        let mut b = MemDisk::new(alloc, b"")?;
-        let (desk, mut pass, mut keeper) = start(alloc, 1, &mut a, &mut b)?;
-        tell_begin(&rt, alloc, &mut keeper, 0, KEY)?;
-        assert!(rt; post(&rt, &desk, &mut pass, (0, 4), Cause::Acked));
-        let mut stopping = MemDisk::new(alloc, a.bytes())?;
-        stopping.stop_after(calls);
-        let turn = turn_once(&rt, alloc, &desk, &mut keeper, (&mut stopping, &mut b));
-        let expected = if calls == 4 {
-            KeeperTurn::Kept(1)
-        } else {
-            KeeperTurn::DiskFault
-        };
-        assert!(rt; turn == expected, "after {calls} calls");
-        assert_eq!(rt;
-            (keeper.collected(), keeper.offset(Slot(0))),
-            (1, Some((Epoch(0), 4)))
-        );
-        let mut image = stopping.image(0)?;
-        let rows = rows_on(alloc, &mut image, &mut b)?;
-        assert_eq!(rt; rows == 1, calls == 4, "after {calls} calls");
-    }
     Ok(())
 }
