@@ -1,4 +1,4 @@
-//! The keeper over disks in memory: what it collects and is told is stored, and what a disk that stops leaves. Tests
+//! The keeper over disks in memory: what it collects and is told is stored. Tests
 //! alone; no part of the product. They stand here so that what stands on `keeper` need not wait for the objects in memory.
 #![tactic(auto)]
 
