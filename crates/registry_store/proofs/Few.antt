@@ -1,6 +1,6 @@
 -- How many rows there are while operations are applied.
-use Rattle.std.proofs.Common.{ℕ, suc, ◌+◌, ◌≤◌, Bool, true, false, if◌then◌else◌, List, [], ◌∷◌, length, take, arith}
-use Rattle.std.proofs.lemmas.List.{length-take-le}
+use Rattle.std.proofs.Common.{ℕ, suc, ◌+◌, ◌≤◌, Bool, true, false, if◌then◌else◌, List, [], ◌∷◌, length, take, subst, arith}
+use Rattle.std.proofs.lemmas.List.{length-take-le, take_all}
 use Rattle.std.specs.Ordering.{is_eq, match_ordering}
 use Rattle.std.specs.declared.cmp.Ordering.{Ordering}
 use Rattle.std.specs.declared.cmp.Ordering.TheVariants.{Less, Equal, Greater}
@@ -41,3 +41,7 @@ few_by_length rows ops few = λ count within.
     let added = replay_adds rows (take count ops) in
     let taken = length-take-le count ops within in
     omega (arith, added, taken, few, within)
+
+pub few_at_the_end : (rows : List Row) (ops : List Op) → AreFewThroughout rows ops → length (replay_on rows ops) ≤ 65_536
+few_at_the_end rows ops few =
+    subst (λ (l : List Op). length (replay_on rows l) ≤ 65_536) (take_all (length ops) ops (omega arith)) (few (length ops) (omega arith))

@@ -1,4 +1,4 @@
-ghost use Rattle.std.specs.Prelude.{◌≡◌, ◌≢◌, ◌⊎◌, ◌≤◌, ◌↔◌, ℕ, [], true, false, All, IfOk, IsErr, IsErrOf, IsSome, IsTrue, List, OnErr, OnOk, Some};
+ghost use Rattle.std.specs.Prelude.{◌≡◌, ◌≢◌, ◌⊎◌, ◌≤◌, ◌↔◌, ℕ, [], true, false, All, IfOk, IsErr, IsErrOf, IsSome, IsTrue, List, OnErr, OnOk, Some, length};
 ghost use Rattle.outside.specs.Counts.{Rose};
 ghost use Rattle.outside.specs.DiskImages.{LeavesOnly, Only};
 ghost use Rattle.registry_log.specs.OnlyRead.{IsOnlyRead};
@@ -32,7 +32,7 @@ pub struct Store {
 }
 
 impl Model for Store {
-    ghost use Rattle.std.specs.Prelude.{◌<◌};
+    ghost use Rattle.std.specs.Prelude.{◌<◌, ◌≤◌, length};
     ghost use Rattle.wire_base.specs.declared.numbers.TheConstants.{MAX_PLACE};
     ghost use Rattle.registry_store.specs.Standing.{Standing};
 
@@ -40,7 +40,7 @@ impl Model for Store {
 
     ghost view = { λ s. record { area = s.used.area; generation = s.used.generation; rows = s.rows; start = s.used.start; end = s.used.end; closed = s.closed } };
 
-    ghost invariant = { λ s. s.used.end < MAX_PLACE };
+    ghost invariant = { λ s. (s.used.end < MAX_PLACE) × (length s.rows ≤ 65_536) };
 }
 
 impl Store {
@@ -106,7 +106,8 @@ impl Store {
     }
 
     pub fn rows(&self) -> &Rows
-        ensures { result.now ≡ self.now.rows }
+        ensures rows { result.now ≡ self.now.rows }
+        ensures few { length result.now ≤ 65_536 }
     {
         &self.rows
     }

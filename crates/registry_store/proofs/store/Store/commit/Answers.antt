@@ -1,10 +1,11 @@
-use Rattle.std.proofs.Common.{◌≡◌, ℕ, List, Some, refl, subst}
+use Rattle.std.proofs.Common.{◌≡◌, ℕ, List, Some, refl, subst, sym}
 use Rattle.outside.specs.DiskImages.{LeavesOnly}
-use Rattle.registry_store.specs.Committing.{GivesSome, GoesOn}
+use Rattle.registry_store.specs.Committing.{AreFewThroughout, GivesSome, GoesOn}
 use Rattle.registry_store.specs.Settled.{AreSettled}
 use Rattle.registry_store.specs.Sides.{of_area, other_area, written_of}
 use Rattle.registry_store.specs.Standing.{Standing, chosen_by, is_worn, written_area}
 use Rattle.registry_store.proofs.Beside.{gives_beside, goes_on_beside, left_gives, still_gives}
+use Rattle.registry_store.proofs.Few.{few_at_the_end}
 use Rattle.registry_store.proofs.store.Store.commit.Goals as goal
 
 pub returns-then-self-clause-each_moment : goal.returns-then-self-clause-each_moment
@@ -70,3 +71,8 @@ returns-clause-left g c =
     → GivesSome s.rows c.args.ops.now first second in
     subst Left c.self.view_is (λ settled. left_gives g.D.Disk.contents g.D.Disk.images g.D.Disk.moment g.D.Disk.images_since g.met.D.Disk.reads_as_an_image g.met.D.Disk.counts_now (written_of c.self.inside.used.area (is_worn c.self.inside.used.generation c.self.inside.used.start c.self.inside.used.end c.args.ops.now)) c.args.a.now c.args.b.now c.write_areas.new.a c.write_areas.new.b c.self.inside.rows c.args.ops.now
     (gives_beside g.D.Disk.contents g.D.Disk.images g.D.Disk.moment g.D.Disk.images_since _ _ _ _ _ _ c.args.ops.now _ (c.write_areas.ensures.each_moment settled)) c.write_areas.ensures.other_kept)
+
+pub invariant_of-self-2 : goal.invariant_of-self-2
+invariant_of-self-2 g c =
+    let Few : Standing → Type 0 = λ s. AreFewThroughout s.rows c.args.ops.now in
+    (c.in_ok-self-inside.ensures.next_in_range, rw c.in_ok-apply_all.ensures.all (few_at_the_end c.self.inside.rows c.args.ops.now (subst Few (sym c.self.view_is) c.requires.few)))

@@ -1,0 +1,4 @@
+mod Committing
+mod Few
+mod Gathering
+mod Sounding

@@ -1,0 +1,7 @@
+pub mod Answers
+pub mod Collecting
+pub mod FewKeys
+pub mod Keeping
+pub mod Lending
+pub mod Sound
+pub mod Storing
