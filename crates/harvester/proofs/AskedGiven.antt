@@ -1,15 +1,11 @@
 -- What asking a harvester's tail for its key gives, as contracts tell it.
-use Rattle.std.proofs.Common.{◌≡◌, ◌≢◌, ◌⊎◌, inl, inr, ℕ, zero, suc, ◌+◌, ◌-◌, ◌<◌, ◌≤◌, Bool, true, false, List, [], ◌∷◌, ◌++◌, Option, Some, None, IfSome, IsErr, IsNone, Result, Ok, Err, refl, sym, ap, subst, ◌∙◌, append-nil, arith}
+use Rattle.std.proofs.Common.{◌≡◌, ◌≢◌, ℕ, zero, suc, ◌+◌, ◌-◌, Bool, true, false, List, [], ◌∷◌, ◌++◌, Option, Some, None, IfSome, IsErr, IsNone, Result, Ok, Err, refl, sym, ap, subst, ◌∙◌, append-nil}
 use Rattle.std.specs.List.{AllByRecursion}
 use Rattle.event_tree.specs.declared.input_rule.IdentityRule.{IdentityRule}
 use Rattle.event_tree.specs.declared.input_rule.IdentityRule.TheVariants.{Fingerprint, Native, Path}
-use Rattle.file_identity.specs.Answers.{IsAsked, IsGiven, IsRefusedOpened, LacksNumbers, with_numbers}
+use Rattle.file_identity.specs.Answers.{with_numbers}
 use Rattle.file_identity.specs.AskedAgain.{GivesKey, HasOtherKey, IsRead, StillHasKey}
 use Rattle.file_identity.specs.Asking.{ArePartReads, AreReads, IsAsking, IsPartOfAsking, ReadsOn, given_key}
-use Rattle.file_identity.specs.declared.identity.Identity.{Identity}
-use Rattle.file_identity.specs.declared.identity.Identity.TheVariants.{Key, TooSmall}
-use Rattle.file_identity.specs.declared.identity_error.IdentityError.{IdentityError}
-use Rattle.file_identity.specs.declared.identity_error.IdentityError.TheVariants.{NoNative}
 use Rattle.outside.specs.declared.history.Look.{Look}
 use Rattle.outside.specs.declared.history.Question.{Question}
 use Rattle.outside.specs.declared.history.Question.TheVariants.{Length, ReadAt}
@@ -29,7 +25,7 @@ use Rattle.harvester.specs.Deciding.{Decides}
 use Rattle.harvester.specs.HasTold.{HasTold}
 use Rattle.harvester.specs.Held.{Held}
 use Rattle.harvester.specs.History.{Asks, Changed, History, Over, rules_in, with_epoch, with_stage}
-use Rattle.harvester.specs.Looked.{AreLookedAt, HasFallen, IsLookedAt}
+use Rattle.harvester.specs.Looked.{AreLookedAt, IsLookedAt}
 use Rattle.harvester.specs.Standing.{StandsFor, stage_of}
 use Rattle.harvester.proofs.LookingOn.{asks_on, begins_epoch, changes, is_over, was, with_looks}
 

@@ -1,5 +1,5 @@
 -- The event that waits is closed as it is: what stands then, and why it may be.
-use Rattle.std.proofs.Common.{◌≡◌, ◌⊎◌, inl, inr, ℕ, ◌+◌, ◌-◌, ◌<◌, ◌≤◌, Bool, true, false, All, List, [], ◌∷◌, ◌++◌, length, take, drop, Contains, ◌↔◌, IsSomeAnd, Option, Some, None, IsSome, is_some, slice_index_or, refl, sym, ap, subst, ◌∙◌, append_assoc, append-nil, arith}
+use Rattle.std.proofs.Common.{◌≡◌, ◌⊎◌, inl, inr, ℕ, ◌-◌, ◌<◌, ◌≤◌, Bool, true, false, All, List, [], ◌∷◌, ◌++◌, length, take, drop, Contains, ◌↔◌, IsSomeAnd, Option, Some, None, IsSome, is_some, slice_index_or, refl, sym, ap, subst, ◌∙◌, append_assoc, append-nil, arith}
 use Rattle.std.specs.List.{AllByRecursion}
 use Rattle.std.proofs.lemmas.List.{drop-take}
 use Rattle.std.proofs.lemmas.List.Elements.{All-contains_itself, Contains-append_cases, Contains-append_left}
@@ -10,17 +10,17 @@ use Rattle.event_tree.specs.declared.line_rule.LineRule.{LineRule}
 use Rattle.line_cutter.specs.Lines.{complete_lines}
 use Rattle.line_cutter.specs.declared.line.Line.{Line}
 use Rattle.multiline_core.specs.Gathering.{Gathered as GatheredLines, Gathers, Grouping, IsDue, MayGoOn, gathered_of}
-use Rattle.multiline_core.specs.Message.{group_of, row_end}
+use Rattle.multiline_core.specs.Message.{row_end}
 use Rattle.multiline_core.specs.Rule.{IsGroupRule, timeout_of}
 use Rattle.multiline_core.specs.declared.group.Group.{Group}
 use Rattle.ship_core.proofs.Members.{none_there, there_cases}
 use Rattle.told_events.proofs.Going.{stay_told}
-use Rattle.told_events.specs.Licence.{LieApart, whole_lines_end}
+use Rattle.told_events.specs.Licence.{LieApart}
 use Rattle.wire_base.specs.declared.numbers.Moment.{Moment}
 use Rattle.harvester.specs.declared.events.Events.{Events}
 use Rattle.harvester.specs.Gathered.{AreClosed, IsGathered, all_flushed, flushed_at}
 use Rattle.harvester.specs.Held.{Held}
-use Rattle.harvester.specs.History.{HasBytes, History, read_to, rules_in, timeout_in, told_to, with_licences, with_present}
+use Rattle.harvester.specs.History.{History, read_to, rules_in, timeout_in, told_to, with_licences, with_present}
 use Rattle.harvester.specs.Standing.{AllGathered, EndsAt, EndsLines, HasGathered, StandsFor, WasClosed}
 use Rattle.harvester.specs.Turns.{NoneCloses}
 use Rattle.harvester.proofs.Gathering.{row_end-append}
@@ -53,14 +53,15 @@ record Stands (xs : List ℕ) (x : ℕ) : Type 0 where
 stands_in : (xs : List ℕ) (x : ℕ) → Contains xs x → Stands xs x
 stands_in [] x there = absurd (none_there x there)
 stands_in (first ∷ xs) x there = elim (there_cases first x xs there) [
-    inl here ↦ record { before = []; behind = xs; are = ap (λ (n : ℕ). n ∷ xs) here }
-  | inr later ↦ let s = stands_in xs x later in record { before = first ∷ s.before; behind = s.behind; are = ap (λ (l : List ℕ). first ∷ l) s.are } ]
+  | inl here ↦ record { before = []; behind = xs; are = ap (λ (n : ℕ). n ∷ xs) here }
+  | inr later ↦ let s = stands_in xs x later in record { before = first ∷ s.before; behind = s.behind; are = ap (λ (l : List ℕ). first ∷ l) s.are }
+]
 
 -- the later moment is the last one
 lies_apart : (moments : List ℕ) (at now distance : ℕ) → EndsAt moments now → Contains moments at → 0 < distance → distance ≤ now - at → LieApart moments distance
 lies_apart moments at now distance ends there some apart =
     elim (Contains-append_cases ends.earlier (now ∷ []) at (subst (λ (l : List ℕ). Contains l at) ends.are there)) [
-      inl earlier ↦ let s = stands_in ends.earlier at earlier in record {
+      | inl earlier ↦ let s = stands_in ends.earlier at earlier in record {
         before = s.before;
         earlier = at;
         between = s.behind;
@@ -69,9 +70,11 @@ lies_apart moments at now distance ends there some apart =
         are = ends.are ∙ ap (λ (l : List ℕ). l ++ now ∷ []) s.are ∙ append_assoc s.before (at ∷ s.behind) (now ∷ []);
         apart = omega arith;
       }
-    | inr here ↦ absurd (elim (there_cases now at [] here) [
-        inl same ↦ let no : 0 < 0 = omega arith in omega arith
-      | inr later ↦ none_there at later ]) ]
+      | inr here ↦ absurd (elim (there_cases now at [] here) [
+        | inl same ↦ let no : 0 < 0 = omega arith in omega arith
+        | inr later ↦ none_there at later
+      ])
+    ]
 
 -- an event that waits has a rule with a timeout
 some_timeout : (rule : GroupRule) (row : List Line) (at : Moment) → IsGroupRule rule → MayGoOn rule row → IsSome (gathered_of rule row at) → 0 < timeout_of rule

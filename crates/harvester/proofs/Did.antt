@@ -1,7 +1,7 @@
 -- What one turn did, in parts.
-use Rattle.std.proofs.Common.{◌≡◌, ℕ, List, [], ◌++◌, refl, sym, ap, ◌∙◌, append-nil}
+use Rattle.std.proofs.Common.{◌≡◌, ℕ, List, [], sym, ap, ◌∙◌, append-nil}
 use Rattle.told_events.specs.Told.{ToldEvent}
-use Rattle.harvester.specs.History.{History, Stage, Telling, with_bytes, with_events, with_licences, with_present, with_stage}
+use Rattle.harvester.specs.History.{History, Stage, with_bytes, with_events, with_licences, with_present, with_stage}
 use Rattle.harvester.specs.Turns.{did_with}
 
 module _ (h : History) (stage : Stage) where

@@ -1,15 +1,14 @@
 -- What a harvester has told as it is opened, with another path, and as its end may be found.
-use Rattle.std.proofs.Common.{◌≡◌, inl, ℕ, ◌+◌, Bool, true, List, [], ◌∷◌, ◌++◌, Option, Some, None, refl, sym, append-nil, add-zero}
+use Rattle.std.proofs.Common.{◌≡◌, inl, ℕ, Bool, true, List, [], Option, Some, None, refl, sym, append-nil, add-zero}
 use Rattle.event_tree.specs.declared.input_rule.InputRule.{InputRule}
 use Rattle.event_tree.specs.declared.processor_rule.ProcessorRule.{ProcessorRule}
 use Rattle.outside.specs.Tails.{TailHistory}
 use Rattle.wire_base.specs.declared.note.Begin.{Begin}
 use Rattle.harvester.specs.declared.harvester.Harvester.{Harvester}
-use Rattle.harvester.specs.Deciding.{Decides}
 use Rattle.harvester.specs.HasTold.{HasTold, looks_so_far}
 use Rattle.harvester.specs.Held.{Held}
-use Rattle.harvester.specs.History.{Ended, History, Reads, opened, rules_in, with_ending, with_path}
-use Rattle.harvester.specs.Looked.{AreLookedAt, IsLookedAt}
+use Rattle.harvester.specs.History.{Ended, History, Reads, opened, with_ending, with_path}
+use Rattle.harvester.specs.Looked.{AreLookedAt}
 use Rattle.harvester.specs.Standing.{StandsFor}
 use Rattle.harvester.proofs.LookingOn.{other_turn}
 

@@ -1,8 +1,7 @@
 -- What a look at the length of a harvester's tail, and the read behind it, add to its history.
-use Rattle.std.proofs.Common.{◌≡◌, ℕ, zero, ◌+◌, ◌<◌, ◌≤◌, List, [], ◌∷◌, ◌++◌, length, take, drop, Option, Some, None, IfSome, Result, Ok, Err, refl, sym, ap, subst, ◌∙◌, append_assoc, append-nil, arith}
+use Rattle.std.proofs.Common.{◌≡◌, ℕ, ◌+◌, ◌<◌, ◌≤◌, List, [], ◌∷◌, length, take, drop, Option, Some, None, IfSome, Ok, Err, refl, sym, ap, subst, ◌∙◌, append_assoc, append-nil, arith}
 use Rattle.std.proofs.lemmas.List.{length-take-le}
 use Rattle.file_identity.specs.Answers.{with_numbers}
-use Rattle.file_looks.specs.EndLook.{HasEndLook}
 use Rattle.file_looks.specs.Segment.{Segment}
 use Rattle.file_looks.specs.Segment as segment
 use Rattle.outside.specs.declared.failed.Failed.{Failed}

@@ -1,8 +1,8 @@
 -- The looks of a harvester's tail, step by step.
-use Rattle.std.proofs.Common.{◌≡◌, ◌⊎◌, inl, inr, ℕ, ◌+◌, ◌<◌, ◌≤◌, Bool, true, List, [], ◌∷◌, ◌++◌, length, take, drop, Option, Some, None, refl, sym, ap, subst, ◌∙◌, append_assoc, append-nil, arith}
+use Rattle.std.proofs.Common.{◌≡◌, ◌⊎◌, inl, inr, ℕ, ◌+◌, ◌<◌, Bool, true, List, [], ◌∷◌, ◌++◌, length, Option, Some, refl, sym, ap, subst, ◌∙◌, append_assoc, append-nil}
 use Rattle.std.specs.List.{AllByRecursion}
 use Rattle.file_identity.specs.Answers.{with_numbers}
-use Rattle.file_identity.specs.AskedAgain.{HasOtherKey, IsRead, KeepsKey, StillHasKey}
+use Rattle.file_identity.specs.AskedAgain.{HasOtherKey, IsRead, StillHasKey}
 use Rattle.file_looks.proofs.Going.{had_read_all}
 use Rattle.file_looks.specs.EndLook.{HadReadTo, HasEndLook}
 use Rattle.file_looks.specs.Segment.{Segment, segments_of}
@@ -10,7 +10,6 @@ use Rattle.file_looks.specs.Segment as segment
 use Rattle.outside.specs.declared.history.Look.{Look}
 use Rattle.outside.specs.declared.history.Question.{Question}
 use Rattle.outside.specs.declared.history.Question.TheVariants.{Length}
-use Rattle.outside.specs.declared.history.Sight.{Sight}
 use Rattle.outside.specs.Files.{File}
 use Rattle.outside.specs.Tails.{TailHistory}
 use Rattle.told_events.proofs.Going.{all_behind}

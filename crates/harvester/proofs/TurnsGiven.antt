@@ -1,6 +1,6 @@
 -- What the steps of a turn give, as contracts tell it.
 use Rattle.std.proofs.Common.{◌≡◌, ◌⊎◌, inl, inr, ℕ, ◌<◌, ◌≤◌, Bool, true, false, List, [], ◌∷◌, ◌++◌, length, Contains, Option, Some, None, ◌↔◌, ◌||◌, IfOk, IfSome, IsErr, IsErrOf, Result, Ok, Err, refl, sym, ap, subst, ◌∙◌, append-nil, arith}
-use Rattle.std.proofs.lemmas.Bool.{or_left, or_right}
+use Rattle.std.proofs.lemmas.Bool.{or_left}
 use Rattle.std.proofs.lemmas.List.Elements.{Contains-append_right}
 use Rattle.outside.specs.Tails.{TailHistory}
 use Rattle.told_events.specs.Licence.{LieApart}

@@ -1,5 +1,5 @@
 -- What one turn of a harvester did, by its answer (Filebeat reference, filestream input; this project's profile).
-use Rattle.std.specs.Prelude.{◌≡◌, ◌⊎◌, ℕ, ◌<◌, ◌≤◌, ◌-◌, Bool, true, false, List, [], drop, length, Option, Some, None, Result, Ok, Err, IfSome}
+use Rattle.std.specs.Prelude.{◌≡◌, ◌⊎◌, ℕ, ◌<◌, ◌≤◌, ◌-◌, true, List, [], drop, length, Option, Some, None, Result, Ok, Err, IfSome}
 use Rattle.line_cutter.specs.Lines.{complete_lines}
 use Rattle.multiline_core.specs.Gathering.{MayGoOn}
 use Rattle.outside.specs.Tails.{TailHistory}

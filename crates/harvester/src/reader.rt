@@ -162,7 +162,7 @@ impl Reader {
         requires moment { IsMoment now }
         ensures stands { (history : History) → Contains history.moments now.0 → StandsFor history self.old →
             IfOk result (λ count. StandsFor
-                (with_present (with_bytes (take count self.new.buffer) history.present) history) self.new) }
+            (with_present (with_bytes (take count self.new.buffer) history.present) history) self.new) }
         ensures stands_on_refusal { OnErr result ((history : History) → StandsFor history self.old →
             StandsFor history self.new) }
         ensures within { IfOk result (λ count. count ≤ length self.new.buffer) }
@@ -259,12 +259,12 @@ impl Reader {
         requires next { epoch.0 ≡ self.old.epoch.0 + 1 }
         ensures stands { (history : History) → StandsFor history self.old → StandsFor (with_epoch history) self.new }
         ensures others { self.new ≡ (record self.old {
-            epoch = epoch;
-            told_to = 0;
-            position = 0;
-            filled = 0;
-            events = self.new.events;
-            stage = Stage.Reading;
+          epoch = epoch;
+          told_to = 0;
+          position = 0;
+          filled = 0;
+          events = self.new.events;
+          stage = Stage.Reading;
         }) }
     {
         self.events.begin_life(alloc);

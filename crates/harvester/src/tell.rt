@@ -22,7 +22,7 @@ impl<T: Tail> Harvester<T> {
         requires moment { IsMoment now }
         ensures told { (history : History) → HasTold T.numbers T.told history self.old →
             IfOk result (λ turn. HasTold T.numbers T.told (with_present
-                (with_events (events_told history.path now.0 turn) history.present) history) self.new) }
+            (with_events (events_told history.path now.0 turn) history.present) history) self.new) }
         ensures one { IfOk result (λ turn. HasOneEvent turn) }
         ensures of_file { (rules : Rules) → Decides rules self.old.rules →
             IfOk result (IsAnswerFor self.old.reader.begin.slot self.old.reader.epoch) }

@@ -1,13 +1,10 @@
-use Rattle.std.proofs.Common.{◌≡◌, false, true, IfSome, Ok, None, refl, sym, subst, ap, ◌∙◌}
-use Rattle.told_events.specs.Rules.{Rules}
+use Rattle.std.proofs.Common.{◌≡◌, false, true, refl, sym, subst, ap}
 use Rattle.harvester.specs.declared.buffer.TheConstants.{READ_SIZE}
 use Rattle.harvester.specs.declared.fate_rules.FateRules.{FateRules}
 use Rattle.harvester.specs.declared.look.Found.TheVariants.{End, Less, More}
 use Rattle.harvester.specs.Deciding.{Decides}
-use Rattle.harvester.specs.Found.{LooksAtEnd}
 use Rattle.harvester.specs.Held.{Held}
-use Rattle.harvester.specs.History.{Reads, read_to, with_bytes, with_present, with_stage}
-use Rattle.harvester.specs.Turns.{Settled}
+use Rattle.harvester.specs.History.{Reads, read_to}
 use Rattle.harvester.proofs.Closing.{none_closes}
 use Rattle.harvester.proofs.TurnsGiven.{ends_given, few_at_end, found_as, look_asked, look_refused, looks_kept, may_be_ended, no_event, of_same, reads_of, settled_as, settled_end, settled_more, settled_refused, settled_told, some_of, turn_refused, turn_told, with_reader}
 use Rattle.harvester.proofs.harvester.Harvester.go_on.Goals as goal

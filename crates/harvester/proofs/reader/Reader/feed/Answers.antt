@@ -1,6 +1,5 @@
 use Rattle.std.proofs.Common.{List, ℕ, ◌++◌, sym, subst}
-use Rattle.told_events.specs.Rules.{Rules}
-use Rattle.harvester.specs.Gathered.{Gathered, IsGathered}
+use Rattle.harvester.specs.Gathered.{IsGathered}
 use Rattle.harvester.specs.Held.{Held}
 use Rattle.harvester.specs.Standing.{StandsFor}
 use Rattle.harvester.proofs.Standings.{fed_stands}
