@@ -17,8 +17,8 @@ use outside::Tail;
 use std::alloc::Global;
 use wire_base::{Begin, Epoch, Moment, NoMemory, Slot, Text};
 
-/// An open file that is told as events. At rest it holds an unended line's head and an event that waits for lines, each
-/// of at most `message_max_bytes`, and the rules, compiled once.
+/// An open file that is told as events. It holds the head of an unended line and an event that waits for lines, each of at
+/// most `message_max_bytes`, the room of at most two reads of 16,384 bytes, and the rules, compiled once.
 #[derive(Drop)]
 pub struct Harvester<T> {
     pub(crate) tail: T,
@@ -47,6 +47,7 @@ impl<T: Tail> Harvester<T> {
         ensures opened { IfOk result (HasTold T.numbers T.told
             (opened rule.now processors.now begin (looks_so_far (T.told tail)) now.0)) }
         ensures begun { IfOk result (λ harvester. begin_of harvester ≡ begin) }
+        ensures at_work { IfOk result (λ harvester. harvester.rests ≡ false) }
         ensures tail_kept { IfOk result (λ harvester. harvester.tail ≡ tail) }
         ensures given_back { IfErr result (λ back. back ≡ tail) }
     {
@@ -68,7 +69,8 @@ impl<T: Tail> Harvester<T> {
         self.tail
     }
 
-    /// Whether a turn found that the file has another key, or that the last epoch is over. No further turn is made then.
+    /// Whether a turn found that the file has another key or none, or that the last epoch is over. No further turn is made
+    /// then.
     pub fn changed(&self) -> bool
         ensures { IsTrue result ↔ IsChanged self.now }
     {

@@ -21,9 +21,10 @@ use std::alloc::Global;
 use wire_base::{Moment, NoMemory};
 
 impl<T: Tail> Harvester<T> {
-    /// Tells the next event, or looks for more: asks the length, and reads at most once and at most 16,384 bytes, where
-    /// no event is closed by what was read. With `last` the file's end may be found, at which the event that waits is
-    /// closed as it is.
+    /// Tells the next event, or looks for more where no event is closed by what was read: asks the length, and reads at
+    /// most 16,384 bytes. Where the length is below what was read, it asks the file for its key, and again in later turns
+    /// while that meets a fault. With `last` the file's end may be found: there the event that waits is closed as it is,
+    /// and the file is read no further.
     pub fn turn(&mut self, alloc: Global, now: Moment, last: bool) -> Turn
         requires goes_on { ¬ (IsChanged self.old) }
         requires moment { IsMoment now }
