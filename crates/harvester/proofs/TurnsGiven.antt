@@ -27,7 +27,7 @@ use Rattle.harvester.specs.History.{Asks, Changed, Ended, History, Over, Reads, 
 use Rattle.harvester.specs.Looked.{AreLookedAt}
 use Rattle.harvester.specs.Standing.{EndsAt, StandsFor, WasClosed, stage_behind_end, stage_of}
 use Rattle.harvester.specs.Turned.{HasOneEvent, IsAskedIn, IsByKey, IsAnswerFor, IsOfFile, events_told, with_turn}
-use Rattle.harvester.specs.Turns.{Did, Goes, IsCaused, MayBeEnded, MayTurn, IsLast, NoneCloses, Settled, after_did, answer_of, did_with, events_of}
+use Rattle.harvester.specs.Turns.{Did, EndsHere, Goes, IsCaused, MayBeEnded, MayTurn, IsLast, NoneCloses, Settled, after_did, answer_of, did_with, events_of}
 use Rattle.harvester.proofs.Did.{did_both, did_bytes, did_events, did_licences, did_nothing, did_stage}
 use Rattle.harvester.proofs.LookSteps.{same_bytes}
 use Rattle.harvester.proofs.Looking.{apart_stays}
@@ -37,6 +37,10 @@ use Rattle.harvester.proofs.Standings.{turned_stands}
 -- where the file stands behind an end that may be found
 abbrev pub behind_end : Bool → Stage
 behind_end ended = stage_of (stage_behind_end ended)
+
+behind_ended : (ended : Bool) → behind_end ended ≡ Ended → ended ≡ true
+behind_ended true is = refl
+behind_ended false is = absurd (let no : Reads ≡ Ended = is in cc)
 
 behind_goes_on : (ended : Bool) → MayTurn (behind_end ended)
 behind_goes_on true = tt
@@ -56,50 +60,58 @@ pub of_same : (held old : Held) (answer : Turn) → held.begin ≡ old.begin →
 of_same held old answer begin epoch is =
     subst (λ (b : Begin). IsAnswerFor b.slot old.epoch answer) begin (subst (λ (e : Epoch). IsAnswerFor held.begin.slot e answer) epoch is)
 
-module _ {T : Type 0} (numbers : T → Option (ℕ × ℕ)) (told : T → Option TailHistory) (now : ℕ) (h : History) (reads : h.stage ≡ Reads) (new : Harvester T) where
+module _ {T : Type 0} (numbers : T → Option (ℕ × ℕ)) (told : T → Option TailHistory) (now : ℕ) (ended : Bool) (h : History) (reads : h.stage ≡ Reads) (new : Harvester T) where
   -- ---- settling
 
-  pub settles_refused : (result : Result (Option Turn) NoMemory) → IsErr result → HasTold numbers told h new → Settled numbers told now h result new
+  pub settles_refused : (result : Result (Option Turn) NoMemory) → IsErr result → HasTold numbers told h new → Settled numbers told now ended h result new
   settles_refused (Ok answer) err has = absurd (let no : false ≡ true = err in cc)
   settles_refused (Err error) err has = record {
     licences = [];
     stage = Reads;
     goes_on = tt;
+    ends = λ is. absurd (let no : Reads ≡ Ended = is in cc);
+    at_none = λ is. absurd cc;
     has_told = subst (λ (g : History). HasTold numbers told g new) (sym (did_nothing h Reads reads)) has;
     one = tt;
     none_closes = λ is. absurd cc;
   }
 
   pub settles_told : (answer : Turn) → HasOneEvent answer → HasTold numbers told (with_present (with_events (events_told h.path now answer) h.present) h) new →
-      Settled numbers told now h (Ok (Some answer)) new
+      Settled numbers told now ended h (Ok (Some answer)) new
   settles_told answer one has = record {
     licences = [];
     stage = Reads;
     goes_on = tt;
+    ends = λ is. absurd (let no : Reads ≡ Ended = is in cc);
+    at_none = λ is. absurd cc;
     has_told = subst (λ (g : History). HasTold numbers told g new) (sym (did_events h Reads reads (events_told h.path now answer))) has;
     one = one;
     none_closes = λ is. absurd cc;
   }
 
-  module _ (licences : List ℕ) (ended : Bool) where
+  module _ (licences : List ℕ) where
     pub closes_none : HasTold numbers told (with_stage (behind_end ended) (with_present (with_licences licences h.present) h)) new → NoneCloses h →
-        Settled numbers told now h (Ok None) new
+        Settled numbers told now ended h (Ok None) new
     closes_none has none = record {
       licences = licences;
       stage = behind_end ended;
       goes_on = behind_goes_on ended;
+      ends = behind_ended ended;
+      at_none = λ is. refl;
       has_told = subst (λ (g : History). HasTold numbers told g new) (sym (did_licences h (behind_end ended) licences)) has;
       one = tt;
       none_closes = λ is. none;
     }
 
     pub closes_refused : (result : Result (Option Turn) NoMemory) → IsErr result →
-        HasTold numbers told (with_stage (behind_end ended) (with_present (with_licences licences h.present) h)) new → Settled numbers told now h result new
+        HasTold numbers told (with_stage (behind_end ended) (with_present (with_licences licences h.present) h)) new → Settled numbers told now ended h result new
     closes_refused (Ok answer) err has = absurd (let no : false ≡ true = err in cc)
     closes_refused (Err error) err has = record {
       licences = licences;
       stage = behind_end ended;
       goes_on = behind_goes_on ended;
+      ends = behind_ended ended;
+      at_none = λ is. absurd cc;
       has_told = subst (λ (g : History). HasTold numbers told g new) (sym (did_licences h (behind_end ended) licences)) has;
       one = tt;
       none_closes = λ is. absurd cc;
@@ -107,11 +119,13 @@ module _ {T : Type 0} (numbers : T → Option (ℕ × ℕ)) (told : T → Option
 
     pub closes_told : (answer : Turn) → HasOneEvent answer →
         HasTold numbers told (with_stage (behind_end ended) (with_present (with_events (events_told h.path now answer) (with_licences licences h.present)) h)) new →
-        Settled numbers told now h (Ok (Some answer)) new
+        Settled numbers told now ended h (Ok (Some answer)) new
     closes_told answer one has = record {
       licences = licences;
       stage = behind_end ended;
       goes_on = behind_goes_on ended;
+      ends = behind_ended ended;
+      at_none = λ is. absurd cc;
       has_told = subst (λ (g : History). HasTold numbers told g new) (sym (did_both h (behind_end ended) licences (events_told h.path now answer))) has;
       one = one;
       none_closes = λ is. absurd cc;
@@ -152,20 +166,21 @@ module _ {T : Type 0} (numbers : T → Option (ℕ × ℕ)) (told : T → Option
 
 -- ---- a whole turn
 
-module _ {T : Type 0} (numbers : T → Option (ℕ × ℕ)) (told : T → Option TailHistory) (most now : ℕ) (h : History) (old : Harvester T) (new : Harvester T) where
-  module _ (did : Did) (may : MayTurn did.stage) (few : length did.bytes ≤ most) (none : 0 < length did.bytes → NoneCloses h) where
+module _ {T : Type 0} (numbers : T → Option (ℕ × ℕ)) (told : T → Option TailHistory) (most now : ℕ) (may_end : Bool) (h : History) (old : Harvester T) (new : Harvester T) where
+  module _ (did : Did) (may : MayTurn did.stage) (few : length did.bytes ≤ most) (none : 0 < length did.bytes → NoneCloses h)
+      (ends : did.stage ≡ Ended → EndsHere told may_end h old new) where
     -- a fault, or want of memory
     pub goes_refused : HasTold numbers told (did_with [] did h) new → (result : Result Turn TurnError) → IsErr result →
-        Goes numbers told most now h old (answer_of result) new
+        Goes numbers told most now may_end h old (answer_of result) new
     goes_refused has (Ok answer) err = absurd (let no : false ≡ true = err in cc)
-    goes_refused has (Err error.ReadFault) err = record { did = did; has_told = has; few = few; reads_where_none_closes = none; caused = may }
-    goes_refused has (Err error.NoMemory) err = record { did = did; has_told = has; few = few; reads_where_none_closes = none; caused = may }
+    goes_refused has (Err error.ReadFault) err = record { did = did; has_told = has; few = few; reads_where_none_closes = none; no_event_left = λ reads quiet. absurd quiet; ends_where_found = ends; caused = may }
+    goes_refused has (Err error.NoMemory) err = record { did = did; has_told = has; few = few; reads_where_none_closes = none; no_event_left = λ reads quiet. absurd quiet; ends_where_found = ends; caused = may }
 
     -- an event was told
     pub goes_told : (answer : Turn) → HasOneEvent answer → HasTold numbers told (did_with (events_told h.path now answer) did h) new →
-        Goes numbers told most now h old answer new
-    goes_told (turn.Issued parcel) one has = record { did = did; has_told = has; few = few; reads_where_none_closes = none; caused = may }
-    goes_told (turn.Passed span rule) one has = record { did = did; has_told = has; few = few; reads_where_none_closes = none; caused = may }
+        Goes numbers told most now may_end h old answer new
+    goes_told (turn.Issued parcel) one has = record { did = did; has_told = has; few = few; reads_where_none_closes = none; no_event_left = λ reads quiet. absurd quiet; ends_where_found = ends; caused = may }
+    goes_told (turn.Passed span rule) one has = record { did = did; has_told = has; few = few; reads_where_none_closes = none; no_event_left = λ reads quiet. absurd quiet; ends_where_found = ends; caused = may }
     goes_told turn.More one has = absurd one
     goes_told turn.AtEnd one has = absurd one
     goes_told (turn.NewLife epoch) one has = absurd one
@@ -182,38 +197,42 @@ module _ {T : Type 0} (numbers : T → Option (ℕ × ℕ)) (told : T → Option
 
   -- where nothing was read
   module _ (stage : Stage) (stands : h.stage ≡ stage) (may : MayTurn stage) where
-    pub turn_refused : HasTold numbers told h new → (result : Result Turn TurnError) → IsErr result → Goes numbers told most now h old (answer_of result) new
+    pub turn_refused : HasTold numbers told h new → (result : Result Turn TurnError) → IsErr result → Goes numbers told most now may_end h old (answer_of result) new
     turn_refused has =
-        goes_refused (record { bytes = []; licences = []; stage = stage }) may (no_more most) never
+        goes_refused (record { bytes = []; licences = []; stage = stage }) may (no_more most) never (λ is. inl (stands ∙ is))
         (subst (λ (g : History). HasTold numbers told g new) (sym (did_nothing h stage stands)) has)
 
     pub turn_told : (answer : Turn) → HasOneEvent answer → HasTold numbers told (with_present (with_events (events_told h.path now answer) h.present) h) new →
-        Goes numbers told most now h old answer new
+        Goes numbers told most now may_end h old answer new
     turn_told answer one has =
-        goes_told (record { bytes = []; licences = []; stage = stage }) may (no_more most) never answer one
+        goes_told (record { bytes = []; licences = []; stage = stage }) may (no_more most) never (λ is. inl (stands ∙ is)) answer one
         (subst (λ (g : History). HasTold numbers told g new) (sym (did_events h stage stands (events_told h.path now answer))) has)
 
   -- the end was found before
-  pub turn_ended : h.stage ≡ Ended → HasTold numbers told h new → Goes numbers told most now h old turn.AtEnd new
+  pub turn_ended : h.stage ≡ Ended → HasTold numbers told h new → Goes numbers told most now may_end h old turn.AtEnd new
   turn_ended stands has = record {
     did = record { bytes = []; licences = []; stage = Ended };
     has_told = subst (λ (g : History). HasTold numbers told g new) (sym (did_nothing h Ended stands)) has;
     few = no_more most;
     reads_where_none_closes = never;
+    no_event_left = λ reads quiet. absurd (let no : Reads ≡ Ended = sym reads ∙ stands in cc);
+    ends_where_found = λ is. inl stands;
     caused = (refl, tt, inl stands);
   }
 
   -- the key was asked, where the history is this one but for the stage
-  module _ (was : History) (is : with_stage Asks was ≡ with_stage Asks h) where
+  module _ (was : History) (is : with_stage Asks was ≡ with_stage Asks h) (left : h.stage ≡ Reads → NoneCloses h) where
     at_stage : (stage : Stage) → with_stage stage was ≡ with_stage stage h
     at_stage stage = ap (λ (g : History). with_stage stage g) is
 
-    pub turn_asked : (result : Result Turn TurnError) → HasAsked numbers told (with_stage Asks was) result new → Goes numbers told most now h old (answer_of result) new
+    pub turn_asked : (result : Result Turn TurnError) → HasAsked numbers told (with_stage Asks was) result new → Goes numbers told most now may_end h old (answer_of result) new
     turn_asked (Ok (turn.NewLife epoch)) asked = record {
       did = record { bytes = []; licences = []; stage = Reads };
       has_told = subst (λ (g : History). HasTold numbers told (with_epoch g) new) is asked.has_told;
       few = no_more most;
       reads_where_none_closes = never;
+      no_event_left = λ reads quiet. left reads;
+      ends_where_found = λ ended. absurd cc;
       caused = subst (λ (g : History). IsAskedIn g.present.epoch (turn.NewLife epoch)) is asked.asked_in;
     }
     turn_asked (Ok turn.Changed) asked = record {
@@ -221,6 +240,8 @@ module _ {T : Type 0} (numbers : T → Option (ℕ × ℕ)) (told : T → Option
       has_told = subst (λ (g : History). HasTold numbers told g new) (at_stage Changed ∙ sym (did_stage h Changed)) asked.has_told;
       few = no_more most;
       reads_where_none_closes = never;
+      no_event_left = λ reads quiet. left reads;
+      ends_where_found = λ ended. absurd cc;
       caused = refl;
     }
     turn_asked (Ok turn.EpochsOut) asked = record {
@@ -228,6 +249,8 @@ module _ {T : Type 0} (numbers : T → Option (ℕ × ℕ)) (told : T → Option
       has_told = subst (λ (g : History). HasTold numbers told g new) (at_stage Over ∙ sym (did_stage h Over)) asked.has_told;
       few = no_more most;
       reads_where_none_closes = never;
+      no_event_left = λ reads quiet. left reads;
+      ends_where_found = λ ended. absurd cc;
       caused = (refl, subst (λ (g : History). IsAskedIn g.present.epoch turn.EpochsOut) is asked.asked_in);
     }
     turn_asked (Ok (turn.Issued parcel)) asked = absurd asked.asked_in
@@ -237,11 +260,11 @@ module _ {T : Type 0} (numbers : T → Option (ℕ × ℕ)) (told : T → Option
     turn_asked (Ok turn.ReadFault) asked = absurd asked.asked_in
     turn_asked (Ok turn.NoMemory) asked = absurd asked.asked_in
     turn_asked (Err error) asked =
-        goes_refused (record { bytes = []; licences = []; stage = Asks }) tt (no_more most) never
+        goes_refused (record { bytes = []; licences = []; stage = Asks }) tt (no_more most) never (λ ended. absurd cc)
         (subst (λ (g : History). HasTold numbers told g new) (is ∙ sym (did_stage h Asks)) asked.has_told) (Err error) refl
 
   -- bytes were read, or the end was found, and it was settled
-  module _ (bytes : List ℕ) (few : length bytes ≤ most) (none : 0 < length bytes → NoneCloses h) where
+  module _ (ended : Bool) (bytes : List ℕ) (few : length bytes ≤ most) (none : NoneCloses h) (found : ended ≡ true → EndsHere told may_end h old new) where
     through : (events : List ToldEvent) (licences : List ℕ) (stage : Stage) →
         did_with events (record { bytes = []; licences = licences; stage = stage }) (with_stage Reads (with_present (with_bytes bytes h.present) h))
         ≡ did_with events (record { bytes = bytes; licences = licences; stage = stage }) h
@@ -250,12 +273,12 @@ module _ {T : Type 0} (numbers : T → Option (ℕ × ℕ)) (told : T → Option
         (append-nil (h.present.bytes ++ bytes))
 
     pub settled_told : (answer : Turn) →
-        Settled numbers told now (with_stage Reads (with_present (with_bytes bytes h.present) h)) (Ok (Some answer)) new → Goes numbers told most now h old answer new
+        Settled numbers told now ended (with_stage Reads (with_present (with_bytes bytes h.present) h)) (Ok (Some answer)) new → Goes numbers told most now may_end h old answer new
     settled_told answer s =
-        goes_told (record { bytes = bytes; licences = s.licences; stage = s.stage }) s.goes_on few none answer s.one
+        goes_told (record { bytes = bytes; licences = s.licences; stage = s.stage }) s.goes_on few (λ some. none) (λ is. found (s.ends is)) answer s.one
         (subst (λ (g : History). HasTold numbers told g new) (through (events_told h.path now answer) s.licences s.stage) s.has_told)
 
-    nothing_told : (result : Result (Option Turn) NoMemory) (settled : Settled numbers told now (with_stage Reads (with_present (with_bytes bytes h.present) h)) result new) →
+    nothing_told : (result : Result (Option Turn) NoMemory) (settled : Settled numbers told now ended (with_stage Reads (with_present (with_bytes bytes h.present) h)) result new) →
         events_of h.path now result ≡ [] →
         HasTold numbers told (did_with [] (record { bytes = bytes; licences = settled.licences; stage = settled.stage }) h) new
     nothing_told result settled is =
@@ -263,9 +286,9 @@ module _ {T : Type 0} (numbers : T → Option (ℕ × ℕ)) (told : T → Option
         (ap (λ (e : List ToldEvent). did_with e (record { bytes = []; licences = settled.licences; stage = settled.stage }) (with_stage Reads (with_present (with_bytes bytes h.present) h))) is
         ∙ through [] settled.licences settled.stage) settled.has_told
 
-    pub settled_refused : (error : NoMemory) → Settled numbers told now (with_stage Reads (with_present (with_bytes bytes h.present) h)) (Err error) new →
-        (result : Result Turn TurnError) → IsErr result → Goes numbers told most now h old (answer_of result) new
-    settled_refused error s = goes_refused (record { bytes = bytes; licences = s.licences; stage = s.stage }) s.goes_on few none (nothing_told (Err error) s refl)
+    pub settled_refused : (error : NoMemory) → Settled numbers told now ended (with_stage Reads (with_present (with_bytes bytes h.present) h)) (Err error) new →
+        (result : Result Turn TurnError) → IsErr result → Goes numbers told most now may_end h old (answer_of result) new
+    settled_refused error s = goes_refused (record { bytes = bytes; licences = s.licences; stage = s.stage }) s.goes_on few (λ some. none) (λ is. found (s.ends is)) (nothing_told (Err error) s refl)
 
     none_closes_then : (licences : List ℕ) (stage : Stage) → NoneCloses (with_stage Reads (with_present (with_bytes bytes h.present) h)) →
         NoneCloses (did_with [] (record { bytes = bytes; licences = licences; stage = stage }) h)
@@ -273,28 +296,32 @@ module _ {T : Type 0} (numbers : T → Option (ℕ × ℕ)) (told : T → Option
         subst (λ (t : List ToldEvent). NoneCloses (with_stage stage (with_present (record (with_licences licences (with_bytes bytes h.present)) { told = t }) h)))
         (sym (append-nil h.present.told)) closes
 
-    pub settled_more : 0 < length bytes → Settled numbers told now (with_stage Reads (with_present (with_bytes bytes h.present) h)) (Ok None) new →
-        Goes numbers told most now h old turn.More new
+    pub settled_more : 0 < length bytes → Settled numbers told now ended (with_stage Reads (with_present (with_bytes bytes h.present) h)) (Ok None) new →
+        Goes numbers told most now may_end h old turn.More new
     settled_more some s = record {
       did = record { bytes = bytes; licences = s.licences; stage = s.stage };
       has_told = nothing_told (Ok None) s refl;
       few = few;
-      reads_where_none_closes = none;
+      reads_where_none_closes = λ more. none;
+      no_event_left = λ reads quiet. none;
+      ends_where_found = λ is. found (s.ends is);
       caused = (some, s.goes_on, none_closes_then s.licences s.stage (s.none_closes refl));
     }
 
-    pub settled_end : bytes ≡ [] → (mid : Harvester T) → Settled numbers told now (with_stage Reads (with_present (with_bytes bytes h.present) h)) (Ok None) mid →
+    pub settled_end : (may_end ≡ true → ended ≡ true) → bytes ≡ [] → (mid : Harvester T) → Settled numbers told now ended (with_stage Reads (with_present (with_bytes bytes h.present) h)) (Ok None) mid →
         ((g : History) → HasTold numbers told g mid → HasTold numbers told g new) →
-        IfSome (told old.tail) (λ earlier. LooksAtEnd (read_to h.present) earlier (told new.tail)) → Goes numbers told most now h old turn.AtEnd new
-    settled_end no_byte mid s then looks = record {
+        IfSome (told old.tail) (λ earlier. LooksAtEnd (read_to h.present) earlier (told new.tail)) → Goes numbers told most now may_end h old turn.AtEnd new
+    settled_end then_ended no_byte mid s then looks = record {
       did = record { bytes = bytes; licences = s.licences; stage = s.stage };
       has_told = then _ (nothing_told_mid mid s);
       few = few;
-      reads_where_none_closes = none;
-      caused = (no_byte, s.goes_on, inr (none_closes_then s.licences s.stage (s.none_closes refl), looks));
+      reads_where_none_closes = λ more. none;
+      no_event_left = λ reads quiet. none;
+      ends_where_found = λ is. found (s.ends is);
+      caused = (no_byte, s.goes_on, inr (none_closes_then s.licences s.stage (s.none_closes refl), (λ may. s.at_none refl ∙ ap (λ (b : Bool). behind_end b) (then_ended may)), looks));
     }
       where
-        nothing_told_mid : (mid : Harvester T) (settled : Settled numbers told now (with_stage Reads (with_present (with_bytes bytes h.present) h)) (Ok None) mid) →
+        nothing_told_mid : (mid : Harvester T) (settled : Settled numbers told now ended (with_stage Reads (with_present (with_bytes bytes h.present) h)) (Ok None) mid) →
             HasTold numbers told (did_with [] (record { bytes = bytes; licences = settled.licences; stage = settled.stage }) h) mid
         nothing_told_mid mid settled = subst (λ (g : History). HasTold numbers told g mid) (through [] settled.licences settled.stage) settled.has_told
 
@@ -319,24 +346,24 @@ no_event (Err error) slot epoch is = tt
 pub some_of : (found : Option Turn) (answer : Turn) (slot : Slot) (epoch : Epoch) → found ≡ Some answer → IfSome found (IsAnswerFor slot epoch) → IsAnswerFor slot epoch answer
 some_of found answer slot epoch is of = subst (λ (o : Option Turn). IfSome o (IsAnswerFor slot epoch)) is of
 
-module _ {T : Type 0} (numbers : T → Option (ℕ × ℕ)) (told : T → Option TailHistory) (most now : ℕ) (h : History) (reads : h.stage ≡ Reads) (old gathered mid : Harvester T) where
+module _ {T : Type 0} (numbers : T → Option (ℕ × ℕ)) (told : T → Option TailHistory) (most now : ℕ) (may_end : Bool) (h : History) (reads : h.stage ≡ Reads) (old gathered mid : Harvester T) where
   pub found_as : (found other : Found) → found ≡ other → HasLooked numbers told most h gathered (Ok found) mid → HasLooked numbers told most h gathered (Ok other) mid
   found_as found other is looked = subst (λ (f : Found). HasLooked numbers told most h gathered (Ok f) mid) is looked
 
   pub look_refused : (error : TurnError) → HasLooked numbers told most h gathered (Err error) mid → (result : Result Turn TurnError) → IsErr result →
-      Goes numbers told most now h old (answer_of result) mid
+      Goes numbers told most now may_end h old (answer_of result) mid
   look_refused error looked =
-      goes_refused numbers told most now h old mid (record { bytes = looked.bytes; licences = []; stage = Reads }) tt
+      goes_refused numbers told most now may_end h old mid (record { bytes = looked.bytes; licences = []; stage = Reads }) tt
       (let long : length looked.bytes ≡ 0 = ap (λ (l : List ℕ). length l) looked.gave in omega (arith, long))
-      (λ some. absurd (let long : length looked.bytes ≡ 0 = ap (λ (l : List ℕ). length l) looked.gave in omega (arith, long, some)))
+      (λ some. absurd (let long : length looked.bytes ≡ 0 = ap (λ (l : List ℕ). length l) looked.gave in omega (arith, long, some))) (λ is. absurd cc)
       (subst (λ (g : History). HasTold numbers told g mid) (sym (did_bytes h Reads looked.bytes)) looked.has_told)
 
-  pub look_asked : HasLooked numbers told most h gathered (Ok Less) mid → (new : Harvester T) (result : Result Turn TurnError) →
-      ((g : History) → HasTold numbers told g mid → HasAsked numbers told g result new) → Goes numbers told most now h old (answer_of result) new
-  look_asked looked new result asks =
-      turn_asked numbers told most now h old new (with_present (with_bytes looked.bytes h.present) h)
+  pub look_asked : NoneCloses h → HasLooked numbers told most h gathered (Ok Less) mid → (new : Harvester T) (result : Result Turn TurnError) →
+      ((g : History) → HasTold numbers told g mid → HasAsked numbers told g result new) → Goes numbers told most now may_end h old (answer_of result) new
+  look_asked none looked new result asks =
+      turn_asked numbers told most now may_end h old new (with_present (with_bytes looked.bytes h.present) h)
       (ap (λ (l : List ℕ). with_stage Asks (with_present (with_bytes l h.present) h)) looked.gave
-      ∙ ap (λ (g : History). with_stage Asks g) (same_bytes h)) result (asks _ looked.has_told)
+      ∙ ap (λ (g : History). with_stage Asks g) (same_bytes h)) (λ reading. none) result (asks _ looked.has_told)
 
   -- where the end was found, the file may be ended
   pub may_be_ended : (looked : HasLooked numbers told most h gathered (Ok End) mid) → h.may_end ≡ true →
@@ -351,19 +378,19 @@ module _ {T : Type 0} (numbers : T → Option (ℕ × ℕ)) (told : T → Option
   few_at_end looked = let long : length looked.bytes ≡ 0 = ap (λ (l : List ℕ). length l) looked.gave in omega (arith, long)
 
 module _ {T : Type 0} (numbers : T → Option (ℕ × ℕ)) (told : T → Option TailHistory) where
-  pub settled_as : (now : ℕ) (h : History) (new : Harvester T) (found other : Option Turn) → found ≡ other → Settled numbers told now h (Ok found) new →
-      Settled numbers told now h (Ok other) new
-  settled_as now h new found other is settled = subst (λ (o : Option Turn). Settled numbers told now h (Ok o) new) is settled
+  pub settled_as : (now : ℕ) (ended : Bool) (h : History) (new : Harvester T) (found other : Option Turn) → found ≡ other → Settled numbers told now ended h (Ok found) new →
+      Settled numbers told now ended h (Ok other) new
+  settled_as now ended h new found other is settled = subst (λ (o : Option Turn). Settled numbers told now ended h (Ok o) new) is settled
 
   pub looks_kept : (place : ℕ) (old mid new : T) → new ≡ mid → IfSome (told old) (λ earlier. LooksAtEnd place earlier (told mid)) →
       IfSome (told old) (λ earlier. LooksAtEnd place earlier (told new))
   looks_kept place old mid new same looks = subst (λ (t : T). IfSome (told old) (λ earlier. LooksAtEnd place earlier (told t))) (sym same) looks
 
   -- the key is asked in the turn behind the look
-  pub asked_here : (most now : ℕ) (h : History) (old new : Harvester T) (result : Result Turn TurnError) → h.stage ≡ Asks →
-      HasAsked numbers told h result new → Goes numbers told most now h old (answer_of result) new
-  asked_here most now h old new result asks asked =
-      turn_asked numbers told most now h old new h refl result
+  pub asked_here : (most now : ℕ) (may_end : Bool) (h : History) (old new : Harvester T) (result : Result Turn TurnError) → h.stage ≡ Asks →
+      HasAsked numbers told h result new → Goes numbers told most now may_end h old (answer_of result) new
+  asked_here most now may_end h old new result asks asked =
+      turn_asked numbers told most now may_end h old new h refl (λ reading. absurd (let no : Reads ≡ Asks = sym reading ∙ asks in cc)) result
       (subst (λ (g : History). HasAsked numbers told g result new) (ap (λ (s : Stage). with_stage s h) asks) asked)
 
   -- with the moment of a turn
@@ -430,21 +457,23 @@ not_changed : (stage : ReaderStage) (now : Stage) → stage_of stage ≡ now →
 not_changed stage now is may (inl changed) = subst (λ (s : Stage). MayTurn s) (sym is ∙ ap stage_of changed) may
 not_changed stage now is may (inr over) = subst (λ (s : Stage). MayTurn s) (sym is ∙ ap stage_of over) may
 
-module _ {T : Type 0} (numbers : T → Option (ℕ × ℕ)) (told : T → Option TailHistory) (most now : ℕ) (h : History) (old new : Harvester T) where
+module _ {T : Type 0} (numbers : T → Option (ℕ × ℕ)) (told : T → Option TailHistory) (most now : ℕ) (may_end : Bool) (h : History) (old new : Harvester T) where
   -- whether it rests is no part of what was told
-  pub rested : (rests : Bool) (answer : Turn) {other : Turn} → other ≡ answer → Goes numbers told most now h old other new →
-      Goes numbers told most now h old answer (record new { rests = rests })
+  pub rested : (rests : Bool) (answer : Turn) {other : Turn} → other ≡ answer → Goes numbers told most now may_end h old other new →
+      Goes numbers told most now may_end h old answer (record new { rests = rests })
   rested rests answer same goes =
-      let there = subst (λ (a : Turn). Goes numbers told most now h old a new) same goes in
+      let there = subst (λ (a : Turn). Goes numbers told most now may_end h old a new) same goes in
       record {
         did = there.did;
         has_told = record { held = there.has_told.held; decides = there.has_told.decides; looked = there.has_told.looked };
         few = there.few;
         reads_where_none_closes = there.reads_where_none_closes;
+        no_event_left = there.no_event_left;
+        ends_where_found = there.ends_where_found;
         caused = as_caused answer there.did (after_did now answer there.did h) there.caused;
       }
     where
-      as_caused : (answer : Turn) (did : Did) (after : History) → IsCaused told h did after old answer new → IsCaused told h did after old answer (record new { rests = rests })
+      as_caused : (answer : Turn) (did : Did) (after : History) → IsCaused told may_end h did after old answer new → IsCaused told may_end h did after old answer (record new { rests = rests })
       as_caused (turn.Issued parcel) did after is = is
       as_caused (turn.Passed span rule) did after is = is
       as_caused turn.More did after is = is
@@ -455,7 +484,7 @@ module _ {T : Type 0} (numbers : T → Option (ℕ × ℕ)) (told : T → Option
       as_caused turn.ReadFault did after is = is
       as_caused turn.NoMemory did after is = is
 
-  pub changed_with : (answer : Turn) → Goes numbers told most now h old answer new → (IsChanged new ↔ IsLast answer)
+  pub changed_with : (answer : Turn) → Goes numbers told most now may_end h old answer new → (IsChanged new ↔ IsLast answer)
   changed_with (turn.Issued parcel) goes = ((λ is. not_changed new.reader.stage goes.did.stage goes.has_told.held.follows.stage goes.caused is), (λ no_last. absurd no_last))
   changed_with (turn.Passed span rule) goes = ((λ is. not_changed new.reader.stage goes.did.stage goes.has_told.held.follows.stage goes.caused is), (λ no_last. absurd no_last))
   changed_with turn.More goes = ((λ is. not_changed new.reader.stage goes.did.stage goes.has_told.held.follows.stage goes.caused.1 is), (λ no_last. absurd no_last))

@@ -1,5 +1,5 @@
 -- What one turn of a harvester did, by its answer (Filebeat reference, filestream input; this project's profile).
-use Rattle.std.specs.Prelude.{◌≡◌, ◌⊎◌, ℕ, ◌<◌, ◌≤◌, ◌-◌, true, List, [], drop, length, Option, Some, None, Result, Ok, Err, IfSome}
+use Rattle.std.specs.Prelude.{◌≡◌, ◌⊎◌, ℕ, ◌<◌, ◌≤◌, ◌-◌, Bool, true, List, [], drop, length, Option, Some, None, Result, Ok, Err, IfSome}
 use Rattle.line_cutter.specs.Lines.{complete_lines}
 use Rattle.multiline_core.specs.Gathering.{MayGoOn}
 use Rattle.outside.specs.Tails.{TailHistory}
@@ -13,6 +13,7 @@ use Rattle.harvester.specs.declared.turn_error.TurnError.TheVariants as error
 use Rattle.harvester.specs.Found.{FoundEnd, LooksAtEnd}
 use Rattle.harvester.specs.HasTold.{HasTold}
 use Rattle.harvester.specs.History.{Asks, Changed, Ended, History, Over, Reads, Stage, read_to, told_to, with_bytes, with_epoch, with_events, with_licences, with_present, with_stage}
+use Rattle.harvester.specs.Standing.{stage_behind_end, stage_of}
 use Rattle.harvester.specs.Turned.{HasOneEvent, IsAskedIn, events_told}
 
 -- the bytes that it read, the places at which it found that an event may be flushed, and where the file stands then
@@ -45,32 +46,50 @@ MayTurn Ended = Unit {0}
 MayTurn Changed = ⊥
 MayTurn Over = ⊥
 
--- the end was found by an earlier turn, or by the looks of this one, and then no event closes
-abbrev pub IsEnd : {T : Type 0} → (T → Option TailHistory) → History → History → Harvester T → Harvester T → Type 0
-IsEnd told before after old new =
-    (before.stage ≡ Ended)
-    ⊎ (NoneCloses after × IfSome (told old.tail) (λ earlier. LooksAtEnd (read_to before.present) earlier (told new.tail)))
+-- the looks of this turn found the end
+abbrev pub FoundHere : {T : Type 0} → (T → Option TailHistory) → History → Harvester T → Harvester T → Type 0
+FoundHere told before old new = IfSome (told old.tail) (λ earlier. LooksAtEnd (read_to before.present) earlier (told new.tail))
+
+-- the file is ended where it was, or where the end may be found and the looks of this turn found it
+abbrev pub EndsHere : {T : Type 0} → (T → Option TailHistory) → Bool → History → Harvester T → Harvester T → Type 0
+EndsHere told may_end before old new = (before.stage ≡ Ended) ⊎ ((may_end ≡ true) × FoundHere told before old new)
+
+-- the end was found by an earlier turn, or by the looks of this one: then no event closes, and the file is ended if it may be
+abbrev pub IsEnd : {T : Type 0} → (T → Option TailHistory) → Bool → History → Did → History → Harvester T → Harvester T → Type 0
+IsEnd told may_end before did after old new =
+    (before.stage ≡ Ended) ⊎ (NoneCloses after × (may_end ≡ true → did.stage ≡ Ended) × FoundHere told before old new)
+
+-- no event was told, and memory was not wanting
+abbrev pub IsQuiet : Turn → Type 0
+IsQuiet turn.More = Unit {0}
+IsQuiet turn.AtEnd = Unit {0}
+IsQuiet (turn.NewLife epoch) = Unit {0}
+IsQuiet turn.Changed = Unit {0}
+IsQuiet turn.EpochsOut = Unit {0}
+IsQuiet answer = ⊥
 
 -- when each answer comes; a fault is told by the tail's count, and want of memory is free. Which key the file had the looks
 -- tell: where it is read or asked on, has another key, or its last epoch is over
-abbrev pub IsCaused : {T : Type 0} → (T → Option TailHistory) → History → Did → History → Harvester T → Turn → Harvester T → Type 0
-IsCaused told before did after old (turn.Issued parcel) new = MayTurn did.stage
-IsCaused told before did after old (turn.Passed span rule) new = MayTurn did.stage
-IsCaused told before did after old turn.More new = (0 < length did.bytes) × MayTurn did.stage × NoneCloses after
-IsCaused told before did after old turn.AtEnd new = (did.bytes ≡ []) × MayTurn did.stage × IsEnd told before after old new
-IsCaused told before did after old (turn.NewLife epoch) new = IsAskedIn before.present.epoch (turn.NewLife epoch)
-IsCaused told before did after old turn.Changed new = did.stage ≡ Changed
-IsCaused told before did after old turn.EpochsOut new = (did.stage ≡ Over) × IsAskedIn before.present.epoch turn.EpochsOut
-IsCaused told before did after old turn.ReadFault new = MayTurn did.stage
-IsCaused told before did after old turn.NoMemory new = MayTurn did.stage
+abbrev pub IsCaused : {T : Type 0} → (T → Option TailHistory) → Bool → History → Did → History → Harvester T → Turn → Harvester T → Type 0
+IsCaused told may_end before did after old (turn.Issued parcel) new = MayTurn did.stage
+IsCaused told may_end before did after old (turn.Passed span rule) new = MayTurn did.stage
+IsCaused told may_end before did after old turn.More new = (0 < length did.bytes) × MayTurn did.stage × NoneCloses after
+IsCaused told may_end before did after old turn.AtEnd new = (did.bytes ≡ []) × MayTurn did.stage × IsEnd told may_end before did after old new
+IsCaused told may_end before did after old (turn.NewLife epoch) new = IsAskedIn before.present.epoch (turn.NewLife epoch)
+IsCaused told may_end before did after old turn.Changed new = did.stage ≡ Changed
+IsCaused told may_end before did after old turn.EpochsOut new = (did.stage ≡ Over) × IsAskedIn before.present.epoch turn.EpochsOut
+IsCaused told may_end before did after old turn.ReadFault new = MayTurn did.stage
+IsCaused told may_end before did after old turn.NoMemory new = MayTurn did.stage
 
--- at this moment, of which the history knows
-pub record Goes {T : Type 0} (numbers : T → Option (ℕ × ℕ)) (told : T → Option TailHistory) (most now : ℕ) (history : History) (old : Harvester T) (answer : Turn) (new : Harvester T) : Type 0 where
+-- at this moment, of which the history knows; `may_end` says that the end may be found
+pub record Goes {T : Type 0} (numbers : T → Option (ℕ × ℕ)) (told : T → Option TailHistory) (most now : ℕ) (may_end : Bool) (history : History) (old : Harvester T) (answer : Turn) (new : Harvester T) : Type 0 where
   pub did : Did
   pub has_told : HasTold numbers told (after_did now answer did history) new
   pub few : length did.bytes ≤ most
   pub reads_where_none_closes : 0 < length did.bytes → NoneCloses history
-  pub caused : IsCaused told history did (after_did now answer did history) old answer new
+  pub no_event_left : history.stage ≡ Reads → IsQuiet answer → NoneCloses history
+  pub ends_where_found : did.stage ≡ Ended → EndsHere told may_end history old new
+  pub caused : IsCaused told may_end history did (after_did now answer did history) old answer new
 
 abbrev pub answer_of : Result Turn TurnError → Turn
 answer_of (Ok answer) = answer
@@ -94,10 +113,13 @@ pub record MayBeEnded {T : Type 0} (numbers : T → Option (ℕ × ℕ)) (told :
   pub found : IfSome (told harvester.tail) (FoundEnd (numbers harvester.tail) history)
 
 -- once more was read: what was told, where an event may be flushed, and where the file stands then
-pub record Settled {T : Type 0} (numbers : T → Option (ℕ × ℕ)) (told : T → Option TailHistory) (now : ℕ) (history : History) (result : Result (Option Turn) NoMemory) (new : Harvester T) : Type 0 where
+pub record Settled {T : Type 0} (numbers : T → Option (ℕ × ℕ)) (told : T → Option TailHistory) (now : ℕ) (ended : Bool) (history : History) (result : Result (Option Turn) NoMemory) (new : Harvester T) : Type 0 where
   pub licences : List ℕ
   pub stage : Stage
   pub goes_on : MayTurn stage
+  -- the file is ended only where it may be, and then where no event is closed
+  pub ends : stage ≡ Ended → ended ≡ true
+  pub at_none : result ≡ Ok None → stage ≡ stage_of (stage_behind_end ended)
   pub has_told : HasTold numbers told (did_with (events_of history.path now result) (record { bytes = []; licences = licences; stage = stage }) history) new
   pub one : ToldOne result
   pub none_closes : result ≡ Ok None → NoneCloses history

@@ -29,7 +29,8 @@ impl<T: Tail> Harvester<T> {
         requires goes_on { ¬ (IsChanged self.old) }
         requires moment { IsMoment now }
         ensures goes { (history : History) → HasTold T.numbers T.told history self.old →
-            Goes T.numbers T.told READ_SIZE now.0 (with_turn now.0 last history) self.old result self.new }
+            Goes T.numbers T.told READ_SIZE now.0 (last || history.ends)
+            (with_turn now.0 last history) self.old result self.new }
         ensures of_file { (history : History) → HasTold T.numbers T.told history self.old →
             IsOfFile (begin_of self.old).slot self.old.reader.epoch result }
         ensures changed { (history : History) → HasTold T.numbers T.told history self.old →
@@ -52,7 +53,7 @@ impl<T: Tail> Harvester<T> {
         ensures goes { (history : History) → EndsAt history.moments now.0 →
             ((last || history.ends) ≡ true → history.may_end ≡ true) →
             HasTold T.numbers T.told history self.old →
-            Goes T.numbers T.told READ_SIZE now.0 history self.old (answer_of result) self.new }
+            Goes T.numbers T.told READ_SIZE now.0 (last || history.ends) history self.old (answer_of result) self.new }
         ensures of_file { (rules : Rules) → Decides rules self.old.rules →
             IfOk result (IsAnswerFor self.old.reader.begin.slot self.old.reader.epoch) }
         ensures begin_kept { self.new.reader.begin ≡ self.old.reader.begin }
@@ -82,7 +83,7 @@ impl<T: Tail> Harvester<T> {
         requires moment { IsMoment now }
         ensures goes { (history : History) → EndsAt history.moments now.0 →
             (ended ≡ true → history.may_end ≡ true) → HasTold T.numbers T.told history self.old →
-            Goes T.numbers T.told READ_SIZE now.0 history self.old (answer_of result) self.new }
+            Goes T.numbers T.told READ_SIZE now.0 ended history self.old (answer_of result) self.new }
         ensures of_file { (rules : Rules) → Decides rules self.old.rules →
             IfOk result (IsAnswerFor self.old.reader.begin.slot self.old.reader.epoch) }
         ensures begin_kept { self.new.reader.begin ≡ self.old.reader.begin }
@@ -117,7 +118,7 @@ impl<T: Tail> Harvester<T> {
         ensures settled { (history : History) → EndsAt history.moments now.0 →
             (ended ≡ true → MayBeEnded T.numbers T.told history self.old) →
             HasTold T.numbers T.told history self.old →
-            Settled T.numbers T.told now.0 history result self.new }
+            Settled T.numbers T.told now.0 ended history result self.new }
         ensures all_fed { result ≡ Ok None → self.new.reader.filled ≡ 0 }
         ensures of_file { (rules : Rules) → Decides rules self.old.rules →
             IfOk result (λ told. IfSome told

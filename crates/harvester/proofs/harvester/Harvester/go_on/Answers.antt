@@ -1,4 +1,4 @@
-use Rattle.std.proofs.Common.{◌≡◌, false, true, refl, sym, subst, ap}
+use Rattle.std.proofs.Common.{inr, ◌≡◌, false, true, refl, sym, subst, ap}
 use Rattle.harvester.specs.declared.buffer.TheConstants.{READ_SIZE}
 use Rattle.harvester.specs.declared.fate_rules.FateRules.{FateRules}
 use Rattle.harvester.specs.declared.look.Found.TheVariants.{End, Less, More}
@@ -14,14 +14,14 @@ returns-in_err-gather-clause-goes g c = λ h ends may has.
     let t = c.gather.ensures.stands h has.held in
     let reads = reads_of h _ has.held c.requires.reads in
     let gathered = with_reader g.T.Tail.numbers g.T.Tail.told h _ has c.gather.new.self t in
-    turn_refused g.T.Tail.numbers g.T.Tail.told READ_SIZE c.args.now.0 h _ _ Reads reads tt gathered c.from_residual.result c.from_residual.ensures.0
+    turn_refused g.T.Tail.numbers g.T.Tail.told READ_SIZE c.args.now.0 c.args.ended h _ _ Reads reads tt gathered c.from_residual.result c.from_residual.ensures.0
 
 pub returns-in_err-tell-clause-goes : goal.returns-in_err-tell-clause-goes
 returns-in_err-tell-clause-goes g c = λ h ends may has.
     let t = c.gather.ensures.stands h has.held in
     let reads = reads_of h _ has.held c.requires.reads in
     let gathered = with_reader g.T.Tail.numbers g.T.Tail.told h _ has c.gather.new.self t in
-    turn_refused g.T.Tail.numbers g.T.Tail.told READ_SIZE c.args.now.0 h _ _ Reads reads tt (c.in_err-tell.ensures.same_on_refusal h gathered) c.from_residual-in_err-tell.result
+    turn_refused g.T.Tail.numbers g.T.Tail.told READ_SIZE c.args.now.0 c.args.ended h _ _ Reads reads tt (c.in_err-tell.ensures.same_on_refusal h gathered) c.from_residual-in_err-tell.result
     c.from_residual-in_err-tell.ensures.0
 
 pub returns-then-branch-clause-goes : goal.returns-then-branch-clause-goes
@@ -29,7 +29,7 @@ returns-then-branch-clause-goes g c = λ h ends may has.
     let t = c.gather.ensures.stands h has.held in
     let reads = reads_of h _ has.held c.requires.reads in
     let gathered = with_reader g.T.Tail.numbers g.T.Tail.told h _ has c.gather.new.self t in
-    turn_told g.T.Tail.numbers g.T.Tail.told READ_SIZE c.args.now.0 h _ _ Reads reads tt c.in_ok-tell.field-0 c.in_ok-tell.ensures.one (c.in_ok-tell.ensures.told h gathered)
+    turn_told g.T.Tail.numbers g.T.Tail.told READ_SIZE c.args.now.0 c.args.ended h _ _ Reads reads tt c.in_ok-tell.field-0 c.in_ok-tell.ensures.one (c.in_ok-tell.ensures.told h gathered)
 
 pub returns-then-branch-clause-of_file : goal.returns-then-branch-clause-of_file
 returns-then-branch-clause-of_file g c = λ rules decides.
@@ -42,7 +42,7 @@ returns-in_err-look-clause-goes g c = λ h ends may has.
     let reads = reads_of h _ has.held c.requires.reads in
     let gathered = with_reader g.T.Tail.numbers g.T.Tail.told h _ has c.gather.new.self t in
     let looked = c.in_err-look.ensures.looked h (ends_given h.moments c.args.now.0 ends) gathered in
-    look_refused g.T.Tail.numbers g.T.Tail.told READ_SIZE c.args.now.0 h reads c.args.self.now _ _ _ looked c.from_residual-in_err-look.result c.from_residual-in_err-look.ensures.0
+    look_refused g.T.Tail.numbers g.T.Tail.told READ_SIZE c.args.now.0 c.args.ended h reads c.args.self.now _ _ _ looked c.from_residual-in_err-look.result c.from_residual-in_err-look.ensures.0
 
 pub returns-in_err-turn-in-More-clause-goes : goal.returns-in_err-turn-in-More-clause-goes
 returns-in_err-turn-in-More-clause-goes g c = λ h ends may has.
@@ -51,8 +51,8 @@ returns-in_err-turn-in-More-clause-goes g c = λ h ends may has.
     let gathered = with_reader g.T.Tail.numbers g.T.Tail.told h _ has c.gather.new.self t in
     let looked = c.in_ok-look.ensures.looked h (ends_given h.moments c.args.now.0 ends) gathered in
     let none = none_closes h _ (c.in_ok-gather.ensures.all c.if-branch.false h has.held) t.told_place c.later_lines.ensures in
-    let found = found_as g.T.Tail.numbers g.T.Tail.told READ_SIZE c.args.now.0 h reads c.args.self.now _ _ c.in_ok-look.field-0 More c.in-More.is looked in
-    settled_refused g.T.Tail.numbers g.T.Tail.told READ_SIZE c.args.now.0 h c.args.self.now _ found.bytes found.gave.1 (λ some. none) _
+    let found = found_as g.T.Tail.numbers g.T.Tail.told READ_SIZE c.args.now.0 c.args.ended h reads c.args.self.now _ _ c.in_ok-look.field-0 More c.in-More.is looked in
+    settled_refused g.T.Tail.numbers g.T.Tail.told READ_SIZE c.args.now.0 c.args.ended h c.args.self.now _ false found.bytes found.gave.1 none (λ is. absurd (let no : false ≡ true = is in cc)) _
     (c.in_err-turn-in-More.ensures.settled _ ends (λ is. absurd (let no : false ≡ true = is in cc)) found.has_told)
     c.from_residual-in_err-turn-in-More.result c.from_residual-in_err-turn-in-More.ensures.0
 
@@ -63,9 +63,10 @@ returns-in_err-turn-in-End-clause-goes g c = λ h ends may has.
     let gathered = with_reader g.T.Tail.numbers g.T.Tail.told h _ has c.gather.new.self t in
     let looked = c.in_ok-look.ensures.looked h (ends_given h.moments c.args.now.0 ends) gathered in
     let none = none_closes h _ (c.in_ok-gather.ensures.all c.if-branch.false h has.held) t.told_place c.later_lines.ensures in
-    let found = found_as g.T.Tail.numbers g.T.Tail.told READ_SIZE c.args.now.0 h reads c.args.self.now _ _ c.in_ok-look.field-0 End c.in-End.is looked in
-    settled_refused g.T.Tail.numbers g.T.Tail.told READ_SIZE c.args.now.0 h c.args.self.now _ found.bytes (few_at_end g.T.Tail.numbers g.T.Tail.told READ_SIZE c.args.now.0 h reads c.args.self.now _ _ found) (λ some. none) _
-    (c.in_err-turn-in-End.ensures.settled _ ends (λ is. may_be_ended g.T.Tail.numbers g.T.Tail.told READ_SIZE c.args.now.0 h reads c.args.self.now _ _ found (may is)) found.has_told)
+    let found = found_as g.T.Tail.numbers g.T.Tail.told READ_SIZE c.args.now.0 c.args.ended h reads c.args.self.now _ _ c.in_ok-look.field-0 End c.in-End.is looked in
+    settled_refused g.T.Tail.numbers g.T.Tail.told READ_SIZE c.args.now.0 c.args.ended h c.args.self.now _ c.args.ended found.bytes (few_at_end g.T.Tail.numbers g.T.Tail.told READ_SIZE c.args.now.0 c.args.ended h reads c.args.self.now _ _ found) none
+    (λ is. inr (is, looks_kept g.T.Tail.numbers g.T.Tail.told (read_to h.present) c.args.self.now.tail c.look.new.self.tail _ c.settle-in-End.ensures.tail_kept (found.at_end refl).looks)) _
+    (c.in_err-turn-in-End.ensures.settled _ ends (λ is. may_be_ended g.T.Tail.numbers g.T.Tail.told READ_SIZE c.args.now.0 c.args.ended h reads c.args.self.now _ _ found (may is)) found.has_told)
     c.from_residual-in_err-turn-in-End.result c.from_residual-in_err-turn-in-End.ensures.0
 
 pub returns-in-Less-clause-goes : goal.returns-in-Less-clause-goes
@@ -75,8 +76,8 @@ returns-in-Less-clause-goes g c = λ h ends may has.
     let gathered = with_reader g.T.Tail.numbers g.T.Tail.told h _ has c.gather.new.self t in
     let looked = c.in_ok-look.ensures.looked h (ends_given h.moments c.args.now.0 ends) gathered in
     let none = none_closes h _ (c.in_ok-gather.ensures.all c.if-branch.false h has.held) t.told_place c.later_lines.ensures in
-    let found = found_as g.T.Tail.numbers g.T.Tail.told READ_SIZE c.args.now.0 h reads c.args.self.now _ _ c.in_ok-look.field-0 Less c.in-Less.is looked in
-    look_asked g.T.Tail.numbers g.T.Tail.told READ_SIZE c.args.now.0 h reads c.args.self.now _ _ found _ c.ask_again.result c.ask_again.ensures.asked
+    let found = found_as g.T.Tail.numbers g.T.Tail.told READ_SIZE c.args.now.0 c.args.ended h reads c.args.self.now _ _ c.in_ok-look.field-0 Less c.in-Less.is looked in
+    look_asked g.T.Tail.numbers g.T.Tail.told READ_SIZE c.args.now.0 c.args.ended h reads c.args.self.now _ _ none found _ c.ask_again.result c.ask_again.ensures.asked
 
 pub returns-in-Less-clause-of_file : goal.returns-in-Less-clause-of_file
 returns-in-Less-clause-of_file g c = λ rules decides. no_event c.ask_again.result _ _ c.ask_again.ensures.tells_nothing
@@ -88,9 +89,9 @@ returns-in-Some-clause-goes g c = λ h ends may has.
     let gathered = with_reader g.T.Tail.numbers g.T.Tail.told h _ has c.gather.new.self t in
     let looked = c.in_ok-look.ensures.looked h (ends_given h.moments c.args.now.0 ends) gathered in
     let none = none_closes h _ (c.in_ok-gather.ensures.all c.if-branch.false h has.held) t.told_place c.later_lines.ensures in
-    let found = found_as g.T.Tail.numbers g.T.Tail.told READ_SIZE c.args.now.0 h reads c.args.self.now _ _ c.in_ok-look.field-0 More c.in-More.is looked in
-    settled_told g.T.Tail.numbers g.T.Tail.told READ_SIZE c.args.now.0 h c.args.self.now _ found.bytes found.gave.1 (λ some. none) c.in-Some.turn
-    (settled_as g.T.Tail.numbers g.T.Tail.told c.args.now.0 _ _ c.in_ok-turn-in-More.field-0 _ c.in-Some.is
+    let found = found_as g.T.Tail.numbers g.T.Tail.told READ_SIZE c.args.now.0 c.args.ended h reads c.args.self.now _ _ c.in_ok-look.field-0 More c.in-More.is looked in
+    settled_told g.T.Tail.numbers g.T.Tail.told READ_SIZE c.args.now.0 c.args.ended h c.args.self.now _ false found.bytes found.gave.1 none (λ is. absurd (let no : false ≡ true = is in cc)) c.in-Some.turn
+    (settled_as g.T.Tail.numbers g.T.Tail.told c.args.now.0 _ _ _ c.in_ok-turn-in-More.field-0 _ c.in-Some.is
     (c.in_ok-turn-in-More.ensures.settled _ ends (λ is. absurd (let no : false ≡ true = is in cc)) found.has_told))
 
 pub returns-in-None-clause-goes : goal.returns-in-None-clause-goes
@@ -100,9 +101,9 @@ returns-in-None-clause-goes g c = λ h ends may has.
     let gathered = with_reader g.T.Tail.numbers g.T.Tail.told h _ has c.gather.new.self t in
     let looked = c.in_ok-look.ensures.looked h (ends_given h.moments c.args.now.0 ends) gathered in
     let none = none_closes h _ (c.in_ok-gather.ensures.all c.if-branch.false h has.held) t.told_place c.later_lines.ensures in
-    let found = found_as g.T.Tail.numbers g.T.Tail.told READ_SIZE c.args.now.0 h reads c.args.self.now _ _ c.in_ok-look.field-0 More c.in-More.is looked in
-    settled_more g.T.Tail.numbers g.T.Tail.told READ_SIZE c.args.now.0 h c.args.self.now _ found.bytes found.gave.1 (λ some. none) found.gave.0
-    (settled_as g.T.Tail.numbers g.T.Tail.told c.args.now.0 _ _ c.in_ok-turn-in-More.field-0 _ c.in-None.is
+    let found = found_as g.T.Tail.numbers g.T.Tail.told READ_SIZE c.args.now.0 c.args.ended h reads c.args.self.now _ _ c.in_ok-look.field-0 More c.in-More.is looked in
+    settled_more g.T.Tail.numbers g.T.Tail.told READ_SIZE c.args.now.0 c.args.ended h c.args.self.now _ false found.bytes found.gave.1 none (λ is. absurd (let no : false ≡ true = is in cc)) found.gave.0
+    (settled_as g.T.Tail.numbers g.T.Tail.told c.args.now.0 _ _ _ c.in_ok-turn-in-More.field-0 _ c.in-None.is
     (c.in_ok-turn-in-More.ensures.settled _ ends (λ is. absurd (let no : false ≡ true = is in cc)) found.has_told))
 
 pub returns-in-Some-2-clause-goes : goal.returns-in-Some-2-clause-goes
@@ -112,10 +113,11 @@ returns-in-Some-2-clause-goes g c = λ h ends may has.
     let gathered = with_reader g.T.Tail.numbers g.T.Tail.told h _ has c.gather.new.self t in
     let looked = c.in_ok-look.ensures.looked h (ends_given h.moments c.args.now.0 ends) gathered in
     let none = none_closes h _ (c.in_ok-gather.ensures.all c.if-branch.false h has.held) t.told_place c.later_lines.ensures in
-    let found = found_as g.T.Tail.numbers g.T.Tail.told READ_SIZE c.args.now.0 h reads c.args.self.now _ _ c.in_ok-look.field-0 End c.in-End.is looked in
-    settled_told g.T.Tail.numbers g.T.Tail.told READ_SIZE c.args.now.0 h c.args.self.now _ found.bytes (few_at_end g.T.Tail.numbers g.T.Tail.told READ_SIZE c.args.now.0 h reads c.args.self.now _ _ found) (λ some. none) c.in-Some-2.turn
-    (settled_as g.T.Tail.numbers g.T.Tail.told c.args.now.0 _ _ c.in_ok-turn-in-End.field-0 _ c.in-Some-2.is
-    (c.in_ok-turn-in-End.ensures.settled _ ends (λ is. may_be_ended g.T.Tail.numbers g.T.Tail.told READ_SIZE c.args.now.0 h reads c.args.self.now _ _ found (may is)) found.has_told))
+    let found = found_as g.T.Tail.numbers g.T.Tail.told READ_SIZE c.args.now.0 c.args.ended h reads c.args.self.now _ _ c.in_ok-look.field-0 End c.in-End.is looked in
+    settled_told g.T.Tail.numbers g.T.Tail.told READ_SIZE c.args.now.0 c.args.ended h c.args.self.now _ c.args.ended found.bytes (few_at_end g.T.Tail.numbers g.T.Tail.told READ_SIZE c.args.now.0 c.args.ended h reads c.args.self.now _ _ found) none
+    (λ is. inr (is, looks_kept g.T.Tail.numbers g.T.Tail.told (read_to h.present) c.args.self.now.tail c.look.new.self.tail _ c.settle-in-End.ensures.tail_kept (found.at_end refl).looks)) c.in-Some-2.turn
+    (settled_as g.T.Tail.numbers g.T.Tail.told c.args.now.0 _ _ _ c.in_ok-turn-in-End.field-0 _ c.in-Some-2.is
+    (c.in_ok-turn-in-End.ensures.settled _ ends (λ is. may_be_ended g.T.Tail.numbers g.T.Tail.told READ_SIZE c.args.now.0 c.args.ended h reads c.args.self.now _ _ found (may is)) found.has_told))
 
 pub returns-in-None-2-clause-goes : goal.returns-in-None-2-clause-goes
 returns-in-None-2-clause-goes g c = λ h ends may has.
@@ -124,11 +126,12 @@ returns-in-None-2-clause-goes g c = λ h ends may has.
     let gathered = with_reader g.T.Tail.numbers g.T.Tail.told h _ has c.gather.new.self t in
     let looked = c.in_ok-look.ensures.looked h (ends_given h.moments c.args.now.0 ends) gathered in
     let none = none_closes h _ (c.in_ok-gather.ensures.all c.if-branch.false h has.held) t.told_place c.later_lines.ensures in
-    let found = found_as g.T.Tail.numbers g.T.Tail.told READ_SIZE c.args.now.0 h reads c.args.self.now _ _ c.in_ok-look.field-0 End c.in-End.is looked in
-    settled_end g.T.Tail.numbers g.T.Tail.told READ_SIZE c.args.now.0 h c.args.self.now _ found.bytes (few_at_end g.T.Tail.numbers g.T.Tail.told READ_SIZE c.args.now.0 h reads c.args.self.now _ _ found) (λ some. none) found.gave
+    let found = found_as g.T.Tail.numbers g.T.Tail.told READ_SIZE c.args.now.0 c.args.ended h reads c.args.self.now _ _ c.in_ok-look.field-0 End c.in-End.is looked in
+    settled_end g.T.Tail.numbers g.T.Tail.told READ_SIZE c.args.now.0 c.args.ended h c.args.self.now _ c.args.ended found.bytes (few_at_end g.T.Tail.numbers g.T.Tail.told READ_SIZE c.args.now.0 c.args.ended h reads c.args.self.now _ _ found) none
+    (λ is. inr (is, looks_kept g.T.Tail.numbers g.T.Tail.told (read_to h.present) c.args.self.now.tail c.look.new.self.tail _ c.settle-in-End.ensures.tail_kept (found.at_end refl).looks)) (λ may_end. may_end) found.gave
     c.settle-in-End.new.self
-    (settled_as g.T.Tail.numbers g.T.Tail.told c.args.now.0 _ _ c.in_ok-turn-in-End.field-0 _ c.in-None-2.is
-    (c.in_ok-turn-in-End.ensures.settled _ ends (λ is. may_be_ended g.T.Tail.numbers g.T.Tail.told READ_SIZE c.args.now.0 h reads c.args.self.now _ _ found (may is)) found.has_told))
+    (settled_as g.T.Tail.numbers g.T.Tail.told c.args.now.0 _ _ _ c.in_ok-turn-in-End.field-0 _ c.in-None-2.is
+    (c.in_ok-turn-in-End.ensures.settled _ ends (λ is. may_be_ended g.T.Tail.numbers g.T.Tail.told READ_SIZE c.args.now.0 c.args.ended h reads c.args.self.now _ _ found (may is)) found.has_told))
     (λ history told. with_reader g.T.Tail.numbers g.T.Tail.told history _ told c.shrink.new.self (c.shrink.ensures.stands history told.held))
     (looks_kept g.T.Tail.numbers g.T.Tail.told (read_to h.present) c.args.self.now.tail c.look.new.self.tail c.settle-in-End.new.self.tail c.settle-in-End.ensures.tail_kept (found.at_end refl).looks)
 

@@ -9,25 +9,25 @@ use Rattle.harvester.proofs.harvester.Harvester.settle.Goals as goal
 
 pub returns-in_err-gather-clause-settled : goal.returns-in_err-gather-clause-settled
 returns-in_err-gather-clause-settled g c = λ h ends may has.
-    settles_refused g.T.Tail.numbers g.T.Tail.told c.args.now.0 h (reads_of h _ has.held c.requires.reads) _ c.from_residual.result c.from_residual.ensures.0
+    settles_refused g.T.Tail.numbers g.T.Tail.told c.args.now.0 c.args.ended h (reads_of h _ has.held c.requires.reads) _ c.from_residual.result c.from_residual.ensures.0
     (with_reader g.T.Tail.numbers g.T.Tail.told h _ has c.gather.new.self (c.gather.ensures.stands h has.held))
 
 pub returns-in_err-tell-clause-settled : goal.returns-in_err-tell-clause-settled
 returns-in_err-tell-clause-settled g c = λ h ends may has.
-    settles_refused g.T.Tail.numbers g.T.Tail.told c.args.now.0 h (reads_of h _ has.held c.requires.reads) _ c.from_residual-in_err-tell.result
+    settles_refused g.T.Tail.numbers g.T.Tail.told c.args.now.0 c.args.ended h (reads_of h _ has.held c.requires.reads) _ c.from_residual-in_err-tell.result
     c.from_residual-in_err-tell.ensures.0
     (c.in_err-tell.ensures.same_on_refusal h (with_reader g.T.Tail.numbers g.T.Tail.told h _ has c.gather.new.self (c.gather.ensures.stands h has.held)))
 
 pub returns-then-branch-clause-settled : goal.returns-then-branch-clause-settled
 returns-then-branch-clause-settled g c = λ h ends may has.
-    settles_told g.T.Tail.numbers g.T.Tail.told c.args.now.0 h (reads_of h _ has.held c.requires.reads) _ c.in_ok-tell.field-0 c.in_ok-tell.ensures.one
+    settles_told g.T.Tail.numbers g.T.Tail.told c.args.now.0 c.args.ended h (reads_of h _ has.held c.requires.reads) _ c.in_ok-tell.field-0 c.in_ok-tell.ensures.one
     (c.in_ok-tell.ensures.told h (with_reader g.T.Tail.numbers g.T.Tail.told h _ has c.gather.new.self (c.gather.ensures.stands h has.held)))
 
 pub returns-in_err-tell-2-clause-settled : goal.returns-in_err-tell-2-clause-settled
 returns-in_err-tell-2-clause-settled g c = λ h ends may has.
     let reads = reads_of h _ has.held c.requires.reads in
     let w = c.close-closed.ensures.was_closed h (c.gather.ensures.stands h has.held) (c.in_ok-gather.ensures.all c.if-branch.false h has.held) ends in
-    closes_refused g.T.Tail.numbers g.T.Tail.told c.args.now.0 h reads _ w.licences c.args.ended c.from_residual-in_err-tell-2.result
+    closes_refused g.T.Tail.numbers g.T.Tail.told c.args.now.0 c.args.ended h reads _ w.licences c.from_residual-in_err-tell-2.result
     c.from_residual-in_err-tell-2.ensures.0
     (c.in_err-tell-2.ensures.same_on_refusal _ (closed_told g.T.Tail.numbers g.T.Tail.told h reads _ has _ c.args.ended w may c.stand.new.self
     (subst (λ (s : Stage). StandsFor (with_stage (stage_of s) (with_present (with_licences w.licences h.present) h)) c.stand.new.self) c.stage_behind.ensures
@@ -37,7 +37,7 @@ pub returns-then-closed-clause-settled : goal.returns-then-closed-clause-settled
 returns-then-closed-clause-settled g c = λ h ends may has.
     let reads = reads_of h _ has.held c.requires.reads in
     let w = c.close-closed.ensures.was_closed h (c.gather.ensures.stands h has.held) (c.in_ok-gather.ensures.all c.if-branch.false h has.held) ends in
-    closes_told g.T.Tail.numbers g.T.Tail.told c.args.now.0 h reads _ w.licences c.args.ended c.in_ok-tell-2.field-0 c.in_ok-tell-2.ensures.one
+    closes_told g.T.Tail.numbers g.T.Tail.told c.args.now.0 c.args.ended h reads _ w.licences c.in_ok-tell-2.field-0 c.in_ok-tell-2.ensures.one
     (c.in_ok-tell-2.ensures.told _ (closed_told g.T.Tail.numbers g.T.Tail.told h reads _ has _ c.args.ended w may c.stand.new.self
     (subst (λ (s : Stage). StandsFor (with_stage (stage_of s) (with_present (with_licences w.licences h.present) h)) c.stand.new.self) c.stage_behind.ensures
     (c.stand.ensures.stands _ w.stands))))
@@ -62,7 +62,7 @@ returns-clause-settled g c = λ h ends may has.
     let t = c.gather.ensures.stands h has.held in
     let a = c.in_ok-gather.ensures.all c.if-branch.false h has.held in
     let w = c.close-closed.ensures.was_closed h t a ends in
-    closes_none g.T.Tail.numbers g.T.Tail.told c.args.now.0 h reads _ w.licences c.args.ended
+    closes_none g.T.Tail.numbers g.T.Tail.told c.args.now.0 c.args.ended h reads _ w.licences
     (closed_told g.T.Tail.numbers g.T.Tail.told h reads _ has _ c.args.ended w may c.stand.new.self
     (subst (λ (s : Stage). StandsFor (with_stage (stage_of s) (with_present (with_licences w.licences h.present) h)) c.stand.new.self) c.stage_behind.ensures
     (c.stand.ensures.stands _ w.stands))) (none_closes h _ a t.told_place c.later_lines.ensures)

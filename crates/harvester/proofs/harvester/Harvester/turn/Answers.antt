@@ -9,7 +9,7 @@ use Rattle.harvester.proofs.harvester.Harvester.turn.Goals as goal
 pub returns-clause-goes : goal.returns-clause-goes
 returns-clause-goes g c = λ h has.
     let turned = with_turn c.args.now.0 c.args.last h in
-    rested g.T.Tail.numbers g.T.Tail.told READ_SIZE c.args.now.0 turned _ _ c.is_end-self.result _ (sym c.answer-turn.ensures)
+    rested g.T.Tail.numbers g.T.Tail.told READ_SIZE c.args.now.0 (c.args.last || h.ends) turned _ _ c.is_end-self.result _ (sym c.answer-turn.ensures)
     (c.step.ensures.goes turned (record { earlier = h.moments; are = refl }) (λ is. or_right h.may_end (c.args.last || h.ends) is)
     (turned_told g.T.Tail.numbers g.T.Tail.told h _ c.args.now.0 c.args.last has))
 
@@ -21,8 +21,8 @@ returns-clause-of_file g c = λ h has.
 pub returns-clause-changed : goal.returns-clause-changed
 returns-clause-changed g c = λ h has.
     let turned = with_turn c.args.now.0 c.args.last h in
-    changed_with g.T.Tail.numbers g.T.Tail.told READ_SIZE c.args.now.0 turned _ _ c.answer-turn.result
-    (rested g.T.Tail.numbers g.T.Tail.told READ_SIZE c.args.now.0 turned _ _ c.is_end-self.result _ (sym c.answer-turn.ensures)
+    changed_with g.T.Tail.numbers g.T.Tail.told READ_SIZE c.args.now.0 (c.args.last || h.ends) turned _ _ c.answer-turn.result
+    (rested g.T.Tail.numbers g.T.Tail.told READ_SIZE c.args.now.0 (c.args.last || h.ends) turned _ _ c.is_end-self.result _ (sym c.answer-turn.ensures)
     (c.step.ensures.goes turned (record { earlier = h.moments; are = refl }) (λ is. or_right h.may_end (c.args.last || h.ends) is)
     (turned_told g.T.Tail.numbers g.T.Tail.told h _ c.args.now.0 c.args.last has)))
 
