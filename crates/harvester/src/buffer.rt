@@ -72,7 +72,8 @@ impl Buffer {
         ensures told { TellsRead (T.told tail.old) at self.new result (T.told tail.new) }
         ensures numbers_kept { T.numbers tail.new ≡ T.numbers tail.old }
         ensures faults_never_fall { T.faults tail.old ≤ T.faults tail.new }
-        ensures failed_only_where_faults_rose { OnErr result (Rose (T.faults tail.old) (T.faults tail.new)) }
+        ensures failed_only_where_faults_rose { OnErr result (Rose (T.faults tail.old) (T.faults
+            tail.new)) }
         ensures faults_told_only_by_failures { IsSome (T.told tail.old) →
             OnOk result (T.faults tail.new ≡ T.faults tail.old) }
     {

@@ -120,7 +120,8 @@ impl<T: Tail> Harvester<T> {
 
     /// Whether the file is to be forgotten at its end.
     pub fn forgets(&self) -> bool
-        ensures { (history : History) → HasTold T.numbers T.told history self.now → result ≡ history.forgets }
+        ensures { (history : History) → HasTold T.numbers T.told history self.now →
+            result ≡ history.forgets }
     {
         self.reader.forgets
     }
@@ -135,7 +136,8 @@ impl<T: Tail> Harvester<T> {
     /// Since when the file gave no line, where the last turn found its end, no event waits and nothing was heard of it
     /// since: the moment of the last turn that read a complete line, or that of the opening.
     pub fn idle_since(&self) -> Option<Moment>
-        ensures none { IsNone result ↔ (IsSome self.now.reader.events.grouper.gathered ⊎ (self.now.rests ≡ false)) }
+        ensures none { IsNone result ↔ (IsSome self.now.reader.events.grouper.gathered ⊎
+            (self.now.rests ≡ false)) }
         ensures since { IfSome result (λ since. since ≡ self.now.reader.events.last_line) }
     {
         if !self.rests || self.reader.events.pending() {

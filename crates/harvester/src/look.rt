@@ -35,7 +35,8 @@ impl<T: Tail> Harvester<T> {
         ensures rests_kept { self.new.rests ≡ self.old.rests }
         ensures begin_kept { self.new.reader.begin ≡ self.old.reader.begin }
         ensures epoch_kept { self.new.reader.epoch ≡ self.old.reader.epoch }
-        ensures stage_by_result { IfOk result (λ found. self.new.reader.stage ≡ stage_found found) }
+        ensures stage_by_result { IfOk result (λ found.
+            self.new.reader.stage ≡ stage_found found) }
         ensures rules_kept { self.new.rules ≡ self.old.rules }
         ensures faults_never_fall { T.faults self.old.tail ≤ T.faults self.new.tail }
         ensures read_fault_only_where_faults_rose { IsErrOf result TurnError.ReadFault →

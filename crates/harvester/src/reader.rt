@@ -117,12 +117,18 @@ impl Reader {
 
     /// Whether an event is closed by what was read.
     pub(crate) fn gather(&mut self, alloc: Global) -> Result<bool, NoMemory>
-        ensures stands { (history : History) → StandsFor history self.old → StandsFor history self.new }
+        ensures stands { (history : History) → StandsFor history self.old →
+            StandsFor history self.new }
         ensures closed { IfOk result (λ found. IsTrue found ↔ IsSome self.new.events.closed) }
-        ensures all { IfOk result (λ found. found ≡ false → (history : History) → StandsFor history self.old →
+        ensures all { IfOk result (λ found. found ≡ false → (history : History) →
+            StandsFor history self.old →
             AllGathered history self.new) }
         ensures fed { OnOk result (self.new.filled ≡ 0) }
-        ensures others { self.new ≡ (record self.old { events = self.new.events; filled = self.new.filled }) }
+        ensures others { self.new ≡ (record self.old {
+          events = self.new.events;
+          filled =
+              self.new.filled;
+        }) }
     {
         self.feed()?;
         self.find(alloc)
@@ -130,9 +136,14 @@ impl Reader {
 
     /// Feeds what was read.
     fn feed(&mut self) -> Result<(), NoMemory>
-        ensures stands { (history : History) → StandsFor history self.old → StandsFor history self.new }
+        ensures stands { (history : History) → StandsFor history self.old →
+            StandsFor history self.new }
         ensures fed { OnOk result (self.new.filled ≡ 0) }
-        ensures others { self.new ≡ (record self.old { events = self.new.events; filled = self.new.filled }) }
+        ensures others { self.new ≡ (record self.old {
+          events = self.new.events;
+          filled =
+              self.new.filled;
+        }) }
     {
         if self.filled == 0 {
             return Ok(());
@@ -145,9 +156,11 @@ impl Reader {
     /// Whether an event is closed by what was fed.
     fn find(&mut self, alloc: Global) -> Result<bool, NoMemory>
         requires { self.old.filled ≡ 0 }
-        ensures stands { (history : History) → StandsFor history self.old → StandsFor history self.new }
+        ensures stands { (history : History) → StandsFor history self.old →
+            StandsFor history self.new }
         ensures closed { IfOk result (λ found. IsTrue found ↔ IsSome self.new.events.closed) }
-        ensures all { IfOk result (λ found. found ≡ false → (history : History) → StandsFor history self.old →
+        ensures all { IfOk result (λ found. found ≡ false → (history : History) →
+            StandsFor history self.old →
             AllGathered history self.new) }
         ensures others { self.new ≡ (record self.old { events = self.new.events }) }
     {
@@ -160,23 +173,29 @@ impl Reader {
     pub(crate) fn read<T: Tail>(&mut self, tail: &mut T, now: Moment) -> Result<usize, Failed>
         requires all_fed { self.old.filled ≡ 0 }
         requires moment { IsMoment now }
-        ensures stands { (history : History) → Contains history.moments now.0 → StandsFor history self.old →
+        ensures stands { (history : History) → Contains history.moments now.0 →
+            StandsFor history self.old →
             IfOk result (λ count. StandsFor
-            (with_present (with_bytes (take count self.new.buffer) history.present) history) self.new) }
-        ensures stands_on_refusal { OnErr result ((history : History) → StandsFor history self.old →
+            (with_present (with_bytes (take count self.new.buffer) history.present) history)
+            self.new) }
+        ensures stands_on_refusal { OnErr result ((history : History) →
+            StandsFor history self.old →
             StandsFor history self.new) }
         ensures within { IfOk result (λ count. count ≤ length self.new.buffer) }
         ensures bounded { IfOk result (λ count. count ≤ READ_SIZE) }
         ensures some_room { 0 < length self.new.buffer }
         ensures same_room { length self.new.buffer ≡ length self.old.buffer }
-        ensures told { TellsRead (T.told tail.old) self.old.position self.new.buffer result (T.told tail.new) }
+        ensures told { TellsRead (T.told tail.old) self.old.position self.new.buffer result (T.told
+            tail.new) }
         ensures begin_kept { self.new.begin ≡ self.old.begin }
         ensures epoch_kept { self.new.epoch ≡ self.old.epoch }
         ensures stage_kept { self.new.stage ≡ self.old.stage }
-        ensures others { OnErr result (self.new ≡ (record self.old { buffer = self.new.buffer })) }
+        ensures others { OnErr result
+            (self.new ≡ (record self.old { buffer = self.new.buffer })) }
         ensures numbers_kept { T.numbers tail.new ≡ T.numbers tail.old }
         ensures faults_never_fall { T.faults tail.old ≤ T.faults tail.new }
-        ensures failed_only_where_faults_rose { OnErr result (Rose (T.faults tail.old) (T.faults tail.new)) }
+        ensures failed_only_where_faults_rose { OnErr result (Rose (T.faults tail.old) (T.faults
+            tail.new)) }
         ensures faults_told_only_by_failures { IsSome (T.told tail.old) →
             OnOk result (T.faults tail.new ≡ T.faults tail.old) }
     {
@@ -191,7 +210,8 @@ impl Reader {
     /// read waits to be fed.
     pub(crate) fn make_room(&mut self, length: u64) -> Result<(), NoMemory>
         requires { self.old.filled ≡ 0 }
-        ensures stands { (history : History) → StandsFor history self.old → StandsFor history self.new }
+        ensures stands { (history : History) → StandsFor history self.old →
+            StandsFor history self.new }
         ensures others { self.new ≡ (record self.old { buffer = self.new.buffer }) }
     {
         if length > self.position {
@@ -203,7 +223,8 @@ impl Reader {
     /// Gives the room back, where nothing that was read waits to be fed. Takes no memory.
     pub(crate) fn shrink(&mut self)
         requires { self.old.filled ≡ 0 }
-        ensures stands { (history : History) → StandsFor history self.old → StandsFor history self.new }
+        ensures stands { (history : History) → StandsFor history self.old →
+            StandsFor history self.new }
         ensures others { self.new ≡ (record self.old { buffer = self.new.buffer }) }
     {
         self.buffer.shrink();
@@ -215,7 +236,8 @@ impl Reader {
         requires none_closed { self.old.events.closed ≡ None }
         requires moment { IsMoment now }
         ensures closed { IsTrue result ↔ IsSome self.new.events.closed }
-        ensures was_closed { (history : History) → StandsFor history self.old → AllGathered history self.old →
+        ensures was_closed { (history : History) → StandsFor history self.old →
+            AllGathered history self.old →
             EndsAt history.moments now.0 → WasClosed history ended self.new }
         ensures others { self.new ≡ (record self.old { events = self.new.events }) }
     {
@@ -231,7 +253,11 @@ impl Reader {
         requires closed { IsSome self.old.events.closed }
         ensures told { (history : History) (event : ToldEvent) → StandsFor history self.old →
             IfSome self.old.events.closed (TellsOne history event self.new) }
-        ensures others { self.new ≡ (record self.old { events = self.new.events; told_to = self.new.told_to }) }
+        ensures others { self.new ≡ (record self.old {
+          events = self.new.events;
+          told_to =
+              self.new.told_to;
+        }) }
     {
         lines_stay();
         later_lines();
@@ -257,7 +283,8 @@ impl Reader {
     /// Begins the next epoch at the file's first byte; what waits is forgotten. Takes no memory.
     pub(crate) fn begin_life(&mut self, alloc: Global, epoch: Epoch)
         requires next { epoch.0 ≡ self.old.epoch.0 + 1 }
-        ensures stands { (history : History) → StandsFor history self.old → StandsFor (with_epoch history) self.new }
+        ensures stands { (history : History) → StandsFor history self.old →
+            StandsFor (with_epoch history) self.new }
         ensures others { self.new ≡ (record self.old {
           epoch = epoch;
           told_to = 0;

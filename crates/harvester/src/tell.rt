@@ -27,7 +27,8 @@ impl<T: Tail> Harvester<T> {
         ensures of_file { (rules : Rules) → Decides rules self.old.rules →
             IfOk result (IsAnswerFor self.old.reader.begin.slot self.old.reader.epoch) }
         ensures stage_kept { self.new.reader.stage ≡ self.old.reader.stage }
-        ensures same_on_refusal { (history : History) → HasTold T.numbers T.told history self.old →
+        ensures same_on_refusal { (history : History) →
+            HasTold T.numbers T.told history self.old →
             OnErr result (HasTold T.numbers T.told history self.new) }
         ensures rests_kept { self.new.rests ≡ self.old.rests }
         ensures begin_kept { self.new.reader.begin ≡ self.old.reader.begin }
@@ -59,7 +60,8 @@ fn fate(
     ensures by_the_rules { IfOk result (λ told. IfSome reader.now.events.closed (λ group.
         (r : Rules) → Decides r rules.old →
         IsFateBy r (given_path reader.now.begin.path reader.now.renamed) now.0 told group)) }
-    ensures span { IfOk result (λ told. IfSome reader.now.events.closed (λ group. told.1 ≡ group.span)) }
+    ensures span { IfOk result (λ told. IfSome reader.now.events.closed (λ group. told.1 ≡
+        group.span)) }
     ensures in_range { IfOk result (λ told. IsPlace told.1.end) }
     ensures decides { (r : Rules) → Decides r rules.old → Decides r rules.new }
 {

@@ -46,6 +46,7 @@ impl<T: Tail> Harvester<T> {
         self.rests = is_end(&turn);
         turn
     }
+
     /// One turn, by where the file stands.
     fn step(&mut self, alloc: Global, now: Moment, last: bool) -> Result<Turn, TurnError>
         requires goes_on { ¬ (IsChanged self.old) }
@@ -53,7 +54,8 @@ impl<T: Tail> Harvester<T> {
         ensures goes { (history : History) → EndsAt history.moments now.0 →
             ((last || history.ends) ≡ true → history.may_end ≡ true) →
             HasTold T.numbers T.told history self.old →
-            Goes T.numbers T.told READ_SIZE now.0 (last || history.ends) history self.old (answer_of result) self.new }
+            Goes T.numbers T.told READ_SIZE now.0 (last || history.ends) history self.old
+            (answer_of result) self.new }
         ensures of_file { (rules : Rules) → Decides rules self.old.rules →
             IfOk result (IsAnswerFor self.old.reader.begin.slot self.old.reader.epoch) }
         ensures begin_kept { self.new.reader.begin ≡ self.old.reader.begin }
@@ -82,8 +84,10 @@ impl<T: Tail> Harvester<T> {
         requires reads { self.old.reader.stage ≡ Stage.Reading }
         requires moment { IsMoment now }
         ensures goes { (history : History) → EndsAt history.moments now.0 →
-            (ended ≡ true → history.may_end ≡ true) → HasTold T.numbers T.told history self.old →
-            Goes T.numbers T.told READ_SIZE now.0 ended history self.old (answer_of result) self.new }
+            (ended ≡ true → history.may_end ≡ true) →
+            HasTold T.numbers T.told history self.old →
+            Goes T.numbers T.told READ_SIZE now.0 ended history self.old (answer_of result)
+            self.new }
         ensures of_file { (rules : Rules) → Decides rules self.old.rules →
             IfOk result (IsAnswerFor self.old.reader.begin.slot self.old.reader.epoch) }
         ensures begin_kept { self.new.reader.begin ≡ self.old.reader.begin }
