@@ -1,3 +1,4 @@
+pub mod AddedLooks
 pub mod AskedGiven
 pub mod Closing
 pub mod Deciding

@@ -9,5 +9,6 @@ pub mod History
 pub mod InRange
 pub mod Looked
 pub mod Standing
+pub mod TurnLooks
 pub mod Turned
 pub mod Turns

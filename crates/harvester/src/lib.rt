@@ -11,9 +11,7 @@
 //! a lane.
 //!
 //! The clauses allow more than the code does. An event may be flushed where any two moments lie a timeout apart, and
-//! none has to be told when its timeout has passed, or at the file's end. No clause says how often a turn looks and reads,
-//! or that it asks for the length before it asks for the key once more; and none says where a turn's looks come behind
-//! those before it.
+//! none has to be told when its timeout has passed, or at the file's end.
 #![tactic(auto)]
 
 mod asking;

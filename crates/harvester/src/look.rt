@@ -4,6 +4,7 @@ ghost use Rattle.wire_base.specs.Ranges.{IsMoment};
 ghost use Rattle.harvester.specs.Found.{HasLooked, stage_found};
 ghost use Rattle.harvester.specs.HasTold.{HasTold};
 ghost use Rattle.harvester.specs.History.{History};
+ghost use Rattle.harvester.specs.TurnLooks.{AreOfLook, LooksOn};
 
 use crate::buffer::READ_SIZE;
 use crate::harvester::Harvester;
@@ -32,6 +33,9 @@ impl<T: Tail> Harvester<T> {
         ensures looked { (history : History) → Contains history.moments now.0 →
             HasTold T.numbers T.told history self.old →
             HasLooked T.numbers T.told READ_SIZE history self.old result self.new }
+        ensures looks { LooksOn (AreOfLook result self.old.reader.position)
+            (T.told self.old.tail) (T.told self.new.tail) }
+        ensures numbers_kept { T.numbers self.new.tail ≡ T.numbers self.old.tail }
         ensures rests_kept { self.new.rests ≡ self.old.rests }
         ensures begin_kept { self.new.reader.begin ≡ self.old.reader.begin }
         ensures epoch_kept { self.new.reader.epoch ≡ self.old.reader.epoch }

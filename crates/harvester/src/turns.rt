@@ -6,6 +6,7 @@ ghost use Rattle.harvester.specs.Deciding.{Decides};
 ghost use Rattle.harvester.specs.HasTold.{HasTold, IsChanged, begin_of};
 ghost use Rattle.harvester.specs.History.{History};
 ghost use Rattle.harvester.specs.Standing.{EndsAt, stage_behind_end};
+ghost use Rattle.harvester.specs.TurnLooks.{AreOfReading, IsRefused, LooksInTurn, LooksOn};
 ghost use Rattle.harvester.specs.Turned.{IsAnswerFor, IsOfFile, with_turn};
 ghost use Rattle.harvester.specs.Turns.{Goes, IsLast, MayBeEnded, Settled, answer_of};
 
@@ -35,6 +36,8 @@ impl<T: Tail> Harvester<T> {
             IsOfFile (begin_of self.old).slot self.old.reader.epoch result }
         ensures changed { (history : History) → HasTold T.numbers T.told history self.old →
             (IsChanged self.new ↔ IsLast result) }
+        ensures looks { LooksInTurn T.told self.old result self.new }
+        ensures numbers_kept { T.numbers self.new.tail ≡ T.numbers self.old.tail }
         ensures rests { IsTrue self.new.rests ↔ (result ≡ Turn.AtEnd) }
         ensures begin_kept { begin_of self.new ≡ begin_of self.old }
         ensures faults_never_fall { T.faults self.old.tail ≤ T.faults self.new.tail }
@@ -58,6 +61,8 @@ impl<T: Tail> Harvester<T> {
             (answer_of result) self.new }
         ensures of_file { (rules : Rules) → Decides rules self.old.rules →
             IfOk result (IsAnswerFor self.old.reader.begin.slot self.old.reader.epoch) }
+        ensures looks { LooksInTurn T.told self.old (answer_of result) self.new }
+        ensures numbers_kept { T.numbers self.new.tail ≡ T.numbers self.old.tail }
         ensures begin_kept { self.new.reader.begin ≡ self.old.reader.begin }
         ensures faults_never_fall { T.faults self.old.tail ≤ T.faults self.new.tail }
         ensures read_fault_only_where_faults_rose { IsErrOf result TurnError.ReadFault →
@@ -90,6 +95,10 @@ impl<T: Tail> Harvester<T> {
             self.new }
         ensures of_file { (rules : Rules) → Decides rules self.old.rules →
             IfOk result (IsAnswerFor self.old.reader.begin.slot self.old.reader.epoch) }
+        ensures looks {
+            LooksOn (AreOfReading (IsRefused (answer_of result)) self.old.reader.position)
+            (T.told self.old.tail) (T.told self.new.tail) }
+        ensures numbers_kept { T.numbers self.new.tail ≡ T.numbers self.old.tail }
         ensures begin_kept { self.new.reader.begin ≡ self.old.reader.begin }
         ensures faults_never_fall { T.faults self.old.tail ≤ T.faults self.new.tail }
         ensures read_fault_only_where_faults_rose { IsErrOf result TurnError.ReadFault →

@@ -1,6 +1,7 @@
 use Rattle.std.proofs.Common.{◌+◌, Bool, Ok, IfSome, sym, subst, ap, ◌∙◌}
 use Rattle.wire_base.specs.declared.numbers.Epoch.{Epoch}
 use Rattle.harvester.specs.Asked.{WasAsked}
+use Rattle.harvester.proofs.AddedLooks.{key_asked}
 use Rattle.harvester.proofs.AskedGiven.{begins, epochs_out, has_other, met_fault}
 use Rattle.harvester.proofs.harvester.Harvester.ask_again.Goals as goal
 
@@ -31,3 +32,15 @@ returns-clause-asked g c = λ h has.
     (λ earlier. WasAsked c.args.self.now.reader (g.T.Tail.numbers c.args.self.now.tail) earlier (Ok b) (g.T.Tail.told c.ask.new.tail)))
     c.if-not-branch.false c.in_ok-ask.ensures.asked) (c.begin_life.ensures.stands h has.held)
     (ap (λ (e : Epoch). e.0 + 1) c.epoch-epoch.ensures)
+
+pub returns-in_err-ask-clause-looks : goal.returns-in_err-ask-clause-looks
+returns-in_err-ask-clause-looks g c = key_asked _ _ _ _ _ c.in_err-ask.ensures.asked c.ask.ensures.untold
+
+pub returns-then-not-branch-clause-looks : goal.returns-then-not-branch-clause-looks
+returns-then-not-branch-clause-looks g c = key_asked _ _ _ _ _ c.in_ok-ask.ensures.asked c.ask.ensures.untold
+
+pub returns-then-epoch-clause-looks : goal.returns-then-epoch-clause-looks
+returns-then-epoch-clause-looks g c = key_asked _ _ _ _ _ c.in_ok-ask.ensures.asked c.ask.ensures.untold
+
+pub returns-clause-looks : goal.returns-clause-looks
+returns-clause-looks g c = key_asked _ _ _ _ _ c.in_ok-ask.ensures.asked c.ask.ensures.untold

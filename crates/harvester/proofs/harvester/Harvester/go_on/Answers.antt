@@ -1,10 +1,13 @@
-use Rattle.std.proofs.Common.{inr, ◌≡◌, false, true, refl, sym, subst, ap}
+use Rattle.std.proofs.Common.{inr, ◌≡◌, false, true, Ok, refl, sym, subst, ap}
 use Rattle.harvester.specs.declared.buffer.TheConstants.{READ_SIZE}
 use Rattle.harvester.specs.declared.fate_rules.FateRules.{FateRules}
 use Rattle.harvester.specs.declared.look.Found.TheVariants.{End, Less, More}
 use Rattle.harvester.specs.Deciding.{Decides}
 use Rattle.harvester.specs.Held.{Held}
 use Rattle.harvester.specs.History.{Reads, read_to}
+use Rattle.harvester.specs.TurnLooks.{AreOfLook, AreOfReading, IsRefused}
+use Rattle.harvester.specs.Turns.{answer_of}
+use Rattle.harvester.proofs.AddedLooks.{asked_below, look_of, looks_at_place, looks_of_turn, looks_refused, no_look}
 use Rattle.harvester.proofs.Closing.{none_closes}
 use Rattle.harvester.proofs.TurnsGiven.{ends_given, few_at_end, found_as, look_asked, look_refused, looks_kept, may_be_ended, no_event, of_same, reads_of, settled_as, settled_end, settled_more, settled_refused, settled_told, some_of, turn_refused, turn_told, with_reader}
 use Rattle.harvester.proofs.harvester.Harvester.go_on.Goals as goal
@@ -150,3 +153,53 @@ returns-in-Some-2-clause-of_file g c = λ rules decides.
     (of_same c.look.new.self.reader c.gather.new.self c.in-Some-2.turn c.look.ensures.begin_kept c.look.ensures.epoch_kept
     (some_of c.in_ok-turn-in-End.field-0 c.in-Some-2.turn _ _ c.in-Some-2.is
     (c.in_ok-turn-in-End.ensures.of_file rules (subst (λ (f : FateRules). Decides rules f) (sym c.look.ensures.rules_kept) decides))))
+
+pub returns-in_err-gather-clause-looks : goal.returns-in_err-gather-clause-looks
+returns-in_err-gather-clause-looks g c = no_look _ tt _ _ refl
+
+pub returns-in_err-tell-clause-looks : goal.returns-in_err-tell-clause-looks
+returns-in_err-tell-clause-looks g c = no_look _ tt _ _ (ap g.T.Tail.told c.tell.ensures.tail_kept)
+
+pub returns-then-branch-clause-looks : goal.returns-then-branch-clause-looks
+returns-then-branch-clause-looks g c = no_look _ tt _ _ (ap g.T.Tail.told c.tell.ensures.tail_kept)
+
+pub returns-in_err-look-clause-looks : goal.returns-in_err-look-clause-looks
+returns-in_err-look-clause-looks g c =
+    looks_refused c.from_residual-in_err-look.result c.from_residual-in_err-look.ensures.0 _ _ _
+    (looks_at_place (AreOfReading (Unit {0})) _ _ (ap (λ (held : Held). held.position) c.gather.ensures.others) _ _ c.in_err-look.ensures.looks)
+
+pub returns-in-Less-clause-looks : goal.returns-in-Less-clause-looks
+returns-in-Less-clause-looks g c =
+    asked_below _ _ _ _ _
+    (looks_at_place (AreOfLook (Ok Less)) _ _ (ap (λ (held : Held). held.position) c.gather.ensures.others) _ _ (look_of _ Less c.in-Less.is _ _ _ c.in_ok-look.ensures.looks))
+    c.ask_again.ensures.looks
+
+pub returns-in_err-turn-in-More-clause-looks : goal.returns-in_err-turn-in-More-clause-looks
+returns-in_err-turn-in-More-clause-looks g c =
+    looks_of_turn _ _ _ (ap (λ (held : Held). held.position) c.gather.ensures.others) _ _ _ (look_of _ More c.in-More.is _ _ _ c.in_ok-look.ensures.looks)
+    (ap g.T.Tail.told c.settle.ensures.tail_kept)
+
+pub returns-in-Some-clause-looks : goal.returns-in-Some-clause-looks
+returns-in-Some-clause-looks g c =
+    looks_of_turn _ _ _ (ap (λ (held : Held). held.position) c.gather.ensures.others) _ _ _ (look_of _ More c.in-More.is _ _ _ c.in_ok-look.ensures.looks)
+    (ap g.T.Tail.told c.settle.ensures.tail_kept)
+
+pub returns-in-None-clause-looks : goal.returns-in-None-clause-looks
+returns-in-None-clause-looks g c =
+    looks_of_turn _ _ _ (ap (λ (held : Held). held.position) c.gather.ensures.others) _ _ _ (look_of _ More c.in-More.is _ _ _ c.in_ok-look.ensures.looks)
+    (ap g.T.Tail.told c.settle.ensures.tail_kept)
+
+pub returns-in_err-turn-in-End-clause-looks : goal.returns-in_err-turn-in-End-clause-looks
+returns-in_err-turn-in-End-clause-looks g c =
+    looks_of_turn _ _ _ (ap (λ (held : Held). held.position) c.gather.ensures.others) _ _ _ (look_of _ End c.in-End.is _ _ _ c.in_ok-look.ensures.looks)
+    (ap g.T.Tail.told c.settle-in-End.ensures.tail_kept)
+
+pub returns-in-Some-2-clause-looks : goal.returns-in-Some-2-clause-looks
+returns-in-Some-2-clause-looks g c =
+    looks_of_turn _ _ _ (ap (λ (held : Held). held.position) c.gather.ensures.others) _ _ _ (look_of _ End c.in-End.is _ _ _ c.in_ok-look.ensures.looks)
+    (ap g.T.Tail.told c.settle-in-End.ensures.tail_kept)
+
+pub returns-in-None-2-clause-looks : goal.returns-in-None-2-clause-looks
+returns-in-None-2-clause-looks g c =
+    looks_of_turn _ _ _ (ap (λ (held : Held). held.position) c.gather.ensures.others) _ _ _ (look_of _ End c.in-End.is _ _ _ c.in_ok-look.ensures.looks)
+    (ap g.T.Tail.told c.settle-in-End.ensures.tail_kept)

@@ -1,8 +1,10 @@
-use Rattle.std.proofs.Common.{◌||◌, Bool, sym, ap, subst, ◌∙◌}
+use Rattle.std.proofs.Common.{◌||◌, Bool, refl, sym, ap, subst, ◌∙◌}
 use Rattle.harvester.specs.declared.buffer.TheConstants.{READ_SIZE}
+use Rattle.harvester.specs.declared.stage.Stage.TheVariants as reader
 use Rattle.harvester.specs.History.{Ended}
 use Rattle.harvester.specs.Standing.{stage_of}
 use Rattle.harvester.specs.Turns.{Goes, answer_of}
+use Rattle.harvester.proofs.AddedLooks.{looks_at_stage, no_look}
 use Rattle.harvester.proofs.TurnsGiven.{asked_here, turn_ended, turn_refused, turn_told}
 use Rattle.harvester.proofs.harvester.Harvester.step.Goals as goal
 
@@ -30,3 +32,18 @@ returns-in-Reading-clause-goes g c = λ h ends may has.
     let same = c.may_end-ended.ensures ∙ ap (λ (b : Bool). c.args.last || b) has.held.follows.ends in
     subst (λ (b : Bool). Goes g.T.Tail.numbers g.T.Tail.told READ_SIZE c.args.now.0 b h c.args.self.now (answer_of c.go_on.result) c.go_on.new.self) same
     (c.go_on.ensures.goes h ends (λ is. may (sym same ∙ is)) has)
+
+pub returns-in_err-tell-in-Ended-clause-looks : goal.returns-in_err-tell-in-Ended-clause-looks
+returns-in_err-tell-in-Ended-clause-looks g c = looks_at_stage _ reader.Ended (sym c.stage.ensures ∙ c.in-Ended.is) _ _ _ _ (no_look _ refl _ _ (ap g.T.Tail.told c.tell-in-Ended.ensures.tail_kept))
+
+pub returns-then-has_closed-clause-looks : goal.returns-then-has_closed-clause-looks
+returns-then-has_closed-clause-looks g c = looks_at_stage _ reader.Ended (sym c.stage.ensures ∙ c.in-Ended.is) _ _ _ _ (no_look _ refl _ _ (ap g.T.Tail.told c.tell-in-Ended.ensures.tail_kept))
+
+pub returns-else-has_closed-clause-looks : goal.returns-else-has_closed-clause-looks
+returns-else-has_closed-clause-looks g c = looks_at_stage _ reader.Ended (sym c.stage.ensures ∙ c.in-Ended.is) _ _ _ _ (no_look _ refl _ _ refl)
+
+pub returns-in-Asking-clause-looks : goal.returns-in-Asking-clause-looks
+returns-in-Asking-clause-looks g c = looks_at_stage _ reader.Asking (sym c.stage.ensures ∙ c.in-Asking.is) _ _ _ _ c.ask_again.ensures.looks
+
+pub returns-in-Reading-clause-looks : goal.returns-in-Reading-clause-looks
+returns-in-Reading-clause-looks g c = looks_at_stage _ reader.Reading (sym c.stage.ensures ∙ c.in-Reading.is) _ _ _ _ c.go_on.ensures.looks

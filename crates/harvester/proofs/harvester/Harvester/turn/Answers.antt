@@ -2,6 +2,7 @@ use Rattle.std.proofs.Common.{◌||◌, refl, sym, subst, ◌∙◌}
 use Rattle.std.proofs.lemmas.Bool.{or_right}
 use Rattle.harvester.specs.declared.buffer.TheConstants.{READ_SIZE}
 use Rattle.harvester.specs.declared.turn.Turn.{Turn}
+use Rattle.harvester.specs.TurnLooks.{LooksInTurn}
 use Rattle.harvester.specs.Turned.{IsOfFile, with_turn}
 use Rattle.harvester.proofs.TurnsGiven.{changed_with, is_fault, is_of_file, rested, turned_told}
 use Rattle.harvester.proofs.harvester.Harvester.turn.Goals as goal
@@ -30,3 +31,6 @@ pub returns-clause-read_fault_only_where_faults_rose : goal.returns-clause-read_
 returns-clause-read_fault_only_where_faults_rose g c = λ h has is.
     c.step.ensures.read_fault_only_where_faults_rose
     (is_fault c.step.result _ _ (c.step.ensures.of_file _ has.decides) (sym c.answer-turn.ensures ∙ is))
+
+pub returns-clause-looks : goal.returns-clause-looks
+returns-clause-looks g c = subst (λ (t : Turn). LooksInTurn g.T.Tail.told c.args.self.now t c.step.new.self) (sym c.answer-turn.ensures) c.step.ensures.looks
