@@ -1,13 +1,12 @@
 -- Which looks a turn's calls add.
-use Rattle.std.proofs.Common.{◌≡◌, ◌⊎◌, inl, inr, ℕ, ◌+◌, ◌<◌, ◌≤◌, List, [], ◌∷◌, ◌++◌, length, Bool, Option, Some, None, IfSome, IsErr, IsNone, is_none, Result, Ok, Err, true, false, refl, sym, ap, subst, ◌∙◌, append_assoc, append-nil, arith}
-use Rattle.std.specs.List.{AllByRecursion}
+use Rattle.std.proofs.Common.{◌≡◌, ◌⊎◌, inl, inr, ℕ, ◌<◌, ◌≤◌, List, [], ◌∷◌, ◌++◌, length, Bool, Option, Some, None, IfSome, IsErr, IsNone, Result, Ok, Err, true, false, refl, sym, ap, subst, ◌∙◌, append_assoc, append-nil, arith}
 use Rattle.file_identity.specs.Answers.{with_numbers}
 use Rattle.file_identity.specs.Reading.{Adds}
 use Rattle.file_looks.specs.Looks.{AreLooks, IsAnswered}
 use Rattle.outside.specs.declared.failed.Failed.{Failed}
 use Rattle.outside.specs.declared.history.Look.{Look}
 use Rattle.outside.specs.declared.history.Question.{Question}
-use Rattle.outside.specs.declared.history.Question.TheVariants.{Length, ReadAt}
+use Rattle.outside.specs.declared.history.Question.TheVariants.{ReadAt}
 use Rattle.outside.specs.declared.history.Sight.{Sight}
 use Rattle.outside.specs.Files.{File, latest}
 use Rattle.outside.specs.Tails.{LooksAtBytes, TailHistory, TellsBytes, TellsLength, TellsRead, last_sight, with_look}
@@ -15,12 +14,11 @@ use Rattle.harvester.specs.declared.look.Found.{Found}
 use Rattle.harvester.specs.declared.look.Found.TheVariants.{Less, More, End}
 use Rattle.harvester.specs.declared.stage.Stage.{Stage as ReaderStage}
 use Rattle.harvester.specs.declared.turn.Turn.{Turn}
-use Rattle.harvester.specs.declared.turn.Turn.TheVariants as turn
 use Rattle.harvester.specs.declared.turn_error.TurnError.{TurnError}
 use Rattle.harvester.specs.declared.turn_error.TurnError.TheVariants as error
 use Rattle.harvester.specs.Asked.{IsGivenKey, WasAsked}
 use Rattle.harvester.specs.Held.{Held}
-use Rattle.harvester.specs.TurnLooks.{AddsSome, AreKeyReads, AreOfLook, AreOfReading, AreOfTurn, IsBelow, IsReadAt, IsRefused, LooksOn}
+use Rattle.harvester.specs.TurnLooks.{AddsSome, AreKeyReads, AreOfLook, AreOfReading, AreOfTurn, IsReadAt, IsRefused, LooksOn}
 use Rattle.harvester.specs.Turns.{answer_of}
 use Rattle.harvester.proofs.AskedGiven.{asking_reads, part_reads}
 
@@ -54,11 +52,14 @@ module _ (told : TailHistory) (after : Option TailHistory) where
   length_adds : (answer : ℕ) (tells : TellsLength (Some told) (Ok answer) after) → Adds told (tells.look ∷ []) after
   length_adds answer tells = record {
     kept = tells.kept;
-    shown = (record {
-      of_file = tells.next.of_file;
-      no_earlier = tells.next.no_earlier;
-      answered = let A : Question → Type 0 = λ q. IsAnswered q tells.look.sight in subst A (sym tells.asked) tt;
-    }, tt);
+    shown = (
+      record {
+        of_file = tells.next.of_file;
+        no_earlier = tells.next.no_earlier;
+        answered = let A : Question → Type 0 = λ q. IsAnswered q tells.look.sight in subst A (sym tells.asked) tt;
+      },
+      tt,
+    );
   }
 
   looks_at : (at : ℕ) (into : List ℕ) (count : ℕ) → 0 < length into → TellsBytes told at into count after → LooksAtBytes told at into count after
@@ -68,11 +69,14 @@ module _ (told : TailHistory) (after : Option TailHistory) where
   read_adds : (at : ℕ) (into : List ℕ) (count : ℕ) (looked : LooksAtBytes told at into count after) → Adds told (looked.look ∷ []) after
   read_adds at into count looked = record {
     kept = looked.kept;
-    shown = (record {
-      of_file = looked.next.of_file;
-      no_earlier = looked.next.no_earlier;
-      answered = let A : Question → Type 0 = λ q. IsAnswered q looked.look.sight in subst A (sym looked.asked) (looked.within, looked.none_only_at_the_end);
-    }, tt);
+    shown = (
+      record {
+        of_file = looked.next.of_file;
+        no_earlier = looked.next.no_earlier;
+        answered = let A : Question → Type 0 = λ q. IsAnswered q looked.look.sight in subst A (sym looked.asked) (looked.within, looked.none_only_at_the_end);
+      },
+      tt,
+    );
   }
 
 -- ---- steps

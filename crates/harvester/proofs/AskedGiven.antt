@@ -71,13 +71,13 @@ part_reads Path looks is = none_read looks is
 module _ {T : Type 0} (numbers : T → Option (ℕ × ℕ)) (told : T → Option TailHistory) (h : History) (old : Harvester T)
     (has : HasTold numbers told h old) (asking : old.reader.stage ≡ Asking) where
   asks : h.stage ≡ Asks
-  asks = sym has.held.follows.stage ∙ ap stage_of asking
+  asks = sym has.held.holds.follows.stage ∙ ap stage_of asking
 
   -- the key by the rule with which the harvester was opened
   key_of_opening : (file : File) (looks : List Look) → IsAsking old.reader.identity looks →
       given_key old.reader.input old.reader.identity old.reader.begin.path file looks ≡ Some old.reader.begin.key → GivesKey h.rule h.begin.key h.begin.path file looks
   key_of_opening file looks asked gave =
-      let f = has.held.follows in
+      let f = has.held.holds.follows in
       record {
         asking = subst (λ (r : IdentityRule). IsAsking r looks) f.identity asked;
         gave = subst (λ (b : Begin). given_key h.rule.id h.rule.file_identity b.path file looks ≡ Some b.key) f.begin
@@ -88,7 +88,7 @@ module _ {T : Type 0} (numbers : T → Option (ℕ × ℕ)) (told : T → Option
   key_is_other : (file : File) (looks : List Look) → given_key old.reader.input old.reader.identity old.reader.begin.path file looks ≢ Some old.reader.begin.key →
       given_key h.rule.id h.rule.file_identity h.begin.path file looks ≢ Some h.begin.key
   key_is_other file looks other =
-      let f = has.held.follows in
+      let f = has.held.holds.follows in
       subst (λ (b : Begin). given_key h.rule.id h.rule.file_identity b.path file looks ≢ Some b.key) f.begin
       (subst (λ (i : List ℕ). given_key i h.rule.file_identity old.reader.begin.path file looks ≢ Some old.reader.begin.key) f.input
       (subst (λ (r : IdentityRule). given_key old.reader.input r old.reader.begin.path file looks ≢ Some old.reader.begin.key) f.identity other))
@@ -150,7 +150,7 @@ module _ {T : Type 0} (numbers : T → Option (ℕ × ℕ)) (told : T → Option
   other_step before looked looks gave =
       let only = asking_reads old.reader.identity looks gave.0 in
       changes (numbers old.tail) h before looked asks looks only
-      (other before looked looks only (subst (λ (r : IdentityRule). IsAsking r looks) has.held.follows.identity gave.0)
+      (other before looked looks only (subst (λ (r : IdentityRule). IsAsking r looks) has.held.holds.follows.identity gave.0)
       (key_is_other (with_numbers (numbers old.tail) before.file) looks gave.1))
 
   fault_step : (error : TurnError) (before : TailHistory) → IsLookedAt (numbers old.tail) h before → (looks : List Look) →
@@ -171,7 +171,7 @@ module _ {T : Type 0} (numbers : T → Option (ℕ × ℕ)) (told : T → Option
     begins epoch asked stands next = record {
       has_told = now_has (with_epoch h) refl stands
           (looked_then (with_epoch h) (Ok true) (λ before looked looks gave. (same_step before looked looks gave).0) (told old.tail) (told tail) has.looked asked untold);
-      asked_in = next ∙ ap (λ (n : ℕ). n + 1) has.held.follows.epoch;
+      asked_in = next ∙ ap (λ (n : ℕ). n + 1) has.held.holds.follows.epoch;
     }
 
     pub epochs_out : IfSome (told old.tail) (λ earlier. WasAsked old.reader (numbers old.tail) earlier (Ok true) (told tail)) →
@@ -179,7 +179,7 @@ module _ {T : Type 0} (numbers : T → Option (ℕ × ℕ)) (told : T → Option
     epochs_out asked stands last = record {
       has_told = now_has (with_stage Over h) refl stands
           (looked_then (with_stage Over h) (Ok true) (λ before looked looks gave. (same_step before looked looks gave).1) (told old.tail) (told tail) has.looked asked untold);
-      asked_in = sym has.held.follows.epoch ∙ last;
+      asked_in = sym has.held.holds.follows.epoch ∙ last;
     }
 
     pub has_other : IfSome (told old.tail) (λ earlier. WasAsked old.reader (numbers old.tail) earlier (Ok false) (told tail)) →

@@ -1,5 +1,5 @@
 -- What is gathered, step by step.
-use Rattle.std.proofs.Common.{◌≡◌, ◌⊎◌, inl, inr, ℕ, ◌+◌, ◌<◌, ◌≤◌, Bool, true, false, List, [], ◌∷◌, ◌++◌, length, Contains, Option, Some, None, IfSome, IfNone, IfOk, OnOk, Result, Ok, Err, IsErr, IsTrue, IsSome, is_some, ◌↔◌, option_to_list, refl, sym, ap, subst, ◌∙◌, append_assoc, append-nil, arith}
+use Rattle.std.proofs.Common.{◌≡◌, inl, inr, ℕ, ◌+◌, ◌<◌, ◌≤◌, Bool, true, false, List, [], ◌∷◌, ◌++◌, length, Contains, Option, Some, None, IfSome, IfNone, IfOk, OnOk, Result, Ok, Err, IsErr, IsTrue, IsSome, is_some, ◌↔◌, option_to_list, refl, sym, ap, subst, ◌∙◌, append_assoc, append-nil, length-append, arith}
 use Rattle.std.specs.Option.{ForSome}
 use Rattle.std.proofs.lemmas.List.Elements.{Contains-append_right}
 use Rattle.event_tree.specs.declared.group_rule.GroupRule.{GroupRule}
@@ -16,7 +16,7 @@ use Rattle.told_events.specs.Rules.{Rules}
 use Rattle.wire_base.specs.declared.memory.NoMemory.{NoMemory}
 use Rattle.wire_base.specs.declared.numbers.Moment.{Moment}
 use Rattle.harvester.specs.declared.events.Events.{Events}
-use Rattle.harvester.specs.Gathered.{AreClosed, AreCut, Gathered, IsGathered, IsGatheredBut, Moved, all_flushed, all_told, flushed_at, lines_of}
+use Rattle.harvester.specs.Gathered.{AreClosed, AreCut, Gathered, HasMoved, IsGathered, IsGatheredBut, Moved, all_flushed, all_told, flushed_at, lines_of}
 
 pub on_ok : (r : Result (Unit {0}) NoMemory) (P Q : Type 0) → (P → Q) → OnOk r P → OnOk r Q
 on_ok (Ok done) P Q so here = so here
@@ -81,6 +81,13 @@ module _ (rules : Rules) (start : ℕ) (fed licences : List ℕ) (of : Gathered)
   lines_without none rest =
       ap (λ (l : List Line). (of.told ++ (l ++ of.waiting)) ++ rest) none ∙ append_assoc of.told of.waiting rest
 
+  -- by that line
+  one_longer : (lines : List Line) (line : Line) → lines_of of ++ line ∷ [] ≡ lines ++ [] → length (lines_of of) < length lines
+  one_longer lines line are =
+      let long : length (lines_of of) + 1 ≡ length lines =
+      sym (length-append (lines_of of) (line ∷ [])) ∙ ap (λ (l : List Line). length l) are ∙ ap (λ (l : List Line). length l) (append-nil lines) in
+      omega (arith, long)
+
   -- the line joins those that wait, or closes an event
   pub gathers_line : (line : Line) (now : Moment) (old : Events) (grouper : Grouping) (found : Option Group) → old.line ≡ None → of.closed ≡ [] →
       IsGatheredBut rules start fed licences of (line ∷ []) old → IfSome found (Closes rules.events of.waiting line now grouper) →
@@ -100,7 +107,7 @@ module _ (rules : Rules) (start : ℕ) (fed licences : List ℕ) (of : Gathered)
           gathers = joining;
           closed = refl;
         };
-        last_line = inr refl;
+        last_line = inr (one_longer (lines_of after) line spelled, refl);
       }
   gathers_line line now old grouper (Some group) no_line none is closing joining =
       let after : Gathered = record { told = of.told; closed = closing.closed; waiting = closing.left } in
@@ -119,7 +126,7 @@ module _ (rules : Rules) (start : ℕ) (fed licences : List ℕ) (of : Gathered)
           gathers = closing.gathers;
           closed = record { group_is = closing.same_group; ended = inl natural };
         };
-        last_line = inr refl;
+        last_line = inr (one_longer (lines_of after) line spelled, refl);
       }
 
   -- the line is kept
@@ -129,12 +136,12 @@ module _ (rules : Rules) (start : ℕ) (fed licences : List ℕ) (of : Gathered)
     after = of;
     same_told = refl;
     is = record { lines = is.lines; cut = is.cut; gathers = is.gathers; closed = is.closed };
-    last_line = inl refl;
+    last_line = inl (refl, refl);
   }
 
   -- nothing was gathered
   pub unmoved : (now : Moment) (events : Events) → IsGathered rules start fed licences of events → Moved rules start fed licences of events.last_line now events
-  unmoved now events is = record { after = of; same_told = refl; is = is; last_line = inl refl }
+  unmoved now events is = record { after = of; same_told = refl; is = is; last_line = inl (refl, refl) }
 
   -- further lines are gathered
   pub moves_on : (last now between : Moment) (first second : Events) (m : Moved rules start fed licences of last now first) → between ≡ first.last_line →
@@ -146,11 +153,15 @@ module _ (rules : Rules) (start : ℕ) (fed licences : List ℕ) (of : Gathered)
     last_line = on g.last_line m.last_line;
   }
     where
-      on : (second.last_line ≡ between) ⊎ (second.last_line ≡ now) → (first.last_line ≡ last) ⊎ (first.last_line ≡ now) →
-          (second.last_line ≡ last) ⊎ (second.last_line ≡ now)
-      on (inr is_now) before = inr is_now
-      on (inl stays) (inl before) = inl (stays ∙ same ∙ before)
-      on (inl stays) (inr before) = inr (stays ∙ same ∙ before)
+      on : HasMoved m.after g.after between now second.last_line → HasMoved of m.after last now first.last_line → HasMoved of g.after last now second.last_line
+      on (inl stays) (inl before) = inl (stays.0 ∙ before.0, stays.1 ∙ same ∙ before.1)
+      on (inl stays) (inr before) =
+          let long : length (lines_of g.after) ≡ length (lines_of m.after) = ap (λ (l : List Line). length l) stays.0 in
+          inr (omega (arith, long, before.0), stays.1 ∙ same ∙ before.1)
+      on (inr is_now) (inl before) =
+          let long : length (lines_of m.after) ≡ length (lines_of of) = ap (λ (l : List Line). length l) before.0 in
+          inr (omega (arith, long, is_now.0), is_now.1)
+      on (inr is_now) (inr before) = inr (omega (arith, is_now.0, before.0), is_now.1)
 
   -- ---- the event that waits, and the one that is closed
 

@@ -18,14 +18,14 @@ module _ {T : Type 0} (numbers : T → Option (ℕ × ℕ)) (told : T → Option
     where
       go : (o : Option TailHistory) → AreLookedAt (numbers old.tail) h o → AreLookedAt (numbers old.tail) (with_path path h) o
       go None looked = tt
-      go (Some earlier) looked = other_turn (numbers old.tail) h earlier looked path h.moments h.ends h.may_end h.forgets (λ may. may) (λ distance apart. apart)
+      go (Some earlier) looked = other_turn (numbers old.tail) h earlier looked path h.moments h.last_line h.ends h.may_end h.forgets (λ may. may) (λ distance apart. apart)
 
   pub may_end : (forget : Bool) → StandsFor (with_ending forget h) reader → HasTold numbers told (with_ending forget h) (record old { reader = reader })
   may_end forget stands = record { held = stands; decides = has.decides; looked = go (told old.tail) has.looked }
     where
       go : (o : Option TailHistory) → AreLookedAt (numbers old.tail) h o → AreLookedAt (numbers old.tail) (with_ending forget h) o
       go None looked = tt
-      go (Some earlier) looked = other_turn (numbers old.tail) h earlier looked h.path h.moments true h.may_end forget (λ may. may) (λ distance apart. apart)
+      go (Some earlier) looked = other_turn (numbers old.tail) h earlier looked h.path h.moments h.last_line true h.may_end forget (λ may. may) (λ distance apart. apart)
 
 -- nothing was looked at since the opening
 pub looked_at_opening : (numbers : Option (ℕ × ℕ)) (rule : InputRule) (processors : List ProcessorRule) (begin : Begin) (now : ℕ) (told : Option TailHistory) →

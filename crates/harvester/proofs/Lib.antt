@@ -6,6 +6,7 @@ pub mod Did
 pub mod Gathering
 pub mod Looking
 pub mod HasToldGiven
+pub mod Lasting
 pub mod LookSteps
 pub mod LookingOn
 pub mod LooksGiven

@@ -42,17 +42,17 @@ all_behind_one h file [] (s ∷ segments) are telling segment is = absurd are
 all_behind_one h file (t ∷ tellings) [] are telling segment is = absurd are
 all_behind_one h file (t ∷ tellings) (s ∷ segments) are telling segment is = (are.0, all_behind_one h file tellings segments are.1 telling segment is)
 
--- with another path, further moments, and what may be found
-abbrev pub turned_as : List ℕ → List ℕ → Bool → Bool → Bool → History → History
-turned_as path moments ends may_end forgets h = record h { path = path; moments = moments; ends = ends; may_end = may_end; forgets = forgets }
+-- with another path, further moments, another last line, and what may be found
+abbrev pub turned_as : List ℕ → List ℕ → ℕ → Bool → Bool → Bool → History → History
+turned_as path moments last_line ends may_end forgets h = record h { path = path; moments = moments; last_line = last_line; ends = ends; may_end = may_end; forgets = forgets }
 
 module _ (numbers : Option (ℕ × ℕ)) (h : History) (told : TailHistory) (l : IsLookedAt numbers h told) where
-  pub other_turn : (path moments : List ℕ) (ends may_end forgets : Bool) → (h.may_end ≡ true → may_end ≡ true) →
+  pub other_turn : (path moments : List ℕ) (last_line : ℕ) (ends may_end forgets : Bool) → (h.may_end ≡ true → may_end ≡ true) →
       ((distance : ℕ) → LieApart h.moments distance → LieApart moments distance) →
-      IsLookedAt numbers (turned_as path moments ends may_end forgets h) told
-  other_turn path moments ends may_end forgets may waits =
+      IsLookedAt numbers (turned_as path moments last_line ends may_end forgets h) told
+  other_turn path moments last_line ends may_end forgets may waits =
       let file = with_numbers numbers told.file in
-      let new = turned_as path moments ends may_end forgets h in
+      let new = turned_as path moments last_line ends may_end forgets h in
       let on : GoesOnAs h new = record { rule = refl; begin = refl; end = may; waits = waits } in
       record {
         since = l.since;
@@ -67,11 +67,11 @@ module _ (numbers : Option (ℕ × ℕ)) (h : History) (told : TailHistory) (l :
         end_look = l.end_look;
       }
     where
-      fallen : (looks : List Look) → HasFallen h looks → HasFallen (turned_as path moments ends may_end forgets h) looks
+      fallen : (looks : List Look) → HasFallen h looks → HasFallen (turned_as path moments last_line ends may_end forgets h) looks
       fallen looks is = record { fall = is.fall; later = is.later; looks_are = is.looks_are; asks = is.asks; below = is.below; only_reads = is.only_reads }
 
       behind : (stage : Stage) (looks : List Look) → StandBehind h (with_numbers numbers told.file) stage looks →
-          StandBehind (turned_as path moments ends may_end forgets h) (with_numbers numbers told.file) stage looks
+          StandBehind (turned_as path moments last_line ends may_end forgets h) (with_numbers numbers told.file) stage looks
       behind Reads looks is = is
       behind Asks looks is = fallen looks is
       behind Ended looks is = is
@@ -395,3 +395,13 @@ module _ (numbers : Option (ℕ × ℕ)) (h : History) (told : TailHistory) (l :
     pub flushes_at_end : h.may_end ≡ true → (places : List ℕ) → AllByRecursion (EndsLines h) places →
         IsLookedAt numbers (with_stage Ended (with_present (with_licences places h.present) h)) told
     flushes_at_end may places ends = ends_with places (all_licensed (inl (may, found)) places ends)
+
+-- ---- when the last line was read is no part of what is looked at
+
+pub found_as_well : (numbers : Option (ℕ × ℕ)) (h : History) (told : TailHistory) (last_line : ℕ) → FoundEnd numbers h told →
+    FoundEnd numbers (record h { last_line = last_line }) told
+unfolding other_turn
+found_as_well numbers h told last_line found = record {
+  looked = other_turn numbers h told found.looked h.path h.moments last_line h.ends h.may_end h.forgets (λ may. may) (λ distance apart. apart);
+  end_look = found.end_look;
+}

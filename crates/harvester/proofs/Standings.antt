@@ -1,5 +1,5 @@
 -- For which histories a harvester stands, step by step.
-use Rattle.std.proofs.Common.{◌≡◌, ◌⊎◌, inl, inr, ℕ, zero, suc, ◌+◌, ◌-◌, ◌<◌, ◌≤◌, Bool, true, false, IfOk, IfSome, OnErr, IsSome, IsTrue, ◌↔◌, List, [], ◌∷◌, ◌++◌, length, take, drop, Contains, Option, Some, None, option_to_list, refl, sym, ap, subst, ◌∙◌, append_assoc, append-nil, length-append, le_refl, add-zero, Result, Ok, Err, arith}
+use Rattle.std.proofs.Common.{◌≡◌, inl, inr, ℕ, zero, suc, ◌+◌, ◌-◌, ◌<◌, ◌≤◌, Bool, true, false, IfSome, OnErr, List, [], ◌∷◌, ◌++◌, length, take, drop, Contains, Option, Some, None, option_to_list, refl, sym, ap, subst, ◌∙◌, append_assoc, append-nil, length-append, le_refl, add-zero, Result, Ok, Err, arith}
 use Rattle.std.proofs.lemmas.List.{length-take-le}
 use Rattle.std.proofs.lemmas.List.Elements.{Contains-append_left}
 use Rattle.event_tree.specs.declared.input_rule.IdentityRule.{IdentityRule}
@@ -29,24 +29,23 @@ use Rattle.harvester.specs.declared.stage.Stage.{Stage as ReaderStage}
 use Rattle.harvester.specs.declared.stage.Stage.TheVariants.{Reading}
 use Rattle.harvester.specs.InRange.{IsReadable}
 use Rattle.harvester.specs.declared.events.Events.{Events}
-use Rattle.harvester.specs.Gathered.{AreClosed, AreCut, Found, Gathered, IsClosedEvent, IsGathered, all_told, lines_of, none_gathered}
+use Rattle.harvester.specs.Gathered.{AreClosed, AreCut, Found, Gathered, HasMoved, IsClosedEvent, IsGathered, all_told, none_gathered}
 use Rattle.harvester.specs.Held.{Held}
-use Rattle.harvester.specs.History.{History, IsTelling, opened, rules_in, told_to, with_bytes, with_ending, with_epoch, with_events, with_path, with_present, with_stage}
-use Rattle.harvester.specs.Standing.{AllGathered, StandsFor, given_path, stage_of}
-use Rattle.harvester.proofs.Gathering.{none_where_false, row_end-append}
+use Rattle.harvester.specs.History.{History, IsTelling, opened, rules_in, told_to, with_ending, with_epoch, with_events, with_path, with_present, with_read, with_stage}
+use Rattle.harvester.specs.Standing.{Holds, given_path, stage_of}
+use Rattle.harvester.proofs.Gathering.{row_end-append}
 use Rattle.harvester.proofs.Looking.{shorter}
 use Rattle.harvester.proofs.Telling.{any_place, last_end-append, not_empty, one_told, span_within, spans_of-append}
 
 -- ---- the closed event
 
-module _ (h : History) (held : Held) (t : StandsFor h held) (group : Group) (closed_is : held.events.closed ≡ Some group) where
-  closed_event : IsClosedEvent (rules_in h) h.present.licences t.has.of.closed t.has.of.waiting group
-  closed_event = subst (λ (o : Option Group). AreClosed (rules_in h) h.present.licences t.has.of.closed t.has.of.waiting o) closed_is t.has.gathered.closed
+module _ (h : History) (held : Held) (of : Gathered) (t : Holds h held of) (group : Group) (closed_is : held.events.closed ≡ Some group) where
+  closed_event : IsClosedEvent (rules_in h) h.present.licences of.closed of.waiting group
+  closed_event = subst (λ (o : Option Group). AreClosed (rules_in h) h.present.licences of.closed of.waiting o) closed_is t.has.gathered.closed
 
   -- its span lies within what was read
   pub span_in_range : IsPlace group.span.start × IsPlace group.span.end
   span_in_range =
-      let of = t.has.of in
       let rest = option_to_list held.events.line in
       let spelled : (of.told ++ (of.closed ++ of.waiting)) ++ rest ≡ (of.told ++ of.closed) ++ (of.waiting ++ rest) =
       ap (λ (l : List Line). l ++ rest) (sym (append_assoc of.told of.closed of.waiting)) ∙ append_assoc (of.told ++ of.closed) of.waiting rest in
@@ -70,7 +69,6 @@ module _ (h : History) (held : Held) (t : StandsFor h held) (group : Group) (clo
       (fate : event.fate ≡ fate_of (rules_in h) event.path group.span.start group.message event.now) where
     present_told : IsTelling (rules_in h) (with_events (event ∷ []) h.present)
     present_told life has =
-        let of = t.has.of in
         let rules = rules_in h in
         let alone : AreTold rules h.present.licences life (row_end h.present.start of.told) (event ∷ []) =
         one_told stay later natural_stays rules h.present.licences event group span some fate h.present.start t.has.fed h.present.bytes life
@@ -80,10 +78,9 @@ module _ (h : History) (held : Held) (t : StandsFor h held) (group : Group) (clo
         (subst (λ (n : ℕ). AreTold rules h.present.licences life n (event ∷ [])) (t.has.told_to ∙ t.told_place) alone)
 
     pub told_stands : (events : Events) →
-        IsGathered (rules_in h) h.present.start t.has.fed h.present.licences (all_told t.has.of) events → events.last_line ≡ held.events.last_line →
-        StandsFor (with_present (with_events (event ∷ []) h.present) h) (record held { events = events; told_to = group.span.end })
+        IsGathered (rules_in h) h.present.start t.has.fed h.present.licences (all_told of) events → events.last_line ≡ held.events.last_line →
+        Holds (with_present (with_events (event ∷ []) h.present) h) (record held { events = events; told_to = group.span.end }) (all_told of)
     told_stands events gathered last =
-        let of = t.has.of in
         let end_is : group.span.end ≡ row_end 0 of.closed = ap (λ (g : Group). g.span.end) closed_event.group_is in
         let told_end : row_end h.present.start (of.told ++ of.closed) ≡ group.span.end =
         row_end-append h.present.start of.told of.closed ∙ any_place stay later natural_stays (rules_in h) h.present.licences event group span some fate of.closed
@@ -110,7 +107,7 @@ module _ (h : History) (held : Held) (t : StandsFor h held) (group : Group) (clo
             in_range = t.moments.in_range;
           };
           position = record { position = t.position.position; in_range = t.position.in_range; some_room = t.position.some_room; within = t.position.within };
-          has = record { fed = t.has.fed; of = all_told of; bytes = t.has.bytes; gathered = gathered; told_to = told_end };
+          has = record { fed = t.has.fed; bytes = t.has.bytes; gathered = gathered; told_to = told_end };
           told_place = sym place;
           past = t.past;
           present = present_told;
@@ -118,12 +115,12 @@ module _ (h : History) (held : Held) (t : StandsFor h held) (group : Group) (clo
 
 -- ---- what is gathered changes
 
-module _ (h : History) (held : Held) (t : StandsFor h held) where
+module _ (h : History) (held : Held) (of : Gathered) (t : Holds h held of) where
   -- the events are gathered further, by what was fed or with what was read
-  pub gathers_stand : (events : Events) (filled : ℕ) (fed : List ℕ) (of : Gathered) → filled ≤ held.filled →
-      h.present.bytes ≡ fed ++ take filled held.buffer → IsGathered (rules_in h) h.present.start fed h.present.licences of events → of.told ≡ t.has.of.told →
-      Contains h.moments events.last_line.0 → StandsFor h (record held { events = events; filled = filled })
-  gathers_stand events filled fed of fewer bytes gathered told last = record {
+  pub gathers_stand : (events : Events) (filled : ℕ) (fed : List ℕ) (after : Gathered) → filled ≤ held.filled →
+      h.present.bytes ≡ fed ++ take filled held.buffer → IsGathered (rules_in h) h.present.start fed h.present.licences after events → after.told ≡ of.told →
+      Contains h.moments events.last_line.0 → Holds h (record held { events = events; filled = filled }) after
+  gathers_stand events filled fed after fewer bytes gathered told last = record {
     follows = record {
       begin = t.follows.begin;
       path = t.follows.path;
@@ -145,7 +142,6 @@ module _ (h : History) (held : Held) (t : StandsFor h held) where
     };
     has = record {
       fed = fed;
-      of = of;
       bytes = bytes;
       gathered = gathered;
       told_to = ap (λ (l : List Line). row_end h.present.start l) told ∙ t.has.told_to;
@@ -158,48 +154,32 @@ module _ (h : History) (held : Held) (t : StandsFor h held) where
   -- what was read is fed
   pub fed_stands : (events : Events) → ((rules : Rules) (start : ℕ) (fed licences : List ℕ) (of : Gathered) →
       IsGathered rules start fed licences of held.events → IsGathered rules start (fed ++ take held.filled held.buffer) licences of events) →
-      events.last_line ≡ held.events.last_line → StandsFor h (record held { events = events; filled = 0 })
+      events.last_line ≡ held.events.last_line → Holds h (record held { events = events; filled = 0 }) of
   fed_stands events feeds last =
       let all : h.present.bytes ≡ (t.has.fed ++ take held.filled held.buffer) ++ take 0 held.buffer =
       t.has.bytes ∙ sym (append-nil (t.has.fed ++ take held.filled held.buffer)) in
-      gathers_stand events 0 (t.has.fed ++ take held.filled held.buffer) t.has.of (omega arith) all
-      (feeds (rules_in h) h.present.start t.has.fed h.present.licences t.has.of t.has.gathered) refl
+      gathers_stand events 0 (t.has.fed ++ take held.filled held.buffer) of (omega arith) all
+      (feeds (rules_in h) h.present.start t.has.fed h.present.licences of t.has.gathered) refl
       (subst (λ (m : Moment). Contains h.moments m.0) (sym last) t.moments.last_line)
 
   -- lines were gathered
-  pub found_stands : (events : Events) (result : Result Bool NoMemory) →
-      Found (rules_in h) h.present.start t.has.fed h.present.licences t.has.of held.events.last_line held.read_at result events →
-      StandsFor h (record held { events = events })
+  pub found_stands : (events : Events) (result : Result Bool NoMemory)
+      (found : Found (rules_in h) h.present.start t.has.fed h.present.licences of held.events.last_line held.read_at result events) →
+      Holds h (record held { events = events }) found.moved.after
   found_stands events result found =
       gathers_stand events held.filled t.has.fed found.moved.after (le_refl held.filled) t.has.bytes found.moved.is found.moved.same_told
       (given found.moved.last_line)
     where
-      given : (events.last_line ≡ held.events.last_line) ⊎ (events.last_line ≡ held.read_at) → Contains h.moments events.last_line.0
-      given (inl same) = subst (λ (m : Moment). Contains h.moments m.0) (sym same) t.moments.last_line
-      given (inr now) = subst (λ (m : Moment). Contains h.moments m.0) (sym now) t.moments.read_at
-
-  pub all_found : (events : Events) (result : Result Bool NoMemory) → held.filled ≡ 0 → events.closed ≡ None →
-      (found : Found (rules_in h) h.present.start t.has.fed h.present.licences t.has.of held.events.last_line held.read_at result events) →
-      complete_lines h.rule.lines h.present.start t.has.fed ≡ lines_of found.moved.after → AllGathered h (record held { events = events })
-  all_found events result none closed found all = record {
-    has = record {
-      fed = t.has.fed;
-      of = found.moved.after;
-      bytes = t.has.bytes;
-      gathered = found.moved.is;
-      told_to = ap (λ (l : List Line). row_end h.present.start l) found.moved.same_told ∙ t.has.told_to;
-    };
-    all = all;
-    none_unfed = none;
-    none_closed = subst (λ (o : Option Group). AreClosed (rules_in h) h.present.licences found.moved.after.closed found.moved.after.waiting o) closed found.moved.is.closed;
-  }
+      given : HasMoved of found.moved.after held.events.last_line held.read_at events.last_line → Contains h.moments events.last_line.0
+      given (inl same) = subst (λ (m : Moment). Contains h.moments m.0) (sym same.1) t.moments.last_line
+      given (inr now) = subst (λ (m : Moment). Contains h.moments m.0) (sym now.1) t.moments.read_at
 
   -- ---- more bytes are read
 
   pub read_stands : (buffer : List ℕ) (count : ℕ) (read_at : Moment) → held.filled ≡ 0 → 0 < length buffer → count ≤ length buffer →
       IsPlace (held.position + count) → Contains h.moments read_at.0 → IsMoment read_at →
-      StandsFor (with_present (with_bytes (take count buffer) h.present) h)
-      (record held { buffer = buffer; filled = count; position = held.position + count; read_at = read_at })
+      Holds (with_read read_at.0 (take count buffer) h)
+      (record held { buffer = buffer; filled = count; position = held.position + count; read_at = read_at }) of
   read_stands buffer count read_at none some within in_range given moment =
       let fed_all : h.present.bytes ≡ t.has.fed =
       t.has.bytes ∙ ap (λ (n : ℕ). t.has.fed ++ take n held.buffer) none ∙ append-nil t.has.fed in
@@ -226,7 +206,6 @@ module _ (h : History) (held : Held) (t : StandsFor h held) where
         };
         has = record {
           fed = t.has.fed;
-          of = t.has.of;
           bytes = ap (λ (l : List ℕ). l ++ take count buffer) fed_all;
           gathered = t.has.gathered;
           told_to = t.has.told_to;
@@ -241,30 +220,18 @@ place_on at zero here there = omega (arith, here)
 place_on at (suc count) here there = there (omega arith)
 
 -- bytes were read into the front of the buffer
-pub read_on : (h : History) (held : Held) → StandsFor h held → (buffer : List ℕ) (count : ℕ) (now : Moment) → held.filled ≡ 0 →
+pub read_on : (h : History) (held : Held) (of : Gathered) → Holds h held of → (buffer : List ℕ) (count : ℕ) (now : Moment) → held.filled ≡ 0 →
     length buffer ≡ length held.buffer → count ≤ length buffer → (0 < count → IsPlace (held.position + count)) → Contains h.moments now.0 → IsMoment now →
-    StandsFor (with_present (with_bytes (take count buffer) h.present) h)
-    (record held { buffer = buffer; filled = count; position = held.position + count; read_at = now })
-read_on h held t buffer count now none room within in_range given moment =
-    read_stands h held t buffer count now none (omega (arith, room, t.position.some_room)) within
+    Holds (with_read now.0 (take count buffer) h)
+    (record held { buffer = buffer; filled = count; position = held.position + count; read_at = now }) of
+read_on h held of t buffer count now none room within in_range given moment =
+    read_stands h held of t buffer count now none (omega (arith, room, t.position.some_room)) within
     (place_on held.position count t.position.in_range in_range) given moment
-
--- where no event is found, all complete lines are gathered
-pub all_where_found : (held old : Held) → held ≡ old → (events : Events) (r : Result Bool NoMemory) →
-    ((rules : Rules) (start : ℕ) (fed licences : List ℕ) (of : Gathered) → IsGathered rules start fed licences of held.events →
-    Found rules start fed licences of held.events.last_line held.read_at r events) → held.filled ≡ 0 →
-    IfOk r (λ (found : Bool). IsTrue found ↔ IsSome events.closed) →
-    IfOk r (λ (found : Bool). found ≡ false → (h : History) → StandsFor h old → AllGathered h (record held { events = events }))
-all_where_found held old same events (Ok b) finds none closed = λ no h stands.
-    let t = subst (λ (v : Held). StandsFor h v) (sym same) stands in
-    let found = finds (rules_in h) h.present.start t.has.fed h.present.licences t.has.of t.has.gathered in
-    all_found h held t events (Ok b) none (none_where_false b events.closed closed no) found (found.all no)
-all_where_found held old same events (Err error) finds none closed = tt
 
 -- ---- where the file stands, and with a small buffer
 
-module _ (h : History) (held : Held) (t : StandsFor h held) where
-  pub staged : (stage : ReaderStage) → StandsFor (with_stage (stage_of stage) h) (record held { stage = stage })
+module _ (h : History) (held : Held) (of : Gathered) (t : Holds h held of) where
+  pub staged : (stage : ReaderStage) → Holds (with_stage (stage_of stage) h) (record held { stage = stage }) of
   staged stage = record {
     follows = record {
       begin = t.follows.begin;
@@ -280,14 +247,14 @@ module _ (h : History) (held : Held) (t : StandsFor h held) where
     };
     moments = record { read_at = t.moments.read_at; last_line = t.moments.last_line; in_range = t.moments.in_range };
     position = record { position = t.position.position; in_range = t.position.in_range; some_room = t.position.some_room; within = t.position.within };
-    has = record { fed = t.has.fed; of = t.has.of; bytes = t.has.bytes; gathered = t.has.gathered; told_to = t.has.told_to };
+    has = record { fed = t.has.fed; bytes = t.has.bytes; gathered = t.has.gathered; told_to = t.has.told_to };
     told_place = t.told_place;
     past = t.past;
     present = t.present;
   }
 
   -- with a further moment
-  pub turned_stands : (now : ℕ) (may_end : Bool) → StandsFor (record h { moments = h.moments ++ now ∷ []; may_end = may_end }) held
+  pub turned_stands : (now : ℕ) (may_end : Bool) → Holds (record h { moments = h.moments ++ now ∷ []; may_end = may_end }) held of
   turned_stands now may_end = record {
     follows = record {
       begin = t.follows.begin;
@@ -307,13 +274,13 @@ module _ (h : History) (held : Held) (t : StandsFor h held) where
       in_range = t.moments.in_range;
     };
     position = record { position = t.position.position; in_range = t.position.in_range; some_room = t.position.some_room; within = t.position.within };
-    has = record { fed = t.has.fed; of = t.has.of; bytes = t.has.bytes; gathered = t.has.gathered; told_to = t.has.told_to };
+    has = record { fed = t.has.fed; bytes = t.has.bytes; gathered = t.has.gathered; told_to = t.has.told_to };
     told_place = t.told_place;
     past = t.past;
     present = t.present;
   }
 
-  pub path_stands : (path : List ℕ) → StandsFor (with_path path h) (record held { renamed = Some path })
+  pub path_stands : (path : List ℕ) → Holds (with_path path h) (record held { renamed = Some path }) of
   path_stands path = record {
     follows = record {
       begin = t.follows.begin;
@@ -329,13 +296,13 @@ module _ (h : History) (held : Held) (t : StandsFor h held) where
     };
     moments = record { read_at = t.moments.read_at; last_line = t.moments.last_line; in_range = t.moments.in_range };
     position = record { position = t.position.position; in_range = t.position.in_range; some_room = t.position.some_room; within = t.position.within };
-    has = record { fed = t.has.fed; of = t.has.of; bytes = t.has.bytes; gathered = t.has.gathered; told_to = t.has.told_to };
+    has = record { fed = t.has.fed; bytes = t.has.bytes; gathered = t.has.gathered; told_to = t.has.told_to };
     told_place = t.told_place;
     past = t.past;
     present = t.present;
   }
 
-  pub ending_stands : (forget : Bool) → StandsFor (with_ending forget h) (record held { ends = true; forgets = forget })
+  pub ending_stands : (forget : Bool) → Holds (with_ending forget h) (record held { ends = true; forgets = forget }) of
   ending_stands forget = record {
     follows = record {
       begin = t.follows.begin;
@@ -351,14 +318,14 @@ module _ (h : History) (held : Held) (t : StandsFor h held) where
     };
     moments = record { read_at = t.moments.read_at; last_line = t.moments.last_line; in_range = t.moments.in_range };
     position = record { position = t.position.position; in_range = t.position.in_range; some_room = t.position.some_room; within = t.position.within };
-    has = record { fed = t.has.fed; of = t.has.of; bytes = t.has.bytes; gathered = t.has.gathered; told_to = t.has.told_to };
+    has = record { fed = t.has.fed; bytes = t.has.bytes; gathered = t.has.gathered; told_to = t.has.told_to };
     told_place = t.told_place;
     past = t.past;
     present = t.present;
   }
 
   -- with another buffer while nothing waits in it
-  pub rebuffered : (buffer : List ℕ) → held.filled ≡ 0 → 0 < length buffer → StandsFor h (record held { buffer = buffer })
+  pub rebuffered : (buffer : List ℕ) → held.filled ≡ 0 → 0 < length buffer → Holds h (record held { buffer = buffer }) of
   rebuffered buffer none some =
       let all : h.present.bytes ≡ t.has.fed ++ take held.filled buffer =
       t.has.bytes ∙ ap (λ (n : ℕ). t.has.fed ++ take n held.buffer) none ∙ sym (ap (λ (n : ℕ). t.has.fed ++ take n buffer) none) in
@@ -377,7 +344,7 @@ module _ (h : History) (held : Held) (t : StandsFor h held) where
         };
         moments = record { read_at = t.moments.read_at; last_line = t.moments.last_line; in_range = t.moments.in_range };
         position = record { position = t.position.position; in_range = t.position.in_range; some_room = some; within = omega (arith, none, some) };
-        has = record { fed = t.has.fed; of = t.has.of; bytes = all; gathered = t.has.gathered; told_to = t.has.told_to };
+        has = record { fed = t.has.fed; bytes = all; gathered = t.has.gathered; told_to = t.has.told_to };
         told_place = t.told_place;
         past = t.past;
         present = t.present;
@@ -386,7 +353,7 @@ module _ (h : History) (held : Held) (t : StandsFor h held) where
   -- a new epoch begins
   pub epoch_stands : (epoch : Epoch) (events : Events) → epoch.0 ≡ held.epoch.0 + 1 →
       IsGathered (rules_in h) 0 [] [] none_gathered events → events.last_line ≡ held.events.last_line →
-      StandsFor (with_epoch h) (record held { epoch = epoch; told_to = 0; position = 0; filled = 0; events = events; stage = Reading })
+      Holds (with_epoch h) (record held { epoch = epoch; told_to = 0; position = 0; filled = 0; events = events; stage = Reading }) none_gathered
   epoch_stands epoch events next gathered last = record {
     follows = record {
       begin = t.follows.begin;
@@ -406,7 +373,7 @@ module _ (h : History) (held : Held) (t : StandsFor h held) where
       in_range = t.moments.in_range;
     };
     position = record { position = refl; in_range = omega arith; some_room = t.position.some_room; within = omega arith };
-    has = record { fed = []; of = none_gathered; bytes = refl; gathered = gathered; told_to = refl };
+    has = record { fed = []; bytes = refl; gathered = gathered; told_to = refl };
     told_place = refl;
     past = all_behind (IsTelling (rules_in h)) h.past (h.present ∷ []) t.past (t.present, tt);
     present = λ life has. record { partition = tt; fates = tt };
@@ -419,7 +386,7 @@ pub opened_stands : (rule : InputRule) (processors : List ProcessorRule) (begin 
     held.identity ≡ rule.file_identity → held.epoch ≡ begin.epoch → held.told_to ≡ begin.base → held.position ≡ begin.base → held.buffer ≡ 0 ∷ [] →
     held.filled ≡ 0 → held.read_at ≡ now → held.stage ≡ Reading → held.ends ≡ false → held.forgets ≡ false → held.events.last_line ≡ now →
     IsGathered (rules_in (opened rule processors begin before now.0)) begin.base [] [] none_gathered held.events →
-    StandsFor (opened rule processors begin before now.0) held
+    Holds (opened rule processors begin before now.0) held none_gathered
 opened_stands rule processors begin before now held readable base moment is_begin renamed input identity epoch told position buffer filled read_at stage ends forgets last gathered =
     let here : Contains (now.0 ∷ []) now.0 = (0, omega arith, refl) in
     record {
@@ -448,7 +415,6 @@ opened_stands rule processors begin before now held readable base moment is_begi
       };
       has = record {
         fed = [];
-        of = none_gathered;
         bytes = sym (ap (λ (n : ℕ). take n held.buffer) filled);
         gathered = gathered;
         told_to = sym told;
@@ -466,26 +432,3 @@ on_err (Err error) P is = is
 
 pub told_of : {A : Type 0} (o : Option A) (value : A) (P : A → Type 0) → o ≡ Some value → P value → IfSome o P
 told_of {A} o value P is holds = subst (λ (p : Option A). IfSome p P) (sym is) holds
-
-pub all_through : (r : Result Bool NoMemory) (old mid new : Held) → ((h : History) → StandsFor h old → StandsFor h mid) →
-    IfOk r (λ (found : Bool). found ≡ false → (h : History) → StandsFor h mid → AllGathered h new) →
-    IfOk r (λ (found : Bool). found ≡ false → (h : History) → StandsFor h old → AllGathered h new)
-all_through (Ok b) old mid new stands all = λ no h t. all no h (stands h t)
-all_through (Err error) old mid new stands all = tt
-
--- the closed event was told, and it ends at this place
-pub passes : (h : History) (held : Held) → StandsFor h held → (group : Group) → held.events.closed ≡ Some group →
-    ((rule : LineRule) (start : ℕ) (bytes more : List ℕ) →
-    (later : List Line) × (complete_lines rule start (bytes ++ more) ≡ complete_lines rule start bytes ++ later)) →
-    ((rule : LineRule) (start : ℕ) (bytes : List ℕ) (given : List Line) (line : Line) (more : List Line) →
-    complete_lines rule start bytes ≡ given ++ line ∷ more → complete_lines rule line.span.end (drop (line.span.end - start) bytes) ≡ more) →
-    ((rule : GroupRule) (lines more row : List Line) → IsNatural rule lines row → IsNatural rule (lines ++ more) row) →
-    (event : ToldEvent) → event.span ≡ group.span → group.span.start < group.span.end →
-    event.fate ≡ fate_of (rules_in h) event.path group.span.start group.message event.now → (events : Events) (place : ℕ) → place ≡ group.span.end →
-    ((rules : Rules) (start : ℕ) (fed licences : List ℕ) (of : Gathered) → IsGathered rules start fed licences of held.events →
-    IsGathered rules start fed licences (all_told of) events) → events.last_line ≡ held.events.last_line →
-    StandsFor (with_present (with_events (event ∷ []) h.present) h) (record held { events = events; told_to = place })
-passes h held t group closed stay later natural event span some fate events place at passed last =
-    subst (λ (n : ℕ). StandsFor (with_present (with_events (event ∷ []) h.present) h) (record held { events = events; told_to = n })) (sym at)
-    (told_stands h held t group closed stay later natural event span some fate events
-    (passed (rules_in h) h.present.start t.has.fed h.present.licences t.has.of t.has.gathered) last)

@@ -105,4 +105,4 @@ module _ {T : Type 0} (numbers : T → Option (ℕ × ℕ)) (told : T → Option
         go None some by is tells = absurd (let no : false ≡ true = some in cc)
         go (Some group) some by is tells =
             tells is (sym shows ∙ by (rules_in h) has.decides
-            ∙ ap (λ (p : List ℕ). fate_of (rules_in h) p group.span.start group.message now) has.held.follows.path)
+            ∙ ap (λ (p : List ℕ). fate_of (rules_in h) p group.span.start group.message now) has.held.holds.follows.path)

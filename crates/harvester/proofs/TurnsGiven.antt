@@ -2,6 +2,8 @@
 use Rattle.std.proofs.Common.{◌≡◌, ◌⊎◌, inl, inr, ℕ, ◌<◌, ◌≤◌, Bool, true, false, List, [], ◌∷◌, ◌++◌, length, Contains, Option, Some, None, ◌↔◌, ◌||◌, IfOk, IfSome, IsErr, IsErrOf, Result, Ok, Err, refl, sym, ap, subst, ◌∙◌, append-nil, arith}
 use Rattle.std.proofs.lemmas.Bool.{or_left}
 use Rattle.std.proofs.lemmas.List.Elements.{Contains-append_right}
+use Rattle.line_cutter.specs.declared.line.Line.{Line}
+use Rattle.multiline_core.specs.Gathering.{MayGoOn}
 use Rattle.outside.specs.Tails.{TailHistory}
 use Rattle.told_events.specs.Licence.{LieApart}
 use Rattle.told_events.specs.Told.{ToldEvent}
@@ -23,16 +25,15 @@ use Rattle.harvester.specs.Asked.{HasAsked}
 use Rattle.harvester.specs.Found.{FoundEnd, HasLooked, LooksAtEnd}
 use Rattle.harvester.specs.HasTold.{HasTold, IsChanged}
 use Rattle.harvester.specs.Held.{Held}
-use Rattle.harvester.specs.History.{Asks, Changed, Ended, History, Over, Reads, Stage, read_to, timeout_in, with_bytes, with_epoch, with_events, with_licences, with_present, with_stage}
+use Rattle.harvester.specs.History.{Asks, Changed, Ended, History, IsPast, Over, Reads, Stage, left_to_tell, read_to, timeout_in, with_bytes, with_epoch, with_events, with_licences, with_present, with_read, with_stage}
 use Rattle.harvester.specs.Looked.{AreLookedAt}
 use Rattle.harvester.specs.Standing.{EndsAt, StandsFor, WasClosed, stage_behind_end, stage_of}
 use Rattle.harvester.specs.Turned.{HasOneEvent, IsAskedIn, IsByKey, IsAnswerFor, IsOfFile, events_told, with_turn}
-use Rattle.harvester.specs.Turns.{Did, EndsHere, Goes, IsCaused, MayBeEnded, MayTurn, IsLast, NoneCloses, Settled, after_did, answer_of, did_with, events_of}
+use Rattle.harvester.specs.Turns.{Did, EndsHere, EndsNow, Goes, IsCaused, IsSettled, MayBeEnded, MayTurn, IsLast, NoneCloses, NoneDue, Settled, after_did, answer_of, did_with, events_of, last_line_of, with_told}
 use Rattle.harvester.proofs.Did.{did_both, did_bytes, did_events, did_licences, did_nothing, did_stage}
-use Rattle.harvester.proofs.LookSteps.{same_bytes}
+use Rattle.harvester.proofs.Lasting.{same_read, turns_on}
 use Rattle.harvester.proofs.Looking.{apart_stays}
 use Rattle.harvester.proofs.LookingOn.{flushes, flushes_at_end, other_turn}
-use Rattle.harvester.proofs.Standings.{turned_stands}
 
 -- where the file stands behind an end that may be found
 abbrev pub behind_end : Bool → Stage
@@ -47,7 +48,7 @@ behind_goes_on true = tt
 behind_goes_on false = tt
 
 pub reads_of : (h : History) (held : Held) → StandsFor h held → held.stage ≡ Reading → h.stage ≡ Reads
-reads_of h held t reading = sym t.follows.stage ∙ ap stage_of reading
+reads_of h held t reading = sym t.holds.follows.stage ∙ ap stage_of reading
 
 -- the same, where what is held changed
 pub with_reader : {T : Type 0} (numbers : T → Option (ℕ × ℕ)) (told : T → Option TailHistory) (h : History) (old : Harvester T) → HasTold numbers told h old →
@@ -71,9 +72,10 @@ module _ {T : Type 0} (numbers : T → Option (ℕ × ℕ)) (told : T → Option
     goes_on = tt;
     ends = λ is. absurd (let no : Reads ≡ Ended = is in cc);
     at_none = λ is. absurd cc;
-    has_told = subst (λ (g : History). HasTold numbers told g new) (sym (did_nothing h Reads reads)) has;
+    has_told = subst (λ (g : History). HasTold numbers told g new) (sym (did_nothing now h Reads reads)) has;
     one = tt;
-    none_closes = λ is. absurd cc;
+    flushed_where_due = inl refl;
+    at_rest = λ is. absurd cc;
   }
 
   pub settles_told : (answer : Turn) → HasOneEvent answer → HasTold numbers told (with_present (with_events (events_told h.path now answer) h.present) h) new →
@@ -84,23 +86,31 @@ module _ {T : Type 0} (numbers : T → Option (ℕ × ℕ)) (told : T → Option
     goes_on = tt;
     ends = λ is. absurd (let no : Reads ≡ Ended = is in cc);
     at_none = λ is. absurd cc;
-    has_told = subst (λ (g : History). HasTold numbers told g new) (sym (did_events h Reads reads (events_told h.path now answer))) has;
+    has_told = subst (λ (g : History). HasTold numbers told g new) (sym (did_events now h Reads reads (events_told h.path now answer))) has;
     one = one;
-    none_closes = λ is. absurd cc;
+    flushed_where_due = inl refl;
+    at_rest = λ is. absurd cc;
   }
 
-  module _ (licences : List ℕ) where
-    pub closes_none : HasTold numbers told (with_stage (behind_end ended) (with_present (with_licences licences h.present) h)) new → NoneCloses h →
+  module _ (licences : List ℕ) (due : (licences ≡ []) ⊎ ((ended ≡ true) ⊎ IsPast h now)) where
+    flushed : (e : Bool) → (licences ≡ []) ⊎ ((e ≡ true) ⊎ IsPast h now) → (licences ≡ []) ⊎ ((behind_end e ≡ Ended) ⊎ IsPast h now)
+    flushed e (inl none) = inl none
+    flushed true (inr why) = inr (inl refl)
+    flushed false (inr (inl never)) = absurd (let no : false ≡ true = never in cc)
+    flushed false (inr (inr past)) = inr (inr past)
+
+    pub closes_none : HasTold numbers told (with_stage (behind_end ended) (with_present (with_licences licences h.present) h)) new → IsSettled now ended h new →
         Settled numbers told now ended h (Ok None) new
-    closes_none has none = record {
+    closes_none has settled = record {
       licences = licences;
       stage = behind_end ended;
       goes_on = behind_goes_on ended;
       ends = behind_ended ended;
       at_none = λ is. refl;
-      has_told = subst (λ (g : History). HasTold numbers told g new) (sym (did_licences h (behind_end ended) licences)) has;
+      has_told = subst (λ (g : History). HasTold numbers told g new) (sym (did_licences now h (behind_end ended) licences)) has;
       one = tt;
-      none_closes = λ is. none;
+      flushed_where_due = flushed ended due;
+      at_rest = λ is. settled;
     }
 
     pub closes_refused : (result : Result (Option Turn) NoMemory) → IsErr result →
@@ -112,9 +122,10 @@ module _ {T : Type 0} (numbers : T → Option (ℕ × ℕ)) (told : T → Option
       goes_on = behind_goes_on ended;
       ends = behind_ended ended;
       at_none = λ is. absurd cc;
-      has_told = subst (λ (g : History). HasTold numbers told g new) (sym (did_licences h (behind_end ended) licences)) has;
+      has_told = subst (λ (g : History). HasTold numbers told g new) (sym (did_licences now h (behind_end ended) licences)) has;
       one = tt;
-      none_closes = λ is. absurd cc;
+      flushed_where_due = flushed ended due;
+      at_rest = λ is. absurd cc;
     }
 
     pub closes_told : (answer : Turn) → HasOneEvent answer →
@@ -126,25 +137,26 @@ module _ {T : Type 0} (numbers : T → Option (ℕ × ℕ)) (told : T → Option
       goes_on = behind_goes_on ended;
       ends = behind_ended ended;
       at_none = λ is. absurd cc;
-      has_told = subst (λ (g : History). HasTold numbers told g new) (sym (did_both h (behind_end ended) licences (events_told h.path now answer))) has;
+      has_told = subst (λ (g : History). HasTold numbers told g new) (sym (did_both now h (behind_end ended) licences (events_told h.path now answer))) has;
       one = one;
-      none_closes = λ is. absurd cc;
+      flushed_where_due = flushed ended due;
+      at_rest = λ is. absurd cc;
     }
 
 -- the event that waited was closed, and the file ended where its end was found
-module _ {T : Type 0} (numbers : T → Option (ℕ × ℕ)) (told : T → Option TailHistory) (h : History) (reads : h.stage ≡ Reads) (old : Harvester T)
+module _ {T : Type 0} (numbers : T → Option (ℕ × ℕ)) (told : T → Option TailHistory) (now : ℕ) (h : History) (reads : h.stage ≡ Reads) (old : Harvester T)
     (has : HasTold numbers told h old) (closed : Held) where
-  pub closed_told : (ended : Bool) (w : WasClosed h ended closed) → (ended ≡ true → MayBeEnded numbers told h old) → (reader : Held) →
+  pub closed_told : (ended : Bool) (w : WasClosed h now ended closed) → (ended ≡ true → MayBeEnded numbers told h old) → (reader : Held) →
       StandsFor (with_stage (behind_end ended) (with_present (with_licences w.licences h.present) h)) reader →
       HasTold numbers told (with_stage (behind_end ended) (with_present (with_licences w.licences h.present) h)) (record old { reader = reader })
   closed_told ended w may reader stands = record { held = stands; decides = has.decides; looked = looked_by ended w may }
     where
-      at_end : (w : WasClosed h true closed) (may_end : h.may_end ≡ true) (o : Option TailHistory) → IfSome o (FoundEnd (numbers old.tail) h) →
+      at_end : (w : WasClosed h now true closed) (may_end : h.may_end ≡ true) (o : Option TailHistory) → IfSome o (FoundEnd (numbers old.tail) h) →
           AreLookedAt (numbers old.tail) (with_stage Ended (with_present (with_licences w.licences h.present) h)) o
       at_end w may_end None found = tt
       at_end w may_end (Some earlier) found = flushes_at_end (numbers old.tail) h earlier found.looked reads found.end_look may_end w.licences w.end_lines
 
-      waited : (w : WasClosed h false closed) → (w.licences ≡ []) ⊎ LieApart h.moments (timeout_in h)
+      waited : (w : WasClosed h now false closed) → (w.licences ≡ []) ⊎ LieApart h.moments (timeout_in h)
       waited w = go w.why
         where
           go : (w.licences ≡ []) ⊎ ((false ≡ true) ⊎ LieApart h.moments (timeout_in h)) → (w.licences ≡ []) ⊎ LieApart h.moments (timeout_in h)
@@ -152,12 +164,12 @@ module _ {T : Type 0} (numbers : T → Option (ℕ × ℕ)) (told : T → Option
           go (inr (inl never)) = absurd cc
           go (inr (inr apart)) = inr apart
 
-      by_timeout : (w : WasClosed h false closed) (o : Option TailHistory) → AreLookedAt (numbers old.tail) h o →
+      by_timeout : (w : WasClosed h now false closed) (o : Option TailHistory) → AreLookedAt (numbers old.tail) h o →
           AreLookedAt (numbers old.tail) (with_present (with_licences w.licences h.present) h) o
       by_timeout w None looked = tt
       by_timeout w (Some earlier) looked = flushes (numbers old.tail) h earlier looked w.licences w.end_lines (waited w)
 
-      looked_by : (ended : Bool) (w : WasClosed h ended closed) → (ended ≡ true → MayBeEnded numbers told h old) →
+      looked_by : (ended : Bool) (w : WasClosed h now ended closed) → (ended ≡ true → MayBeEnded numbers told h old) →
           AreLookedAt (numbers old.tail) (with_stage (behind_end ended) (with_present (with_licences w.licences h.present) h)) (told old.tail)
       looked_by true w may = at_end w (may refl).may (told old.tail) (may refl).found
       looked_by false w may =
@@ -168,19 +180,20 @@ module _ {T : Type 0} (numbers : T → Option (ℕ × ℕ)) (told : T → Option
 
 module _ {T : Type 0} (numbers : T → Option (ℕ × ℕ)) (told : T → Option TailHistory) (most now : ℕ) (may_end : Bool) (h : History) (old : Harvester T) (new : Harvester T) where
   module _ (did : Did) (may : MayTurn did.stage) (few : length did.bytes ≤ most) (none : 0 < length did.bytes → NoneCloses h)
-      (ends : did.stage ≡ Ended → EndsHere told may_end h old new) where
+      (ends : did.stage ≡ Ended → EndsHere told may_end h old new)
+      (due : (did.licences ≡ []) ⊎ ((did.stage ≡ Ended) ⊎ IsPast (with_read now did.bytes h) now)) where
     -- a fault, or want of memory
-    pub goes_refused : HasTold numbers told (did_with [] did h) new → (result : Result Turn TurnError) → IsErr result →
+    pub goes_refused : HasTold numbers told (did_with now [] did h) new → (result : Result Turn TurnError) → IsErr result →
         Goes numbers told most now may_end h old (answer_of result) new
     goes_refused has (Ok answer) err = absurd (let no : false ≡ true = err in cc)
-    goes_refused has (Err error.ReadFault) err = record { did = did; has_told = has; few = few; reads_where_none_closes = none; no_event_left = λ reads quiet. absurd quiet; ends_where_found = ends; caused = may }
-    goes_refused has (Err error.NoMemory) err = record { did = did; has_told = has; few = few; reads_where_none_closes = none; no_event_left = λ reads quiet. absurd quiet; ends_where_found = ends; caused = may }
+    goes_refused has (Err error.ReadFault) err = record { did = did; has_told = has; few = few; reads_where_none_closes = none; no_event_left = λ reads quiet. absurd quiet; ends_where_found = ends; flushed_where_due = due; caused = may }
+    goes_refused has (Err error.NoMemory) err = record { did = did; has_told = has; few = few; reads_where_none_closes = none; no_event_left = λ reads quiet. absurd quiet; ends_where_found = ends; flushed_where_due = due; caused = may }
 
     -- an event was told
-    pub goes_told : (answer : Turn) → HasOneEvent answer → HasTold numbers told (did_with (events_told h.path now answer) did h) new →
+    pub goes_told : (answer : Turn) → HasOneEvent answer → HasTold numbers told (did_with now (events_told h.path now answer) did h) new →
         Goes numbers told most now may_end h old answer new
-    goes_told (turn.Issued parcel) one has = record { did = did; has_told = has; few = few; reads_where_none_closes = none; no_event_left = λ reads quiet. absurd quiet; ends_where_found = ends; caused = may }
-    goes_told (turn.Passed span rule) one has = record { did = did; has_told = has; few = few; reads_where_none_closes = none; no_event_left = λ reads quiet. absurd quiet; ends_where_found = ends; caused = may }
+    goes_told (turn.Issued parcel) one has = record { did = did; has_told = has; few = few; reads_where_none_closes = none; no_event_left = λ reads quiet. absurd quiet; ends_where_found = ends; flushed_where_due = due; caused = may }
+    goes_told (turn.Passed span rule) one has = record { did = did; has_told = has; few = few; reads_where_none_closes = none; no_event_left = λ reads quiet. absurd quiet; ends_where_found = ends; flushed_where_due = due; caused = may }
     goes_told turn.More one has = absurd one
     goes_told turn.AtEnd one has = absurd one
     goes_told (turn.NewLife epoch) one has = absurd one
@@ -199,26 +212,35 @@ module _ {T : Type 0} (numbers : T → Option (ℕ × ℕ)) (told : T → Option
   module _ (stage : Stage) (stands : h.stage ≡ stage) (may : MayTurn stage) where
     pub turn_refused : HasTold numbers told h new → (result : Result Turn TurnError) → IsErr result → Goes numbers told most now may_end h old (answer_of result) new
     turn_refused has =
-        goes_refused (record { bytes = []; licences = []; stage = stage }) may (no_more most) never (λ is. inl (stands ∙ is))
-        (subst (λ (g : History). HasTold numbers told g new) (sym (did_nothing h stage stands)) has)
+        goes_refused (record { bytes = []; licences = []; stage = stage }) may (no_more most) never (λ is. inl (stands ∙ is)) (inl refl)
+        (subst (λ (g : History). HasTold numbers told g new) (sym (did_nothing now h stage stands)) has)
 
     pub turn_told : (answer : Turn) → HasOneEvent answer → HasTold numbers told (with_present (with_events (events_told h.path now answer) h.present) h) new →
         Goes numbers told most now may_end h old answer new
     turn_told answer one has =
-        goes_told (record { bytes = []; licences = []; stage = stage }) may (no_more most) never (λ is. inl (stands ∙ is)) answer one
-        (subst (λ (g : History). HasTold numbers told g new) (sym (did_events h stage stands (events_told h.path now answer))) has)
+        goes_told (record { bytes = []; licences = []; stage = stage }) may (no_more most) never (λ is. inl (stands ∙ is)) (inl refl) answer one
+        (subst (λ (g : History). HasTold numbers told g new) (sym (did_events now h stage stands (events_told h.path now answer))) has)
 
   -- the end was found before
-  pub turn_ended : h.stage ≡ Ended → HasTold numbers told h new → Goes numbers told most now may_end h old turn.AtEnd new
-  turn_ended stands has = record {
-    did = record { bytes = []; licences = []; stage = Ended };
-    has_told = subst (λ (g : History). HasTold numbers told g new) (sym (did_nothing h Ended stands)) has;
-    few = no_more most;
-    reads_where_none_closes = never;
-    no_event_left = λ reads quiet. absurd (let no : Reads ≡ Ended = sym reads ∙ stands in cc);
-    ends_where_found = λ is. inl stands;
-    caused = (refl, tt, inl stands);
-  }
+  pub turn_ended : h.stage ≡ Ended → HasTold numbers told h new → left_to_tell h ≡ [] → last_line_of new ≡ h.last_line → Goes numbers told most now may_end h old turn.AtEnd new
+  turn_ended stands has none last =
+      let same = did_nothing now h Ended stands in
+      record {
+        did = record { bytes = []; licences = []; stage = Ended };
+        has_told = subst (λ (g : History). HasTold numbers told g new) (sym same) has;
+        few = no_more most;
+        reads_where_none_closes = never;
+        no_event_left = λ reads quiet. absurd (let no : Reads ≡ Ended = sym reads ∙ stands in cc);
+        ends_where_found = λ is. inl stands;
+        flushed_where_due = inl refl;
+        caused = record {
+          none_read = refl;
+          goes_on = tt;
+          all_told = λ is. subst (λ (g : History). left_to_tell g ≡ []) (sym same) none;
+          last_line = last ∙ ap (λ (g : History). g.last_line) (sym same);
+          which = inl stands;
+        };
+      }
 
   -- the key was asked, where the history is this one but for the stage
   module _ (was : History) (is : with_stage Asks was ≡ with_stage Asks h) (left : h.stage ≡ Reads → NoneCloses h) where
@@ -233,24 +255,27 @@ module _ {T : Type 0} (numbers : T → Option (ℕ × ℕ)) (told : T → Option
       reads_where_none_closes = never;
       no_event_left = λ reads quiet. left reads;
       ends_where_found = λ ended. absurd cc;
+      flushed_where_due = inl refl;
       caused = subst (λ (g : History). IsAskedIn g.present.epoch (turn.NewLife epoch)) is asked.asked_in;
     }
     turn_asked (Ok turn.Changed) asked = record {
       did = record { bytes = []; licences = []; stage = Changed };
-      has_told = subst (λ (g : History). HasTold numbers told g new) (at_stage Changed ∙ sym (did_stage h Changed)) asked.has_told;
+      has_told = subst (λ (g : History). HasTold numbers told g new) (at_stage Changed ∙ sym (did_stage now h Changed)) asked.has_told;
       few = no_more most;
       reads_where_none_closes = never;
       no_event_left = λ reads quiet. left reads;
       ends_where_found = λ ended. absurd cc;
+      flushed_where_due = inl refl;
       caused = refl;
     }
     turn_asked (Ok turn.EpochsOut) asked = record {
       did = record { bytes = []; licences = []; stage = Over };
-      has_told = subst (λ (g : History). HasTold numbers told g new) (at_stage Over ∙ sym (did_stage h Over)) asked.has_told;
+      has_told = subst (λ (g : History). HasTold numbers told g new) (at_stage Over ∙ sym (did_stage now h Over)) asked.has_told;
       few = no_more most;
       reads_where_none_closes = never;
       no_event_left = λ reads quiet. left reads;
       ends_where_found = λ ended. absurd cc;
+      flushed_where_due = inl refl;
       caused = (refl, subst (λ (g : History). IsAskedIn g.present.epoch turn.EpochsOut) is asked.asked_in);
     }
     turn_asked (Ok (turn.Issued parcel)) asked = absurd asked.asked_in
@@ -260,43 +285,53 @@ module _ {T : Type 0} (numbers : T → Option (ℕ × ℕ)) (told : T → Option
     turn_asked (Ok turn.ReadFault) asked = absurd asked.asked_in
     turn_asked (Ok turn.NoMemory) asked = absurd asked.asked_in
     turn_asked (Err error) asked =
-        goes_refused (record { bytes = []; licences = []; stage = Asks }) tt (no_more most) never (λ ended. absurd cc)
-        (subst (λ (g : History). HasTold numbers told g new) (is ∙ sym (did_stage h Asks)) asked.has_told) (Err error) refl
+        goes_refused (record { bytes = []; licences = []; stage = Asks }) tt (no_more most) never (λ ended. absurd cc) (inl refl)
+        (subst (λ (g : History). HasTold numbers told g new) (is ∙ sym (did_stage now h Asks)) asked.has_told) (Err error) refl
 
   -- bytes were read, or the end was found, and it was settled
   module _ (ended : Bool) (bytes : List ℕ) (few : length bytes ≤ most) (none : NoneCloses h) (found : ended ≡ true → EndsHere told may_end h old new) where
     through : (events : List ToldEvent) (licences : List ℕ) (stage : Stage) →
-        did_with events (record { bytes = []; licences = licences; stage = stage }) (with_stage Reads (with_present (with_bytes bytes h.present) h))
-        ≡ did_with events (record { bytes = bytes; licences = licences; stage = stage }) h
+        did_with now events (record { bytes = []; licences = licences; stage = stage }) (with_stage Reads (with_read now bytes h))
+        ≡ did_with now events (record { bytes = bytes; licences = licences; stage = stage }) h
     through events licences stage =
-        ap (λ (b : List ℕ). with_stage stage (with_present (with_events events (with_licences licences (record h.present { bytes = b }))) h))
-        (append-nil (h.present.bytes ++ bytes))
+        ap (λ (g : History). with_stage stage (with_told licences events g)) (same_read now (with_stage Reads (with_read now bytes h)))
 
     pub settled_told : (answer : Turn) →
-        Settled numbers told now ended (with_stage Reads (with_present (with_bytes bytes h.present) h)) (Ok (Some answer)) new → Goes numbers told most now may_end h old answer new
+        Settled numbers told now ended (with_stage Reads (with_read now bytes h)) (Ok (Some answer)) new → Goes numbers told most now may_end h old answer new
     settled_told answer s =
-        goes_told (record { bytes = bytes; licences = s.licences; stage = s.stage }) s.goes_on few (λ some. none) (λ is. found (s.ends is)) answer s.one
+        goes_told (record { bytes = bytes; licences = s.licences; stage = s.stage }) s.goes_on few (λ some. none) (λ is. found (s.ends is)) s.flushed_where_due answer s.one
         (subst (λ (g : History). HasTold numbers told g new) (through (events_told h.path now answer) s.licences s.stage) s.has_told)
 
-    nothing_told : (result : Result (Option Turn) NoMemory) (settled : Settled numbers told now ended (with_stage Reads (with_present (with_bytes bytes h.present) h)) result new) →
+    nothing_told : (result : Result (Option Turn) NoMemory) (settled : Settled numbers told now ended (with_stage Reads (with_read now bytes h)) result new) →
         events_of h.path now result ≡ [] →
-        HasTold numbers told (did_with [] (record { bytes = bytes; licences = settled.licences; stage = settled.stage }) h) new
+        HasTold numbers told (did_with now [] (record { bytes = bytes; licences = settled.licences; stage = settled.stage }) h) new
     nothing_told result settled is =
         subst (λ (g : History). HasTold numbers told g new)
-        (ap (λ (e : List ToldEvent). did_with e (record { bytes = []; licences = settled.licences; stage = settled.stage }) (with_stage Reads (with_present (with_bytes bytes h.present) h))) is
+        (ap (λ (e : List ToldEvent). did_with now e (record { bytes = []; licences = settled.licences; stage = settled.stage }) (with_stage Reads (with_read now bytes h))) is
         ∙ through [] settled.licences settled.stage) settled.has_told
 
-    pub settled_refused : (error : NoMemory) → Settled numbers told now ended (with_stage Reads (with_present (with_bytes bytes h.present) h)) (Err error) new →
+    pub settled_refused : (error : NoMemory) → Settled numbers told now ended (with_stage Reads (with_read now bytes h)) (Err error) new →
         (result : Result Turn TurnError) → IsErr result → Goes numbers told most now may_end h old (answer_of result) new
-    settled_refused error s = goes_refused (record { bytes = bytes; licences = s.licences; stage = s.stage }) s.goes_on few (λ some. none) (λ is. found (s.ends is)) (nothing_told (Err error) s refl)
+    settled_refused error s =
+        goes_refused (record { bytes = bytes; licences = s.licences; stage = s.stage }) s.goes_on few (λ some. none) (λ is. found (s.ends is)) s.flushed_where_due
+        (nothing_told (Err error) s refl)
 
-    none_closes_then : (licences : List ℕ) (stage : Stage) → NoneCloses (with_stage Reads (with_present (with_bytes bytes h.present) h)) →
-        NoneCloses (did_with [] (record { bytes = bytes; licences = licences; stage = stage }) h)
-    none_closes_then licences stage closes =
-        subst (λ (t : List ToldEvent). NoneCloses (with_stage stage (with_present (record (with_licences licences (with_bytes bytes h.present)) { told = t }) h)))
-        (sym (append-nil h.present.told)) closes
+    -- what was left is left where nothing was told
+    left_then : (licences : List ℕ) (stage : Stage) →
+        left_to_tell (did_with now [] (record { bytes = bytes; licences = licences; stage = stage }) h) ≡ left_to_tell (with_stage Reads (with_read now bytes h))
+    left_then licences stage =
+        ap (λ (t : List ToldEvent). left_to_tell (with_present (record (with_licences licences (with_bytes bytes h.present)) { told = t }) h)) (append-nil h.present.told)
 
-    pub settled_more : 0 < length bytes → Settled numbers told now ended (with_stage Reads (with_present (with_bytes bytes h.present) h)) (Ok None) new →
+    none_closes_then : (licences : List ℕ) (stage : Stage) → NoneCloses (with_stage Reads (with_read now bytes h)) →
+        NoneCloses (did_with now [] (record { bytes = bytes; licences = licences; stage = stage }) h)
+    none_closes_then licences stage closes = subst (λ (l : List Line). MayGoOn h.rule.multiline l) (sym (left_then licences stage)) closes
+
+    none_due_then : (licences : List ℕ) (stage : Stage) → NoneDue (with_stage Reads (with_read now bytes h)) now →
+        NoneDue (did_with now [] (record { bytes = bytes; licences = licences; stage = stage }) h) now
+    none_due_then licences stage (inl left) = inl (left_then licences stage ∙ left)
+    none_due_then licences stage (inr past) = inr past
+
+    pub settled_more : 0 < length bytes → Settled numbers told now ended (with_stage Reads (with_read now bytes h)) (Ok None) new →
         Goes numbers told most now may_end h old turn.More new
     settled_more some s = record {
       did = record { bytes = bytes; licences = s.licences; stage = s.stage };
@@ -305,24 +340,39 @@ module _ {T : Type 0} (numbers : T → Option (ℕ × ℕ)) (told : T → Option
       reads_where_none_closes = λ more. none;
       no_event_left = λ reads quiet. none;
       ends_where_found = λ is. found (s.ends is);
-      caused = (some, s.goes_on, none_closes_then s.licences s.stage (s.none_closes refl));
+      flushed_where_due = s.flushed_where_due;
+      caused = (some, s.goes_on, none_closes_then s.licences s.stage (s.at_rest refl).none_closes, none_due_then s.licences s.stage (s.at_rest refl).none_due);
     }
 
-    pub settled_end : (may_end ≡ true → ended ≡ true) → bytes ≡ [] → (mid : Harvester T) → Settled numbers told now ended (with_stage Reads (with_present (with_bytes bytes h.present) h)) (Ok None) mid →
-        ((g : History) → HasTold numbers told g mid → HasTold numbers told g new) →
+    pub settled_end : (may_end ≡ true → ended ≡ true) → bytes ≡ [] → (mid : Harvester T) → Settled numbers told now ended (with_stage Reads (with_read now bytes h)) (Ok None) mid →
+        ((g : History) → HasTold numbers told g mid → HasTold numbers told g new) → last_line_of new ≡ last_line_of mid →
         IfSome (told old.tail) (λ earlier. LooksAtEnd (read_to h.present) earlier (told new.tail)) → Goes numbers told most now may_end h old turn.AtEnd new
-    settled_end then_ended no_byte mid s then looks = record {
-      did = record { bytes = bytes; licences = s.licences; stage = s.stage };
-      has_told = then _ (nothing_told_mid mid s);
-      few = few;
-      reads_where_none_closes = λ more. none;
-      no_event_left = λ reads quiet. none;
-      ends_where_found = λ is. found (s.ends is);
-      caused = (no_byte, s.goes_on, inr (none_closes_then s.licences s.stage (s.none_closes refl), (λ may. s.at_none refl ∙ ap (λ (b : Bool). behind_end b) (then_ended may)), looks));
-    }
+    settled_end then_ended no_byte mid s then last looks =
+        let rest = s.at_rest refl in
+        record {
+          did = record { bytes = bytes; licences = s.licences; stage = s.stage };
+          has_told = then _ (nothing_told_mid mid s);
+          few = few;
+          reads_where_none_closes = λ more. none;
+          no_event_left = λ reads quiet. none;
+          ends_where_found = λ is. found (s.ends is);
+          flushed_where_due = s.flushed_where_due;
+          caused = record {
+            none_read = no_byte;
+            goes_on = s.goes_on;
+            all_told = λ is. left_then s.licences s.stage ∙ rest.all_told (s.ends is);
+            last_line = last ∙ rest.last_line;
+            which = inr (record {
+              none_closes = none_closes_then s.licences s.stage rest.none_closes;
+              none_due = none_due_then s.licences s.stage rest.none_due;
+              ends = λ may. s.at_none refl ∙ ap (λ (b : Bool). behind_end b) (then_ended may);
+              found = looks;
+            });
+          };
+        }
       where
-        nothing_told_mid : (mid : Harvester T) (settled : Settled numbers told now ended (with_stage Reads (with_present (with_bytes bytes h.present) h)) (Ok None) mid) →
-            HasTold numbers told (did_with [] (record { bytes = bytes; licences = settled.licences; stage = settled.stage }) h) mid
+        nothing_told_mid : (mid : Harvester T) (settled : Settled numbers told now ended (with_stage Reads (with_read now bytes h)) (Ok None) mid) →
+            HasTold numbers told (did_with now [] (record { bytes = bytes; licences = settled.licences; stage = settled.stage }) h) mid
         nothing_told_mid mid settled = subst (λ (g : History). HasTold numbers told g mid) (through [] settled.licences settled.stage) settled.has_told
 
 -- ---- behind a look
@@ -347,34 +397,34 @@ pub some_of : (found : Option Turn) (answer : Turn) (slot : Slot) (epoch : Epoch
 some_of found answer slot epoch is of = subst (λ (o : Option Turn). IfSome o (IsAnswerFor slot epoch)) is of
 
 module _ {T : Type 0} (numbers : T → Option (ℕ × ℕ)) (told : T → Option TailHistory) (most now : ℕ) (may_end : Bool) (h : History) (reads : h.stage ≡ Reads) (old gathered mid : Harvester T) where
-  pub found_as : (found other : Found) → found ≡ other → HasLooked numbers told most h gathered (Ok found) mid → HasLooked numbers told most h gathered (Ok other) mid
-  found_as found other is looked = subst (λ (f : Found). HasLooked numbers told most h gathered (Ok f) mid) is looked
+  pub found_as : (found other : Found) → found ≡ other → HasLooked numbers told most now h gathered (Ok found) mid → HasLooked numbers told most now h gathered (Ok other) mid
+  found_as found other is looked = subst (λ (f : Found). HasLooked numbers told most now h gathered (Ok f) mid) is looked
 
-  pub look_refused : (error : TurnError) → HasLooked numbers told most h gathered (Err error) mid → (result : Result Turn TurnError) → IsErr result →
+  pub look_refused : (error : TurnError) → HasLooked numbers told most now h gathered (Err error) mid → (result : Result Turn TurnError) → IsErr result →
       Goes numbers told most now may_end h old (answer_of result) mid
   look_refused error looked =
       goes_refused numbers told most now may_end h old mid (record { bytes = looked.bytes; licences = []; stage = Reads }) tt
       (let long : length looked.bytes ≡ 0 = ap (λ (l : List ℕ). length l) looked.gave in omega (arith, long))
-      (λ some. absurd (let long : length looked.bytes ≡ 0 = ap (λ (l : List ℕ). length l) looked.gave in omega (arith, long, some))) (λ is. absurd cc)
-      (subst (λ (g : History). HasTold numbers told g mid) (sym (did_bytes h Reads looked.bytes)) looked.has_told)
+      (λ some. absurd (let long : length looked.bytes ≡ 0 = ap (λ (l : List ℕ). length l) looked.gave in omega (arith, long, some))) (λ is. absurd cc) (inl refl)
+      (subst (λ (g : History). HasTold numbers told g mid) (sym (did_bytes now h Reads looked.bytes)) looked.has_told)
 
-  pub look_asked : NoneCloses h → HasLooked numbers told most h gathered (Ok Less) mid → (new : Harvester T) (result : Result Turn TurnError) →
+  pub look_asked : NoneCloses h → HasLooked numbers told most now h gathered (Ok Less) mid → (new : Harvester T) (result : Result Turn TurnError) →
       ((g : History) → HasTold numbers told g mid → HasAsked numbers told g result new) → Goes numbers told most now may_end h old (answer_of result) new
   look_asked none looked new result asks =
-      turn_asked numbers told most now may_end h old new (with_present (with_bytes looked.bytes h.present) h)
-      (ap (λ (l : List ℕ). with_stage Asks (with_present (with_bytes l h.present) h)) looked.gave
-      ∙ ap (λ (g : History). with_stage Asks g) (same_bytes h)) (λ reading. none) result (asks _ looked.has_told)
+      turn_asked numbers told most now may_end h old new (with_read now looked.bytes h)
+      (ap (λ (l : List ℕ). with_stage Asks (with_read now l h)) looked.gave
+      ∙ ap (λ (g : History). with_stage Asks g) (same_read now h)) (λ reading. none) result (asks _ looked.has_told)
 
   -- where the end was found, the file may be ended
-  pub may_be_ended : (looked : HasLooked numbers told most h gathered (Ok End) mid) → h.may_end ≡ true →
-      MayBeEnded numbers told (with_stage Reads (with_present (with_bytes looked.bytes h.present) h)) mid
+  pub may_be_ended : (looked : HasLooked numbers told most now h gathered (Ok End) mid) → h.may_end ≡ true →
+      MayBeEnded numbers told (with_stage Reads (with_read now looked.bytes h)) mid
   may_be_ended looked may = record {
     may = may;
     found = subst (λ (g : History). IfSome (told mid.tail) (FoundEnd (numbers mid.tail) g))
-        (ap (λ (s : Stage). with_stage s (with_present (with_bytes looked.bytes h.present) h)) reads) (looked.at_end refl).found;
+        (ap (λ (s : Stage). with_stage s (with_read now looked.bytes h)) reads) (looked.at_end refl).found;
   }
 
-  pub few_at_end : (looked : HasLooked numbers told most h gathered (Ok End) mid) → length looked.bytes ≤ most
+  pub few_at_end : (looked : HasLooked numbers told most now h gathered (Ok End) mid) → length looked.bytes ≤ most
   few_at_end looked = let long : length looked.bytes ≡ 0 = ap (λ (l : List ℕ). length l) looked.gave in omega (arith, long)
 
 module _ {T : Type 0} (numbers : T → Option (ℕ × ℕ)) (told : T → Option TailHistory) where
@@ -396,7 +446,7 @@ module _ {T : Type 0} (numbers : T → Option (ℕ × ℕ)) (told : T → Option
   -- with the moment of a turn
   pub turned_told : (h : History) (old : Harvester T) (now : ℕ) (last : Bool) → HasTold numbers told h old → HasTold numbers told (with_turn now last h) old
   turned_told h old now last has = record {
-    held = turned_stands h old.reader has.held now (h.may_end || (last || h.ends));
+    held = turns_on h old.reader has.held now (h.may_end || (last || h.ends));
     decides = has.decides;
     looked = go (told old.tail) has.looked;
   }
@@ -407,7 +457,7 @@ module _ {T : Type 0} (numbers : T → Option (ℕ × ℕ)) (told : T → Option
       go : (o : Option TailHistory) → AreLookedAt (numbers old.tail) h o → AreLookedAt (numbers old.tail) (with_turn now last h) o
       go None looked = tt
       go (Some earlier) looked =
-          other_turn (numbers old.tail) h earlier looked h.path (h.moments ++ now ∷ []) h.ends (h.may_end || (last || h.ends)) h.forgets or_still
+          other_turn (numbers old.tail) h earlier looked h.path (h.moments ++ now ∷ []) h.last_line h.ends (h.may_end || (last || h.ends)) h.forgets or_still
           (λ distance apart. apart_stays h.moments now distance apart)
 
 -- ---- what follows for the answer
@@ -470,14 +520,20 @@ module _ {T : Type 0} (numbers : T → Option (ℕ × ℕ)) (told : T → Option
         reads_where_none_closes = there.reads_where_none_closes;
         no_event_left = there.no_event_left;
         ends_where_found = there.ends_where_found;
+        flushed_where_due = there.flushed_where_due;
         caused = as_caused answer there.did (after_did now answer there.did h) there.caused;
       }
     where
-      as_caused : (answer : Turn) (did : Did) (after : History) → IsCaused told may_end h did after old answer new → IsCaused told may_end h did after old answer (record new { rests = rests })
+      as_caused : (answer : Turn) (did : Did) (after : History) → IsCaused told now may_end h did after old answer new → IsCaused told now may_end h did after old answer (record new { rests = rests })
       as_caused (turn.Issued parcel) did after is = is
       as_caused (turn.Passed span rule) did after is = is
       as_caused turn.More did after is = is
-      as_caused turn.AtEnd did after is = is
+      as_caused turn.AtEnd did after is =
+          record { none_read = is.none_read; goes_on = is.goes_on; all_told = is.all_told; last_line = is.last_line; which = which is.which }
+        where
+          which : (h.stage ≡ Ended) ⊎ EndsNow told now may_end h did after old new → (h.stage ≡ Ended) ⊎ EndsNow told now may_end h did after old (record new { rests = rests })
+          which (inl ended) = inl ended
+          which (inr here) = inr (record { none_closes = here.none_closes; none_due = here.none_due; ends = here.ends; found = here.found })
       as_caused (turn.NewLife epoch) did after is = is
       as_caused turn.Changed did after is = is
       as_caused turn.EpochsOut did after is = is
@@ -485,12 +541,12 @@ module _ {T : Type 0} (numbers : T → Option (ℕ × ℕ)) (told : T → Option
       as_caused turn.NoMemory did after is = is
 
   pub changed_with : (answer : Turn) → Goes numbers told most now may_end h old answer new → (IsChanged new ↔ IsLast answer)
-  changed_with (turn.Issued parcel) goes = ((λ is. not_changed new.reader.stage goes.did.stage goes.has_told.held.follows.stage goes.caused is), (λ no_last. absurd no_last))
-  changed_with (turn.Passed span rule) goes = ((λ is. not_changed new.reader.stage goes.did.stage goes.has_told.held.follows.stage goes.caused is), (λ no_last. absurd no_last))
-  changed_with turn.More goes = ((λ is. not_changed new.reader.stage goes.did.stage goes.has_told.held.follows.stage goes.caused.1 is), (λ no_last. absurd no_last))
-  changed_with turn.AtEnd goes = ((λ is. not_changed new.reader.stage goes.did.stage goes.has_told.held.follows.stage goes.caused.1 is), (λ no_last. absurd no_last))
-  changed_with (turn.NewLife epoch) goes = ((λ is. not_changed new.reader.stage Reads goes.has_told.held.follows.stage tt is), (λ no_last. absurd no_last))
-  changed_with turn.Changed goes = ((λ is. tt), (λ last. changed_by new.reader.stage (goes.has_told.held.follows.stage ∙ goes.caused)))
-  changed_with turn.EpochsOut goes = ((λ is. tt), (λ last. over_by new.reader.stage (goes.has_told.held.follows.stage ∙ goes.caused.0)))
-  changed_with turn.ReadFault goes = ((λ is. not_changed new.reader.stage goes.did.stage goes.has_told.held.follows.stage goes.caused is), (λ no_last. absurd no_last))
-  changed_with turn.NoMemory goes = ((λ is. not_changed new.reader.stage goes.did.stage goes.has_told.held.follows.stage goes.caused is), (λ no_last. absurd no_last))
+  changed_with (turn.Issued parcel) goes = ((λ is. not_changed new.reader.stage goes.did.stage goes.has_told.held.holds.follows.stage goes.caused is), (λ no_last. absurd no_last))
+  changed_with (turn.Passed span rule) goes = ((λ is. not_changed new.reader.stage goes.did.stage goes.has_told.held.holds.follows.stage goes.caused is), (λ no_last. absurd no_last))
+  changed_with turn.More goes = ((λ is. not_changed new.reader.stage goes.did.stage goes.has_told.held.holds.follows.stage goes.caused.1 is), (λ no_last. absurd no_last))
+  changed_with turn.AtEnd goes = ((λ is. not_changed new.reader.stage goes.did.stage goes.has_told.held.holds.follows.stage goes.caused.goes_on is), (λ no_last. absurd no_last))
+  changed_with (turn.NewLife epoch) goes = ((λ is. not_changed new.reader.stage Reads goes.has_told.held.holds.follows.stage tt is), (λ no_last. absurd no_last))
+  changed_with turn.Changed goes = ((λ is. tt), (λ last. changed_by new.reader.stage (goes.has_told.held.holds.follows.stage ∙ goes.caused)))
+  changed_with turn.EpochsOut goes = ((λ is. tt), (λ last. over_by new.reader.stage (goes.has_told.held.holds.follows.stage ∙ goes.caused.0)))
+  changed_with turn.ReadFault goes = ((λ is. not_changed new.reader.stage goes.did.stage goes.has_told.held.holds.follows.stage goes.caused is), (λ no_last. absurd no_last))
+  changed_with turn.NoMemory goes = ((λ is. not_changed new.reader.stage goes.did.stage goes.has_told.held.holds.follows.stage goes.caused is), (λ no_last. absurd no_last))

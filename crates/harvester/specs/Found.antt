@@ -12,7 +12,7 @@ use Rattle.harvester.specs.declared.stage.Stage.{Stage as ReaderStage}
 use Rattle.harvester.specs.declared.stage.Stage.TheVariants.{Asking, Reading}
 use Rattle.harvester.specs.declared.turn_error.TurnError.{TurnError}
 use Rattle.harvester.specs.HasTold.{HasTold}
-use Rattle.harvester.specs.History.{Asks, History, Reads, Stage, read_to, with_bytes, with_present, with_stage}
+use Rattle.harvester.specs.History.{Asks, History, Reads, Stage, read_to, with_read, with_stage}
 use Rattle.harvester.specs.Looked.{IsLookedAt}
 
 -- where the file then stands
@@ -53,8 +53,8 @@ pub record IsAtEnd {T : Type 0} (numbers : T → Option (ℕ × ℕ)) (told : T 
   pub looks : IfSome (told old.tail) (λ earlier. LooksAtEnd (read_to before.present) earlier (told new.tail))
   pub found : IfSome (told new.tail) (FoundEnd (numbers new.tail) after)
 
-pub record HasLooked {T : Type 0} (numbers : T → Option (ℕ × ℕ)) (told : T → Option TailHistory) (most : ℕ) (history : History) (old : Harvester T) (result : Result Found TurnError) (new : Harvester T) : Type 0 where
+pub record HasLooked {T : Type 0} (numbers : T → Option (ℕ × ℕ)) (told : T → Option TailHistory) (most now : ℕ) (history : History) (old : Harvester T) (result : Result Found TurnError) (new : Harvester T) : Type 0 where
   pub bytes : List ℕ
   pub gave : GaveBytes most result bytes
-  pub has_told : HasTold numbers told (with_stage (stage_after result) (with_present (with_bytes bytes history.present) history)) new
-  pub at_end : result ≡ Ok End → IsAtEnd numbers told history (with_present (with_bytes bytes history.present) history) old new
+  pub has_told : HasTold numbers told (with_stage (stage_after result) (with_read now bytes history)) new
+  pub at_end : result ≡ Ok End → IsAtEnd numbers told history (with_read now bytes history) old new

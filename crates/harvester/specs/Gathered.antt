@@ -1,6 +1,6 @@
 -- What is gathered of the bytes that were fed of one life (Filebeat reference, filestream input and multiline messages;
 -- this project's profile): their complete lines, by what became of them.
-use Rattle.std.specs.Prelude.{◌≡◌, ◌⊎◌, ℕ, ◌+◌, ◌-◌, ◌≤◌, Bool, false, List, [], ◌++◌, length, Contains, Option, Some, None, Result, IfOk, option_to_list, map}
+use Rattle.std.specs.Prelude.{◌≡◌, ◌⊎◌, ℕ, ◌+◌, ◌-◌, ◌<◌, ◌≤◌, Bool, false, List, [], ◌++◌, length, Contains, Option, Some, None, Result, IfOk, option_to_list, map}
 use Rattle.event_tree.specs.declared.line_rule.LineRule.{LineRule}
 use Rattle.line_cutter.specs.Cutting.{Cutting, HasCut, fed_to}
 use Rattle.line_cutter.specs.Lines.{complete_lines}
@@ -79,11 +79,15 @@ pub record SomeGathered (events : Events) : Type 0 where
   pub is : IsGathered rules start fed licences of events
 
 -- lines were gathered that were read at this moment, or none
+abbrev pub HasMoved : Gathered → Gathered → Moment → Moment → Moment → Type 0
+HasMoved of after last now last_line =
+    ((lines_of after ≡ lines_of of) × (last_line ≡ last)) ⊎ ((length (lines_of of) < length (lines_of after)) × (last_line ≡ now))
+
 pub record Moved (rules : Rules) (start : ℕ) (fed licences : List ℕ) (of : Gathered) (last now : Moment) (events : Events) : Type 0 where
   pub after : Gathered
   pub same_told : after.told ≡ of.told
   pub is : IsGathered rules start fed licences after events
-  pub last_line : (events.last_line ≡ last) ⊎ (events.last_line ≡ now)
+  pub last_line : HasMoved of after last now events.last_line
 
 -- where none is closed, all complete lines are gathered
 pub record Found (rules : Rules) (start : ℕ) (fed licences : List ℕ) (of : Gathered) (last now : Moment) (result : Result Bool NoMemory) (events : Events) : Type 0 where

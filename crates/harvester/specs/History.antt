@@ -1,9 +1,11 @@
 -- What a harvester told of its file so far (Filebeat reference, filestream input and multiline messages; this project's
 -- profile): for each epoch what was read of it, where an event may be flushed, and the events that were told, each with
 -- its fate. The file of an epoch is told from its start on: the place with which the harvester began, or the first byte.
-use Rattle.std.specs.Prelude.{◌≡◌, ℕ, ◌+◌, ◌≤◌, Bool, true, false, List, [], ◌∷◌, ◌++◌, drop, length}
+use Rattle.std.specs.Prelude.{◌≡◌, ℕ, ◌+◌, ◌-◌, ◌≤◌, ltb, cond, Bool, true, false, List, [], ◌∷◌, ◌++◌, drop, length}
 use Rattle.event_tree.specs.declared.input_rule.InputRule.{InputRule}
 use Rattle.event_tree.specs.declared.processor_rule.ProcessorRule.{ProcessorRule}
+use Rattle.line_cutter.specs.Lines.{complete_lines}
+use Rattle.line_cutter.specs.declared.line.Line.{Line}
 use Rattle.multiline_core.specs.Rule.{timeout_of}
 use Rattle.outside.specs.declared.history.Look.{Look}
 use Rattle.ship_core.specs.CoveredEnd.{last_end}
@@ -55,6 +57,8 @@ pub record History : Type 0 where
   pub present : Telling
   -- the moments of the opening and of each turn
   pub moments : List ℕ
+  -- the moment of the last turn that read a complete line, or of the opening
+  pub last_line : ℕ
   pub stage : Stage
   -- whether later turns may find the end, whether some turn might, and whether the file is to be forgotten then
   pub ends : Bool
@@ -67,6 +71,15 @@ rules_in history = rules_of history.rule history.processors
 -- how long an event waits for a line, in milliseconds
 abbrev pub timeout_in : History → ℕ
 timeout_in history = timeout_of history.rule.multiline
+
+-- the complete lines of what was read of the present epoch
+abbrev pub complete_in : History → List Line
+complete_in history = complete_lines history.rule.lines history.present.start history.present.bytes
+
+-- those behind what was told
+abbrev pub left_to_tell : History → List Line
+left_to_tell history =
+    complete_lines history.rule.lines (told_to history.present) (drop (told_to history.present - history.present.start) history.present.bytes)
 
 -- the life goes on with these bytes from the start on
 pub record HasBytes (start : ℕ) (bytes life : List ℕ) : Type 0 where
@@ -94,6 +107,7 @@ opened rule processors begin before now = record {
   past = [];
   present = beginning begin.epoch.0 begin.base;
   moments = now ∷ [];
+  last_line = now;
   stage = Reads;
   ends = false;
   may_end = false;
@@ -111,6 +125,17 @@ with_events events telling = record telling { told = telling.told ++ events }
 
 abbrev pub with_present : Telling → History → History
 with_present telling history = record history { present = telling }
+
+-- a turn at this moment read these bytes
+abbrev pub with_read : ℕ → List ℕ → History → History
+with_read now bytes history = record history {
+  present = with_bytes bytes history.present;
+  last_line = cond (ltb (length (complete_in history)) (length (complete_in (with_present (with_bytes bytes history.present) history)))) now history.last_line;
+}
+
+-- the timeout has passed since the last complete line was read
+abbrev pub IsPast : History → ℕ → Type 0
+IsPast history now = timeout_in history ≤ now - history.last_line
 
 -- the next epoch begins at the first byte
 abbrev pub with_epoch : History → History

@@ -1,6 +1,5 @@
 -- What one turn of a harvester did, by its answer (Filebeat reference, filestream input; this project's profile).
-use Rattle.std.specs.Prelude.{◌≡◌, ◌⊎◌, ℕ, ◌<◌, ◌≤◌, ◌-◌, Bool, true, List, [], drop, length, Option, Some, None, Result, Ok, Err, IfSome}
-use Rattle.line_cutter.specs.Lines.{complete_lines}
+use Rattle.std.specs.Prelude.{◌≡◌, ◌⊎◌, ℕ, ◌<◌, ◌≤◌, Bool, true, List, [], length, Option, Some, None, Result, Ok, Err, IfSome}
 use Rattle.multiline_core.specs.Gathering.{MayGoOn}
 use Rattle.outside.specs.Tails.{TailHistory}
 use Rattle.told_events.specs.Told.{ToldEvent}
@@ -12,7 +11,7 @@ use Rattle.harvester.specs.declared.turn_error.TurnError.{TurnError}
 use Rattle.harvester.specs.declared.turn_error.TurnError.TheVariants as error
 use Rattle.harvester.specs.Found.{FoundEnd, LooksAtEnd}
 use Rattle.harvester.specs.HasTold.{HasTold}
-use Rattle.harvester.specs.History.{Asks, Changed, Ended, History, Over, Reads, Stage, read_to, told_to, with_bytes, with_epoch, with_events, with_licences, with_present, with_stage}
+use Rattle.harvester.specs.History.{Asks, Changed, Ended, History, IsPast, Over, Reads, Stage, left_to_tell, read_to, with_epoch, with_events, with_licences, with_present, with_read, with_stage}
 use Rattle.harvester.specs.Standing.{stage_behind_end, stage_of}
 use Rattle.harvester.specs.Turned.{HasOneEvent, IsAskedIn, events_told}
 
@@ -22,21 +21,26 @@ pub record Did : Type 0 where
   pub licences : List ℕ
   pub stage : Stage
 
--- these events were told, too
-abbrev pub did_with : List ToldEvent → Did → History → History
-did_with events did history =
-    with_stage did.stage (with_present (with_events events (with_licences did.licences (with_bytes did.bytes history.present))) history)
+-- an event may be flushed at these places, and these were told
+abbrev pub with_told : List ℕ → List ToldEvent → History → History
+with_told licences events history = with_present (with_events events (with_licences licences history.present)) history
+
+-- at this moment; these events were told, too
+abbrev pub did_with : ℕ → List ToldEvent → Did → History → History
+did_with now events did history = with_stage did.stage (with_told did.licences events (with_read now did.bytes history))
 
 -- a new life begins an epoch; every other turn adds to the present one
 abbrev pub after_did : ℕ → Turn → Did → History → History
 after_did now (turn.NewLife epoch) did history = with_epoch history
-after_did now answer did history = did_with (events_told history.path now answer) did history
+after_did now answer did history = did_with now (events_told history.path now answer) did history
 
 -- the complete lines behind what was told are the first ones of an event that may go on
 abbrev pub NoneCloses : History → Type 0
-NoneCloses history =
-    MayGoOn history.rule.multiline
-    (complete_lines history.rule.lines (told_to history.present) (drop (told_to history.present - history.present.start) history.present.bytes))
+NoneCloses history = MayGoOn history.rule.multiline (left_to_tell history)
+
+-- and none waits for its timeout to pass
+abbrev pub NoneDue : History → ℕ → Type 0
+NoneDue history now = (left_to_tell history ≡ []) ⊎ (¬ (IsPast history now))
 
 -- the file may be turned again
 abbrev pub MayTurn : Stage → Type 0
@@ -54,10 +58,24 @@ FoundHere told before old new = IfSome (told old.tail) (λ earlier. LooksAtEnd (
 abbrev pub EndsHere : {T : Type 0} → (T → Option TailHistory) → Bool → History → Harvester T → Harvester T → Type 0
 EndsHere told may_end before old new = (before.stage ≡ Ended) ⊎ ((may_end ≡ true) × FoundHere told before old new)
 
--- the end was found by an earlier turn, or by the looks of this one: then no event closes, and the file is ended if it may be
-abbrev pub IsEnd : {T : Type 0} → (T → Option TailHistory) → Bool → History → Did → History → Harvester T → Harvester T → Type 0
-IsEnd told may_end before did after old new =
-    (before.stage ≡ Ended) ⊎ (NoneCloses after × (may_end ≡ true → did.stage ≡ Ended) × FoundHere told before old new)
+-- the end was found by the looks of this turn: then no event closes, none is due, and the file is ended if it may be
+pub record EndsNow {T : Type 0} (told : T → Option TailHistory) (now : ℕ) (may_end : Bool) (before : History) (did : Did) (after : History) (old new : Harvester T) : Type 0 where
+  pub none_closes : NoneCloses after
+  pub none_due : NoneDue after now
+  pub ends : may_end ≡ true → did.stage ≡ Ended
+  pub found : FoundHere told before old new
+
+-- the moment of the last line that was gathered
+abbrev pub last_line_of : {T : Type 0} → Harvester T → ℕ
+last_line_of harvester = harvester.reader.events.last_line.0
+
+-- the end was found by an earlier turn, or is now; where the file is ended, all complete lines are told
+pub record IsEnd {T : Type 0} (told : T → Option TailHistory) (now : ℕ) (may_end : Bool) (before : History) (did : Did) (after : History) (old new : Harvester T) : Type 0 where
+  pub none_read : did.bytes ≡ []
+  pub goes_on : MayTurn did.stage
+  pub all_told : did.stage ≡ Ended → left_to_tell after ≡ []
+  pub last_line : last_line_of new ≡ after.last_line
+  pub which : (before.stage ≡ Ended) ⊎ EndsNow told now may_end before did after old new
 
 -- no event was told, and memory was not wanting
 abbrev pub IsQuiet : Turn → Type 0
@@ -70,16 +88,16 @@ IsQuiet answer = ⊥
 
 -- when each answer comes; a fault is told by the tail's count, and want of memory is free. Which key the file had the looks
 -- tell: where it is read or asked on, has another key, or its last epoch is over
-abbrev pub IsCaused : {T : Type 0} → (T → Option TailHistory) → Bool → History → Did → History → Harvester T → Turn → Harvester T → Type 0
-IsCaused told may_end before did after old (turn.Issued parcel) new = MayTurn did.stage
-IsCaused told may_end before did after old (turn.Passed span rule) new = MayTurn did.stage
-IsCaused told may_end before did after old turn.More new = (0 < length did.bytes) × MayTurn did.stage × NoneCloses after
-IsCaused told may_end before did after old turn.AtEnd new = (did.bytes ≡ []) × MayTurn did.stage × IsEnd told may_end before did after old new
-IsCaused told may_end before did after old (turn.NewLife epoch) new = IsAskedIn before.present.epoch (turn.NewLife epoch)
-IsCaused told may_end before did after old turn.Changed new = did.stage ≡ Changed
-IsCaused told may_end before did after old turn.EpochsOut new = (did.stage ≡ Over) × IsAskedIn before.present.epoch turn.EpochsOut
-IsCaused told may_end before did after old turn.ReadFault new = MayTurn did.stage
-IsCaused told may_end before did after old turn.NoMemory new = MayTurn did.stage
+abbrev pub IsCaused : {T : Type 0} → (T → Option TailHistory) → ℕ → Bool → History → Did → History → Harvester T → Turn → Harvester T → Type 0
+IsCaused told now may_end before did after old (turn.Issued parcel) new = MayTurn did.stage
+IsCaused told now may_end before did after old (turn.Passed span rule) new = MayTurn did.stage
+IsCaused told now may_end before did after old turn.More new = (0 < length did.bytes) × MayTurn did.stage × NoneCloses after × NoneDue after now
+IsCaused told now may_end before did after old turn.AtEnd new = IsEnd told now may_end before did after old new
+IsCaused told now may_end before did after old (turn.NewLife epoch) new = IsAskedIn before.present.epoch (turn.NewLife epoch)
+IsCaused told now may_end before did after old turn.Changed new = did.stage ≡ Changed
+IsCaused told now may_end before did after old turn.EpochsOut new = (did.stage ≡ Over) × IsAskedIn before.present.epoch turn.EpochsOut
+IsCaused told now may_end before did after old turn.ReadFault new = MayTurn did.stage
+IsCaused told now may_end before did after old turn.NoMemory new = MayTurn did.stage
 
 -- at this moment, of which the history knows; `may_end` says that the end may be found
 pub record Goes {T : Type 0} (numbers : T → Option (ℕ × ℕ)) (told : T → Option TailHistory) (most now : ℕ) (may_end : Bool) (history : History) (old : Harvester T) (answer : Turn) (new : Harvester T) : Type 0 where
@@ -89,7 +107,9 @@ pub record Goes {T : Type 0} (numbers : T → Option (ℕ × ℕ)) (told : T →
   pub reads_where_none_closes : 0 < length did.bytes → NoneCloses history
   pub no_event_left : history.stage ≡ Reads → IsQuiet answer → NoneCloses history
   pub ends_where_found : did.stage ≡ Ended → EndsHere told may_end history old new
-  pub caused : IsCaused told may_end history did (after_did now answer did history) old answer new
+  -- an event is flushed at the file's end, or where its timeout has passed
+  pub flushed_where_due : (did.licences ≡ []) ⊎ ((did.stage ≡ Ended) ⊎ IsPast (with_read now did.bytes history) now)
+  pub caused : IsCaused told now may_end history did (after_did now answer did history) old answer new
 
 abbrev pub answer_of : Result Turn TurnError → Turn
 answer_of (Ok answer) = answer
@@ -112,6 +132,13 @@ pub record MayBeEnded {T : Type 0} (numbers : T → Option (ℕ × ℕ)) (told :
   pub may : history.may_end ≡ true
   pub found : IfSome (told harvester.tail) (FoundEnd (numbers harvester.tail) history)
 
+-- no event is closed, and none is due; at the end none waits
+pub record IsSettled {T : Type 0} (now : ℕ) (ended : Bool) (history : History) (new : Harvester T) : Type 0 where
+  pub none_closes : NoneCloses history
+  pub none_due : NoneDue history now
+  pub all_told : ended ≡ true → left_to_tell history ≡ []
+  pub last_line : last_line_of new ≡ history.last_line
+
 -- once more was read: what was told, where an event may be flushed, and where the file stands then
 pub record Settled {T : Type 0} (numbers : T → Option (ℕ × ℕ)) (told : T → Option TailHistory) (now : ℕ) (ended : Bool) (history : History) (result : Result (Option Turn) NoMemory) (new : Harvester T) : Type 0 where
   pub licences : List ℕ
@@ -120,9 +147,10 @@ pub record Settled {T : Type 0} (numbers : T → Option (ℕ × ℕ)) (told : T 
   -- the file is ended only where it may be, and then where no event is closed
   pub ends : stage ≡ Ended → ended ≡ true
   pub at_none : result ≡ Ok None → stage ≡ stage_of (stage_behind_end ended)
-  pub has_told : HasTold numbers told (did_with (events_of history.path now result) (record { bytes = []; licences = licences; stage = stage }) history) new
+  pub has_told : HasTold numbers told (did_with now (events_of history.path now result) (record { bytes = []; licences = licences; stage = stage }) history) new
   pub one : ToldOne result
-  pub none_closes : result ≡ Ok None → NoneCloses history
+  pub flushed_where_due : (licences ≡ []) ⊎ ((stage ≡ Ended) ⊎ IsPast history now)
+  pub at_rest : result ≡ Ok None → IsSettled now ended history new
 
 -- the answers after which the harvester is turned no more
 abbrev pub IsLast : Turn → Type 0

@@ -10,8 +10,7 @@
 //! `FateRules` is what filters and processors decide of an event, compiled once. Nothing here names a folder, a queue or
 //! a lane.
 //!
-//! The clauses allow more than the code does. An event may be flushed where any two moments lie a timeout apart, and
-//! none has to be told when its timeout has passed, or at the file's end.
+//! The clauses allow more than the code does: a turn may answer that it found no memory at any time.
 #![tactic(auto)]
 
 mod asking;

@@ -4,6 +4,7 @@ ghost use Rattle.wire_base.specs.Ranges.{IsMoment};
 ghost use Rattle.harvester.specs.Found.{HasLooked, stage_found};
 ghost use Rattle.harvester.specs.HasTold.{HasTold};
 ghost use Rattle.harvester.specs.History.{History};
+ghost use Rattle.harvester.specs.Standing.{AllGathered};
 ghost use Rattle.harvester.specs.TurnLooks.{AreOfLook, LooksOn};
 
 use crate::buffer::READ_SIZE;
@@ -31,8 +32,9 @@ impl<T: Tail> Harvester<T> {
         requires reads { self.old.reader.stage ≡ Stage.Reading }
         requires moment { IsMoment now }
         ensures looked { (history : History) → Contains history.moments now.0 →
+            AllGathered history self.old.reader →
             HasTold T.numbers T.told history self.old →
-            HasLooked T.numbers T.told READ_SIZE history self.old result self.new }
+            HasLooked T.numbers T.told READ_SIZE now.0 history self.old result self.new }
         ensures looks { LooksOn (AreOfLook result self.old.reader.position)
             (T.told self.old.tail) (T.told self.new.tail) }
         ensures numbers_kept { T.numbers self.new.tail ≡ T.numbers self.old.tail }

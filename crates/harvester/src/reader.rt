@@ -6,9 +6,9 @@ ghost use Rattle.outside.specs.Tails.{TellsRead};
 ghost use Rattle.outside.specs.declared.history.Look.{Look};
 ghost use Rattle.told_events.specs.Told.{ToldEvent};
 ghost use Rattle.wire_base.specs.Ranges.{IsMoment, IsPlace};
-ghost use Rattle.harvester.specs.History.{History, opened, with_bytes, with_ending, with_epoch, with_path, with_present, with_stage};
+ghost use Rattle.harvester.specs.History.{Asks, History, opened, with_ending, with_epoch, with_path, with_present, with_read, with_stage};
 ghost use Rattle.harvester.specs.InRange.{IsReadable};
-ghost use Rattle.harvester.specs.Standing.{AllGathered, EndsAt, StandsFor, TellsOne, WasClosed, given_path, stage_of};
+ghost use Rattle.harvester.specs.Standing.{AllGathered, EndsAt, IsGatheredAt, StandsFor, TellsOne, WasClosed, given_path, stage_of};
 
 use crate::buffer::{Buffer, READ_SIZE};
 use crate::events::Events;
@@ -117,6 +117,7 @@ impl Reader {
 
     /// Whether an event is closed by what was read.
     pub(crate) fn gather(&mut self, alloc: Global) -> Result<bool, NoMemory>
+        requires reads { self.old.stage ≡ Stage.Reading }
         ensures stands { (history : History) → StandsFor history self.old →
             StandsFor history self.new }
         ensures closed { IfOk result (λ found. IsTrue found ↔ IsSome self.new.events.closed) }
@@ -136,6 +137,7 @@ impl Reader {
 
     /// Feeds what was read.
     fn feed(&mut self) -> Result<(), NoMemory>
+        requires reads { self.old.stage ≡ Stage.Reading }
         ensures stands { (history : History) → StandsFor history self.old →
             StandsFor history self.new }
         ensures fed { OnOk result (self.new.filled ≡ 0) }
@@ -155,7 +157,8 @@ impl Reader {
 
     /// Whether an event is closed by what was fed.
     fn find(&mut self, alloc: Global) -> Result<bool, NoMemory>
-        requires { self.old.filled ≡ 0 }
+        requires fed { self.old.filled ≡ 0 }
+        requires reads { self.old.stage ≡ Stage.Reading }
         ensures stands { (history : History) → StandsFor history self.old →
             StandsFor history self.new }
         ensures closed { IfOk result (λ found. IsTrue found ↔ IsSome self.new.events.closed) }
@@ -164,6 +167,7 @@ impl Reader {
             AllGathered history self.new) }
         ensures others { self.new ≡ (record self.old { events = self.new.events }) }
     {
+        lines_stay();
         self.events.find(alloc, self.read_at)
     }
 }
@@ -172,12 +176,12 @@ impl Reader {
     /// Reads from its position, where nothing that was read waits to be fed.
     pub(crate) fn read<T: Tail>(&mut self, tail: &mut T, now: Moment) -> Result<usize, Failed>
         requires all_fed { self.old.filled ≡ 0 }
+        requires reads { self.old.stage ≡ Stage.Reading }
         requires moment { IsMoment now }
         ensures stands { (history : History) → Contains history.moments now.0 →
-            StandsFor history self.old →
+            AllGathered history self.old →
             IfOk result (λ count. StandsFor
-            (with_present (with_bytes (take count self.new.buffer) history.present) history)
-            self.new) }
+            (with_read now.0 (take count self.new.buffer) history) self.new) }
         ensures stands_on_refusal { OnErr result ((history : History) →
             StandsFor history self.old →
             StandsFor history self.new) }
@@ -199,6 +203,7 @@ impl Reader {
         ensures faults_told_only_by_failures { IsSome (T.told tail.old) →
             OnOk result (T.faults tail.new ≡ T.faults tail.old) }
     {
+        lines_stay();
         let count = self.buffer.read(tail, self.position)?;
         self.filled = count;
         self.position += count as u64;
@@ -212,6 +217,8 @@ impl Reader {
         requires { self.old.filled ≡ 0 }
         ensures stands { (history : History) → StandsFor history self.old →
             StandsFor history self.new }
+        ensures all_gathered { (history : History) → AllGathered history self.old →
+            AllGathered history self.new }
         ensures others { self.new ≡ (record self.old { buffer = self.new.buffer }) }
     {
         if length > self.position {
@@ -236,9 +243,8 @@ impl Reader {
         requires none_closed { self.old.events.closed ≡ None }
         requires moment { IsMoment now }
         ensures closed { IsTrue result ↔ IsSome self.new.events.closed }
-        ensures was_closed { (history : History) → StandsFor history self.old →
-            AllGathered history self.old →
-            EndsAt history.moments now.0 → WasClosed history ended self.new }
+        ensures was_closed { (history : History) → AllGathered history self.old →
+            EndsAt history.moments now.0 → WasClosed history now.0 ended self.new }
         ensures others { self.new ≡ (record self.old { events = self.new.events }) }
     {
         if !self.events.may_close(ended, now) {
@@ -273,7 +279,8 @@ impl Reader {
 
     /// Where the file stands from now on.
     pub(crate) fn stand(&mut self, stage: Stage)
-        ensures stands { (history : History) → StandsFor history self.old →
+        ensures stands { (history : History) (stood : StandsFor history self.old) →
+            IsGatheredAt (stage_of stage) history stood.of →
             StandsFor (with_stage (stage_of stage) history) self.new }
         ensures others { self.new ≡ (record self.old { stage = stage }) }
     {
@@ -283,7 +290,8 @@ impl Reader {
     /// Begins the next epoch at the file's first byte; what waits is forgotten. Takes no memory.
     pub(crate) fn begin_life(&mut self, alloc: Global, epoch: Epoch)
         requires next { epoch.0 ≡ self.old.epoch.0 + 1 }
-        ensures stands { (history : History) → StandsFor history self.old →
+        ensures stands { (history : History) → history.stage ≡ Asks →
+            StandsFor history self.old →
             StandsFor (with_epoch history) self.new }
         ensures others { self.new ≡ (record self.old {
           epoch = epoch;

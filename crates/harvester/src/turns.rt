@@ -78,6 +78,7 @@ impl<T: Tail> Harvester<T> {
                 if self.reader.has_closed() {
                     return Ok(self.tell(alloc, now)?);
                 }
+                later_lines();
                 Ok(Turn::AtEnd)
             }
             Stage::Changed | Stage::Over => unreachable!(),
@@ -95,8 +96,7 @@ impl<T: Tail> Harvester<T> {
             self.new }
         ensures of_file { (rules : Rules) → Decides rules self.old.rules →
             IfOk result (IsAnswerFor self.old.reader.begin.slot self.old.reader.epoch) }
-        ensures looks {
-            LooksOn (AreOfReading (IsRefused (answer_of result)) self.old.reader.position)
+        ensures looks { LooksOn (AreOfReading (IsRefused (answer_of result)) self.old.reader.position)
             (T.told self.old.tail) (T.told self.new.tail) }
         ensures numbers_kept { T.numbers self.new.tail ≡ T.numbers self.old.tail }
         ensures begin_kept { self.new.reader.begin ≡ self.old.reader.begin }

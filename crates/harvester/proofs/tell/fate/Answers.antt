@@ -4,9 +4,9 @@ use Rattle.harvester.proofs.tell.fate.Goals as goal
 pub fate-requires-clause-place : goal.fate-requires-clause-place
 fate-requires-clause-place c =
     let i = c.reader.invariant in
-    (span_in_range i.history _ i.stands c.in-Some.group c.in-Some.is).0
+    (span_in_range i.history _ i.of i.holds c.in-Some.group c.in-Some.is).0
 
 pub returns-clause-in_range : goal.returns-clause-in_range
 returns-clause-in_range c =
     let i = c.reader.invariant in
-    (span_in_range i.history _ i.stands c.in-Some.group c.in-Some.is).1
+    (span_in_range i.history _ i.of i.holds c.in-Some.group c.in-Some.is).1

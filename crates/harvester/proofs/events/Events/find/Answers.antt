@@ -1,11 +1,11 @@
-use Rattle.std.proofs.Common.{◌≡◌, ◌⊎◌, IfNone, ℕ, Bool, false, List, [], ◌∷◌, Option, None, option_to_list, sym, ap, subst, ◌∙◌}
+use Rattle.std.proofs.Common.{◌≡◌, IfNone, ℕ, Bool, false, List, [], ◌∷◌, Option, None, option_to_list, sym, ap, subst, ◌∙◌}
 use Rattle.line_cutter.specs.Cutting.{Cutting, fed_to}
 use Rattle.line_cutter.specs.Lines.{complete_lines}
 use Rattle.line_cutter.specs.declared.line.Line.{Line}
 use Rattle.told_events.specs.Rules.{Rules}
 use Rattle.wire_base.specs.declared.numbers.Moment.{Moment}
 use Rattle.harvester.specs.declared.events.Events.{Events}
-use Rattle.harvester.specs.Gathered.{Gathered, IsGathered, IsGatheredBut, lines_of}
+use Rattle.harvester.specs.Gathered.{Gathered, HasMoved, IsGathered, IsGatheredBut, lines_of}
 use Rattle.harvester.proofs.Gathering.{adjoins, moves_on, none_where_false, where_err}
 use Rattle.harvester.proofs.events.Events.find.Goals as goal
 
@@ -73,7 +73,7 @@ returns-clause-found c = λ rules start fed licences of is.
         after = m.after;
         same_told = m.same_told;
         is = subst (λ (o : Option Line). IsGatheredBut rules start fed licences m.after (option_to_list o) next) (sym line) found;
-        last_line = subst (λ (at : Moment). (at ≡ c.args.self.now.last_line) ⊎ (at ≡ c.args.now)) (sym last) m.last_line;
+        last_line = subst (λ (at : Moment). HasMoved of m.after c.args.self.now.last_line c.args.now at) (sym last) m.last_line;
       };
       all = λ is_false. all;
     }

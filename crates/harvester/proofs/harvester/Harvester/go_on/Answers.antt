@@ -5,8 +5,7 @@ use Rattle.harvester.specs.declared.look.Found.TheVariants.{End, Less, More}
 use Rattle.harvester.specs.Deciding.{Decides}
 use Rattle.harvester.specs.Held.{Held}
 use Rattle.harvester.specs.History.{Reads, read_to}
-use Rattle.harvester.specs.TurnLooks.{AreOfLook, AreOfReading, IsRefused}
-use Rattle.harvester.specs.Turns.{answer_of}
+use Rattle.harvester.specs.TurnLooks.{AreOfLook, AreOfReading}
 use Rattle.harvester.proofs.AddedLooks.{asked_below, look_of, looks_at_place, looks_of_turn, looks_refused, no_look}
 use Rattle.harvester.proofs.Closing.{none_closes}
 use Rattle.harvester.proofs.TurnsGiven.{ends_given, few_at_end, found_as, look_asked, look_refused, looks_kept, may_be_ended, no_event, of_same, reads_of, settled_as, settled_end, settled_more, settled_refused, settled_told, some_of, turn_refused, turn_told, with_reader}
@@ -44,7 +43,7 @@ returns-in_err-look-clause-goes g c = λ h ends may has.
     let t = c.gather.ensures.stands h has.held in
     let reads = reads_of h _ has.held c.requires.reads in
     let gathered = with_reader g.T.Tail.numbers g.T.Tail.told h _ has c.gather.new.self t in
-    let looked = c.in_err-look.ensures.looked h (ends_given h.moments c.args.now.0 ends) gathered in
+    let looked = c.in_err-look.ensures.looked h (ends_given h.moments c.args.now.0 ends) (c.in_ok-gather.ensures.all c.if-branch.false h has.held) gathered in
     look_refused g.T.Tail.numbers g.T.Tail.told READ_SIZE c.args.now.0 c.args.ended h reads c.args.self.now _ _ _ looked c.from_residual-in_err-look.result c.from_residual-in_err-look.ensures.0
 
 pub returns-in_err-turn-in-More-clause-goes : goal.returns-in_err-turn-in-More-clause-goes
@@ -52,8 +51,8 @@ returns-in_err-turn-in-More-clause-goes g c = λ h ends may has.
     let t = c.gather.ensures.stands h has.held in
     let reads = reads_of h _ has.held c.requires.reads in
     let gathered = with_reader g.T.Tail.numbers g.T.Tail.told h _ has c.gather.new.self t in
-    let looked = c.in_ok-look.ensures.looked h (ends_given h.moments c.args.now.0 ends) gathered in
-    let none = none_closes h _ (c.in_ok-gather.ensures.all c.if-branch.false h has.held) t.told_place c.later_lines.ensures in
+    let looked = c.in_ok-look.ensures.looked h (ends_given h.moments c.args.now.0 ends) (c.in_ok-gather.ensures.all c.if-branch.false h has.held) gathered in
+    let none = none_closes h c.later_lines.ensures _ (c.in_ok-gather.ensures.all c.if-branch.false h has.held) in
     let found = found_as g.T.Tail.numbers g.T.Tail.told READ_SIZE c.args.now.0 c.args.ended h reads c.args.self.now _ _ c.in_ok-look.field-0 More c.in-More.is looked in
     settled_refused g.T.Tail.numbers g.T.Tail.told READ_SIZE c.args.now.0 c.args.ended h c.args.self.now _ false found.bytes found.gave.1 none (λ is. absurd (let no : false ≡ true = is in cc)) _
     (c.in_err-turn-in-More.ensures.settled _ ends (λ is. absurd (let no : false ≡ true = is in cc)) found.has_told)
@@ -64,8 +63,8 @@ returns-in_err-turn-in-End-clause-goes g c = λ h ends may has.
     let t = c.gather.ensures.stands h has.held in
     let reads = reads_of h _ has.held c.requires.reads in
     let gathered = with_reader g.T.Tail.numbers g.T.Tail.told h _ has c.gather.new.self t in
-    let looked = c.in_ok-look.ensures.looked h (ends_given h.moments c.args.now.0 ends) gathered in
-    let none = none_closes h _ (c.in_ok-gather.ensures.all c.if-branch.false h has.held) t.told_place c.later_lines.ensures in
+    let looked = c.in_ok-look.ensures.looked h (ends_given h.moments c.args.now.0 ends) (c.in_ok-gather.ensures.all c.if-branch.false h has.held) gathered in
+    let none = none_closes h c.later_lines.ensures _ (c.in_ok-gather.ensures.all c.if-branch.false h has.held) in
     let found = found_as g.T.Tail.numbers g.T.Tail.told READ_SIZE c.args.now.0 c.args.ended h reads c.args.self.now _ _ c.in_ok-look.field-0 End c.in-End.is looked in
     settled_refused g.T.Tail.numbers g.T.Tail.told READ_SIZE c.args.now.0 c.args.ended h c.args.self.now _ c.args.ended found.bytes (few_at_end g.T.Tail.numbers g.T.Tail.told READ_SIZE c.args.now.0 c.args.ended h reads c.args.self.now _ _ found) none
     (λ is. inr (is, looks_kept g.T.Tail.numbers g.T.Tail.told (read_to h.present) c.args.self.now.tail c.look.new.self.tail _ c.settle-in-End.ensures.tail_kept (found.at_end refl).looks)) _
@@ -77,8 +76,8 @@ returns-in-Less-clause-goes g c = λ h ends may has.
     let t = c.gather.ensures.stands h has.held in
     let reads = reads_of h _ has.held c.requires.reads in
     let gathered = with_reader g.T.Tail.numbers g.T.Tail.told h _ has c.gather.new.self t in
-    let looked = c.in_ok-look.ensures.looked h (ends_given h.moments c.args.now.0 ends) gathered in
-    let none = none_closes h _ (c.in_ok-gather.ensures.all c.if-branch.false h has.held) t.told_place c.later_lines.ensures in
+    let looked = c.in_ok-look.ensures.looked h (ends_given h.moments c.args.now.0 ends) (c.in_ok-gather.ensures.all c.if-branch.false h has.held) gathered in
+    let none = none_closes h c.later_lines.ensures _ (c.in_ok-gather.ensures.all c.if-branch.false h has.held) in
     let found = found_as g.T.Tail.numbers g.T.Tail.told READ_SIZE c.args.now.0 c.args.ended h reads c.args.self.now _ _ c.in_ok-look.field-0 Less c.in-Less.is looked in
     look_asked g.T.Tail.numbers g.T.Tail.told READ_SIZE c.args.now.0 c.args.ended h reads c.args.self.now _ _ none found _ c.ask_again.result c.ask_again.ensures.asked
 
@@ -90,8 +89,8 @@ returns-in-Some-clause-goes g c = λ h ends may has.
     let t = c.gather.ensures.stands h has.held in
     let reads = reads_of h _ has.held c.requires.reads in
     let gathered = with_reader g.T.Tail.numbers g.T.Tail.told h _ has c.gather.new.self t in
-    let looked = c.in_ok-look.ensures.looked h (ends_given h.moments c.args.now.0 ends) gathered in
-    let none = none_closes h _ (c.in_ok-gather.ensures.all c.if-branch.false h has.held) t.told_place c.later_lines.ensures in
+    let looked = c.in_ok-look.ensures.looked h (ends_given h.moments c.args.now.0 ends) (c.in_ok-gather.ensures.all c.if-branch.false h has.held) gathered in
+    let none = none_closes h c.later_lines.ensures _ (c.in_ok-gather.ensures.all c.if-branch.false h has.held) in
     let found = found_as g.T.Tail.numbers g.T.Tail.told READ_SIZE c.args.now.0 c.args.ended h reads c.args.self.now _ _ c.in_ok-look.field-0 More c.in-More.is looked in
     settled_told g.T.Tail.numbers g.T.Tail.told READ_SIZE c.args.now.0 c.args.ended h c.args.self.now _ false found.bytes found.gave.1 none (λ is. absurd (let no : false ≡ true = is in cc)) c.in-Some.turn
     (settled_as g.T.Tail.numbers g.T.Tail.told c.args.now.0 _ _ _ c.in_ok-turn-in-More.field-0 _ c.in-Some.is
@@ -102,8 +101,8 @@ returns-in-None-clause-goes g c = λ h ends may has.
     let t = c.gather.ensures.stands h has.held in
     let reads = reads_of h _ has.held c.requires.reads in
     let gathered = with_reader g.T.Tail.numbers g.T.Tail.told h _ has c.gather.new.self t in
-    let looked = c.in_ok-look.ensures.looked h (ends_given h.moments c.args.now.0 ends) gathered in
-    let none = none_closes h _ (c.in_ok-gather.ensures.all c.if-branch.false h has.held) t.told_place c.later_lines.ensures in
+    let looked = c.in_ok-look.ensures.looked h (ends_given h.moments c.args.now.0 ends) (c.in_ok-gather.ensures.all c.if-branch.false h has.held) gathered in
+    let none = none_closes h c.later_lines.ensures _ (c.in_ok-gather.ensures.all c.if-branch.false h has.held) in
     let found = found_as g.T.Tail.numbers g.T.Tail.told READ_SIZE c.args.now.0 c.args.ended h reads c.args.self.now _ _ c.in_ok-look.field-0 More c.in-More.is looked in
     settled_more g.T.Tail.numbers g.T.Tail.told READ_SIZE c.args.now.0 c.args.ended h c.args.self.now _ false found.bytes found.gave.1 none (λ is. absurd (let no : false ≡ true = is in cc)) found.gave.0
     (settled_as g.T.Tail.numbers g.T.Tail.told c.args.now.0 _ _ _ c.in_ok-turn-in-More.field-0 _ c.in-None.is
@@ -114,8 +113,8 @@ returns-in-Some-2-clause-goes g c = λ h ends may has.
     let t = c.gather.ensures.stands h has.held in
     let reads = reads_of h _ has.held c.requires.reads in
     let gathered = with_reader g.T.Tail.numbers g.T.Tail.told h _ has c.gather.new.self t in
-    let looked = c.in_ok-look.ensures.looked h (ends_given h.moments c.args.now.0 ends) gathered in
-    let none = none_closes h _ (c.in_ok-gather.ensures.all c.if-branch.false h has.held) t.told_place c.later_lines.ensures in
+    let looked = c.in_ok-look.ensures.looked h (ends_given h.moments c.args.now.0 ends) (c.in_ok-gather.ensures.all c.if-branch.false h has.held) gathered in
+    let none = none_closes h c.later_lines.ensures _ (c.in_ok-gather.ensures.all c.if-branch.false h has.held) in
     let found = found_as g.T.Tail.numbers g.T.Tail.told READ_SIZE c.args.now.0 c.args.ended h reads c.args.self.now _ _ c.in_ok-look.field-0 End c.in-End.is looked in
     settled_told g.T.Tail.numbers g.T.Tail.told READ_SIZE c.args.now.0 c.args.ended h c.args.self.now _ c.args.ended found.bytes (few_at_end g.T.Tail.numbers g.T.Tail.told READ_SIZE c.args.now.0 c.args.ended h reads c.args.self.now _ _ found) none
     (λ is. inr (is, looks_kept g.T.Tail.numbers g.T.Tail.told (read_to h.present) c.args.self.now.tail c.look.new.self.tail _ c.settle-in-End.ensures.tail_kept (found.at_end refl).looks)) c.in-Some-2.turn
@@ -127,8 +126,8 @@ returns-in-None-2-clause-goes g c = λ h ends may has.
     let t = c.gather.ensures.stands h has.held in
     let reads = reads_of h _ has.held c.requires.reads in
     let gathered = with_reader g.T.Tail.numbers g.T.Tail.told h _ has c.gather.new.self t in
-    let looked = c.in_ok-look.ensures.looked h (ends_given h.moments c.args.now.0 ends) gathered in
-    let none = none_closes h _ (c.in_ok-gather.ensures.all c.if-branch.false h has.held) t.told_place c.later_lines.ensures in
+    let looked = c.in_ok-look.ensures.looked h (ends_given h.moments c.args.now.0 ends) (c.in_ok-gather.ensures.all c.if-branch.false h has.held) gathered in
+    let none = none_closes h c.later_lines.ensures _ (c.in_ok-gather.ensures.all c.if-branch.false h has.held) in
     let found = found_as g.T.Tail.numbers g.T.Tail.told READ_SIZE c.args.now.0 c.args.ended h reads c.args.self.now _ _ c.in_ok-look.field-0 End c.in-End.is looked in
     settled_end g.T.Tail.numbers g.T.Tail.told READ_SIZE c.args.now.0 c.args.ended h c.args.self.now _ c.args.ended found.bytes (few_at_end g.T.Tail.numbers g.T.Tail.told READ_SIZE c.args.now.0 c.args.ended h reads c.args.self.now _ _ found) none
     (λ is. inr (is, looks_kept g.T.Tail.numbers g.T.Tail.told (read_to h.present) c.args.self.now.tail c.look.new.self.tail _ c.settle-in-End.ensures.tail_kept (found.at_end refl).looks)) (λ may_end. may_end) found.gave
@@ -136,6 +135,7 @@ returns-in-None-2-clause-goes g c = λ h ends may has.
     (settled_as g.T.Tail.numbers g.T.Tail.told c.args.now.0 _ _ _ c.in_ok-turn-in-End.field-0 _ c.in-None-2.is
     (c.in_ok-turn-in-End.ensures.settled _ ends (λ is. may_be_ended g.T.Tail.numbers g.T.Tail.told READ_SIZE c.args.now.0 c.args.ended h reads c.args.self.now _ _ found (may is)) found.has_told))
     (λ history told. with_reader g.T.Tail.numbers g.T.Tail.told history _ told c.shrink.new.self (c.shrink.ensures.stands history told.held))
+    (ap (λ (held : Held). held.events.last_line.0) c.shrink.ensures.others)
     (looks_kept g.T.Tail.numbers g.T.Tail.told (read_to h.present) c.args.self.now.tail c.look.new.self.tail c.settle-in-End.new.self.tail c.settle-in-End.ensures.tail_kept (found.at_end refl).looks)
 
 pub returns-in-Some-clause-of_file : goal.returns-in-Some-clause-of_file

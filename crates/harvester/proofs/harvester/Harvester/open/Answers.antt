@@ -11,4 +11,4 @@ returns-in-Ok-clause-opened g c = record {
 }
 
 pub returns-in-Ok-clause-begun : goal.returns-in-Ok-clause-begun
-returns-in-Ok-clause-begun g c = (c.in-Ok.ensures.stands []).follows.begin
+returns-in-Ok-clause-begun g c = (c.in-Ok.ensures.stands []).holds.follows.begin

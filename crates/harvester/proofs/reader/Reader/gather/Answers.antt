@@ -1,4 +1,4 @@
-use Rattle.harvester.proofs.Standings.{all_through}
+use Rattle.harvester.proofs.Lasting.{all_through}
 use Rattle.harvester.proofs.reader.Reader.gather.Goals as goal
 
 pub returns-clause-all : goal.returns-clause-all
