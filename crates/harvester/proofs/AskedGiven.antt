@@ -56,12 +56,12 @@ all_read (look ∷ looks) place wanted are = by look.question look.sight are.1 (
 none_read : (looks : List Look) → looks ≡ [] → AllByRecursion (λ look. IsRead look.question) looks
 none_read looks none = subst (λ (l : List Look). AllByRecursion (λ (one : Look). IsRead one.question) l) (sym none) tt
 
-pub asking_reads : (rule : IdentityRule) (looks : List Look) → IsAsking rule looks → AllByRecursion (λ look. IsRead look.question) looks
+asking_reads : (rule : IdentityRule) (looks : List Look) → IsAsking rule looks → AllByRecursion (λ look. IsRead look.question) looks
 asking_reads (Fingerprint offset count) looks is = all_read looks offset count is
 asking_reads Native looks is = none_read looks is
 asking_reads Path looks is = none_read looks is
 
-pub part_reads : (rule : IdentityRule) (looks : List Look) → IsPartOfAsking rule looks → AllByRecursion (λ look. IsRead look.question) looks
+part_reads : (rule : IdentityRule) (looks : List Look) → IsPartOfAsking rule looks → AllByRecursion (λ look. IsRead look.question) looks
 part_reads (Fingerprint offset count) looks is = parts_read looks offset count is
 part_reads Native looks is = none_read looks is
 part_reads Path looks is = none_read looks is

@@ -316,6 +316,18 @@ module _ (h : History) (now : ℕ) (ended : Bool) (closed : Held) (w : WasClosed
   pub settled_all_told : ended ≡ true → left_to_tell h ≡ []
   settled_all_told is = waits_alone ∙ w.none_at_end is
 
+-- an event that waits was closed, too
+pub settled_none_waits : (h : History) (now : ℕ) (ended : Bool) (closed : Held) (w : WasClosed h now ended closed) → closed.events.closed ≡ None →
+    ((rule : LineRule) (start : ℕ) (bytes : List ℕ) (given : List Line) (line : Line) (more : List Line) →
+    complete_lines rule start bytes ≡ given ++ line ∷ more → complete_lines rule line.span.end (drop (line.span.end - start) bytes) ≡ more) →
+    (¬ (IsSome closed.events.grouper.gathered)) → left_to_tell h ≡ []
+settled_none_waits h now ended closed w none later waits =
+    waits_alone h now ended closed w none later ∙ no_lines w.stands.of.waiting w.stands.holds.has.gathered.gathers.kept
+  where
+    no_lines : (row : List Line) → closed.events.grouper.gathered ≡ gathered_of h.rule.multiline row closed.events.last_line → row ≡ []
+    no_lines [] kept = refl
+    no_lines (first ∷ others) kept = absurd (waits (subst (λ (o : Option GatheredLines). IsSome o) (sym kept) refl))
+
 pub closed_last_line : (h : History) (now : ℕ) (ended : Bool) (closed : Held) (w : WasClosed h now ended closed) → closed.events.last_line.0 ≡ h.last_line
 closed_last_line h now ended closed w =
     last_where_all (with_present (with_licences w.licences h.present) h) closed w.stands.of w.all w.stands.last_line

@@ -1,5 +1,6 @@
 -- What the steps of a turn give, as contracts tell it.
-use Rattle.std.proofs.Common.{◌≡◌, ◌⊎◌, inl, inr, ℕ, ◌<◌, ◌≤◌, Bool, true, false, List, [], ◌∷◌, ◌++◌, length, Contains, Option, Some, None, ◌↔◌, ◌||◌, IfOk, IfSome, IsErr, IsErrOf, Result, Ok, Err, refl, sym, ap, subst, ◌∙◌, append-nil, arith}
+use Rattle.std.proofs.Common.{◌≡◌, ◌⊎◌, inl, inr, ℕ, ◌<◌, ◌≤◌, Bool, true, false, List, [], ◌∷◌, ◌++◌, length, Contains, Option, Some, None, ◌↔◌, ◌||◌, IfOk, IfSome, IsSome, IsErr, IsErrOf, Result, Ok, Err, refl, sym, ap, subst, ◌∙◌, append-nil, arith}
+use Rattle.std.specs.List.{AllByRecursion}
 use Rattle.std.proofs.lemmas.Bool.{or_left}
 use Rattle.std.proofs.lemmas.List.Elements.{Contains-append_right}
 use Rattle.line_cutter.specs.declared.line.Line.{Line}
@@ -11,6 +12,7 @@ use Rattle.wire_base.specs.declared.note.Begin.{Begin}
 use Rattle.wire_base.specs.declared.numbers.Epoch.{Epoch}
 use Rattle.wire_base.specs.declared.numbers.Slot.{Slot}
 use Rattle.wire_base.specs.declared.memory.NoMemory.{NoMemory}
+use Rattle.harvester.specs.declared.events.Events.{Events}
 use Rattle.harvester.specs.declared.harvester.Harvester.{Harvester}
 use Rattle.harvester.specs.declared.look.Found.{Found}
 use Rattle.harvester.specs.declared.look.Found.TheVariants.{End, Less}
@@ -27,9 +29,9 @@ use Rattle.harvester.specs.HasTold.{HasTold, IsChanged}
 use Rattle.harvester.specs.Held.{Held}
 use Rattle.harvester.specs.History.{Asks, Changed, Ended, History, IsPast, Over, Reads, Stage, left_to_tell, read_to, timeout_in, with_bytes, with_epoch, with_events, with_licences, with_present, with_read, with_stage}
 use Rattle.harvester.specs.Looked.{AreLookedAt}
-use Rattle.harvester.specs.Standing.{EndsAt, StandsFor, WasClosed, stage_behind_end, stage_of}
+use Rattle.harvester.specs.Standing.{EndsAt, EndsLines, StandsFor, WasClosed, stage_behind_end, stage_of}
 use Rattle.harvester.specs.Turned.{HasOneEvent, IsAskedIn, IsByKey, IsAnswerFor, IsOfFile, events_told, with_turn}
-use Rattle.harvester.specs.Turns.{Did, EndsHere, EndsNow, Goes, IsCaused, IsSettled, MayBeEnded, MayTurn, IsLast, NoneCloses, NoneDue, Settled, after_did, answer_of, did_with, events_of, last_line_of, with_told}
+use Rattle.harvester.specs.Turns.{Did, EndsHere, EndsNow, Goes, IsCaused, IsSettled, MayBeEnded, MayTurn, IsLast, NoneCloses, NoneDue, MayFlush, Settled, after_did, answer_of, did_with, events_of, last_line_of, with_told}
 use Rattle.harvester.proofs.Did.{did_both, did_bytes, did_events, did_licences, did_nothing, did_stage}
 use Rattle.harvester.proofs.Lasting.{same_read, turns_on}
 use Rattle.harvester.proofs.Looking.{apart_stays}
@@ -74,7 +76,7 @@ module _ {T : Type 0} (numbers : T → Option (ℕ × ℕ)) (told : T → Option
     at_none = λ is. absurd cc;
     has_told = subst (λ (g : History). HasTold numbers told g new) (sym (did_nothing now h Reads reads)) has;
     one = tt;
-    flushed_where_due = inl refl;
+    flushed = inl refl;
     at_rest = λ is. absurd cc;
   }
 
@@ -88,16 +90,19 @@ module _ {T : Type 0} (numbers : T → Option (ℕ × ℕ)) (told : T → Option
     at_none = λ is. absurd cc;
     has_told = subst (λ (g : History). HasTold numbers told g new) (sym (did_events now h Reads reads (events_told h.path now answer))) has;
     one = one;
-    flushed_where_due = inl refl;
+    flushed = inl refl;
     at_rest = λ is. absurd cc;
   }
 
-  module _ (licences : List ℕ) (due : (licences ≡ []) ⊎ ((ended ≡ true) ⊎ IsPast h now)) where
-    flushed : (e : Bool) → (licences ≡ []) ⊎ ((e ≡ true) ⊎ IsPast h now) → (licences ≡ []) ⊎ ((behind_end e ≡ Ended) ⊎ IsPast h now)
-    flushed e (inl none) = inl none
-    flushed true (inr why) = inr (inl refl)
-    flushed false (inr (inl never)) = absurd (let no : false ≡ true = never in cc)
-    flushed false (inr (inr past)) = inr (inr past)
+  module _ (licences : List ℕ) (due : (licences ≡ []) ⊎ ((ended ≡ true) ⊎ IsPast h now)) (none : NoneCloses h) (lines : AllByRecursion (EndsLines h) licences) where
+    why : (e : Bool) → (e ≡ true) ⊎ IsPast h now → (behind_end e ≡ Ended) ⊎ IsPast h now
+    why true cause = inl refl
+    why false (inl never) = absurd (let no : false ≡ true = never in cc)
+    why false (inr past) = inr past
+
+    may_flush : (licences ≡ []) ⊎ ((ended ≡ true) ⊎ IsPast h now) → (licences ≡ []) ⊎ MayFlush now (behind_end ended) licences h
+    may_flush (inl none_flushed) = inl none_flushed
+    may_flush (inr cause) = inr (record { why = why ended cause; none_closes = none; end_lines = lines })
 
     pub closes_none : HasTold numbers told (with_stage (behind_end ended) (with_present (with_licences licences h.present) h)) new → IsSettled now ended h new →
         Settled numbers told now ended h (Ok None) new
@@ -109,7 +114,7 @@ module _ {T : Type 0} (numbers : T → Option (ℕ × ℕ)) (told : T → Option
       at_none = λ is. refl;
       has_told = subst (λ (g : History). HasTold numbers told g new) (sym (did_licences now h (behind_end ended) licences)) has;
       one = tt;
-      flushed_where_due = flushed ended due;
+      flushed = may_flush due;
       at_rest = λ is. settled;
     }
 
@@ -124,7 +129,7 @@ module _ {T : Type 0} (numbers : T → Option (ℕ × ℕ)) (told : T → Option
       at_none = λ is. absurd cc;
       has_told = subst (λ (g : History). HasTold numbers told g new) (sym (did_licences now h (behind_end ended) licences)) has;
       one = tt;
-      flushed_where_due = flushed ended due;
+      flushed = may_flush due;
       at_rest = λ is. absurd cc;
     }
 
@@ -139,7 +144,7 @@ module _ {T : Type 0} (numbers : T → Option (ℕ × ℕ)) (told : T → Option
       at_none = λ is. absurd cc;
       has_told = subst (λ (g : History). HasTold numbers told g new) (sym (did_both now h (behind_end ended) licences (events_told h.path now answer))) has;
       one = one;
-      flushed_where_due = flushed ended due;
+      flushed = may_flush due;
       at_rest = λ is. absurd cc;
     }
 
@@ -181,19 +186,20 @@ module _ {T : Type 0} (numbers : T → Option (ℕ × ℕ)) (told : T → Option
 module _ {T : Type 0} (numbers : T → Option (ℕ × ℕ)) (told : T → Option TailHistory) (most now : ℕ) (may_end : Bool) (h : History) (old : Harvester T) (new : Harvester T) where
   module _ (did : Did) (may : MayTurn did.stage) (few : length did.bytes ≤ most) (none : 0 < length did.bytes → NoneCloses h)
       (ends : did.stage ≡ Ended → EndsHere told may_end h old new)
-      (due : (did.licences ≡ []) ⊎ ((did.stage ≡ Ended) ⊎ IsPast (with_read now did.bytes h) now)) where
+      (due : (did.licences ≡ []) ⊎ MayFlush now did.stage did.licences (with_read now did.bytes h))
+      (still : h.stage ≡ Ended → did.stage ≡ Ended) (asks : h.stage ≡ Reads → did.stage ≡ Asks → NoneCloses h) where
     -- a fault, or want of memory
     pub goes_refused : HasTold numbers told (did_with now [] did h) new → (result : Result Turn TurnError) → IsErr result →
         Goes numbers told most now may_end h old (answer_of result) new
     goes_refused has (Ok answer) err = absurd (let no : false ≡ true = err in cc)
-    goes_refused has (Err error.ReadFault) err = record { did = did; has_told = has; few = few; reads_where_none_closes = none; no_event_left = λ reads quiet. absurd quiet; ends_where_found = ends; flushed_where_due = due; caused = may }
-    goes_refused has (Err error.NoMemory) err = record { did = did; has_told = has; few = few; reads_where_none_closes = none; no_event_left = λ reads quiet. absurd quiet; ends_where_found = ends; flushed_where_due = due; caused = may }
+    goes_refused has (Err error.ReadFault) err = record { did = did; has_told = has; few = few; reads_where_none_closes = none; no_event_left = λ reads quiet. absurd quiet; ends_where_found = ends; stays_ended = still; asks_where_none_closes = asks; flushed = due; caused = may }
+    goes_refused has (Err error.NoMemory) err = record { did = did; has_told = has; few = few; reads_where_none_closes = none; no_event_left = λ reads quiet. absurd quiet; ends_where_found = ends; stays_ended = still; asks_where_none_closes = asks; flushed = due; caused = may }
 
     -- an event was told
     pub goes_told : (answer : Turn) → HasOneEvent answer → HasTold numbers told (did_with now (events_told h.path now answer) did h) new →
         Goes numbers told most now may_end h old answer new
-    goes_told (turn.Issued parcel) one has = record { did = did; has_told = has; few = few; reads_where_none_closes = none; no_event_left = λ reads quiet. absurd quiet; ends_where_found = ends; flushed_where_due = due; caused = may }
-    goes_told (turn.Passed span rule) one has = record { did = did; has_told = has; few = few; reads_where_none_closes = none; no_event_left = λ reads quiet. absurd quiet; ends_where_found = ends; flushed_where_due = due; caused = may }
+    goes_told (turn.Issued parcel) one has = record { did = did; has_told = has; few = few; reads_where_none_closes = none; no_event_left = λ reads quiet. absurd quiet; ends_where_found = ends; stays_ended = still; asks_where_none_closes = asks; flushed = due; caused = may }
+    goes_told (turn.Passed span rule) one has = record { did = did; has_told = has; few = few; reads_where_none_closes = none; no_event_left = λ reads quiet. absurd quiet; ends_where_found = ends; stays_ended = still; asks_where_none_closes = asks; flushed = due; caused = may }
     goes_told turn.More one has = absurd one
     goes_told turn.AtEnd one has = absurd one
     goes_told (turn.NewLife epoch) one has = absurd one
@@ -212,13 +218,15 @@ module _ {T : Type 0} (numbers : T → Option (ℕ × ℕ)) (told : T → Option
   module _ (stage : Stage) (stands : h.stage ≡ stage) (may : MayTurn stage) where
     pub turn_refused : HasTold numbers told h new → (result : Result Turn TurnError) → IsErr result → Goes numbers told most now may_end h old (answer_of result) new
     turn_refused has =
-        goes_refused (record { bytes = []; licences = []; stage = stage }) may (no_more most) never (λ is. inl (stands ∙ is)) (inl refl)
+        goes_refused (record { bytes = []; licences = []; stage = stage }) may (no_more most) never (λ is. inl (stands ∙ is)) (inl refl) (λ is. sym stands ∙ is)
+        (λ reads is. absurd (let no : Reads ≡ Asks = sym reads ∙ stands ∙ is in cc))
         (subst (λ (g : History). HasTold numbers told g new) (sym (did_nothing now h stage stands)) has)
 
     pub turn_told : (answer : Turn) → HasOneEvent answer → HasTold numbers told (with_present (with_events (events_told h.path now answer) h.present) h) new →
         Goes numbers told most now may_end h old answer new
     turn_told answer one has =
-        goes_told (record { bytes = []; licences = []; stage = stage }) may (no_more most) never (λ is. inl (stands ∙ is)) (inl refl) answer one
+        goes_told (record { bytes = []; licences = []; stage = stage }) may (no_more most) never (λ is. inl (stands ∙ is)) (inl refl) (λ is. sym stands ∙ is)
+        (λ reads is. absurd (let no : Reads ≡ Asks = sym reads ∙ stands ∙ is in cc)) answer one
         (subst (λ (g : History). HasTold numbers told g new) (sym (did_events now h stage stands (events_told h.path now answer))) has)
 
   -- the end was found before
@@ -232,18 +240,21 @@ module _ {T : Type 0} (numbers : T → Option (ℕ × ℕ)) (told : T → Option
         reads_where_none_closes = never;
         no_event_left = λ reads quiet. absurd (let no : Reads ≡ Ended = sym reads ∙ stands in cc);
         ends_where_found = λ is. inl stands;
-        flushed_where_due = inl refl;
+        stays_ended = λ is. refl;
+        asks_where_none_closes = λ reads is. absurd cc;
+        flushed = inl refl;
         caused = record {
           none_read = refl;
           goes_on = tt;
           all_told = λ is. subst (λ (g : History). left_to_tell g ≡ []) (sym same) none;
+          none_waits = λ is. subst (λ (g : History). left_to_tell g ≡ []) (sym same) none;
           last_line = last ∙ ap (λ (g : History). g.last_line) (sym same);
           which = inl stands;
         };
       }
 
   -- the key was asked, where the history is this one but for the stage
-  module _ (was : History) (is : with_stage Asks was ≡ with_stage Asks h) (left : h.stage ≡ Reads → NoneCloses h) where
+  module _ (was : History) (is : with_stage Asks was ≡ with_stage Asks h) (left : h.stage ≡ Reads → NoneCloses h) (goes_on : ¬ (h.stage ≡ Ended)) where
     at_stage : (stage : Stage) → with_stage stage was ≡ with_stage stage h
     at_stage stage = ap (λ (g : History). with_stage stage g) is
 
@@ -255,7 +266,9 @@ module _ {T : Type 0} (numbers : T → Option (ℕ × ℕ)) (told : T → Option
       reads_where_none_closes = never;
       no_event_left = λ reads quiet. left reads;
       ends_where_found = λ ended. absurd cc;
-      flushed_where_due = inl refl;
+      stays_ended = λ ended. absurd (goes_on ended);
+      asks_where_none_closes = λ reads asks. left reads;
+      flushed = inl refl;
       caused = subst (λ (g : History). IsAskedIn g.present.epoch (turn.NewLife epoch)) is asked.asked_in;
     }
     turn_asked (Ok turn.Changed) asked = record {
@@ -265,7 +278,9 @@ module _ {T : Type 0} (numbers : T → Option (ℕ × ℕ)) (told : T → Option
       reads_where_none_closes = never;
       no_event_left = λ reads quiet. left reads;
       ends_where_found = λ ended. absurd cc;
-      flushed_where_due = inl refl;
+      stays_ended = λ ended. absurd (goes_on ended);
+      asks_where_none_closes = λ reads asks. left reads;
+      flushed = inl refl;
       caused = refl;
     }
     turn_asked (Ok turn.EpochsOut) asked = record {
@@ -275,7 +290,9 @@ module _ {T : Type 0} (numbers : T → Option (ℕ × ℕ)) (told : T → Option
       reads_where_none_closes = never;
       no_event_left = λ reads quiet. left reads;
       ends_where_found = λ ended. absurd cc;
-      flushed_where_due = inl refl;
+      stays_ended = λ ended. absurd (goes_on ended);
+      asks_where_none_closes = λ reads asks. left reads;
+      flushed = inl refl;
       caused = (refl, subst (λ (g : History). IsAskedIn g.present.epoch turn.EpochsOut) is asked.asked_in);
     }
     turn_asked (Ok (turn.Issued parcel)) asked = absurd asked.asked_in
@@ -285,21 +302,29 @@ module _ {T : Type 0} (numbers : T → Option (ℕ × ℕ)) (told : T → Option
     turn_asked (Ok turn.ReadFault) asked = absurd asked.asked_in
     turn_asked (Ok turn.NoMemory) asked = absurd asked.asked_in
     turn_asked (Err error) asked =
-        goes_refused (record { bytes = []; licences = []; stage = Asks }) tt (no_more most) never (λ ended. absurd cc) (inl refl)
+        goes_refused (record { bytes = []; licences = []; stage = Asks }) tt (no_more most) never (λ ended. absurd cc) (inl refl) (λ ended. absurd (goes_on ended)) (λ reads asks. left reads)
         (subst (λ (g : History). HasTold numbers told g new) (is ∙ sym (did_stage now h Asks)) asked.has_told) (Err error) refl
 
   -- bytes were read, or the end was found, and it was settled
-  module _ (ended : Bool) (bytes : List ℕ) (few : length bytes ≤ most) (none : NoneCloses h) (found : ended ≡ true → EndsHere told may_end h old new) where
+  module _ (reads : h.stage ≡ Reads) (ended : Bool) (bytes : List ℕ) (few : length bytes ≤ most) (none : NoneCloses h) (found : ended ≡ true → EndsHere told may_end h old new) where
+    no_end : {stage : Stage} → h.stage ≡ Ended → stage ≡ Ended
+    no_end ended = absurd (let no : Reads ≡ Ended = sym reads ∙ ended in cc)
+
     through : (events : List ToldEvent) (licences : List ℕ) (stage : Stage) →
         did_with now events (record { bytes = []; licences = licences; stage = stage }) (with_stage Reads (with_read now bytes h))
         ≡ did_with now events (record { bytes = bytes; licences = licences; stage = stage }) h
     through events licences stage =
         ap (λ (g : History). with_stage stage (with_told licences events g)) (same_read now (with_stage Reads (with_read now bytes h)))
 
+    flushed_then : (licences : List ℕ) (stage : Stage) → (licences ≡ []) ⊎ MayFlush now stage licences (with_stage Reads (with_read now bytes h)) →
+        (licences ≡ []) ⊎ MayFlush now stage licences (with_read now bytes h)
+    flushed_then licences stage is =
+        subst (λ (s : Stage). (licences ≡ []) ⊎ MayFlush now stage licences (with_stage s (with_read now bytes h))) (sym reads) is
+
     pub settled_told : (answer : Turn) →
         Settled numbers told now ended (with_stage Reads (with_read now bytes h)) (Ok (Some answer)) new → Goes numbers told most now may_end h old answer new
     settled_told answer s =
-        goes_told (record { bytes = bytes; licences = s.licences; stage = s.stage }) s.goes_on few (λ some. none) (λ is. found (s.ends is)) s.flushed_where_due answer s.one
+        goes_told (record { bytes = bytes; licences = s.licences; stage = s.stage }) s.goes_on few (λ some. none) (λ is. found (s.ends is)) (flushed_then s.licences s.stage s.flushed) no_end (λ is asks. none) answer s.one
         (subst (λ (g : History). HasTold numbers told g new) (through (events_told h.path now answer) s.licences s.stage) s.has_told)
 
     nothing_told : (result : Result (Option Turn) NoMemory) (settled : Settled numbers told now ended (with_stage Reads (with_read now bytes h)) result new) →
@@ -313,7 +338,7 @@ module _ {T : Type 0} (numbers : T → Option (ℕ × ℕ)) (told : T → Option
     pub settled_refused : (error : NoMemory) → Settled numbers told now ended (with_stage Reads (with_read now bytes h)) (Err error) new →
         (result : Result Turn TurnError) → IsErr result → Goes numbers told most now may_end h old (answer_of result) new
     settled_refused error s =
-        goes_refused (record { bytes = bytes; licences = s.licences; stage = s.stage }) s.goes_on few (λ some. none) (λ is. found (s.ends is)) s.flushed_where_due
+        goes_refused (record { bytes = bytes; licences = s.licences; stage = s.stage }) s.goes_on few (λ some. none) (λ is. found (s.ends is)) (flushed_then s.licences s.stage s.flushed) no_end (λ is asks. none)
         (nothing_told (Err error) s refl)
 
     -- what was left is left where nothing was told
@@ -340,14 +365,16 @@ module _ {T : Type 0} (numbers : T → Option (ℕ × ℕ)) (told : T → Option
       reads_where_none_closes = λ more. none;
       no_event_left = λ reads quiet. none;
       ends_where_found = λ is. found (s.ends is);
-      flushed_where_due = s.flushed_where_due;
+      stays_ended = no_end;
+      asks_where_none_closes = λ is asks. none;
+      flushed = flushed_then s.licences s.stage s.flushed;
       caused = (some, s.goes_on, none_closes_then s.licences s.stage (s.at_rest refl).none_closes, none_due_then s.licences s.stage (s.at_rest refl).none_due);
     }
 
     pub settled_end : (may_end ≡ true → ended ≡ true) → bytes ≡ [] → (mid : Harvester T) → Settled numbers told now ended (with_stage Reads (with_read now bytes h)) (Ok None) mid →
-        ((g : History) → HasTold numbers told g mid → HasTold numbers told g new) → last_line_of new ≡ last_line_of mid →
+        ((g : History) → HasTold numbers told g mid → HasTold numbers told g new) → new.reader.events ≡ mid.reader.events →
         IfSome (told old.tail) (λ earlier. LooksAtEnd (read_to h.present) earlier (told new.tail)) → Goes numbers told most now may_end h old turn.AtEnd new
-    settled_end then_ended no_byte mid s then last looks =
+    settled_end then_ended no_byte mid s then same looks =
         let rest = s.at_rest refl in
         record {
           did = record { bytes = bytes; licences = s.licences; stage = s.stage };
@@ -356,12 +383,15 @@ module _ {T : Type 0} (numbers : T → Option (ℕ × ℕ)) (told : T → Option
           reads_where_none_closes = λ more. none;
           no_event_left = λ reads quiet. none;
           ends_where_found = λ is. found (s.ends is);
-          flushed_where_due = s.flushed_where_due;
+          stays_ended = no_end;
+          asks_where_none_closes = λ is asks. none;
+          flushed = flushed_then s.licences s.stage s.flushed;
           caused = record {
             none_read = no_byte;
             goes_on = s.goes_on;
             all_told = λ is. left_then s.licences s.stage ∙ rest.all_told (s.ends is);
-            last_line = last ∙ rest.last_line;
+            none_waits = λ is. left_then s.licences s.stage ∙ rest.none_waits (λ waits. is (subst (λ (e : Events). IsSome e.grouper.gathered) (sym same) waits));
+            last_line = ap (λ (e : Events). e.last_line.0) same ∙ rest.last_line;
             which = inr (record {
               none_closes = none_closes_then s.licences s.stage rest.none_closes;
               none_due = none_due_then s.licences s.stage rest.none_due;
@@ -406,6 +436,7 @@ module _ {T : Type 0} (numbers : T → Option (ℕ × ℕ)) (told : T → Option
       goes_refused numbers told most now may_end h old mid (record { bytes = looked.bytes; licences = []; stage = Reads }) tt
       (let long : length looked.bytes ≡ 0 = ap (λ (l : List ℕ). length l) looked.gave in omega (arith, long))
       (λ some. absurd (let long : length looked.bytes ≡ 0 = ap (λ (l : List ℕ). length l) looked.gave in omega (arith, long, some))) (λ is. absurd cc) (inl refl)
+      (λ ended. absurd (let no : Reads ≡ Ended = sym reads ∙ ended in cc)) (λ is asks. absurd cc)
       (subst (λ (g : History). HasTold numbers told g mid) (sym (did_bytes now h Reads looked.bytes)) looked.has_told)
 
   pub look_asked : NoneCloses h → HasLooked numbers told most now h gathered (Ok Less) mid → (new : Harvester T) (result : Result Turn TurnError) →
@@ -413,7 +444,7 @@ module _ {T : Type 0} (numbers : T → Option (ℕ × ℕ)) (told : T → Option
   look_asked none looked new result asks =
       turn_asked numbers told most now may_end h old new (with_read now looked.bytes h)
       (ap (λ (l : List ℕ). with_stage Asks (with_read now l h)) looked.gave
-      ∙ ap (λ (g : History). with_stage Asks g) (same_read now h)) (λ reading. none) result (asks _ looked.has_told)
+      ∙ ap (λ (g : History). with_stage Asks g) (same_read now h)) (λ reading. none) (λ ended. let no : Reads ≡ Ended = sym reads ∙ ended in cc) result (asks _ looked.has_told)
 
   -- where the end was found, the file may be ended
   pub may_be_ended : (looked : HasLooked numbers told most now h gathered (Ok End) mid) → h.may_end ≡ true →
@@ -440,7 +471,8 @@ module _ {T : Type 0} (numbers : T → Option (ℕ × ℕ)) (told : T → Option
   pub asked_here : (most now : ℕ) (may_end : Bool) (h : History) (old new : Harvester T) (result : Result Turn TurnError) → h.stage ≡ Asks →
       HasAsked numbers told h result new → Goes numbers told most now may_end h old (answer_of result) new
   asked_here most now may_end h old new result asks asked =
-      turn_asked numbers told most now may_end h old new h refl (λ reading. absurd (let no : Reads ≡ Asks = sym reading ∙ asks in cc)) result
+      turn_asked numbers told most now may_end h old new h refl (λ reading. absurd (let no : Reads ≡ Asks = sym reading ∙ asks in cc))
+      (λ ended. let no : Ended ≡ Asks = sym ended ∙ asks in cc) result
       (subst (λ (g : History). HasAsked numbers told g result new) (ap (λ (s : Stage). with_stage s h) asks) asked)
 
   -- with the moment of a turn
@@ -520,7 +552,9 @@ module _ {T : Type 0} (numbers : T → Option (ℕ × ℕ)) (told : T → Option
         reads_where_none_closes = there.reads_where_none_closes;
         no_event_left = there.no_event_left;
         ends_where_found = there.ends_where_found;
-        flushed_where_due = there.flushed_where_due;
+        stays_ended = there.stays_ended;
+        asks_where_none_closes = there.asks_where_none_closes;
+        flushed = there.flushed;
         caused = as_caused answer there.did (after_did now answer there.did h) there.caused;
       }
     where
@@ -529,7 +563,7 @@ module _ {T : Type 0} (numbers : T → Option (ℕ × ℕ)) (told : T → Option
       as_caused (turn.Passed span rule) did after is = is
       as_caused turn.More did after is = is
       as_caused turn.AtEnd did after is =
-          record { none_read = is.none_read; goes_on = is.goes_on; all_told = is.all_told; last_line = is.last_line; which = which is.which }
+          record { none_read = is.none_read; goes_on = is.goes_on; all_told = is.all_told; none_waits = is.none_waits; last_line = is.last_line; which = which is.which }
         where
           which : (h.stage ≡ Ended) ⊎ EndsNow told now may_end h did after old new → (h.stage ≡ Ended) ⊎ EndsNow told now may_end h did after old (record new { rests = rests })
           which (inl ended) = inl ended

@@ -1,12 +1,13 @@
 -- Which looks one turn of a harvester adds to those of its tail (Filebeat reference, filestream input; this project's
 -- profile). Where the file is read, a turn asks the length at most once. Where that is not below the place, it reads there,
 -- once; where it is, it asks for the key, and again in a later turn while that met a fault.
-use Rattle.std.specs.Prelude.{◌≡◌, ◌⊎◌, ℕ, ◌<◌, ◌≤◌, List, [], ◌∷◌, Option, Some, None, Result, Ok, Err}
-use Rattle.std.specs.List.{AllByRecursion}
-use Rattle.file_identity.specs.AskedAgain.{IsRead}
+use Rattle.std.specs.Prelude.{◌≡◌, ◌⊎◌, ℕ, ◌<◌, ◌≤◌, List, [], ◌∷◌, Option, Some, None, Result, Ok, Err, true, false}
+use Rattle.file_identity.specs.Answers.{with_numbers}
+use Rattle.file_identity.specs.Asking.{IsPartOfAsking}
 use Rattle.file_identity.specs.Reading.{Adds}
 use Rattle.outside.specs.declared.history.Look.{Look}
 use Rattle.outside.specs.declared.history.Question.TheVariants.{Length, ReadAt}
+use Rattle.outside.specs.Files.{File}
 use Rattle.outside.specs.Tails.{TailHistory}
 use Rattle.harvester.specs.declared.harvester.Harvester.{Harvester}
 use Rattle.harvester.specs.declared.look.Found.{Found}
@@ -16,57 +17,23 @@ use Rattle.harvester.specs.declared.stage.Stage.TheVariants.{Reading, Asking, En
 use Rattle.harvester.specs.declared.turn.Turn.{Turn}
 use Rattle.harvester.specs.declared.turn.Turn.TheVariants as turn
 use Rattle.harvester.specs.declared.turn_error.TurnError.{TurnError}
+use Rattle.harvester.specs.Asked.{IsGivenKey}
+use Rattle.harvester.specs.Held.{Held}
 
--- they ask for the key
-abbrev pub AreKeyReads : List Look → Type 0
-AreKeyReads looks = AllByRecursion (λ look. IsRead look.question) looks
+-- one asking for the key, and what it gave, by the answer; or a part of one that failed or found no memory
+abbrev pub AskForKey : Held → File → Turn → List Look → Type 0
+AskForKey held file (turn.NewLife epoch) looks = IsGivenKey held file looks (Ok true)
+AskForKey held file turn.EpochsOut looks = IsGivenKey held file looks (Ok true)
+AskForKey held file turn.Changed looks = IsGivenKey held file looks (Ok false)
+AskForKey held file turn.ReadFault looks = IsPartOfAsking held.identity looks
+AskForKey held file turn.NoMemory looks = IsPartOfAsking held.identity looks
+AskForKey held file answer looks = ⊥
 
--- one read at the place, or none where it failed or found no memory
-abbrev pub IsReadAt : Type 0 → ℕ → List Look → Type 0
-IsReadAt refused place [] = refused
-IsReadAt refused place (look ∷ []) = (count : ℕ) × (look.question ≡ ReadAt place count)
-IsReadAt refused place (look ∷ other ∷ looks) = ⊥
-
--- the length is below the place, and the key is asked; or it is not, and the file is read
-abbrev pub StandBehindLength : Type 0 → ℕ → ℕ → List Look → Type 0
-StandBehindLength refused place length looks = ((length < place) × AreKeyReads looks) ⊎ ((place ≤ length) × IsReadAt refused place looks)
-
--- of a turn that reads on from the place, or tells what was read
-abbrev pub AreOfReading : Type 0 → ℕ → List Look → Type 0
-AreOfReading refused place [] = Unit {0}
-AreOfReading refused place (look ∷ looks) = (look.question ≡ Length) × StandBehindLength refused place look.sight.length looks
-
--- by where the file stood as the turn began
-abbrev pub AreOfTurn : Stage → Type 0 → ℕ → List Look → Type 0
-AreOfTurn Reading refused place looks = AreOfReading refused place looks
-AreOfTurn Asking refused place looks = AreKeyReads looks
-AreOfTurn Ended refused place looks = looks ≡ []
-AreOfTurn Changed refused place looks = looks ≡ []
-AreOfTurn Over refused place looks = looks ≡ []
-
--- the length alone, and it is below the place
-pub record IsBelow (place : ℕ) (looks : List Look) : Type 0 where
-  pub look : Look
-  pub looks_are : looks ≡ look ∷ []
-  pub asks : look.question ≡ Length
-  pub below : look.sight.length < place
-
-abbrev pub AreOfLook : Result Found TurnError → ℕ → List Look → Type 0
-AreOfLook (Ok Less) place looks = IsBelow place looks
-AreOfLook (Ok More) place looks = AreOfReading ⊥ place looks
-AreOfLook (Ok End) place looks = AreOfReading ⊥ place looks
-AreOfLook (Err error) place looks = AreOfReading (Unit {0}) place looks
-
--- some such looks were told in addition
-pub record AddsSome (Are : List Look → Type 0) (told : TailHistory) (after : Option TailHistory) : Type 0 where
-  pub looks : List Look
-  pub added : Adds told looks after
-  pub are : Are looks
-
--- a tail that tells nothing goes on so
-abbrev pub LooksOn : (List Look → Type 0) → Option TailHistory → Option TailHistory → Type 0
-LooksOn Are None after = after ≡ None
-LooksOn Are (Some told) after = AddsSome Are told after
+-- the file has the key with which it was opened
+abbrev pub HasGivenKey : Turn → Type 0
+HasGivenKey (turn.NewLife epoch) = Unit {0}
+HasGivenKey turn.EpochsOut = Unit {0}
+HasGivenKey answer = ⊥
 
 -- it failed, or found no memory
 abbrev pub IsRefused : Turn → Type 0
@@ -74,6 +41,73 @@ IsRefused turn.ReadFault = Unit {0}
 IsRefused turn.NoMemory = Unit {0}
 IsRefused answer = ⊥
 
-abbrev pub LooksInTurn : {T : Type 0} → (T → Option TailHistory) → Harvester T → Turn → Harvester T → Type 0
-LooksInTurn told old answer new =
-    LooksOn (AreOfTurn old.reader.stage (IsRefused answer) old.reader.position) (told old.tail) (told new.tail)
+-- one read at the place, or none where it failed or found no memory
+abbrev pub IsReadAt : Turn → ℕ → List Look → Type 0
+IsReadAt answer place [] = IsRefused answer
+IsReadAt answer place (look ∷ []) = (count : ℕ) × (look.question ≡ ReadAt place count)
+IsReadAt answer place (look ∷ other ∷ looks) = ⊥
+
+-- the length is below the place, and the key is asked; or it is not, and the file is read
+abbrev pub StandBehindLength : Held → File → Turn → ℕ → List Look → Type 0
+StandBehindLength held file answer length looks =
+    ((length < held.position) × AskForKey held file answer looks) ⊎ ((held.position ≤ length) × IsReadAt answer held.position looks)
+
+-- of a turn that tells what was read, or reads on
+abbrev pub AreOfReading : Held → Turn → File → List Look → Type 0
+AreOfReading held answer file [] = Unit {0}
+AreOfReading held answer file (look ∷ looks) = (look.question ≡ Length) × StandBehindLength held file answer look.sight.length looks
+
+-- by where the file stood as the turn began
+abbrev pub AreOfTurn : Stage → Held → Turn → File → List Look → Type 0
+AreOfTurn Reading held answer file looks = AreOfReading held answer file looks
+AreOfTurn Asking held answer file looks = AskForKey held file answer looks
+AreOfTurn Ended held answer file looks = looks ≡ []
+AreOfTurn Changed held answer file looks = looks ≡ []
+AreOfTurn Over held answer file looks = looks ≡ []
+
+-- some such looks at the file were told in addition
+pub record AddsSome (Are : File → List Look → Type 0) (numbers : Option (ℕ × ℕ)) (told : TailHistory) (after : Option TailHistory) : Type 0 where
+  pub looks : List Look
+  pub added : Adds told looks after
+  pub are : Are (with_numbers numbers told.file) looks
+
+-- a tail that tells nothing goes on so
+abbrev pub LooksOn : (File → List Look → Type 0) → Option (ℕ × ℕ) → Option TailHistory → Option TailHistory → Type 0
+LooksOn Are numbers None after = after ≡ None
+LooksOn Are numbers (Some told) after = AddsSome Are numbers told after
+
+abbrev pub LooksInTurn : {T : Type 0} → (T → Option (ℕ × ℕ)) → (T → Option TailHistory) → Harvester T → Turn → Harvester T → Type 0
+LooksInTurn numbers told old answer new =
+    LooksOn (AreOfTurn old.reader.stage old.reader answer) (numbers old.tail) (told old.tail) (told new.tail)
+
+-- ---- of a look
+
+-- the length alone, and it is below the place
+pub record IsBelow (place : ℕ) (looks : List Look) : Type 0 where
+  pub asked : Look
+  pub are : looks ≡ asked ∷ []
+  pub asks : asked.question ≡ Length
+  pub below : asked.sight.length < place
+
+-- the length, which is not, and a read at the place
+pub record HasRead (place : ℕ) (looks : List Look) : Type 0 where
+  pub asked : Look
+  pub read : Look
+  pub count : ℕ
+  pub are : looks ≡ asked ∷ read ∷ []
+  pub asks : asked.question ≡ Length
+  pub reached : place ≤ asked.sight.length
+  pub reads : read.question ≡ ReadAt place count
+
+-- the length alone, which is not below the place
+pub record HasReached (place : ℕ) (looks : List Look) : Type 0 where
+  pub asked : Look
+  pub are : looks ≡ asked ∷ []
+  pub asks : asked.question ≡ Length
+  pub reached : place ≤ asked.sight.length
+
+abbrev pub AreOfLook : Result Found TurnError → ℕ → File → List Look → Type 0
+AreOfLook (Ok Less) place file looks = IsBelow place looks
+AreOfLook (Ok More) place file looks = HasRead place looks
+AreOfLook (Ok End) place file looks = HasRead place looks
+AreOfLook (Err error) place file looks = (looks ≡ []) ⊎ HasReached place looks

@@ -1,5 +1,6 @@
 -- What one turn of a harvester did, by its answer (Filebeat reference, filestream input; this project's profile).
-use Rattle.std.specs.Prelude.{◌≡◌, ◌⊎◌, ℕ, ◌<◌, ◌≤◌, Bool, true, List, [], length, Option, Some, None, Result, Ok, Err, IfSome}
+use Rattle.std.specs.Prelude.{◌≡◌, ◌⊎◌, ℕ, ◌<◌, ◌≤◌, Bool, true, List, [], length, Option, Some, None, Result, Ok, Err, IfSome, IsSome}
+use Rattle.std.specs.List.{AllByRecursion}
 use Rattle.multiline_core.specs.Gathering.{MayGoOn}
 use Rattle.outside.specs.Tails.{TailHistory}
 use Rattle.told_events.specs.Told.{ToldEvent}
@@ -12,7 +13,7 @@ use Rattle.harvester.specs.declared.turn_error.TurnError.TheVariants as error
 use Rattle.harvester.specs.Found.{FoundEnd, LooksAtEnd}
 use Rattle.harvester.specs.HasTold.{HasTold}
 use Rattle.harvester.specs.History.{Asks, Changed, Ended, History, IsPast, Over, Reads, Stage, left_to_tell, read_to, with_epoch, with_events, with_licences, with_present, with_read, with_stage}
-use Rattle.harvester.specs.Standing.{stage_behind_end, stage_of}
+use Rattle.harvester.specs.Standing.{EndsLines, stage_behind_end, stage_of}
 use Rattle.harvester.specs.Turned.{HasOneEvent, IsAskedIn, events_told}
 
 -- the bytes that it read, the places at which it found that an event may be flushed, and where the file stands then
@@ -42,6 +43,12 @@ NoneCloses history = MayGoOn history.rule.multiline (left_to_tell history)
 abbrev pub NoneDue : History → ℕ → Type 0
 NoneDue history now = (left_to_tell history ≡ []) ⊎ (¬ (IsPast history now))
 
+-- an event is flushed that waits with all lines of what was read, at the file's end or where its timeout has passed
+pub record MayFlush (now : ℕ) (stage : Stage) (licences : List ℕ) (history : History) : Type 0 where
+  pub why : (stage ≡ Ended) ⊎ IsPast history now
+  pub none_closes : NoneCloses history
+  pub end_lines : AllByRecursion (EndsLines history) licences
+
 -- the file may be turned again
 abbrev pub MayTurn : Stage → Type 0
 MayTurn Reads = Unit {0}
@@ -69,11 +76,16 @@ pub record EndsNow {T : Type 0} (told : T → Option TailHistory) (now : ℕ) (m
 abbrev pub last_line_of : {T : Type 0} → Harvester T → ℕ
 last_line_of harvester = harvester.reader.events.last_line.0
 
+-- an event waits for lines
+abbrev pub IsWaiting : {T : Type 0} → Harvester T → Type 0
+IsWaiting harvester = IsSome harvester.reader.events.grouper.gathered
+
 -- the end was found by an earlier turn, or is now; where the file is ended, all complete lines are told
 pub record IsEnd {T : Type 0} (told : T → Option TailHistory) (now : ℕ) (may_end : Bool) (before : History) (did : Did) (after : History) (old new : Harvester T) : Type 0 where
   pub none_read : did.bytes ≡ []
   pub goes_on : MayTurn did.stage
   pub all_told : did.stage ≡ Ended → left_to_tell after ≡ []
+  pub none_waits : ¬ (IsWaiting new) → left_to_tell after ≡ []
   pub last_line : last_line_of new ≡ after.last_line
   pub which : (before.stage ≡ Ended) ⊎ EndsNow told now may_end before did after old new
 
@@ -107,8 +119,9 @@ pub record Goes {T : Type 0} (numbers : T → Option (ℕ × ℕ)) (told : T →
   pub reads_where_none_closes : 0 < length did.bytes → NoneCloses history
   pub no_event_left : history.stage ≡ Reads → IsQuiet answer → NoneCloses history
   pub ends_where_found : did.stage ≡ Ended → EndsHere told may_end history old new
-  -- an event is flushed at the file's end, or where its timeout has passed
-  pub flushed_where_due : (did.licences ≡ []) ⊎ ((did.stage ≡ Ended) ⊎ IsPast (with_read now did.bytes history) now)
+  pub stays_ended : history.stage ≡ Ended → did.stage ≡ Ended
+  pub asks_where_none_closes : history.stage ≡ Reads → did.stage ≡ Asks → NoneCloses history
+  pub flushed : (did.licences ≡ []) ⊎ MayFlush now did.stage did.licences (with_read now did.bytes history)
   pub caused : IsCaused told now may_end history did (after_did now answer did history) old answer new
 
 abbrev pub answer_of : Result Turn TurnError → Turn
@@ -135,6 +148,7 @@ pub record MayBeEnded {T : Type 0} (numbers : T → Option (ℕ × ℕ)) (told :
 -- no event is closed, and none is due; at the end none waits
 pub record IsSettled {T : Type 0} (now : ℕ) (ended : Bool) (history : History) (new : Harvester T) : Type 0 where
   pub none_closes : NoneCloses history
+  pub none_waits : ¬ (IsWaiting new) → left_to_tell history ≡ []
   pub none_due : NoneDue history now
   pub all_told : ended ≡ true → left_to_tell history ≡ []
   pub last_line : last_line_of new ≡ history.last_line
@@ -149,7 +163,7 @@ pub record Settled {T : Type 0} (numbers : T → Option (ℕ × ℕ)) (told : T 
   pub at_none : result ≡ Ok None → stage ≡ stage_of (stage_behind_end ended)
   pub has_told : HasTold numbers told (did_with now (events_of history.path now result) (record { bytes = []; licences = licences; stage = stage }) history) new
   pub one : ToldOne result
-  pub flushed_where_due : (licences ≡ []) ⊎ ((stage ≡ Ended) ⊎ IsPast history now)
+  pub flushed : (licences ≡ []) ⊎ MayFlush now stage licences history
   pub at_rest : result ≡ Ok None → IsSettled now ended history new
 
 -- the answers after which the harvester is turned no more

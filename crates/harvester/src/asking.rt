@@ -3,8 +3,9 @@ ghost use Rattle.outside.specs.Counts.{Rose};
 ghost use Rattle.harvester.specs.Asked.{HasAsked, WasAsked};
 ghost use Rattle.harvester.specs.HasTold.{HasTold};
 ghost use Rattle.harvester.specs.History.{History};
-ghost use Rattle.harvester.specs.TurnLooks.{AreKeyReads, LooksOn};
+ghost use Rattle.harvester.specs.TurnLooks.{AskForKey, LooksOn};
 ghost use Rattle.harvester.specs.Turned.{IsByKey};
+ghost use Rattle.harvester.specs.Turns.{answer_of};
 
 use crate::harvester::Harvester;
 use crate::reader::Reader;
@@ -23,7 +24,8 @@ impl<T: Tail> Harvester<T> {
         requires asks { self.old.reader.stage ≡ Stage.Asking }
         ensures asked { (history : History) → HasTold T.numbers T.told history self.old →
             HasAsked T.numbers T.told history result self.new }
-        ensures looks { LooksOn AreKeyReads (T.told self.old.tail) (T.told self.new.tail) }
+        ensures looks { LooksOn (λ file looks. AskForKey self.old.reader file (answer_of result) looks)
+            (T.numbers self.old.tail) (T.told self.old.tail) (T.told self.new.tail) }
         ensures numbers_kept { T.numbers self.new.tail ≡ T.numbers self.old.tail }
         ensures tells_nothing { IfOk result IsByKey }
         ensures rests_kept { self.new.rests ≡ self.old.rests }

@@ -8,6 +8,7 @@ ghost use Rattle.harvester.specs.HasTold.{HasTold, IsChanged, begin_of, looks_so
 ghost use Rattle.harvester.specs.History.{History, opened, told_to, with_ending, with_path};
 ghost use Rattle.harvester.specs.InRange.{IsReadable};
 ghost use Rattle.harvester.specs.Standing.{StandsFor};
+ghost use Rattle.harvester.specs.Turns.{IsWaiting, last_line_of};
 
 use crate::fate_rules::FateRules;
 use crate::reader::Reader;
@@ -101,6 +102,7 @@ impl<T: Tail> Harvester<T> {
         ensures renamed { (history : History) → HasTold T.numbers T.told history self.old →
             HasTold T.numbers T.told (with_path path history) self.new }
         ensures others { self.new ≡ (record self.old { reader = self.new.reader }) }
+        ensures events_kept { self.new.reader.events ≡ self.old.reader.events }
         ensures begin_kept { begin_of self.new ≡ begin_of self.old }
         ensures changed_kept { IsChanged self.new → IsChanged self.old }
     {
@@ -112,6 +114,7 @@ impl<T: Tail> Harvester<T> {
         ensures ends { (history : History) → HasTold T.numbers T.told history self.old →
             HasTold T.numbers T.told (with_ending forget history) self.new }
         ensures others { self.new ≡ (record self.old { reader = self.new.reader }) }
+        ensures events_kept { self.new.reader.events ≡ self.old.reader.events }
         ensures begin_kept { begin_of self.new ≡ begin_of self.old }
         ensures changed_kept { IsChanged self.new → IsChanged self.old }
     {
@@ -136,9 +139,8 @@ impl<T: Tail> Harvester<T> {
     /// Since when the file gave no line, where the last turn found its end, no event waits and nothing was heard of it
     /// since: the moment of the last turn that read a complete line, or that of the opening.
     pub fn idle_since(&self) -> Option<Moment>
-        ensures none { IsNone result ↔ (IsSome self.now.reader.events.grouper.gathered ⊎
-            (self.now.rests ≡ false)) }
-        ensures since { IfSome result (λ since. since ≡ self.now.reader.events.last_line) }
+        ensures none { IsNone result ↔ (IsWaiting self.now ⊎ (self.now.rests ≡ false)) }
+        ensures since { IfSome result (λ since. since.0 ≡ last_line_of self.now) }
     {
         if !self.rests || self.reader.events.pending() {
             return None;

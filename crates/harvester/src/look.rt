@@ -36,10 +36,12 @@ impl<T: Tail> Harvester<T> {
             HasTold T.numbers T.told history self.old →
             HasLooked T.numbers T.told READ_SIZE now.0 history self.old result self.new }
         ensures looks { LooksOn (AreOfLook result self.old.reader.position)
-            (T.told self.old.tail) (T.told self.new.tail) }
+            (T.numbers self.old.tail) (T.told self.old.tail) (T.told self.new.tail) }
         ensures numbers_kept { T.numbers self.new.tail ≡ T.numbers self.old.tail }
         ensures rests_kept { self.new.rests ≡ self.old.rests }
         ensures begin_kept { self.new.reader.begin ≡ self.old.reader.begin }
+        ensures input_kept { self.new.reader.input ≡ self.old.reader.input }
+        ensures identity_kept { self.new.reader.identity ≡ self.old.reader.identity }
         ensures epoch_kept { self.new.reader.epoch ≡ self.old.reader.epoch }
         ensures stage_by_result { IfOk result (λ found.
             self.new.reader.stage ≡ stage_found found) }

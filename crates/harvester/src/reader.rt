@@ -192,6 +192,8 @@ impl Reader {
         ensures told { TellsRead (T.told tail.old) self.old.position self.new.buffer result (T.told
             tail.new) }
         ensures begin_kept { self.new.begin ≡ self.old.begin }
+        ensures input_kept { self.new.input ≡ self.old.input }
+        ensures identity_kept { self.new.identity ≡ self.old.identity }
         ensures epoch_kept { self.new.epoch ≡ self.old.epoch }
         ensures stage_kept { self.new.stage ≡ self.old.stage }
         ensures others { OnErr result

@@ -6,7 +6,7 @@ ghost use Rattle.harvester.specs.Deciding.{Decides};
 ghost use Rattle.harvester.specs.HasTold.{HasTold, IsChanged, begin_of};
 ghost use Rattle.harvester.specs.History.{History};
 ghost use Rattle.harvester.specs.Standing.{EndsAt, stage_behind_end};
-ghost use Rattle.harvester.specs.TurnLooks.{AreOfReading, IsRefused, LooksInTurn, LooksOn};
+ghost use Rattle.harvester.specs.TurnLooks.{AreOfReading, LooksInTurn, LooksOn};
 ghost use Rattle.harvester.specs.Turned.{IsAnswerFor, IsOfFile, with_turn};
 ghost use Rattle.harvester.specs.Turns.{Goes, IsLast, MayBeEnded, Settled, answer_of};
 
@@ -30,13 +30,13 @@ impl<T: Tail> Harvester<T> {
         requires goes_on { ¬ (IsChanged self.old) }
         requires moment { IsMoment now }
         ensures goes { (history : History) → HasTold T.numbers T.told history self.old →
-            Goes T.numbers T.told READ_SIZE now.0 (last || history.ends)
+            Goes T.numbers T.told 16384 now.0 (last || history.ends)
             (with_turn now.0 last history) self.old result self.new }
         ensures of_file { (history : History) → HasTold T.numbers T.told history self.old →
             IsOfFile (begin_of self.old).slot self.old.reader.epoch result }
         ensures changed { (history : History) → HasTold T.numbers T.told history self.old →
             (IsChanged self.new ↔ IsLast result) }
-        ensures looks { LooksInTurn T.told self.old result self.new }
+        ensures looks { LooksInTurn T.numbers T.told self.old result self.new }
         ensures numbers_kept { T.numbers self.new.tail ≡ T.numbers self.old.tail }
         ensures rests { IsTrue self.new.rests ↔ (result ≡ Turn.AtEnd) }
         ensures begin_kept { begin_of self.new ≡ begin_of self.old }
@@ -61,7 +61,7 @@ impl<T: Tail> Harvester<T> {
             (answer_of result) self.new }
         ensures of_file { (rules : Rules) → Decides rules self.old.rules →
             IfOk result (IsAnswerFor self.old.reader.begin.slot self.old.reader.epoch) }
-        ensures looks { LooksInTurn T.told self.old (answer_of result) self.new }
+        ensures looks { LooksInTurn T.numbers T.told self.old (answer_of result) self.new }
         ensures numbers_kept { T.numbers self.new.tail ≡ T.numbers self.old.tail }
         ensures begin_kept { self.new.reader.begin ≡ self.old.reader.begin }
         ensures faults_never_fall { T.faults self.old.tail ≤ T.faults self.new.tail }
@@ -96,8 +96,8 @@ impl<T: Tail> Harvester<T> {
             self.new }
         ensures of_file { (rules : Rules) → Decides rules self.old.rules →
             IfOk result (IsAnswerFor self.old.reader.begin.slot self.old.reader.epoch) }
-        ensures looks { LooksOn (AreOfReading (IsRefused (answer_of result)) self.old.reader.position)
-            (T.told self.old.tail) (T.told self.new.tail) }
+        ensures looks { LooksOn (AreOfReading self.old.reader (answer_of result))
+            (T.numbers self.old.tail) (T.told self.old.tail) (T.told self.new.tail) }
         ensures numbers_kept { T.numbers self.new.tail ≡ T.numbers self.old.tail }
         ensures begin_kept { self.new.reader.begin ≡ self.old.reader.begin }
         ensures faults_never_fall { T.faults self.old.tail ≤ T.faults self.new.tail }

@@ -1,8 +1,9 @@
 use Rattle.std.proofs.Common.{◌+◌, Bool, Ok, IfSome, sym, subst, ap, ◌∙◌}
 use Rattle.wire_base.specs.declared.numbers.Epoch.{Epoch}
+use Rattle.harvester.specs.declared.turn.Turn.TheVariants as turn
 use Rattle.harvester.specs.Asked.{WasAsked}
 use Rattle.harvester.specs.Standing.{stage_of}
-use Rattle.harvester.proofs.AddedLooks.{key_asked}
+use Rattle.harvester.proofs.AddedLooks.{asking_refused, other_key, same_key}
 use Rattle.harvester.proofs.AskedGiven.{begins, epochs_out, has_other, met_fault}
 use Rattle.harvester.proofs.harvester.Harvester.ask_again.Goals as goal
 
@@ -35,13 +36,14 @@ returns-clause-asked g c = λ h has.
     (ap (λ (e : Epoch). e.0 + 1) c.epoch-epoch.ensures)
 
 pub returns-in_err-ask-clause-looks : goal.returns-in_err-ask-clause-looks
-returns-in_err-ask-clause-looks g c = key_asked _ _ _ _ _ c.in_err-ask.ensures.asked c.ask.ensures.untold
+returns-in_err-ask-clause-looks g c =
+    asking_refused _ _ _ _ c.ask.ensures.untold _ c.from_residual.result c.from_residual.ensures.0 c.in_err-ask.ensures.asked
 
 pub returns-then-not-branch-clause-looks : goal.returns-then-not-branch-clause-looks
-returns-then-not-branch-clause-looks g c = key_asked _ _ _ _ _ c.in_ok-ask.ensures.asked c.ask.ensures.untold
+returns-then-not-branch-clause-looks g c = other_key _ _ _ _ c.ask.ensures.untold _ c.if-not-branch.true c.in_ok-ask.ensures.asked
 
 pub returns-then-epoch-clause-looks : goal.returns-then-epoch-clause-looks
-returns-then-epoch-clause-looks g c = key_asked _ _ _ _ _ c.in_ok-ask.ensures.asked c.ask.ensures.untold
+returns-then-epoch-clause-looks g c = same_key _ _ _ _ c.ask.ensures.untold _ c.if-not-branch.false turn.EpochsOut tt c.in_ok-ask.ensures.asked
 
 pub returns-clause-looks : goal.returns-clause-looks
-returns-clause-looks g c = key_asked _ _ _ _ _ c.in_ok-ask.ensures.asked c.ask.ensures.untold
+returns-clause-looks g c = same_key _ _ _ _ c.ask.ensures.untold _ c.if-not-branch.false (turn.NewLife c.args.self.now.reader.epoch) tt c.in_ok-ask.ensures.asked

@@ -1,12 +1,15 @@
-use Rattle.std.proofs.Common.{inr, ◌≡◌, false, true, Ok, refl, sym, subst, ap}
+use Rattle.std.proofs.Common.{inl, inr, ◌≡◌, false, true, Ok, refl, sym, subst, ap, ◌∙◌}
 use Rattle.harvester.specs.declared.buffer.TheConstants.{READ_SIZE}
 use Rattle.harvester.specs.declared.fate_rules.FateRules.{FateRules}
+use Rattle.harvester.specs.declared.look.Found.{Found}
 use Rattle.harvester.specs.declared.look.Found.TheVariants.{End, Less, More}
+use Rattle.harvester.specs.declared.turn.Turn.TheVariants as turn
 use Rattle.harvester.specs.Deciding.{Decides}
 use Rattle.harvester.specs.Held.{Held}
 use Rattle.harvester.specs.History.{Reads, read_to}
-use Rattle.harvester.specs.TurnLooks.{AreOfLook, AreOfReading}
-use Rattle.harvester.proofs.AddedLooks.{asked_below, look_of, looks_at_place, looks_of_turn, looks_refused, no_look}
+use Rattle.harvester.specs.TurnLooks.{AreOfLook, LooksOn}
+use Rattle.harvester.specs.Turns.{answer_of}
+use Rattle.harvester.proofs.AddedLooks.{asked_below, looks_of_read, looks_refused, no_look}
 use Rattle.harvester.proofs.Closing.{none_closes}
 use Rattle.harvester.proofs.TurnsGiven.{ends_given, few_at_end, found_as, look_asked, look_refused, looks_kept, may_be_ended, no_event, of_same, reads_of, settled_as, settled_end, settled_more, settled_refused, settled_told, some_of, turn_refused, turn_told, with_reader}
 use Rattle.harvester.proofs.harvester.Harvester.go_on.Goals as goal
@@ -54,7 +57,7 @@ returns-in_err-turn-in-More-clause-goes g c = λ h ends may has.
     let looked = c.in_ok-look.ensures.looked h (ends_given h.moments c.args.now.0 ends) (c.in_ok-gather.ensures.all c.if-branch.false h has.held) gathered in
     let none = none_closes h c.later_lines.ensures _ (c.in_ok-gather.ensures.all c.if-branch.false h has.held) in
     let found = found_as g.T.Tail.numbers g.T.Tail.told READ_SIZE c.args.now.0 c.args.ended h reads c.args.self.now _ _ c.in_ok-look.field-0 More c.in-More.is looked in
-    settled_refused g.T.Tail.numbers g.T.Tail.told READ_SIZE c.args.now.0 c.args.ended h c.args.self.now _ false found.bytes found.gave.1 none (λ is. absurd (let no : false ≡ true = is in cc)) _
+    settled_refused g.T.Tail.numbers g.T.Tail.told READ_SIZE c.args.now.0 c.args.ended h c.args.self.now _ reads false found.bytes found.gave.1 none (λ is. absurd (let no : false ≡ true = is in cc)) _
     (c.in_err-turn-in-More.ensures.settled _ ends (λ is. absurd (let no : false ≡ true = is in cc)) found.has_told)
     c.from_residual-in_err-turn-in-More.result c.from_residual-in_err-turn-in-More.ensures.0
 
@@ -66,7 +69,7 @@ returns-in_err-turn-in-End-clause-goes g c = λ h ends may has.
     let looked = c.in_ok-look.ensures.looked h (ends_given h.moments c.args.now.0 ends) (c.in_ok-gather.ensures.all c.if-branch.false h has.held) gathered in
     let none = none_closes h c.later_lines.ensures _ (c.in_ok-gather.ensures.all c.if-branch.false h has.held) in
     let found = found_as g.T.Tail.numbers g.T.Tail.told READ_SIZE c.args.now.0 c.args.ended h reads c.args.self.now _ _ c.in_ok-look.field-0 End c.in-End.is looked in
-    settled_refused g.T.Tail.numbers g.T.Tail.told READ_SIZE c.args.now.0 c.args.ended h c.args.self.now _ c.args.ended found.bytes (few_at_end g.T.Tail.numbers g.T.Tail.told READ_SIZE c.args.now.0 c.args.ended h reads c.args.self.now _ _ found) none
+    settled_refused g.T.Tail.numbers g.T.Tail.told READ_SIZE c.args.now.0 c.args.ended h c.args.self.now _ reads c.args.ended found.bytes (few_at_end g.T.Tail.numbers g.T.Tail.told READ_SIZE c.args.now.0 c.args.ended h reads c.args.self.now _ _ found) none
     (λ is. inr (is, looks_kept g.T.Tail.numbers g.T.Tail.told (read_to h.present) c.args.self.now.tail c.look.new.self.tail _ c.settle-in-End.ensures.tail_kept (found.at_end refl).looks)) _
     (c.in_err-turn-in-End.ensures.settled _ ends (λ is. may_be_ended g.T.Tail.numbers g.T.Tail.told READ_SIZE c.args.now.0 c.args.ended h reads c.args.self.now _ _ found (may is)) found.has_told)
     c.from_residual-in_err-turn-in-End.result c.from_residual-in_err-turn-in-End.ensures.0
@@ -92,7 +95,7 @@ returns-in-Some-clause-goes g c = λ h ends may has.
     let looked = c.in_ok-look.ensures.looked h (ends_given h.moments c.args.now.0 ends) (c.in_ok-gather.ensures.all c.if-branch.false h has.held) gathered in
     let none = none_closes h c.later_lines.ensures _ (c.in_ok-gather.ensures.all c.if-branch.false h has.held) in
     let found = found_as g.T.Tail.numbers g.T.Tail.told READ_SIZE c.args.now.0 c.args.ended h reads c.args.self.now _ _ c.in_ok-look.field-0 More c.in-More.is looked in
-    settled_told g.T.Tail.numbers g.T.Tail.told READ_SIZE c.args.now.0 c.args.ended h c.args.self.now _ false found.bytes found.gave.1 none (λ is. absurd (let no : false ≡ true = is in cc)) c.in-Some.turn
+    settled_told g.T.Tail.numbers g.T.Tail.told READ_SIZE c.args.now.0 c.args.ended h c.args.self.now _ reads false found.bytes found.gave.1 none (λ is. absurd (let no : false ≡ true = is in cc)) c.in-Some.turn
     (settled_as g.T.Tail.numbers g.T.Tail.told c.args.now.0 _ _ _ c.in_ok-turn-in-More.field-0 _ c.in-Some.is
     (c.in_ok-turn-in-More.ensures.settled _ ends (λ is. absurd (let no : false ≡ true = is in cc)) found.has_told))
 
@@ -104,7 +107,7 @@ returns-in-None-clause-goes g c = λ h ends may has.
     let looked = c.in_ok-look.ensures.looked h (ends_given h.moments c.args.now.0 ends) (c.in_ok-gather.ensures.all c.if-branch.false h has.held) gathered in
     let none = none_closes h c.later_lines.ensures _ (c.in_ok-gather.ensures.all c.if-branch.false h has.held) in
     let found = found_as g.T.Tail.numbers g.T.Tail.told READ_SIZE c.args.now.0 c.args.ended h reads c.args.self.now _ _ c.in_ok-look.field-0 More c.in-More.is looked in
-    settled_more g.T.Tail.numbers g.T.Tail.told READ_SIZE c.args.now.0 c.args.ended h c.args.self.now _ false found.bytes found.gave.1 none (λ is. absurd (let no : false ≡ true = is in cc)) found.gave.0
+    settled_more g.T.Tail.numbers g.T.Tail.told READ_SIZE c.args.now.0 c.args.ended h c.args.self.now _ reads false found.bytes found.gave.1 none (λ is. absurd (let no : false ≡ true = is in cc)) found.gave.0
     (settled_as g.T.Tail.numbers g.T.Tail.told c.args.now.0 _ _ _ c.in_ok-turn-in-More.field-0 _ c.in-None.is
     (c.in_ok-turn-in-More.ensures.settled _ ends (λ is. absurd (let no : false ≡ true = is in cc)) found.has_told))
 
@@ -116,7 +119,7 @@ returns-in-Some-2-clause-goes g c = λ h ends may has.
     let looked = c.in_ok-look.ensures.looked h (ends_given h.moments c.args.now.0 ends) (c.in_ok-gather.ensures.all c.if-branch.false h has.held) gathered in
     let none = none_closes h c.later_lines.ensures _ (c.in_ok-gather.ensures.all c.if-branch.false h has.held) in
     let found = found_as g.T.Tail.numbers g.T.Tail.told READ_SIZE c.args.now.0 c.args.ended h reads c.args.self.now _ _ c.in_ok-look.field-0 End c.in-End.is looked in
-    settled_told g.T.Tail.numbers g.T.Tail.told READ_SIZE c.args.now.0 c.args.ended h c.args.self.now _ c.args.ended found.bytes (few_at_end g.T.Tail.numbers g.T.Tail.told READ_SIZE c.args.now.0 c.args.ended h reads c.args.self.now _ _ found) none
+    settled_told g.T.Tail.numbers g.T.Tail.told READ_SIZE c.args.now.0 c.args.ended h c.args.self.now _ reads c.args.ended found.bytes (few_at_end g.T.Tail.numbers g.T.Tail.told READ_SIZE c.args.now.0 c.args.ended h reads c.args.self.now _ _ found) none
     (λ is. inr (is, looks_kept g.T.Tail.numbers g.T.Tail.told (read_to h.present) c.args.self.now.tail c.look.new.self.tail _ c.settle-in-End.ensures.tail_kept (found.at_end refl).looks)) c.in-Some-2.turn
     (settled_as g.T.Tail.numbers g.T.Tail.told c.args.now.0 _ _ _ c.in_ok-turn-in-End.field-0 _ c.in-Some-2.is
     (c.in_ok-turn-in-End.ensures.settled _ ends (λ is. may_be_ended g.T.Tail.numbers g.T.Tail.told READ_SIZE c.args.now.0 c.args.ended h reads c.args.self.now _ _ found (may is)) found.has_told))
@@ -129,13 +132,13 @@ returns-in-None-2-clause-goes g c = λ h ends may has.
     let looked = c.in_ok-look.ensures.looked h (ends_given h.moments c.args.now.0 ends) (c.in_ok-gather.ensures.all c.if-branch.false h has.held) gathered in
     let none = none_closes h c.later_lines.ensures _ (c.in_ok-gather.ensures.all c.if-branch.false h has.held) in
     let found = found_as g.T.Tail.numbers g.T.Tail.told READ_SIZE c.args.now.0 c.args.ended h reads c.args.self.now _ _ c.in_ok-look.field-0 End c.in-End.is looked in
-    settled_end g.T.Tail.numbers g.T.Tail.told READ_SIZE c.args.now.0 c.args.ended h c.args.self.now _ c.args.ended found.bytes (few_at_end g.T.Tail.numbers g.T.Tail.told READ_SIZE c.args.now.0 c.args.ended h reads c.args.self.now _ _ found) none
+    settled_end g.T.Tail.numbers g.T.Tail.told READ_SIZE c.args.now.0 c.args.ended h c.args.self.now _ reads c.args.ended found.bytes (few_at_end g.T.Tail.numbers g.T.Tail.told READ_SIZE c.args.now.0 c.args.ended h reads c.args.self.now _ _ found) none
     (λ is. inr (is, looks_kept g.T.Tail.numbers g.T.Tail.told (read_to h.present) c.args.self.now.tail c.look.new.self.tail _ c.settle-in-End.ensures.tail_kept (found.at_end refl).looks)) (λ may_end. may_end) found.gave
     c.settle-in-End.new.self
     (settled_as g.T.Tail.numbers g.T.Tail.told c.args.now.0 _ _ _ c.in_ok-turn-in-End.field-0 _ c.in-None-2.is
     (c.in_ok-turn-in-End.ensures.settled _ ends (λ is. may_be_ended g.T.Tail.numbers g.T.Tail.told READ_SIZE c.args.now.0 c.args.ended h reads c.args.self.now _ _ found (may is)) found.has_told))
     (λ history told. with_reader g.T.Tail.numbers g.T.Tail.told history _ told c.shrink.new.self (c.shrink.ensures.stands history told.held))
-    (ap (λ (held : Held). held.events.last_line.0) c.shrink.ensures.others)
+    (ap (λ (held : Held). held.events) c.shrink.ensures.others)
     (looks_kept g.T.Tail.numbers g.T.Tail.told (read_to h.present) c.args.self.now.tail c.look.new.self.tail c.settle-in-End.new.self.tail c.settle-in-End.ensures.tail_kept (found.at_end refl).looks)
 
 pub returns-in-Some-clause-of_file : goal.returns-in-Some-clause-of_file
@@ -155,51 +158,46 @@ returns-in-Some-2-clause-of_file g c = λ rules decides.
     (c.in_ok-turn-in-End.ensures.of_file rules (subst (λ (f : FateRules). Decides rules f) (sym c.look.ensures.rules_kept) decides))))
 
 pub returns-in_err-gather-clause-looks : goal.returns-in_err-gather-clause-looks
-returns-in_err-gather-clause-looks g c = no_look _ tt _ _ refl
+returns-in_err-gather-clause-looks g c = no_look _ (λ file. tt) _ _ _ refl
 
 pub returns-in_err-tell-clause-looks : goal.returns-in_err-tell-clause-looks
-returns-in_err-tell-clause-looks g c = no_look _ tt _ _ (ap g.T.Tail.told c.tell.ensures.tail_kept)
+returns-in_err-tell-clause-looks g c = no_look _ (λ file. tt) _ _ _ (ap g.T.Tail.told c.tell.ensures.tail_kept)
 
 pub returns-then-branch-clause-looks : goal.returns-then-branch-clause-looks
-returns-then-branch-clause-looks g c = no_look _ tt _ _ (ap g.T.Tail.told c.tell.ensures.tail_kept)
+returns-then-branch-clause-looks g c = no_look _ (λ file. tt) _ _ _ (ap g.T.Tail.told c.tell.ensures.tail_kept)
 
 pub returns-in_err-look-clause-looks : goal.returns-in_err-look-clause-looks
 returns-in_err-look-clause-looks g c =
-    looks_refused c.from_residual-in_err-look.result c.from_residual-in_err-look.ensures.0 _ _ _
-    (looks_at_place (AreOfReading (Unit {0})) _ _ (ap (λ (held : Held). held.position) c.gather.ensures.others) _ _ c.in_err-look.ensures.looks)
+    looks_refused c.args.self.now.reader c.gather.new.self.position (ap (λ (held : Held). held.position) c.gather.ensures.others) c.from_residual-in_err-look.result c.from_residual-in_err-look.ensures.0 _ _ _ c.in_err-look.ensures.looks
 
 pub returns-in-Less-clause-looks : goal.returns-in-Less-clause-looks
 returns-in-Less-clause-looks g c =
-    asked_below _ _ _ _ _
-    (looks_at_place (AreOfLook (Ok Less)) _ _ (ap (λ (held : Held). held.position) c.gather.ensures.others) _ _ (look_of _ Less c.in-Less.is _ _ _ c.in_ok-look.ensures.looks))
-    c.ask_again.ensures.looks
+    asked_below c.args.self.now.reader c.look.new.self.reader (c.look.ensures.begin_kept ∙ ap (λ (held : Held). held.begin) c.gather.ensures.others)
+    (c.look.ensures.input_kept ∙ ap (λ (held : Held). held.input) c.gather.ensures.others)
+    (c.look.ensures.identity_kept ∙ ap (λ (held : Held). held.identity) c.gather.ensures.others) (answer_of c.ask_again.result) c.gather.new.self.position (ap (λ (held : Held). held.position) c.gather.ensures.others) _ _ c.look.ensures.numbers_kept _ _ _
+    (subst (λ (f : Found). LooksOn (AreOfLook (Ok f) c.gather.new.self.position) (g.T.Tail.numbers c.args.self.now.tail) (g.T.Tail.told c.args.self.now.tail) (g.T.Tail.told c.look.new.self.tail))
+    c.in-Less.is c.in_ok-look.ensures.looks) c.ask_again.ensures.looks
 
 pub returns-in_err-turn-in-More-clause-looks : goal.returns-in_err-turn-in-More-clause-looks
 returns-in_err-turn-in-More-clause-looks g c =
-    looks_of_turn _ _ _ (ap (λ (held : Held). held.position) c.gather.ensures.others) _ _ _ (look_of _ More c.in-More.is _ _ _ c.in_ok-look.ensures.looks)
-    (ap g.T.Tail.told c.settle.ensures.tail_kept)
+    looks_of_read c.args.self.now.reader c.gather.new.self.position (ap (λ (held : Held). held.position) c.gather.ensures.others) (answer_of c.from_residual-in_err-turn-in-More.result) _ _ (inl c.in-More.is) _ _ _ c.in_ok-look.ensures.looks (ap g.T.Tail.told c.settle.ensures.tail_kept)
 
 pub returns-in-Some-clause-looks : goal.returns-in-Some-clause-looks
 returns-in-Some-clause-looks g c =
-    looks_of_turn _ _ _ (ap (λ (held : Held). held.position) c.gather.ensures.others) _ _ _ (look_of _ More c.in-More.is _ _ _ c.in_ok-look.ensures.looks)
-    (ap g.T.Tail.told c.settle.ensures.tail_kept)
+    looks_of_read c.args.self.now.reader c.gather.new.self.position (ap (λ (held : Held). held.position) c.gather.ensures.others) c.in-Some.turn _ _ (inl c.in-More.is) _ _ _ c.in_ok-look.ensures.looks (ap g.T.Tail.told c.settle.ensures.tail_kept)
 
 pub returns-in-None-clause-looks : goal.returns-in-None-clause-looks
 returns-in-None-clause-looks g c =
-    looks_of_turn _ _ _ (ap (λ (held : Held). held.position) c.gather.ensures.others) _ _ _ (look_of _ More c.in-More.is _ _ _ c.in_ok-look.ensures.looks)
-    (ap g.T.Tail.told c.settle.ensures.tail_kept)
+    looks_of_read c.args.self.now.reader c.gather.new.self.position (ap (λ (held : Held). held.position) c.gather.ensures.others) turn.More _ _ (inl c.in-More.is) _ _ _ c.in_ok-look.ensures.looks (ap g.T.Tail.told c.settle.ensures.tail_kept)
 
 pub returns-in_err-turn-in-End-clause-looks : goal.returns-in_err-turn-in-End-clause-looks
 returns-in_err-turn-in-End-clause-looks g c =
-    looks_of_turn _ _ _ (ap (λ (held : Held). held.position) c.gather.ensures.others) _ _ _ (look_of _ End c.in-End.is _ _ _ c.in_ok-look.ensures.looks)
-    (ap g.T.Tail.told c.settle-in-End.ensures.tail_kept)
+    looks_of_read c.args.self.now.reader c.gather.new.self.position (ap (λ (held : Held). held.position) c.gather.ensures.others) (answer_of c.from_residual-in_err-turn-in-End.result) _ _ (inr c.in-End.is) _ _ _ c.in_ok-look.ensures.looks (ap g.T.Tail.told c.settle-in-End.ensures.tail_kept)
 
 pub returns-in-Some-2-clause-looks : goal.returns-in-Some-2-clause-looks
 returns-in-Some-2-clause-looks g c =
-    looks_of_turn _ _ _ (ap (λ (held : Held). held.position) c.gather.ensures.others) _ _ _ (look_of _ End c.in-End.is _ _ _ c.in_ok-look.ensures.looks)
-    (ap g.T.Tail.told c.settle-in-End.ensures.tail_kept)
+    looks_of_read c.args.self.now.reader c.gather.new.self.position (ap (λ (held : Held). held.position) c.gather.ensures.others) c.in-Some-2.turn _ _ (inr c.in-End.is) _ _ _ c.in_ok-look.ensures.looks (ap g.T.Tail.told c.settle-in-End.ensures.tail_kept)
 
 pub returns-in-None-2-clause-looks : goal.returns-in-None-2-clause-looks
 returns-in-None-2-clause-looks g c =
-    looks_of_turn _ _ _ (ap (λ (held : Held). held.position) c.gather.ensures.others) _ _ _ (look_of _ End c.in-End.is _ _ _ c.in_ok-look.ensures.looks)
-    (ap g.T.Tail.told c.settle-in-End.ensures.tail_kept)
+    looks_of_read c.args.self.now.reader c.gather.new.self.position (ap (λ (held : Held). held.position) c.gather.ensures.others) turn.AtEnd _ _ (inr c.in-End.is) _ _ _ c.in_ok-look.ensures.looks (ap g.T.Tail.told c.settle-in-End.ensures.tail_kept)

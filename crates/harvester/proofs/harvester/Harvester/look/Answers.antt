@@ -38,28 +38,28 @@ returns-clause-looked g c = λ h given all has.
 
 pub returns-in_err-length-clause-looks : goal.returns-in_err-length-clause-looks
 returns-in_err-length-clause-looks g c =
-    length_failed _ _ (g.T.Tail.told c.length.new.self) _ c.from_residual.result c.from_residual.ensures.0 _ c.in_err-length.ensures.told
+    length_failed _ _ _ (g.T.Tail.told c.length.new.self) _ c.from_residual.result c.from_residual.ensures.0 _ c.in_err-length.ensures.told
 
 pub returns-then-length-position-clause-looks : goal.returns-then-length-position-clause-looks
-returns-then-length-position-clause-looks g c = look_below _ _ None _ _ c.in_ok-length.ensures.told (omega (arith, c.position.ensures))
+returns-then-length-position-clause-looks g c = look_below _ _ _ None _ _ c.in_ok-length.ensures.told (omega (arith, c.position.ensures))
 
 pub returns-in_err-make_room-clause-looks : goal.returns-in_err-make_room-clause-looks
 returns-in_err-make_room-clause-looks g c =
-    room_failed _ _ None _ c.from_residual-in_err-make_room.result c.from_residual-in_err-make_room.ensures.0 c.in_ok-length.length c.in_ok-length.ensures.told
+    room_failed _ _ _ None _ c.from_residual-in_err-make_room.result c.from_residual-in_err-make_room.ensures.0 c.in_ok-length.length c.in_ok-length.ensures.told
     (omega (arith, c.position.ensures))
 
 pub returns-in_err-count-clause-looks : goal.returns-in_err-count-clause-looks
 returns-in_err-count-clause-looks g c =
-    read_failed _ _ _ _ c.in_ok-length.length c.in_ok-length.ensures.told (omega (arith, c.position.ensures)) _
+    read_failed _ _ _ _ _ c.in_ok-length.length c.in_ok-length.ensures.told (omega (arith, c.position.ensures)) _
     (ap (λ (held : Held). held.position) c.make_room.ensures.others) _ c.from_residual-in_err-count.result c.from_residual-in_err-count.ensures.0 _
     c.in_err-count.ensures.told
 
 pub returns-then-count-eq0-clause-looks : goal.returns-then-count-eq0-clause-looks
 returns-then-count-eq0-clause-looks g c =
-    has_read _ _ _ _ c.in_ok-length.length c.in_ok-length.ensures.told (omega (arith, c.position.ensures)) _
+    has_read _ _ _ _ _ c.in_ok-length.length c.in_ok-length.ensures.told (omega (arith, c.position.ensures)) _
     (ap (λ (held : Held). held.position) c.make_room.ensures.others) _ End (inr refl) c.in_ok-count.count c.read.ensures.some_room c.in_ok-count.ensures.told
 
 pub returns-clause-looks : goal.returns-clause-looks
 returns-clause-looks g c =
-    has_read _ _ _ _ c.in_ok-length.length c.in_ok-length.ensures.told (omega (arith, c.position.ensures)) _
+    has_read _ _ _ _ _ c.in_ok-length.length c.in_ok-length.ensures.told (omega (arith, c.position.ensures)) _
     (ap (λ (held : Held). held.position) c.make_room.ensures.others) _ More (inl refl) c.in_ok-count.count c.read.ensures.some_room c.in_ok-count.ensures.told

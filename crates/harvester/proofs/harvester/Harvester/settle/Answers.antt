@@ -1,9 +1,10 @@
-use Rattle.std.proofs.Common.{subst, ap, ◌∙◌}
+use Rattle.std.proofs.Common.{IsSome, sym, subst, ap, ◌∙◌}
+use Rattle.harvester.specs.declared.events.Events.{Events}
 use Rattle.harvester.specs.declared.stage.Stage.{Stage}
 use Rattle.harvester.specs.Held.{Held}
 use Rattle.harvester.specs.History.{with_licences, with_present, with_stage}
 use Rattle.harvester.specs.Standing.{StandsFor, stage_of}
-use Rattle.harvester.proofs.Closing.{closed_last_line, gathered_behind, none_closes, settled_all_told, settled_none_due}
+use Rattle.harvester.proofs.Closing.{closed_last_line, gathered_behind, none_closes, settled_all_told, settled_none_due, settled_none_waits}
 use Rattle.harvester.proofs.Gathering.{none_where_false}
 use Rattle.harvester.proofs.TurnsGiven.{closed_told, closes_none, closes_refused, closes_told, of_same, reads_of, settles_refused, settles_told, with_reader}
 use Rattle.harvester.proofs.harvester.Harvester.settle.Goals as goal
@@ -28,7 +29,8 @@ pub returns-in_err-tell-2-clause-settled : goal.returns-in_err-tell-2-clause-set
 returns-in_err-tell-2-clause-settled g c = λ h ends may has.
     let reads = reads_of h _ has.held c.requires.reads in
     let w = c.close-closed.ensures.was_closed h (c.in_ok-gather.ensures.all c.if-branch.false h has.held) ends in
-    closes_refused g.T.Tail.numbers g.T.Tail.told c.args.now.0 c.args.ended h reads _ w.licences w.where_due c.from_residual-in_err-tell-2.result
+    closes_refused g.T.Tail.numbers g.T.Tail.told c.args.now.0 c.args.ended h reads _ w.licences w.where_due
+    (none_closes h c.later_lines.ensures _ (c.in_ok-gather.ensures.all c.if-branch.false h has.held)) w.end_lines c.from_residual-in_err-tell-2.result
     c.from_residual-in_err-tell-2.ensures.0
     (c.in_err-tell-2.ensures.same_on_refusal _ (closed_told g.T.Tail.numbers g.T.Tail.told c.args.now.0 h reads _ has _ c.args.ended w may c.stand.new.self
     (subst (λ (s : Stage). StandsFor (with_stage (stage_of s) (with_present (with_licences w.licences h.present) h)) c.stand.new.self) c.stage_behind.ensures
@@ -38,7 +40,8 @@ pub returns-then-closed-clause-settled : goal.returns-then-closed-clause-settled
 returns-then-closed-clause-settled g c = λ h ends may has.
     let reads = reads_of h _ has.held c.requires.reads in
     let w = c.close-closed.ensures.was_closed h (c.in_ok-gather.ensures.all c.if-branch.false h has.held) ends in
-    closes_told g.T.Tail.numbers g.T.Tail.told c.args.now.0 c.args.ended h reads _ w.licences w.where_due c.in_ok-tell-2.field-0 c.in_ok-tell-2.ensures.one
+    closes_told g.T.Tail.numbers g.T.Tail.told c.args.now.0 c.args.ended h reads _ w.licences w.where_due
+    (none_closes h c.later_lines.ensures _ (c.in_ok-gather.ensures.all c.if-branch.false h has.held)) w.end_lines c.in_ok-tell-2.field-0 c.in_ok-tell-2.ensures.one
     (c.in_ok-tell-2.ensures.told _ (closed_told g.T.Tail.numbers g.T.Tail.told c.args.now.0 h reads _ has _ c.args.ended w may c.stand.new.self
     (subst (λ (s : Stage). StandsFor (with_stage (stage_of s) (with_present (with_licences w.licences h.present) h)) c.stand.new.self) c.stage_behind.ensures
     (c.stand.ensures.stands _ w.stands (gathered_behind h _ _ _ w _ c.stage_behind.ensures)))))
@@ -64,11 +67,13 @@ returns-clause-settled g c = λ h ends may has.
     let w = c.close-closed.ensures.was_closed h a ends in
     let none = none_where_false _ _ c.close-closed.ensures.closed c.if-closed.false in
     closes_none g.T.Tail.numbers g.T.Tail.told c.args.now.0 c.args.ended h reads _ w.licences w.where_due
+    (none_closes h c.later_lines.ensures _ (c.in_ok-gather.ensures.all c.if-branch.false h has.held)) w.end_lines
     (closed_told g.T.Tail.numbers g.T.Tail.told c.args.now.0 h reads _ has _ c.args.ended w may c.stand.new.self
     (subst (λ (s : Stage). StandsFor (with_stage (stage_of s) (with_present (with_licences w.licences h.present) h)) c.stand.new.self) c.stage_behind.ensures
     (c.stand.ensures.stands _ w.stands (gathered_behind h _ _ _ w _ c.stage_behind.ensures))))
     (record {
       none_closes = none_closes h c.later_lines.ensures _ a;
+      none_waits = λ is. settled_none_waits h _ _ _ w none c.later_lines.ensures (λ waits. is (subst (λ (e : Events). IsSome e.grouper.gathered) (sym (ap (λ (held : Held). held.events) c.stand.ensures.others)) waits));
       none_due = settled_none_due h _ _ _ w none c.later_lines.ensures;
       all_told = settled_all_told h _ _ _ w none c.later_lines.ensures;
       last_line = ap (λ (held : Held). held.events.last_line.0) c.stand.ensures.others ∙ closed_last_line h _ _ _ w;

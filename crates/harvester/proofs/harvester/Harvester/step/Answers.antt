@@ -39,16 +39,16 @@ returns-in-Reading-clause-goes g c = λ h ends may has.
     (c.go_on.ensures.goes h ends (λ is. may (sym same ∙ is)) has)
 
 pub returns-in_err-tell-in-Ended-clause-looks : goal.returns-in_err-tell-in-Ended-clause-looks
-returns-in_err-tell-in-Ended-clause-looks g c = looks_at_stage _ reader.Ended (sym c.stage.ensures ∙ c.in-Ended.is) _ _ _ _ (no_look _ refl _ _ (ap g.T.Tail.told c.tell.ensures.tail_kept))
+returns-in_err-tell-in-Ended-clause-looks g c = looks_at_stage _ reader.Ended (sym c.stage.ensures ∙ c.in-Ended.is) _ _ _ _ _ (no_look _ (λ file. refl) _ _ _ (ap g.T.Tail.told c.tell.ensures.tail_kept))
 
 pub returns-then-has_closed-clause-looks : goal.returns-then-has_closed-clause-looks
-returns-then-has_closed-clause-looks g c = looks_at_stage _ reader.Ended (sym c.stage.ensures ∙ c.in-Ended.is) _ _ _ _ (no_look _ refl _ _ (ap g.T.Tail.told c.tell.ensures.tail_kept))
+returns-then-has_closed-clause-looks g c = looks_at_stage _ reader.Ended (sym c.stage.ensures ∙ c.in-Ended.is) _ _ _ _ _ (no_look _ (λ file. refl) _ _ _ (ap g.T.Tail.told c.tell.ensures.tail_kept))
 
 pub returns-else-has_closed-clause-looks : goal.returns-else-has_closed-clause-looks
-returns-else-has_closed-clause-looks g c = looks_at_stage _ reader.Ended (sym c.stage.ensures ∙ c.in-Ended.is) _ _ _ _ (no_look _ refl _ _ refl)
+returns-else-has_closed-clause-looks g c = looks_at_stage _ reader.Ended (sym c.stage.ensures ∙ c.in-Ended.is) _ _ _ _ _ (no_look _ (λ file. refl) _ _ _ refl)
 
 pub returns-in-Asking-clause-looks : goal.returns-in-Asking-clause-looks
-returns-in-Asking-clause-looks g c = looks_at_stage _ reader.Asking (sym c.stage.ensures ∙ c.in-Asking.is) _ _ _ _ c.ask_again.ensures.looks
+returns-in-Asking-clause-looks g c = looks_at_stage _ reader.Asking (sym c.stage.ensures ∙ c.in-Asking.is) _ _ _ _ _ c.ask_again.ensures.looks
 
 pub returns-in-Reading-clause-looks : goal.returns-in-Reading-clause-looks
-returns-in-Reading-clause-looks g c = looks_at_stage _ reader.Reading (sym c.stage.ensures ∙ c.in-Reading.is) _ _ _ _ c.go_on.ensures.looks
+returns-in-Reading-clause-looks g c = looks_at_stage _ reader.Reading (sym c.stage.ensures ∙ c.in-Reading.is) _ _ _ _ _ c.go_on.ensures.looks

@@ -33,4 +33,4 @@ returns-clause-read_fault_only_where_faults_rose g c = λ h has is.
     (is_fault c.step.result _ _ (c.step.ensures.of_file _ has.decides) (sym c.answer-turn.ensures ∙ is))
 
 pub returns-clause-looks : goal.returns-clause-looks
-returns-clause-looks g c = subst (λ (t : Turn). LooksInTurn g.T.Tail.told c.args.self.now t c.step.new.self) (sym c.answer-turn.ensures) c.step.ensures.looks
+returns-clause-looks g c = subst (λ (t : Turn). LooksInTurn g.T.Tail.numbers g.T.Tail.told c.args.self.now t c.step.new.self) (sym c.answer-turn.ensures) c.step.ensures.looks
