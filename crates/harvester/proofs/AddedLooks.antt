@@ -184,8 +184,8 @@ module _ (place : ℕ) (numbers : Option (ℕ × ℕ)) (before mid after : Optio
 -- ---- an asking
 
 module _ (held : Held) (numbers : Option (ℕ × ℕ)) (before after : Option TailHistory) (untold : IsNone before → IsNone after) where
-  asked_as : (result : Result Bool TurnError) (answer : Turn) → ((file : File) (looks : List Look) → IsGivenKey held file looks result → AskForKey held file answer looks) →
-      IfSome before (λ told. WasAsked held numbers told result after) → LooksOn (λ file looks. AskForKey held file answer looks) numbers before after
+  asked_as : (result : Result Bool TurnError) (answer : Turn) → ((file : File) (looks : List Look) → IsGivenKey held file looks result → AskForKey held answer file looks) →
+      IfSome before (λ told. WasAsked held numbers told result after) → LooksOn (AskForKey held answer) numbers before after
   asked_as result answer is asked = go before untold asked
     where
       none_of : (o : Option TailHistory) → IsNone o → o ≡ None
@@ -193,19 +193,19 @@ module _ (held : Held) (numbers : Option (ℕ × ℕ)) (before after : Option Ta
       none_of (Some value) none = absurd (let no : true ≡ false = none in cc)
 
       go : (o : Option TailHistory) → (IsNone o → IsNone after) → IfSome o (λ told. WasAsked held numbers told result after) →
-          LooksOn (λ file looks. AskForKey held file answer looks) numbers o after
+          LooksOn (AskForKey held answer) numbers o after
       go None untold asked = none_of after (untold refl)
       go (Some told) untold asked =
           record { looks = asked.looks; added = asked.added; are = is (with_numbers numbers told.file) asked.looks asked.gave }
 
   pub same_key : (given : Bool) → given ≡ true → (answer : Turn) → HasGivenKey answer → IfSome before (λ told. WasAsked held numbers told (Ok given) after) →
-      LooksOn (λ file looks. AskForKey held file answer looks) numbers before after
+      LooksOn (AskForKey held answer) numbers before after
   same_key given is answer gives asked = by answer gives
     where
       there : IfSome before (λ told. WasAsked held numbers told (Ok true) after)
       there = subst (λ (b : Bool). IfSome before (λ told. WasAsked held numbers told (Ok b) after)) is asked
 
-      by : (answer : Turn) → HasGivenKey answer → LooksOn (λ file looks. AskForKey held file answer looks) numbers before after
+      by : (answer : Turn) → HasGivenKey answer → LooksOn (AskForKey held answer) numbers before after
       by (turn.NewLife epoch) gives = asked_as (Ok true) (turn.NewLife epoch) (λ file looks gave. gave) there
       by turn.EpochsOut gives = asked_as (Ok true) turn.EpochsOut (λ file looks gave. gave) there
       by turn.Changed gives = absurd gives
@@ -217,13 +217,13 @@ module _ (held : Held) (numbers : Option (ℕ × ℕ)) (before after : Option Ta
       by turn.NoMemory gives = absurd gives
 
   pub other_key : (given : Bool) → given ≡ false → IfSome before (λ told. WasAsked held numbers told (Ok given) after) →
-      LooksOn (λ file looks. AskForKey held file turn.Changed looks) numbers before after
+      LooksOn (AskForKey held turn.Changed) numbers before after
   other_key given is asked =
       asked_as (Ok false) turn.Changed (λ file looks gave. gave)
       (subst (λ (b : Bool). IfSome before (λ told. WasAsked held numbers told (Ok b) after)) is asked)
 
   pub asking_refused : (cause : TurnError) (result : Result Turn TurnError) → IsErr result → IfSome before (λ told. WasAsked held numbers told (Err cause) after) →
-      LooksOn (λ file looks. AskForKey held file (answer_of result) looks) numbers before after
+      LooksOn (AskForKey held (answer_of result)) numbers before after
   asking_refused cause (Ok answer) err asked = absurd (let no : false ≡ true = err in cc)
   asking_refused cause (Err error.ReadFault) err asked = asked_as (Err cause) turn.ReadFault (λ file looks gave. gave) asked
   asking_refused cause (Err error.NoMemory) err asked = asked_as (Err cause) turn.NoMemory (λ file looks gave. gave) asked
@@ -232,14 +232,14 @@ module _ (held : Held) (numbers : Option (ℕ × ℕ)) (before after : Option Ta
 
 -- behind a length that is below the place
 module _ (held asking : Held) (begin : asking.begin ≡ held.begin) (input : asking.input ≡ held.input) (identity : asking.identity ≡ held.identity) where
-  asked_of : (file : File) (answer : Turn) (looks : List Look) → AskForKey asking file answer looks → AskForKey held file answer looks
+  asked_of : (file : File) (answer : Turn) (looks : List Look) → AskForKey asking answer file looks → AskForKey held answer file looks
   asked_of file answer looks asked =
-      subst (λ (b : Begin). AskForKey (record held { begin = b }) file answer looks) begin
-      (subst (λ (i : List ℕ). AskForKey (record held { begin = asking.begin; input = i }) file answer looks) input
-      (subst (λ (r : IdentityRule). AskForKey (record held { begin = asking.begin; input = asking.input; identity = r }) file answer looks) identity (same answer asked)))
+      subst (λ (b : Begin). AskForKey (record held { begin = b }) answer file looks) begin
+      (subst (λ (i : List ℕ). AskForKey (record held { begin = asking.begin; input = i }) answer file looks) input
+      (subst (λ (r : IdentityRule). AskForKey (record held { begin = asking.begin; input = asking.input; identity = r }) answer file looks) identity (same answer asked)))
     where
-      same : (answer : Turn) → AskForKey asking file answer looks →
-          AskForKey (record held { begin = asking.begin; input = asking.input; identity = asking.identity }) file answer looks
+      same : (answer : Turn) → AskForKey asking answer file looks →
+          AskForKey (record held { begin = asking.begin; input = asking.input; identity = asking.identity }) answer file looks
       same (turn.NewLife epoch) is = is
       same turn.EpochsOut is = is
       same turn.Changed is = is
@@ -251,15 +251,15 @@ module _ (held asking : Held) (begin : asking.begin ≡ held.begin) (input : ask
       same turn.AtEnd is = is
 
   pub asked_below : (answer : Turn) (at : ℕ) → at ≡ held.position → (numbers other : Option (ℕ × ℕ)) → other ≡ numbers → (before mid after : Option TailHistory) →
-      LooksOn (AreOfLook (Ok Less) at) numbers before mid → LooksOn (λ file looks. AskForKey asking file answer looks) other mid after →
+      LooksOn (AreOfLook (Ok Less) at) numbers before mid → LooksOn (AskForKey asking answer) other mid after →
       LooksOn (AreOfReading held answer) numbers before after
   asked_below answer at place numbers other same None mid after looked asked =
-      subst (λ (o : Option TailHistory). LooksOn (λ file looks. AskForKey asking file answer looks) other o after) looked asked
+      subst (λ (o : Option TailHistory). LooksOn (AskForKey asking answer) other o after) looked asked
   asked_below answer at place numbers other same (Some told) mid after looked asked =
       let then = record told { looks = told.looks ++ looked.looks } in
-      let reads : AddsSome (λ file looks. AskForKey asking file answer looks) numbers then after =
-      subst (λ (n : Option (ℕ × ℕ)). AddsSome (λ file looks. AskForKey asking file answer looks) n then after) same
-      (subst (λ (o : Option TailHistory). LooksOn (λ file looks. AskForKey asking file answer looks) other o after) looked.added.kept asked) in
+      let reads : AddsSome (AskForKey asking answer) numbers then after =
+      subst (λ (n : Option (ℕ × ℕ)). AddsSome (AskForKey asking answer) n then after) same
+      (subst (λ (o : Option TailHistory). LooksOn (AskForKey asking answer) other o after) looked.added.kept asked) in
       let file = with_numbers numbers told.file in
       record {
         looks = looked.looks ++ reads.looks;

@@ -21,13 +21,13 @@ use Rattle.harvester.specs.Asked.{IsGivenKey}
 use Rattle.harvester.specs.Held.{Held}
 
 -- one asking for the key, and what it gave, by the answer; or a part of one that failed or found no memory
-abbrev pub AskForKey : Held → File → Turn → List Look → Type 0
-AskForKey held file (turn.NewLife epoch) looks = IsGivenKey held file looks (Ok true)
-AskForKey held file turn.EpochsOut looks = IsGivenKey held file looks (Ok true)
-AskForKey held file turn.Changed looks = IsGivenKey held file looks (Ok false)
-AskForKey held file turn.ReadFault looks = IsPartOfAsking held.identity looks
-AskForKey held file turn.NoMemory looks = IsPartOfAsking held.identity looks
-AskForKey held file answer looks = ⊥
+abbrev pub AskForKey : Held → Turn → File → List Look → Type 0
+AskForKey held (turn.NewLife epoch) file looks = IsGivenKey held file looks (Ok true)
+AskForKey held turn.EpochsOut file looks = IsGivenKey held file looks (Ok true)
+AskForKey held turn.Changed file looks = IsGivenKey held file looks (Ok false)
+AskForKey held turn.ReadFault file looks = IsPartOfAsking held.identity looks
+AskForKey held turn.NoMemory file looks = IsPartOfAsking held.identity looks
+AskForKey held answer file looks = ⊥
 
 -- the file has the key with which it was opened
 abbrev pub HasGivenKey : Turn → Type 0
@@ -50,7 +50,7 @@ IsReadAt answer place (look ∷ other ∷ looks) = ⊥
 -- the length is below the place, and the key is asked; or it is not, and the file is read
 abbrev pub StandBehindLength : Held → File → Turn → ℕ → List Look → Type 0
 StandBehindLength held file answer length looks =
-    ((length < held.position) × AskForKey held file answer looks) ⊎ ((held.position ≤ length) × IsReadAt answer held.position looks)
+    ((length < held.position) × AskForKey held answer file looks) ⊎ ((held.position ≤ length) × IsReadAt answer held.position looks)
 
 -- of a turn that tells what was read, or reads on
 abbrev pub AreOfReading : Held → Turn → File → List Look → Type 0
@@ -60,7 +60,7 @@ AreOfReading held answer file (look ∷ looks) = (look.question ≡ Length) × S
 -- by where the file stood as the turn began
 abbrev pub AreOfTurn : Stage → Held → Turn → File → List Look → Type 0
 AreOfTurn Reading held answer file looks = AreOfReading held answer file looks
-AreOfTurn Asking held answer file looks = AskForKey held file answer looks
+AreOfTurn Asking held answer file looks = AskForKey held answer file looks
 AreOfTurn Ended held answer file looks = looks ≡ []
 AreOfTurn Changed held answer file looks = looks ≡ []
 AreOfTurn Over held answer file looks = looks ≡ []

@@ -24,7 +24,7 @@ impl<T: Tail> Harvester<T> {
         requires asks { self.old.reader.stage ≡ Stage.Asking }
         ensures asked { (history : History) → HasTold T.numbers T.told history self.old →
             HasAsked T.numbers T.told history result self.new }
-        ensures looks { LooksOn (λ file looks. AskForKey self.old.reader file (answer_of result) looks)
+        ensures looks { LooksOn (AskForKey self.old.reader (answer_of result))
             (T.numbers self.old.tail) (T.told self.old.tail) (T.told self.new.tail) }
         ensures numbers_kept { T.numbers self.new.tail ≡ T.numbers self.old.tail }
         ensures tells_nothing { IfOk result IsByKey }

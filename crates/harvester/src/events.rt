@@ -73,10 +73,12 @@ impl Events {
     /// Takes the bytes that stand behind all that was fed before.
     pub(crate) fn feed(&mut self, piece: &[u8]) -> Result<(), NoMemory>
         requires { IsPlace (fed_to self.old.cutter + length piece.now) }
-        ensures fed { OnOk result ((rules : Rules) (start : ℕ) (fed licences : List ℕ) (of : Gathered) →
+        ensures fed { OnOk result
+            ((rules : Rules) (start : ℕ) (fed licences : List ℕ) (of : Gathered) →
             IsGathered rules start fed licences of self.old →
             IsGathered rules start (fed ++ piece.now) licences of self.new) }
-        ensures place { OnOk result (fed_to self.new.cutter ≡ fed_to self.old.cutter + length piece.now) }
+        ensures place { OnOk result
+            (fed_to self.new.cutter ≡ fed_to self.old.cutter + length piece.now) }
         ensures last_line { self.new.last_line ≡ self.old.last_line }
         ensures same_on_refusal { OnErr result (self.new ≡ self.old) }
     {
@@ -110,9 +112,14 @@ impl Events {
         requires none_closed { self.old.closed ≡ None }
         ensures flushed { (rules : Rules) (start : ℕ) (fed licences : List ℕ) (of : Gathered) →
             IsGathered rules start fed licences of self.old →
-            IsGathered rules start fed (licences ++ flushed_at self.new.closed) (all_flushed of) self.new }
-        ensures closed_where_one_waited { IsSome self.new.closed ↔ IsSome self.old.grouper.gathered }
-        ensures others { self.new ≡ (record self.old { grouper = self.new.grouper; closed = self.new.closed }) }
+            IsGathered rules start fed (licences ++ flushed_at self.new.closed)
+            (all_flushed of) self.new }
+        ensures closed_where_one_waited { IsSome self.new.closed ↔
+            IsSome self.old.grouper.gathered }
+        ensures others { self.new ≡ (record self.old {
+          grouper = self.new.grouper;
+          closed = self.new.closed;
+        }) }
     {
         self.closed = self.grouper.flush();
     }
@@ -163,7 +170,8 @@ impl Events {
             IsGathered rules start fed licences of self.old →
             IfNone found (complete_lines rules.lines start fed ≡ lines_of of)) }
         ensures fewer { IfOk result (λ found. IsSome found → left_in self.new < left_in self.old) }
-        ensures others { OnOk result (self.new ≡ (record self.old { line = None; cutter = self.new.cutter })) }
+        ensures others { OnOk result
+            (self.new ≡ (record self.old { line = None; cutter = self.new.cutter })) }
         ensures place { fed_to self.new.cutter ≡ fed_to self.old.cutter }
         ensures same_on_refusal { OnErr result (self.new ≡ self.old) }
     {
@@ -179,7 +187,8 @@ impl Events {
         requires no_line { self.old.line ≡ None }
         requires none_closed { self.old.closed ≡ None }
         requires moment { IsMoment now }
-        requires adjoining { ForSome self.old.grouper.gathered (λ gathered. gathered.end ≡ line.span.start) }
+        requires adjoining { ForSome self.old.grouper.gathered
+            (λ gathered. gathered.end ≡ line.span.start) }
         ensures gathered { (rules : Rules) (start : ℕ) (fed licences : List ℕ) (of : Gathered) →
             IsGatheredBut rules start fed licences of (line ∷ []) self.old →
             Moved rules start fed licences of self.old.last_line now self.new }

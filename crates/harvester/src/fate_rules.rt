@@ -100,7 +100,8 @@ fn kept_fate(
 ) -> Result<EventFate, NoMemory>
     requires place { IsPlace group.now.span.start }
     requires moment { IsMoment now }
-    ensures fate { IfOk result (λ fate. (processors : List ProcessorRule) → ChainRuns processors chain.old →
+    ensures fate { IfOk result (λ fate. (processors : List ProcessorRule) →
+        ChainRuns processors chain.old →
         shown fate ≡ fate_of_outcome (outcome_of processors
         (envelope_of path.now group.now.span.start group.now.message now.0))) }
     ensures same { (processors : List ProcessorRule) → ChainRuns processors chain.old →
