@@ -10,7 +10,8 @@
 //! `FateRules` is what filters and processors decide of an event, compiled once. Nothing here names a folder, a queue or
 //! a lane.
 //!
-//! The clauses allow more than the code does: a turn may answer that it found no memory at any time.
+//! The clauses allow more than the code does: a turn may answer that it found no memory at any time, and where it then had
+//! flushed an event, later turns may read on before they tell it.
 #![tactic(auto)]
 
 mod asking;
