@@ -2,7 +2,8 @@
 """Times the program and single calls from outside, and writes bench/RESULTS.md.
 
 The program `bench_parts` makes one call as often as it is told. What is counted of it is the processor time of the
-whole program, less that of a run that makes no call. The program `bench_worker` has one worker ship events.
+whole program, less that of a run that makes no call. The program `bench_worker` has one worker ship events,
+and `bench_harvester` harvesters tell them.
 """
 
 import datetime
@@ -13,6 +14,7 @@ import subprocess
 import time
 from pathlib import Path
 
+from harvester import harvester_table
 from memory import memory_tables
 from transport import peak_memory, transport_table
 from worker import worker_table
@@ -306,7 +308,7 @@ def main():
         runs=RUNS,
         fixed=fixed * 1e3,
     )
-    leaves = [filter_table(), chain_table(fixed), fingerprint_table(), scan_table()]
+    leaves = [filter_table(), chain_table(fixed), harvester_table(), fingerprint_table(), scan_table()]
     leaves += [queue_table(), memory_tables(), covers_table(fixed)]
     RESULTS.write_text(
         head + transport_table() + worker_table() + cut_table(fixed) + payloads_table(fixed) + "".join(leaves)

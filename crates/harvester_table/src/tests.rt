@@ -1,0 +1,6 @@
+mod calls;
+mod changes;
+mod lines;
+mod rules;
+mod tail;
+mod told;
