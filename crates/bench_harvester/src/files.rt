@@ -19,6 +19,7 @@ const TOLD: usize = 128;
 /// A moment at which no event waits for lines any longer, in milliseconds.
 const LATER: u64 = 60_000;
 
+#[tactic(auto, using(crate::proofs::Readable::first_readable))]
 fn input_of(settings: &Settings) -> Option<&InputRule>
     requires { AreInRange settings.now }
     ensures { IfSome result (λ rule. IsReadable rule.now) }
