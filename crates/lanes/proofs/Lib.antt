@@ -1,0 +1,4 @@
+mod Begins
+mod Hands
+mod Keeping
+mod Passing

@@ -1,0 +1,13 @@
+use Rattle.std.proofs.Common.{◌≤◌, length, drop}
+use Rattle.std.specs.Prelude.{All}
+use Rattle.lanes.specs.Laning.{IsOfAnother, laning}
+use Rattle.lanes.proofs.lane.Lane.place_of.Given as goal
+
+abbrev pub invariant-seats : goal.invariant-seats
+invariant-seats g l = record {
+  within : l.index ≤ length (laning l.self).harvesters;
+  none : All (IsOfAnother l.slot) (drop l.index (laning l.self).harvesters);
+}
+
+abbrev pub decreases-seats : goal.decreases-seats
+decreases-seats g l = l.index

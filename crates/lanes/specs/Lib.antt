@@ -1,0 +1,10 @@
+pub mod Giving
+pub mod Handing
+pub mod Keeping
+pub mod Laning
+pub mod Passing
+pub mod Running
+pub mod Step
+pub mod Steps
+pub mod Tallies
+pub mod Turned

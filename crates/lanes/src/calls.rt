@@ -1,0 +1,130 @@
+ghost use Rattle.std.specs.Prelude.{◌≡◌, ◌≢◌, ◌<◌, ◌++◌, ◌∷◌, [], All, IfErr, IfNone, IfSome, IsSome, None, OnErr, OnOk, OnSome, Some, length, slice_get};
+ghost use Rattle.lanes.specs.Laning.{IsOfAnother, Releases, StandsAt, begun_with, laning, with_passes, without_passes};
+
+use crate::given::Given;
+use crate::lane::Lane;
+use crate::seat::Seat;
+use crate::tally::Tally;
+use harvester::Harvester;
+use mem_queue::PutPass;
+use outside::Tail;
+use settle_box::PostPass;
+use std::alloc::Global;
+use std::mem;
+use wire_base::Slot;
+
+impl<T: Tail> Lane<T> {
+    /// A lane without harvesters. Takes no memory.
+    pub fn new(alloc: Global, put: PutPass, post: PostPass) -> Lane<T>
+        ensures { laning result ≡ begun_with put post }
+    {
+        Lane {
+            put: Some(put),
+            post: Some(post),
+            seats: Vec::new(alloc),
+            held: Given::Nothing,
+            spans: 0,
+            tally: Tally::begun(false),
+            next: 0,
+        }
+    }
+
+    /// Takes a harvester in, behind the others. `Err` is want of memory, and gives it back.
+    pub fn admit(&mut self, harvester: Harvester<T>) -> Result<(), Harvester<T>>
+        ensures admitted { OnOk result (laning self.new ≡ record (laning self.old) {
+          harvesters = (laning self.old).harvesters ++ harvester ∷ [];
+        }) }
+        ensures kept { OnErr result (laning self.new ≡ laning self.old) }
+        ensures given_back { IfErr result (λ back. back ≡ harvester) }
+    {
+        if self.seats.reserve(1).is_err() {
+            return Err(harvester);
+        }
+        self.seats.push_reserved(Seat::new(harvester));
+        Ok(())
+    }
+
+    /// Lets the harvester of this slot go. `None` exactly where there is none. Takes no memory, and little time for one that
+    /// was admitted late.
+    pub fn release(&mut self, slot: Slot) -> Option<Harvester<T>>
+        ensures released { IfSome result (Releases slot (laning self.old) (laning self.new)) }
+        ensures none { IfNone result (All (IsOfAnother slot) (laning self.old).harvesters) }
+        ensures kept { IfNone result (laning self.new ≡ laning self.old) }
+    {
+        let index = self.place_of(slot)?;
+        Some(self.seats.remove(index).harvester)
+    }
+
+    // At which place a harvester of this slot stands.
+    fn place_of(&self, slot: Slot) -> Option<usize>
+        ensures stands { IfSome result (StandsAt slot (laning self.now).harvesters) }
+        ensures none { IfNone result (All (IsOfAnother slot) (laning self.now).harvesters) }
+    {
+        let mut index = self.seats.len();
+        'seats: while index > 0 {
+            index -= 1;
+            if self.seats[index].harvester.slot() == slot {
+                return Some(index);
+            }
+        }
+        None
+    }
+
+    /// How many spans its harvesters told in this lane. The count stands still at 2^64 - 1.
+    pub fn spans(&self) -> u64
+        ensures { result ≡ self.now.spans }
+    {
+        self.spans
+    }
+
+    /// What the turns of the last round came to.
+    pub fn tally(&self) -> Tally
+        ensures { result ≡ self.now.tally }
+    {
+        self.tally
+    }
+
+    /// Takes the lane's passes out.
+    pub fn lay_down(&mut self) -> (PutPass, PostPass)
+        requires passes { IsSome self.old.put × IsSome self.old.post }
+        ensures laid_down { laning self.new ≡ without_passes (laning self.old) }
+        ensures passes { (self.old.put ≡ Some result.0) × (self.old.post ≡ Some result.1) }
+    {
+        match (mem::take(&mut self.put), mem::take(&mut self.post)) {
+            (Some(put), Some(post)) => (put, post),
+            _ => unreachable!(),
+        }
+    }
+
+    /// Gives passes to a lane that has none.
+    pub fn take_up(&mut self, put: PutPass, post: PostPass)
+        requires { (self.old.put ≡ None) × (self.old.post ≡ None) }
+        ensures { laning self.new ≡ with_passes (laning self.old) put post }
+    {
+        self.put = Some(put);
+        self.post = Some(post);
+    }
+}
+
+impl<T: Tail + Drop> Lane<T> {
+    /// Lets the lane go, and gives its passes back. What it holds is given up.
+    pub fn end(self) -> (PutPass, PostPass)
+        requires passes { IsSome self.put × IsSome self.post }
+        requires no_harvesters { (laning self).harvesters ≡ [] }
+        ensures passes { (self.put ≡ Some result.0) × (self.post ≡ Some result.1) }
+    {
+        let Lane {
+            put,
+            post,
+            seats: _seats,
+            held: _held,
+            spans: _,
+            tally: _,
+            next: _,
+        } = self;
+        match (put, post) {
+            (Some(put), Some(post)) => (put, post),
+            _ => unreachable!(),
+        }
+    }
+}

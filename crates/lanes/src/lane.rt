@@ -1,0 +1,18 @@
+use crate::given::Given;
+use crate::seat::Seat;
+use crate::tally::Tally;
+use mem_queue::PutPass;
+use settle_box::PostPass;
+
+/// Harvesters that are turned in one thread, and what one of them gave that was refused.
+#[derive(Drop)]
+pub struct Lane<T> {
+    pub(crate) put: Option<PutPass>,
+    pub(crate) post: Option<PostPass>,
+    pub(crate) seats: Vec<Seat<T>>,
+    pub(crate) held: Given,
+    pub(crate) spans: u64,
+    pub(crate) tally: Tally,
+    // With which harvester the next round begins, so that where each round is refused all have their turns.
+    pub(crate) next: usize,
+}
