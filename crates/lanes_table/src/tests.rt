@@ -1,0 +1,4 @@
+mod files;
+mod rig;
+mod rounds;
+mod tail;
