@@ -1,0 +1,152 @@
+-- What a round's clauses say, from the turns that it was made of.
+use Rattle.std.proofs.Common.{◌≡◌, ◌⊎◌, ⊎_elim, Bool, true, false, ◌||◌, inl, inr, refl, sym, ap, subst, ◌∙◌}
+use Rattle.lanes.specs.declared.run.When.{When}
+use Rattle.mem_queue.specs.BoundedQueue.{BoundedQueue}
+use Rattle.settle_box.specs.BoundedBox.{BoundedBox}
+use Rattle.settle_box.specs.Senders.{notes}
+use Rattle.ship_core.specs.Orderly.{AreOrderly}
+use Rattle.rounds.specs.Answer.{have_others_moved, round_of, some_carrier_moved, some_lane_moved}
+use Rattle.rounds.specs.Books.{AreBooked, ArePlaced, Told, told_on}
+use Rattle.rounds.specs.Crewed.{lanings}
+use Rattle.rounds.specs.Images.{AreKept, ImagesAreFronts}
+use Rattle.rounds.specs.Moved.{HaveMoved, WereStill}
+use Rattle.rounds.specs.Placed.{IsPlacedAfter}
+use Rattle.rounds.specs.RoundKeeps.{RoundKeeps}
+use Rattle.rounds.specs.Rounds.{IsReady, KeeperHad, KeeperRested, Rounds}
+use Rattle.rounds.specs.Running.{StoringHasRun}
+use Rattle.rounds.specs.Words.{Words}
+use Rattle.rounds.specs.declared.answer.Round.{Round}
+use Rattle.rounds.specs.declared.crew.Crew.{Crew}
+use Rattle.rounds.specs.declared.storing.Storing.{Storing}
+use Rattle.rounds.proofs.Images.{images_are_fronts, kept_still, rested_images, rested_kept}
+use Rattle.rounds.proofs.Moved.{answer_moved, bare_answer, carriers_moved, carriers_still, lanes_moved, lanes_still, storing_moved, storing_still}
+use Rattle.rounds.proofs.Placing.{booked_met, carriers_stepped, lanes_stepped, placed_met}
+use Rattle.rounds.proofs.Ready.{ready_still, stored_disk, stored_memory}
+use Rattle.rounds.proofs.Sums.{booked_on}
+
+-- ---- truth
+
+abbrev IsSet : Bool → Type 0
+IsSet true = Unit {0}
+IsSet false = ⊥
+
+apart : {P : Type 0} → true ≡ false → P
+apart is = absurd (subst IsSet is tt)
+
+both_false : (a b : Bool) → (a || b) ≡ false → (a ≡ false) × (b ≡ false)
+both_false true b is = apart is
+both_false false b is = (refl, is)
+
+one_true : (a b : Bool) → (a || b) ≡ true → (a ≡ true) ⊎ (b ≡ true)
+one_true true b is = inl refl
+one_true false b is = inr is
+
+module _ {T W L D : Type 0} (words : Words T W L D) (queue : BoundedQueue) (desk : BoundedBox) (when : When) where
+  -- ---- each span is in one place
+
+  pub placed_after : (old new : Crew T W L D) (round : Round) (told : Told) → Rounds words queue desk when old new round → IsReady words.tails queue.id desk.id old
+      → AreBooked words.links words.wires told (lanings old.lanes.items) old.carriers.items → IsPlacedAfter words queue desk when told old new
+  placed_after old new round told rounds ready booked =
+      let mid = rounds.mid in
+      let met = rounds.meets.met in
+      let lanes = lanes_stepped words.tails queue.capacity desk.capacity when queue.id desk.id (lanings old.lanes.items) (lanings mid.lanes.items) rounds.ran.others.lanes ready.have.lanes_have in
+      let carriers = carriers_stepped words.links words.wires desk.capacity when.now queue.id desk.id told.acknowledged old.carriers.items mid.carriers.items rounds.ran.others.carriers ready.have.carriers_have booked.acknowledged in
+      let later = told_on told lanes.steps carriers.after in
+      let booked_then = booked_on words.links words.wires told lanes.steps carriers.after (lanings old.lanes.items) (lanings mid.lanes.items) old.carriers.items mid.carriers.items lanes.kept carriers.kept booked in
+      record {
+        steps = lanes.steps;
+        acknowledged = carriers.after;
+        lanes = lanings mid.lanes.items;
+        steps_are = lanes.are;
+        lanes_are = met.lanes_same;
+        acknowledged_more = carriers.more;
+        booked = booked_met words.links words.wires queue.id desk.id mid.storing.keeper.pass.got later (lanings mid.lanes.items) (lanings new.lanes.items) mid.carriers.items new.carriers.items met booked_then;
+        queued = met.queued;
+        boxed = notes met.boxed;
+        placed = subst (λ (s : Storing D). ArePlaced later (lanings new.lanes.items) new.carriers.items met.queued (notes s.keeper.pass.got) (notes met.boxed)) (sym rounds.meets.storing)
+            (placed_met words.links words.wires queue.id desk.id mid.storing.keeper.pass.got later (lanings mid.lanes.items) (lanings new.lanes.items) mid.carriers.items new.carriers.items met booked_then);
+      }
+
+  -- ---- moved means moved
+
+  -- by what lanes, workers and the keeper told before their passes met
+  moved_is : (old new : Crew T W L D) (round : Round) → (rounds : Rounds words queue desk when old new round)
+      → round.moved ≡ ((rounds.mid.storing.stored.moved || some_lane_moved (lanings rounds.mid.lanes.items)) || some_carrier_moved rounds.mid.carriers.items)
+  moved_is old new round rounds =
+      ap (λ (r : Round). r.moved) rounds.answer
+      ∙ ap (λ (r : Round). r.moved) (bare_answer (lanings rounds.mid.lanes.items) (lanings new.lanes.items) rounds.mid.carriers.items new.carriers.items new.storing.stored rounds.meets.met.lanes_same rounds.meets.met.carriers_same)
+      ∙ ap (λ (s : Storing D). (round_of (lanings rounds.mid.lanes.items) rounds.mid.carriers.items s.stored).moved) rounds.meets.storing
+      ∙ answer_moved (lanings rounds.mid.lanes.items) rounds.mid.carriers.items rounds.mid.storing.stored
+
+  keeper_moved : (old mid : Crew T W L D) (moved : Bool) → KeeperHad words.disks when moved old mid ⊎ KeeperRested when moved old mid → mid.storing.stored.moved ≡ true → KeeperHad words.disks when moved old mid
+  keeper_moved old mid moved (inl had) is = had
+  keeper_moved old mid moved (inr rested) is = apart (sym is ∙ ap (λ (s : Storing D). s.stored.moved) rested.same)
+
+  keeper_had : (old mid : Crew T W L D) (moved : Bool) → KeeperHad words.disks when moved old mid ⊎ KeeperRested when moved old mid → moved ≡ false → KeeperHad words.disks when moved old mid
+  keeper_had old mid moved (inl had) is = had
+  keeper_had old mid moved (inr rested) is = apart (sym rested.why.1 ∙ is)
+
+  pub were_still : (old new : Crew T W L D) (round : Round) → Rounds words queue desk when old new round → round.moved ≡ false → WereStill words queue desk when old
+  were_still old new round rounds is =
+      let mid = rounds.mid in
+      let none = both_false (mid.storing.stored.moved || some_lane_moved (lanings mid.lanes.items)) (some_carrier_moved mid.carriers.items) (sym (moved_is old new round rounds) ∙ is) in
+      let first = both_false mid.storing.stored.moved (some_lane_moved (lanings mid.lanes.items)) none.0 in
+      let others : have_others_moved (lanings mid.lanes.items) mid.carriers.items ≡ false = ap (λ (b : Bool). b || some_carrier_moved mid.carriers.items) first.1 ∙ none.1 in
+      record {
+        mid = mid;
+        lanes = lanes_still words.tails queue.capacity desk.capacity when (lanings old.lanes.items) (lanings mid.lanes.items) rounds.ran.others.lanes first.1;
+        carriers = carriers_still words.links words.wires desk.capacity when.now old.carriers.items mid.carriers.items rounds.ran.others.carriers none.1;
+        storing = storing_still words.disks old.storing mid.storing (keeper_had old mid _ rounds.ran.keeper others).ran first.0;
+      }
+
+  pub have_moved : (old new : Crew T W L D) (round : Round) → Rounds words queue desk when old new round → round.moved ≡ true → HaveMoved words queue desk when old
+  have_moved old new round rounds is =
+      let mid = rounds.mid in
+      record {
+        mid = mid;
+        some = ⊎_elim
+            (λ first. ⊎_elim
+            (λ stored. inr (inr (storing_moved words.disks old.storing mid.storing (keeper_moved old mid _ rounds.ran.keeper stored).ran stored)))
+            (λ lanes. inl (lanes_moved words.tails queue.capacity desk.capacity when (lanings old.lanes.items) (lanings mid.lanes.items) rounds.ran.others.lanes lanes))
+            (one_true mid.storing.stored.moved (some_lane_moved (lanings mid.lanes.items)) first))
+            (λ carriers. inr (inl (carriers_moved words.links words.wires desk.capacity when.now old.carriers.items mid.carriers.items rounds.ran.others.carriers carriers)))
+            (one_true (mid.storing.stored.moved || some_lane_moved (lanings mid.lanes.items)) (some_carrier_moved mid.carriers.items) (sym (moved_is old new round rounds) ∙ is));
+      }
+
+  -- ---- images are prefixes
+
+  images_then : (old mid : Crew T W L D) (moved : Bool) → KeeperHad words.disks when moved old mid ⊎ KeeperRested when moved old mid → AreKept words.disks old.storing → AreOrderly mid.storing.keeper.tracked.notes
+      → ImagesAreFronts words.disks old.storing mid.storing
+  unfolding StoringHasRun
+  images_then old mid moved (inl had) kept orderly = images_are_fronts words.disks old.storing mid.storing had.ran kept orderly
+  images_then old mid moved (inr rested) kept orderly = rested_images words.disks old.storing mid.storing rested.same
+
+  kept_then : (old mid : Crew T W L D) (moved : Bool) → KeeperHad words.disks when moved old mid ⊎ KeeperRested when moved old mid → mid.storing.stored.disk ≡ false → mid.storing.stored.memory ≡ false → AreKept words.disks old.storing
+      → AreKept words.disks mid.storing
+  unfolding StoringHasRun
+  kept_then old mid moved (inl had) disk memory kept = kept_still words.disks old.storing mid.storing had.ran disk memory kept
+  kept_then old mid moved (inr rested) disk memory kept = rested_kept words.disks old.storing mid.storing rested.same kept
+
+  pub images : (old new : Crew T W L D) (round : Round) → Rounds words queue desk when old new round → AreKept words.disks old.storing → AreOrderly new.storing.keeper.tracked.notes → ImagesAreFronts words.disks old.storing new.storing
+  images old new round rounds kept orderly =
+      subst (λ (s : Storing D). ImagesAreFronts words.disks old.storing s) (sym rounds.meets.storing)
+      (images_then old rounds.mid _ rounds.ran.keeper kept (subst (λ (s : Storing D). AreOrderly s.keeper.tracked.notes) rounds.meets.storing orderly))
+
+  pub areas_kept : (old new : Crew T W L D) (round : Round) → Rounds words queue desk when old new round → round.memory ≡ false → round.disk ≡ false → AreKept words.disks old.storing → AreKept words.disks new.storing
+  areas_kept old new round rounds memory disk kept =
+      let memory_is = stored_memory (lanings new.lanes.items) new.carriers.items new.storing.stored (sym (ap (λ (r : Round). r.memory) rounds.answer) ∙ memory) in
+      let disk_is = sym (stored_disk (lanings new.lanes.items) new.carriers.items new.storing.stored) ∙ sym (ap (λ (r : Round). r.disk) rounds.answer) ∙ disk in
+      subst (λ (s : Storing D). AreKept words.disks s) (sym rounds.meets.storing)
+      (kept_then old rounds.mid _ rounds.ran.keeper (ap (λ (s : Storing D). s.stored.disk) (sym rounds.meets.storing) ∙ disk_is) (ap (λ (s : Storing D). s.stored.memory) (sym rounds.meets.storing) ∙ memory_is) kept)
+
+  -- ---- all of them
+
+  pub round_keeps : (old new : Crew T W L D) (round : Round) → Rounds words queue desk when old new round → IsReady words.tails queue.id desk.id old → RoundKeeps words queue desk when old new round
+  round_keeps old new round rounds ready = record {
+    ready = λ memory disk. ready_still words queue desk when old new round rounds memory disk ready;
+    placed = λ told booked. placed_after old new round told rounds ready booked;
+    still = λ is. were_still old new round rounds is;
+    moved = λ is. have_moved old new round rounds is;
+    images = λ kept orderly. images old new round rounds kept orderly;
+    kept = λ memory disk kept. areas_kept old new round rounds memory disk kept;
+  }

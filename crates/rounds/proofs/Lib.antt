@@ -1,0 +1,14 @@
+pub mod Books
+pub mod CarrierSteps
+pub mod Clauses
+pub mod Crossing
+pub mod Each
+pub mod Having
+pub mod Images
+pub mod KeeperSteps
+pub mod Moved
+pub mod Parting
+pub mod Placing
+pub mod Ready
+pub mod Slices
+pub mod Sums

@@ -1,0 +1,24 @@
+use Rattle.std.proofs.Common.{List, ap, refl, subst}
+use Rattle.keeper.specs.Keeping.{Keeping}
+use Rattle.lanes.specs.declared.lane.Lane.{Lane}
+use Rattle.rounds.specs.Crewed.{lanings}
+use Rattle.rounds.specs.Meeting.{HaveMet}
+use Rattle.rounds.specs.declared.carrier.Carrier.{Carrier}
+use Rattle.rounds.proofs.Slices.{met_in}
+use Rattle.rounds.proofs.crew.Crew.meet.Goals as goal
+
+pub returns : goal.returns
+returns g c =
+    let old = c.args.self.now in
+    let queue = c.args.outlets.queue.now.id in
+    let desk = c.args.outlets.desk.now.id in
+    let got = old.storing.keeper.pass.got in
+    let new = c.meet-posted.new in
+    record {
+      met = met_in queue desk got old.lanes new.lanes old.carriers new.carriers
+          (subst (λ (lanes : List (Lane g.row.T.Denot)). HaveMet queue desk got (lanings lanes) (lanings new.lanes) old.carriers.items new.carriers) c.as_mut_slice.ensures.value
+          (subst (λ (carriers : List (Carrier g.row.W.Denot g.row.L.Denot)). HaveMet queue desk got (lanings c.as_mut_slice.result.now) (lanings new.lanes) carriers new.carriers) c.as_mut_slice-2.ensures.value c.meet-posted.ensures.met));
+      storing = ap (λ (k : Keeping). record old.storing { keeper = k }) c.meet-posted.ensures.keeper;
+      room = refl;
+      without = refl;
+    }

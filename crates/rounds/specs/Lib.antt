@@ -1,0 +1,16 @@
+pub mod Answer
+pub mod Books
+pub mod CarrierTurns
+pub mod Crewed
+pub mod Due
+pub mod Images
+pub mod KeeperTurns
+pub mod Meeting
+pub mod Moved
+pub mod Pairs
+pub mod Passes
+pub mod Placed
+pub mod RoundKeeps
+pub mod Rounds
+pub mod Running
+pub mod Words

@@ -1,0 +1,27 @@
+-- What a round keeps, over any number of rounds (this project's profile).
+use Rattle.std.specs.Prelude.{◌≡◌, true, false}
+use Rattle.mem_queue.specs.BoundedQueue.{BoundedQueue}
+use Rattle.settle_box.specs.BoundedBox.{BoundedBox}
+use Rattle.ship_core.specs.Orderly.{AreOrderly}
+use Rattle.lanes.specs.declared.run.When.{When}
+use Rattle.rounds.specs.Books.{AreBooked, Told}
+use Rattle.rounds.specs.Crewed.{lanings}
+use Rattle.rounds.specs.Images.{AreKept, ImagesAreFronts}
+use Rattle.rounds.specs.Moved.{HaveMoved, WereStill}
+use Rattle.rounds.specs.Placed.{IsPlacedAfter}
+use Rattle.rounds.specs.Rounds.{IsReady}
+use Rattle.rounds.specs.Words.{Words}
+use Rattle.rounds.specs.declared.answer.Round.{Round}
+use Rattle.rounds.specs.declared.crew.Crew.{Crew}
+
+pub record RoundKeeps {T W L D : Type 0} (words : Words T W L D) (queue : BoundedQueue) (desk : BoundedBox) (when : When) (old new : Crew T W L D) (round : Round) : Type 0 where
+  -- another round may follow
+  pub ready : round.memory ≡ false → round.disk ≡ false → IsReady words.tails queue.id desk.id new
+  -- each span is in one place, and nothing else is settled
+  pub placed : (told : Told) → AreBooked words.links words.wires told (lanings old.lanes.items) old.carriers.items → IsPlacedAfter words queue desk when told old new
+  -- moved means moved
+  pub still : round.moved ≡ false → WereStill words queue desk when old
+  pub moved : round.moved ≡ true → HaveMoved words queue desk when old
+  -- images are prefixes
+  pub images : AreKept words.disks old.storing → AreOrderly new.storing.keeper.tracked.notes → ImagesAreFronts words.disks old.storing new.storing
+  pub kept : round.memory ≡ false → round.disk ≡ false → AreKept words.disks old.storing → AreKept words.disks new.storing

@@ -1,0 +1,87 @@
+-- One round (this project's profile): lanes, workers and the keeper have their turns, all at once; then all passes meet.
+use Rattle.std.specs.Prelude.{◌≡◌, ◌≢◌, ◌⊎◌, ◌+◌, ◌-◌, ◌^◌, min, All, Bool, true, false, []}
+use Rattle.atomic_table.specs.Seated.{TableId}
+use Rattle.mem_queue.specs.BoundedQueue.{BoundedQueue}
+use Rattle.settle_box.specs.BoundedBox.{BoundedBox}
+use Rattle.lanes.specs.declared.run.When.{When}
+use Rattle.rounds.specs.Answer.{have_others_moved, round_of}
+use Rattle.rounds.specs.Crewed.{lanings}
+use Rattle.rounds.specs.Due.{IsDue}
+use Rattle.rounds.specs.KeeperTurns.{begun_stored}
+use Rattle.rounds.specs.Meeting.{HaveAllPasses, HaveMet}
+use Rattle.rounds.specs.Pairs.{Pairs}
+use Rattle.rounds.specs.Running.{CarrierHasRun, IsLaneReady, IsStoringReady, LaneHasRun, StoringHasRun}
+use Rattle.rounds.specs.Words.{DiskWords, LinkWords, TailWords, WireWords, Words}
+use Rattle.rounds.specs.declared.crew.Crew.{Crew}
+use Rattle.rounds.specs.declared.answer.Round.{Round}
+
+-- there are lanes and workers, they have all passes, and each is ready
+pub record IsReady {T W L D : Type 0} (tails : TailWords T) (queue desk : TableId) (crew : Crew T W L D) : Type 0 where
+  pub some_lanes : crew.lanes.items ≢ []
+  pub some_carriers : crew.carriers.items ≢ []
+  pub have : HaveAllPasses queue desk (lanings crew.lanes.items) crew.carriers.items
+  pub lanes : All (IsLaneReady tails queue desk) (lanings crew.lanes.items)
+  pub storing : IsStoringReady desk crew.storing
+
+-- the keeper had its turns, since it was due or nothing else moved
+pub record KeeperHad {T W L D : Type 0} (disks : DiskWords D) (when : When) (moved : Bool) (old new : Crew T W L D) : Type 0 where
+  pub why : IsDue when.last old ⊎ (moved ≡ false)
+  pub ran : StoringHasRun disks old.storing new.storing
+  pub without : new.without ≡ 0
+
+-- the keeper had none
+pub record KeeperRested {T W L D : Type 0} (when : When) (moved : Bool) (old new : Crew T W L D) : Type 0 where
+  pub why : (¬ (IsDue when.last old)) × (moved ≡ true)
+  pub same : new.storing ≡ record old.storing { stored = begun_stored }
+  pub without : new.without ≡ min (old.without + 1) (2 ^ 32 - 1)
+
+-- lanes and workers had their turns, and nothing else changed
+pub record OthersRan {T W L D : Type 0} (tails : TailWords T) (links : LinkWords L) (wires : WireWords W) (queue : BoundedQueue) (desk : BoundedBox) (when : When) (old new : Crew T W L D) : Type 0 where
+  pub lanes : Pairs (LaneHasRun tails queue.capacity desk.capacity when) (lanings old.lanes.items) (lanings new.lanes.items)
+  pub carriers : Pairs (CarrierHasRun links wires desk.capacity when.now) old.carriers.items new.carriers.items
+
+-- and the keeper, where it had to
+pub record AllRan {T W L D : Type 0} (words : Words T W L D) (queue : BoundedQueue) (desk : BoundedBox) (when : When) (old new : Crew T W L D) : Type 0 where
+  pub others : OthersRan words.tails words.links words.wires queue desk when old new
+  pub keeper : let moved = have_others_moved (lanings new.lanes.items) new.carriers.items in
+      KeeperHad words.disks when moved old new ⊎ KeeperRested when moved old new
+  pub room : new.room ≡ old.room
+
+-- there are lanes and workers, and all passes may meet
+pub record CanMeet {T W L D : Type 0} (queue desk : TableId) (crew : Crew T W L D) : Type 0 where
+  pub some_lanes : crew.lanes.items ≢ []
+  pub some_carriers : crew.carriers.items ≢ []
+  pub have : HaveAllPasses queue desk (lanings crew.lanes.items) crew.carriers.items
+  pub pass : crew.storing.keeper.pass.desk ≡ desk
+
+-- the passes met, and nothing else changed but what is known of the box
+pub record MeetsIn {T W L D : Type 0} (queue desk : TableId) (old new : Crew T W L D) : Type 0 where
+  pub met : HaveMet queue desk old.storing.keeper.pass.got (lanings old.lanes.items) (lanings new.lanes.items) old.carriers.items new.carriers.items
+  pub storing : new.storing ≡ old.storing
+  pub room : new.room ≡ old.room
+  pub without : new.without ≡ old.without
+
+-- the keeper had its turns, since nothing else had moved
+pub record StoresNow {T W L D : Type 0} (disks : DiskWords D) (moved : Bool) (old new : Crew T W L D) : Type 0 where
+  pub why : moved ≡ false
+  pub ran : StoringHasRun disks old.storing new.storing
+  pub without : new.without ≡ 0
+
+-- the keeper had none, since something had
+pub record RestsNow {T W L D : Type 0} (moved : Bool) (old new : Crew T W L D) : Type 0 where
+  pub why : moved ≡ true
+  pub same : new.storing ≡ record old.storing { stored = begun_stored }
+  pub without : new.without ≡ min (old.without + 1) (2 ^ 32 - 1)
+
+-- the keeper had its turns where nothing else had moved
+pub record StoresWhereStill {T W L D : Type 0} (disks : DiskWords D) (old new : Crew T W L D) : Type 0 where
+  pub storing : let moved = have_others_moved (lanings old.lanes.items) old.carriers.items in
+      StoresNow disks moved old new ⊎ RestsNow moved old new
+  pub others : new ≡ record old { storing = new.storing; without = new.without }
+
+-- all had their turns, and then the passes met
+pub record Rounds {T W L D : Type 0} (words : Words T W L D) (queue : BoundedQueue) (desk : BoundedBox) (when : When) (old new : Crew T W L D) (round : Round) : Type 0 where
+  pub mid : Crew T W L D
+  pub ran : AllRan words queue desk when old mid
+  pub meets : MeetsIn queue.id desk.id mid new
+  pub answer : round ≡ round_of (lanings new.lanes.items) new.carriers.items new.storing.stored

@@ -1,0 +1,21 @@
+//! One round: lanes, workers and the keeper, all at once.
+//!
+//! Each lane, each worker and the keeper runs in a thread of its own. When they have met again, the
+//! passes of the queue and of the box are joined and compared with what queue and box hold, and are
+//! parted again. So as a round ends it is known where each event is that was told.
+#![tactic(auto)]
+
+mod answer;
+mod carrier;
+mod carrier_passes;
+mod crew;
+mod lane_passes;
+mod meeting;
+mod round;
+mod running;
+mod storing;
+
+pub use answer::Round;
+pub use carrier::{Carried, Carrier, MAX_TURNS};
+pub use crew::{Crew, MAX_ROUNDS_WITHOUT};
+pub use storing::{Stored, Storing};

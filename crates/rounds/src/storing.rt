@@ -1,0 +1,112 @@
+ghost use Rattle.std.specs.Prelude.{◌≡◌, false};
+ghost use Rattle.rounds.specs.KeeperTurns.{Counts, KeeperRan, KeepsOne, begun_stored};
+ghost use Rattle.rounds.specs.Words.{disk_words};
+
+use crate::carrier::MAX_TURNS;
+use keeper::{Keeper, KeeperTurn};
+use outside::Disk;
+use settle_box::SettleBox;
+use std::alloc::Global;
+use std::sync::Wait;
+
+/// What the keeper's turns of a round came to.
+#[derive(Clone, Copy, Debug, PartialEq, Eq)]
+pub struct Stored {
+    /// Some turn answered `Kept`.
+    pub moved: bool,
+    /// A turn found no memory.
+    pub memory: bool,
+    /// A disk failed.
+    pub disk: bool,
+}
+
+impl Stored {
+    pub(crate) fn begun() -> Stored
+        ensures { result ≡ begun_stored }
+    {
+        Stored {
+            moved: false,
+            memory: false,
+            disk: false,
+        }
+    }
+}
+
+/// The keeper, and the two areas that it alone writes.
+#[derive(Drop)]
+pub struct Storing<D> {
+    pub keeper: Keeper,
+    pub a: D,
+    pub b: D,
+    /// What the turns of the last round came to.
+    pub stored: Stored,
+}
+
+impl<D: Disk> Storing<D> {
+    pub fn new(keeper: Keeper, a: D, b: D) -> Storing<D>
+        ensures { result ≡ record { keeper = keeper; a = a; b = b; stored = begun_stored } }
+    {
+        Storing {
+            keeper,
+            a,
+            b,
+            stored: Stored::begun(),
+        }
+    }
+
+    /// One round: at most 256 turns, as long as each keeps something.
+    pub fn run<R: Wait>(&mut self, rt: &R, alloc: Global, desk: &SettleBox)
+        requires of_this_box { self.old.keeper.pass.desk ≡ desk.now.id }
+        requires open { self.old.keeper.store.closed ≡ false }
+        ensures { KeeperRan (disk_words D.contents D.images D.moment D.images_since D.faults)
+            self.old self.new }
+    {
+        self.stored = Stored::begun();
+        let mut turns = 0;
+        'turns: while turns < MAX_TURNS {
+            turns += 1;
+            if !self.turn(rt, alloc, desk) {
+                return;
+            }
+        }
+    }
+
+    /// A round in which the keeper has no turn.
+    pub(crate) fn rest(&mut self)
+        ensures { self.new ≡ record self.old { stored = begun_stored } }
+    {
+        self.stored = Stored::begun();
+    }
+
+    // One turn; whether it kept something.
+    fn turn<R: Wait>(&mut self, rt: &R, alloc: Global, desk: &SettleBox) -> bool
+        requires of_this_box { self.old.keeper.pass.desk ≡ desk.now.id }
+        requires open { self.old.keeper.store.closed ≡ false }
+        ensures { KeepsOne (disk_words D.contents D.images D.moment D.images_since D.faults)
+            result self.old self.new }
+    {
+        let turn = self.keeper.turn(rt, alloc, desk, &mut self.a, &mut self.b);
+        self.count(turn)
+    }
+
+    // Counts a turn; whether it kept something.
+    fn count(&mut self, turn: KeeperTurn) -> bool
+        ensures { Counts turn result self.old self.new }
+    {
+        match turn {
+            KeeperTurn::Kept(_) => {
+                self.stored.moved = true;
+                true
+            }
+            KeeperTurn::DiskFault => {
+                self.stored.disk = true;
+                false
+            }
+            KeeperTurn::NoMemory => {
+                self.stored.memory = true;
+                false
+            }
+            KeeperTurn::Empty => false,
+        }
+    }
+}
