@@ -1,3 +1,4 @@
+pub mod Finding
 pub mod Giving
 pub mod Handing
 pub mod Keeping

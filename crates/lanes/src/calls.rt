@@ -1,4 +1,7 @@
-ghost use Rattle.std.specs.Prelude.{◌≡◌, ◌≢◌, ◌<◌, ◌++◌, ◌∷◌, [], All, IfErr, IfNone, IfSome, IsSome, None, OnErr, OnOk, OnSome, Some, length, slice_get};
+ghost use Rattle.std.specs.Prelude.{◌≡◌, ◌≢◌, ◌⊎◌, ◌<◌, ◌++◌, ◌∷◌, [], All, IfErr, IfNone, IfSome, IsSome, None, OnErr, OnOk, OnSome, Some, length, slice_get};
+ghost use Rattle.std.specs.Bool.{OnFalse, OnTrue};
+ghost use Rattle.std.specs.Borrow.{sem};
+ghost use Rattle.lanes.specs.Finding.{LendsFound, StandsAmong};
 ghost use Rattle.lanes.specs.Laning.{IsOfAnother, Releases, StandsAt, begun_with, laning, with_passes, without_passes};
 
 use crate::given::Given;
@@ -44,6 +47,19 @@ impl<T: Tail> Lane<T> {
         Ok(())
     }
 
+    /// Lends the harvester of this slot; what is left in it stands at its place then. `None` exactly where there is none.
+    /// Takes no memory, and little time for one that was admitted late.
+    pub fn find(&mut self, slot: Slot) -> Option<&mut Harvester<T>>
+        ensures* lends { sem 𝓛 (LendsFound T.row slot self.entry result) }
+        ensures found { IfSome result (λ lent.
+            StandsAmong slot (laning self.old).harvesters lent.now) }
+        ensures none { IfNone result (All (IsOfAnother slot) (laning self.old).harvesters) }
+    {
+        let index = self.place_of(slot)?;
+        let seat = &mut self.seats[index];
+        Some(&mut seat.harvester)
+    }
+
     /// Lets the harvester of this slot go. `None` exactly where there is none. Takes no memory, and little time for one that
     /// was admitted late.
     pub fn release(&mut self, slot: Slot) -> Option<Harvester<T>>
@@ -68,6 +84,16 @@ impl<T: Tail> Lane<T> {
             }
         }
         None
+    }
+
+    /// Whether it has no harvester and holds nothing: a round would turn and hand on nothing.
+    pub fn is_at_rest(&self) -> bool
+        ensures no_harvesters { OnTrue result ((laning self.now).harvesters ≡ []) }
+        ensures none_held { OnTrue result ((laning self.now).held ≡ Given.Nothing) }
+        ensures work { OnFalse result (((laning self.now).harvesters ≢ []) ⊎
+            ((laning self.now).held ≢ Given.Nothing)) }
+    {
+        self.seats.is_empty() && !self.held.is_something()
     }
 
     /// How many spans its harvesters told in this lane. The count stands still at 2^64 - 1.

@@ -1,5 +1,5 @@
 -- The turns of a worker in a round, one behind the other.
-use Rattle.std.proofs.Common.{◌≡◌, ℕ, suc, ◌+◌, ◌<◌, Bool, true, List, [], ◌∷◌, ◌++◌, Option, Some, None, length, refl, sym, ap, subst, ◌∙◌, arith}
+use Rattle.std.proofs.Common.{true, false, ◌≡◌, ℕ, suc, ◌+◌, ◌<◌, Bool, List, [], ◌∷◌, ◌++◌, Option, Some, None, length, inl, inr, refl, sym, ap, subst, ◌∙◌, arith}
 use Rattle.atomic_table.specs.Seated.{TableId}
 use Rattle.batch_worker.specs.Keeping.{WorkerKeeps, with_posted, with_taken}
 use Rattle.batch_worker.specs.Steps.{PostsOf, TakesOf}
@@ -14,7 +14,7 @@ use Rattle.batch_worker.specs.declared.answer.WorkerTurn.TheVariants.{Worked, Id
 use Rattle.batch_worker.proofs.Keeping.{keeps_on, keeps_same}
 use Rattle.batch_worker.specs.Standing.{StandsFor}
 use Rattle.wire_base.specs.declared.numbers.Moment.{Moment}
-use Rattle.rounds.specs.CarrierTurns.{AllButLastWorked, AllWorked, CarrierRun, CarrierState, CarrierTurned, Carries, CarriesSoFar, HasWorked, MakesOne, begun_carried, carried_of, carried_with, carrier_state, seen_of}
+use Rattle.rounds.specs.CarrierTurns.{AllButLastWorked, AllWorked, CarrierRun, CarrierState, CarrierTurned, Carries, CarriesSoFar, EndStill, HasWorked, IsWork, MakesOne, begun_carried, carried_of, carried_with, carrier_state, seen_of}
 use Rattle.rounds.specs.Words.{LinkWords, WireWords}
 use Rattle.rounds.specs.declared.carrier.Carried.{Carried}
 use Rattle.rounds.specs.declared.carrier.Carrier.{Carrier}
@@ -28,6 +28,11 @@ all_of : (ts : List WorkerTurn) → AllWorked ts → AllButLastWorked ts
 all_of [] work = tt
 all_of (s ∷ []) work = tt
 all_of (s ∷ u ∷ us) work = (work.0, all_of (u ∷ us) work.1)
+
+ends_still : (ts : List WorkerTurn) (t : WorkerTurn) → ¬ (IsWork t) → EndStill (ts ++ t ∷ [])
+ends_still [] t still = still
+ends_still (s ∷ []) t still = still
+ends_still (s ∷ u ∷ us) t still = ends_still (u ∷ us) t still
 
 worked_on : (ts : List WorkerTurn) (t : WorkerTurn) → AllWorked ts → AllWorked (t ∷ []) → AllWorked (ts ++ t ∷ [])
 worked_on [] t work one = one
@@ -72,12 +77,13 @@ module _ {W L : Type 0} (links : LinkWords L) (wires : WireWords W) (box : ℕ) 
     carried = one.carried ∙ ap (carried_with one.turn) so.carried ∙ sym (carried_on begun_carried so.turns one.turn);
   }
 
-  pub carries_on : (count : ℕ) (worked : Bool) (a b c : Carrier W L) → CarriesSoFar links wires box now count a b → count < 256 → MakesOne links wires box now worked b c → Carries links wires box now a c
-  carries_on count worked a b c so few one = record {
+  pub carries_on : (count : ℕ) (worked : Bool) (a b c : Carrier W L) → CarriesSoFar links wires box now count a b → count < 256 → worked ≡ false → MakesOne links wires box now worked b c → Carries links wires box now a c
+  carries_on count worked a b c so few is one = record {
     turns = so.turns ++ one.turn ∷ [];
     some = omega (arith, one_longer so.turns one.turn);
     few = omega (arith, one_longer so.turns one.turn, so.many, few);
     work = all_but_last so.turns one.turn so.work;
+    over = inr (ends_still so.turns one.turn (subst (λ (w : Bool). HasWorked w one.turn) is one.worked_is));
     ran = run_on so.turns one.turn (carrier_state a) (carrier_state b) (carrier_state c) so.ran one.turned;
     carried = one.carried ∙ ap (carried_with one.turn) so.carried ∙ sym (carried_on begun_carried so.turns one.turn);
   }
@@ -88,6 +94,7 @@ module _ {W L : Type 0} (links : LinkWords L) (wires : WireWords W) (box : ℕ) 
     some = omega (arith, so.many, is);
     few = omega (arith, so.many, is);
     work = all_of so.turns so.work;
+    over = inl (so.many ∙ is);
     ran = so.ran;
     carried = so.carried;
   }

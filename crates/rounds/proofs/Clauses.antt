@@ -8,7 +8,7 @@ use Rattle.ship_core.specs.Orderly.{AreOrderly}
 use Rattle.rounds.specs.Answer.{have_others_moved, round_of, some_carrier_moved, some_lane_moved}
 use Rattle.rounds.specs.Books.{AreBooked, ArePlaced, Told, told_on}
 use Rattle.rounds.specs.Crewed.{lanings}
-use Rattle.rounds.specs.Images.{AreKept, ImagesAreFronts}
+use Rattle.rounds.specs.Images.{AreAtRest, ImagesAreFronts}
 use Rattle.rounds.specs.Moved.{HaveMoved, WereStill}
 use Rattle.rounds.specs.Placed.{IsPlacedAfter}
 use Rattle.rounds.specs.RoundKeeps.{RoundKeeps}
@@ -78,15 +78,15 @@ module _ {T W L D : Type 0} (words : Words T W L D) (queue : BoundedQueue) (desk
       ∙ ap (λ (s : Storing D). (round_of (lanings rounds.mid.lanes.items) rounds.mid.carriers.items s.stored).moved) rounds.meets.storing
       ∙ answer_moved (lanings rounds.mid.lanes.items) rounds.mid.carriers.items rounds.mid.storing.stored
 
-  keeper_moved : (old mid : Crew T W L D) (moved : Bool) → KeeperHad words.disks when moved old mid ⊎ KeeperRested when moved old mid → mid.storing.stored.moved ≡ true → KeeperHad words.disks when moved old mid
+  keeper_moved : (old mid : Crew T W L D) (moved : Bool) → KeeperHad words.disks moved old mid ⊎ KeeperRested moved old mid → mid.storing.stored.moved ≡ true → KeeperHad words.disks moved old mid
   keeper_moved old mid moved (inl had) is = had
   keeper_moved old mid moved (inr rested) is = apart (sym is ∙ ap (λ (s : Storing D). s.stored.moved) rested.same)
 
-  keeper_had : (old mid : Crew T W L D) (moved : Bool) → KeeperHad words.disks when moved old mid ⊎ KeeperRested when moved old mid → moved ≡ false → KeeperHad words.disks when moved old mid
+  keeper_had : (old mid : Crew T W L D) (moved : Bool) → KeeperHad words.disks moved old mid ⊎ KeeperRested moved old mid → moved ≡ false → KeeperHad words.disks moved old mid
   keeper_had old mid moved (inl had) is = had
   keeper_had old mid moved (inr rested) is = apart (sym rested.why.1 ∙ is)
 
-  pub were_still : (old new : Crew T W L D) (round : Round) → Rounds words queue desk when old new round → round.moved ≡ false → WereStill words queue desk when old
+  pub were_still : (old new : Crew T W L D) (round : Round) → Rounds words queue desk when old new round → round.moved ≡ false → WereStill words queue desk when old new
   were_still old new round rounds is =
       let mid = rounds.mid in
       let none = both_false (mid.storing.stored.moved || some_lane_moved (lanings mid.lanes.items)) (some_carrier_moved mid.carriers.items) (sym (moved_is old new round rounds) ∙ is) in
@@ -94,16 +94,18 @@ module _ {T W L D : Type 0} (words : Words T W L D) (queue : BoundedQueue) (desk
       let others : have_others_moved (lanings mid.lanes.items) mid.carriers.items ≡ false = ap (λ (b : Bool). b || some_carrier_moved mid.carriers.items) first.1 ∙ none.1 in
       record {
         mid = mid;
+        met = record { lanes = rounds.meets.met.lanes_same; carriers = rounds.meets.met.carriers_same; storing = rounds.meets.storing };
         lanes = lanes_still words.tails queue.capacity desk.capacity when (lanings old.lanes.items) (lanings mid.lanes.items) rounds.ran.others.lanes first.1;
         carriers = carriers_still words.links words.wires desk.capacity when.now old.carriers.items mid.carriers.items rounds.ran.others.carriers none.1;
         storing = storing_still words.disks old.storing mid.storing (keeper_had old mid _ rounds.ran.keeper others).ran first.0;
       }
 
-  pub have_moved : (old new : Crew T W L D) (round : Round) → Rounds words queue desk when old new round → round.moved ≡ true → HaveMoved words queue desk when old
+  pub have_moved : (old new : Crew T W L D) (round : Round) → Rounds words queue desk when old new round → round.moved ≡ true → HaveMoved words queue desk when old new
   have_moved old new round rounds is =
       let mid = rounds.mid in
       record {
         mid = mid;
+        met = record { lanes = rounds.meets.met.lanes_same; carriers = rounds.meets.met.carriers_same; storing = rounds.meets.storing };
         some = ⊎_elim
             (λ first. ⊎_elim
             (λ stored. inr (inr (storing_moved words.disks old.storing mid.storing (keeper_moved old mid _ rounds.ran.keeper stored).ran stored)))
@@ -115,28 +117,28 @@ module _ {T W L D : Type 0} (words : Words T W L D) (queue : BoundedQueue) (desk
 
   -- ---- images are prefixes
 
-  images_then : (old mid : Crew T W L D) (moved : Bool) → KeeperHad words.disks when moved old mid ⊎ KeeperRested when moved old mid → AreKept words.disks old.storing → AreOrderly mid.storing.keeper.tracked.notes
+  images_then : (old mid : Crew T W L D) (moved : Bool) → KeeperHad words.disks moved old mid ⊎ KeeperRested moved old mid → AreAtRest words.disks old.storing → AreOrderly mid.storing.keeper.tracked.notes
       → ImagesAreFronts words.disks old.storing mid.storing
   unfolding StoringHasRun
   images_then old mid moved (inl had) kept orderly = images_are_fronts words.disks old.storing mid.storing had.ran kept orderly
   images_then old mid moved (inr rested) kept orderly = rested_images words.disks old.storing mid.storing rested.same
 
-  kept_then : (old mid : Crew T W L D) (moved : Bool) → KeeperHad words.disks when moved old mid ⊎ KeeperRested when moved old mid → mid.storing.stored.disk ≡ false → mid.storing.stored.memory ≡ false → AreKept words.disks old.storing
-      → AreKept words.disks mid.storing
+  kept_then : (old mid : Crew T W L D) (moved : Bool) → KeeperHad words.disks moved old mid ⊎ KeeperRested moved old mid → mid.storing.stored.disk ≡ false → mid.storing.stored.memory ≡ false → AreAtRest words.disks old.storing
+      → AreAtRest words.disks mid.storing
   unfolding StoringHasRun
   kept_then old mid moved (inl had) disk memory kept = kept_still words.disks old.storing mid.storing had.ran disk memory kept
   kept_then old mid moved (inr rested) disk memory kept = rested_kept words.disks old.storing mid.storing rested.same kept
 
-  pub images : (old new : Crew T W L D) (round : Round) → Rounds words queue desk when old new round → AreKept words.disks old.storing → AreOrderly new.storing.keeper.tracked.notes → ImagesAreFronts words.disks old.storing new.storing
+  pub images : (old new : Crew T W L D) (round : Round) → Rounds words queue desk when old new round → AreAtRest words.disks old.storing → AreOrderly new.storing.keeper.tracked.notes → ImagesAreFronts words.disks old.storing new.storing
   images old new round rounds kept orderly =
       subst (λ (s : Storing D). ImagesAreFronts words.disks old.storing s) (sym rounds.meets.storing)
       (images_then old rounds.mid _ rounds.ran.keeper kept (subst (λ (s : Storing D). AreOrderly s.keeper.tracked.notes) rounds.meets.storing orderly))
 
-  pub areas_kept : (old new : Crew T W L D) (round : Round) → Rounds words queue desk when old new round → round.memory ≡ false → round.disk ≡ false → AreKept words.disks old.storing → AreKept words.disks new.storing
+  pub areas_kept : (old new : Crew T W L D) (round : Round) → Rounds words queue desk when old new round → round.memory ≡ false → round.disk ≡ false → AreAtRest words.disks old.storing → AreAtRest words.disks new.storing
   areas_kept old new round rounds memory disk kept =
       let memory_is = stored_memory (lanings new.lanes.items) new.carriers.items new.storing.stored (sym (ap (λ (r : Round). r.memory) rounds.answer) ∙ memory) in
       let disk_is = sym (stored_disk (lanings new.lanes.items) new.carriers.items new.storing.stored) ∙ sym (ap (λ (r : Round). r.disk) rounds.answer) ∙ disk in
-      subst (λ (s : Storing D). AreKept words.disks s) (sym rounds.meets.storing)
+      subst (λ (s : Storing D). AreAtRest words.disks s) (sym rounds.meets.storing)
       (kept_then old rounds.mid _ rounds.ran.keeper (ap (λ (s : Storing D). s.stored.disk) (sym rounds.meets.storing) ∙ disk_is) (ap (λ (s : Storing D). s.stored.memory) (sym rounds.meets.storing) ∙ memory_is) kept)
 
   -- ---- all of them
@@ -148,5 +150,5 @@ module _ {T W L D : Type 0} (words : Words T W L D) (queue : BoundedQueue) (desk
     still = λ is. were_still old new round rounds is;
     moved = λ is. have_moved old new round rounds is;
     images = λ kept orderly. images old new round rounds kept orderly;
-    kept = λ memory disk kept. areas_kept old new round rounds memory disk kept;
+    at_rest = λ memory disk kept. areas_kept old new round rounds memory disk kept;
   }

@@ -15,7 +15,7 @@ use Rattle.ship_core.specs.Rows.{find}
 use Rattle.ship_core.specs.RowsOver.{row_for}
 use Rattle.wire_base.specs.declared.note.Note.{Note}
 use Rattle.wire_base.specs.declared.row.Row.{Row}
-use Rattle.rounds.specs.Images.{AreKept, GivesFronts, ImagesAreFronts, IsFront, TurnLeaves, TurnsLeave}
+use Rattle.rounds.specs.Images.{AreAtRest, GivesFronts, ImagesAreFronts, IsFront, TurnLeaves, TurnsLeave}
 use Rattle.rounds.specs.KeeperTurns.{AllButLastKept, IsKeeping, KeeperRan, KeeperRun, KeeperTurned, StoringState, begun_stored, stored_of, stored_with, storing_state}
 use Rattle.rounds.specs.Words.{DiskWords}
 use Rattle.rounds.specs.declared.storing.Stored.{Stored}
@@ -138,7 +138,7 @@ module _ {D : Type 0} (disks : DiskWords D) where
             (turns_leave (next ∷ ts) run.0 new notes run.2 kept.1 (settled_then t old run.0 run.1 kept.0 settled) (committed_then t old run.0 run.1 kept.0) noted orderly),
       )
 
-  pub images_are_fronts : (old new : Storing D) → KeeperRan disks old new → AreKept disks old → AreOrderly new.keeper.tracked.notes → ImagesAreFronts disks old new
+  pub images_are_fronts : (old new : Storing D) → KeeperRan disks old new → AreAtRest disks old → AreOrderly new.keeper.tracked.notes → ImagesAreFronts disks old new
   unfolding Settled
   images_are_fronts old new ran kept orderly = record {
     turns = length ran.turns;
@@ -167,7 +167,7 @@ module _ {D : Type 0} (disks : DiskWords D) where
   kept_by (t ∷ next ∷ ts) stored a b run kept disk memory settled committed =
       kept_by (next ∷ ts) (stored_with t stored) run.0 b run.2 kept.1 disk memory (settled_then t a run.0 run.1 kept.0 settled) (committed_then t a run.0 run.1 kept.0)
 
-  pub kept_still : (old new : Storing D) → KeeperRan disks old new → new.stored.disk ≡ false → new.stored.memory ≡ false → AreKept disks old → AreKept disks new
+  pub kept_still : (old new : Storing D) → KeeperRan disks old new → new.stored.disk ≡ false → new.stored.memory ≡ false → AreAtRest disks old → AreAtRest disks new
   unfolding Settled
   kept_still old new ran disk memory kept =
       let still = kept_by ran.turns begun_stored (storing_state old) (storing_state new) ran.ran ran.kept (sym (ap (λ (s : Stored). s.disk) ran.stored) ∙ disk) (sym (ap (λ (s : Stored). s.memory) ran.stored) ∙ memory) kept.settled kept.committed in
@@ -177,5 +177,5 @@ module _ {D : Type 0} (disks : DiskWords D) where
   pub rested_images : (old new : Storing D) → new ≡ record old { stored = begun_stored } → ImagesAreFronts disks old new
   rested_images old new is = record { turns = 0; leave = ap (λ (s : Storing D). storing_state s) is }
 
-  pub rested_kept : (old new : Storing D) → new ≡ record old { stored = begun_stored } → AreKept disks old → AreKept disks new
-  rested_kept old new is kept = subst (λ (s : Storing D). AreKept disks s) (sym is) (record { settled = kept.settled; committed = kept.committed })
+  pub rested_kept : (old new : Storing D) → new ≡ record old { stored = begun_stored } → AreAtRest disks old → AreAtRest disks new
+  rested_kept old new is kept = subst (λ (s : Storing D). AreAtRest disks s) (sym is) (record { settled = kept.settled; committed = kept.committed })

@@ -1,9 +1,9 @@
 -- The turns of the keeper in a round, one behind the other.
-use Rattle.std.proofs.Common.{◌≡◌, ℕ, suc, ◌+◌, ◌<◌, Bool, true, false, List, [], ◌∷◌, ◌++◌, length, refl, sym, ap, subst, ◌∙◌, arith}
+use Rattle.std.proofs.Common.{◌≡◌, ℕ, suc, ◌+◌, ◌<◌, Bool, true, false, List, [], ◌∷◌, ◌++◌, length, inl, inr, refl, sym, ap, subst, ◌∙◌, arith}
 use Rattle.settle_box.specs.Collector.{Collector}
 use Rattle.keeper.specs.declared.turn.KeeperTurn.{KeeperTurn}
 use Rattle.keeper.specs.declared.turn.KeeperTurn.TheVariants.{Kept, Empty, DiskFault, NoMemory}
-use Rattle.rounds.specs.KeeperTurns.{AllButLastKept, AllKept, Counts, HasKept, KeeperRan, KeeperRun, KeeperTurned, KeepsOne, KeepsSoFar, StoringState, begun_stored, stored_of, stored_with, storing_state}
+use Rattle.rounds.specs.KeeperTurns.{AllButLastKept, AllKept, Counts, EndStill, HasKept, IsKeeping, KeeperRan, KeeperRun, KeeperTurned, KeepsOne, KeepsSoFar, StoringState, begun_stored, stored_of, stored_with, storing_state}
 use Rattle.rounds.specs.Words.{DiskWords}
 use Rattle.rounds.specs.declared.storing.Stored.{Stored}
 use Rattle.rounds.specs.declared.storing.Storing.{Storing}
@@ -17,6 +17,11 @@ all_of : (ts : List KeeperTurn) → AllKept ts → AllButLastKept ts
 all_of [] kept = tt
 all_of (s ∷ []) kept = tt
 all_of (s ∷ u ∷ us) kept = (kept.0, all_of (u ∷ us) kept.1)
+
+ends_still : (ts : List KeeperTurn) (t : KeeperTurn) → ¬ (IsKeeping t) → EndStill (ts ++ t ∷ [])
+ends_still [] t still = still
+ends_still (s ∷ []) t still = still
+ends_still (s ∷ u ∷ us) t still = ends_still (u ∷ us) t still
 
 kept_on : (ts : List KeeperTurn) (t : KeeperTurn) → AllKept ts → AllKept (t ∷ []) → AllKept (ts ++ t ∷ [])
 kept_on [] t kept one = one
@@ -64,12 +69,13 @@ module _ {D : Type 0} (disks : DiskWords D) where
         is_open = open_still one.turn (storing_state b) (storing_state c) one.turned one_kept;
       }
 
-  pub ran_on : (count : ℕ) (kept : Bool) (a b c : Storing D) → KeepsSoFar disks count a b → count < 256 → KeepsOne disks kept b c → KeeperRan disks a c
-  ran_on count kept a b c so few one = record {
+  pub ran_on : (count : ℕ) (kept : Bool) (a b c : Storing D) → KeepsSoFar disks count a b → count < 256 → kept ≡ false → KeepsOne disks kept b c → KeeperRan disks a c
+  ran_on count kept a b c so few is one = record {
     turns = so.turns ++ one.turn ∷ [];
     some = omega (arith, one_longer so.turns one.turn);
     few = omega (arith, one_longer so.turns one.turn, so.many, few);
     kept = all_but_last so.turns one.turn so.kept;
+    over = inr (ends_still so.turns one.turn (subst (λ (k : Bool). HasKept k one.turn) is one.kept_is));
     ran = run_on so.turns one.turn (storing_state a) (storing_state b) (storing_state c) so.ran one.turned;
     stored = one.stored ∙ ap (stored_with one.turn) so.stored ∙ sym (stored_on begun_stored so.turns one.turn);
   }
@@ -80,6 +86,7 @@ module _ {D : Type 0} (disks : DiskWords D) where
     some = omega (arith, so.many, is);
     few = omega (arith, so.many, is);
     kept = all_of so.turns so.kept;
+    over = inl (so.many ∙ is);
     ran = so.ran;
     stored = so.stored;
   }

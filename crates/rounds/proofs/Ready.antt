@@ -154,7 +154,7 @@ some_as : {A B : Type 0} (f : A → B) (xs ys : List A) → map f ys ≡ map f x
 some_as f xs ys same some = some_mapped f ys (λ is. mapped_some f xs some (sym same ∙ is))
 
 module _ {T W L D : Type 0} (words : Words T W L D) (queue : BoundedQueue) (desk : BoundedBox) (when : When) where
-  storing_then : (old mid : Crew T W L D) (moved : Bool) → KeeperHad words.disks when moved old mid ⊎ KeeperRested when moved old mid → mid.storing.stored.disk ≡ false → mid.storing.stored.memory ≡ false
+  storing_then : (old mid : Crew T W L D) (moved : Bool) → KeeperHad words.disks moved old mid ⊎ KeeperRested moved old mid → mid.storing.stored.disk ≡ false → mid.storing.stored.memory ≡ false
       → IsStoringReady desk.id old.storing → IsStoringReady desk.id mid.storing
   storing_then old mid moved (inl had) disk memory ready = storing_ran words.disks desk.id old.storing mid.storing had.ran disk memory ready
   storing_then old mid moved (inr rested) disk memory ready = record {
@@ -184,7 +184,7 @@ module _ {T W L D : Type 0} (words : Words T W L D) (queue : BoundedQueue) (desk
 
   -- ---- as lanes, workers and the keeper have had their turns
 
-  pass_then : (old mid : Crew T W L D) (moved : Bool) → KeeperHad words.disks when moved old mid ⊎ KeeperRested when moved old mid → mid.storing.keeper.pass.desk ≡ old.storing.keeper.pass.desk
+  pass_then : (old mid : Crew T W L D) (moved : Bool) → KeeperHad words.disks moved old mid ⊎ KeeperRested moved old mid → mid.storing.keeper.pass.desk ≡ old.storing.keeper.pass.desk
   unfolding StoringHasRun
   pass_then old mid moved (inl had) = pass_stays words.disks had.ran.turns (storing_state old.storing) (storing_state mid.storing) had.ran.ran
   pass_then old mid moved (inr rested) = ap (λ (s : Storing D). s.keeper.pass.desk) rested.same

@@ -1,5 +1,5 @@
 -- The turns of a worker in one round (this project's profile): as long as each works, and at most 256.
-use Rattle.std.specs.Prelude.{◌≡◌, ℕ, ◌<◌, ◌≤◌, Bool, true, false, List, [], ◌∷◌, length}
+use Rattle.std.specs.Prelude.{◌≡◌, ◌⊎◌, ℕ, ◌<◌, ◌≤◌, Bool, true, false, List, [], ◌∷◌, length}
 use Rattle.batch_worker.specs.Answers.{IsRest, IsTurn}
 use Rattle.batch_worker.specs.Rests.{IsResting}
 use Rattle.batch_worker.specs.Seen.{Seen, seen}
@@ -40,6 +40,12 @@ abbrev pub AllButLastWorked : List WorkerTurn → Type 0
 AllButLastWorked [] = Unit {0}
 AllButLastWorked (turn ∷ []) = Unit {0}
 AllButLastWorked (turn ∷ next ∷ turns) = IsWork turn × AllButLastWorked (next ∷ turns)
+
+-- the last of them did not work
+abbrev pub EndStill : List WorkerTurn → Type 0
+EndStill [] = ⊥
+EndStill (turn ∷ []) = ¬ (IsWork turn)
+EndStill (turn ∷ next ∷ turns) = EndStill (next ∷ turns)
 
 abbrev pub AllWorked : List WorkerTurn → Type 0
 AllWorked [] = Unit {0}
@@ -82,6 +88,7 @@ module _ {W L : Type 0} (links : LinkWords L) (wires : WireWords W) (box : ℕ) 
     pub some : 0 < length turns
     pub few : length turns ≤ 256
     pub work : AllButLastWorked turns
+    pub over : (length turns ≡ 256) ⊎ EndStill turns
     pub ran : CarrierRun turns (carrier_state old) (carrier_state new)
     pub carried : new.carried ≡ carried_of begun_carried turns
 

@@ -40,7 +40,7 @@ module _ {D : Type 0} (disks : DiskWords D) (opening : List Row) (notes : List N
   TurnsLeave (suc turns) old new = (mid : StoringState D) × TurnLeaves old mid × TurnsLeave turns mid new
 
 -- what is asked of the keeper's areas as a round begins
-pub record AreKept {D : Type 0} (disks : DiskWords D) (storing : Storing D) : Type 0 where
+pub record AreAtRest {D : Type 0} (disks : DiskWords D) (storing : Storing D) : Type 0 where
   pub settled : AreSettled disks.contents disks.images storing.a storing.b (chosen_by storing.keeper.store)
   pub committed : IsFront storing.keeper.tracked.committed storing.keeper.tracked.notes
 

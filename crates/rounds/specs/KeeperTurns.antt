@@ -40,6 +40,12 @@ AllButLastKept [] = Unit {0}
 AllButLastKept (turn ∷ []) = Unit {0}
 AllButLastKept (turn ∷ next ∷ turns) = IsKeeping turn × AllButLastKept (next ∷ turns)
 
+-- the last of them did not
+abbrev pub EndStill : List KeeperTurn → Type 0
+EndStill [] = ⊥
+EndStill (turn ∷ []) = ¬ (IsKeeping turn)
+EndStill (turn ∷ next ∷ turns) = EndStill (next ∷ turns)
+
 abbrev pub AllKept : List KeeperTurn → Type 0
 AllKept [] = Unit {0}
 AllKept (turn ∷ turns) = IsKeeping turn × AllKept turns
@@ -102,6 +108,7 @@ module _ {D : Type 0} (disks : DiskWords D) where
     pub some : 0 < length turns
     pub few : length turns ≤ 256
     pub kept : AllButLastKept turns
+    pub over : (length turns ≡ 256) ⊎ EndStill turns
     pub ran : KeeperRun turns (storing_state old) (storing_state new)
     pub stored : new.stored ≡ stored_of begun_stored turns
 

@@ -1,5 +1,5 @@
 -- What it means that a round moved (this project's profile): something was read, told, met, handed on, sent, received or stored;
--- and that it did not: each turn of each of them found nothing to do.
+-- and that it did not: no turn of any of them did.
 use Rattle.std.specs.Prelude.{◌≡◌, ◌⊎◌, ℕ, true, false}
 use Rattle.std.specs.List.{AllByRecursion}
 use Rattle.batch_worker.specs.declared.answer.WorkerTurn.{WorkerTurn}
@@ -14,7 +14,7 @@ use Rattle.mem_queue.specs.BoundedQueue.{BoundedQueue}
 use Rattle.settle_box.specs.BoundedBox.{BoundedBox}
 use Rattle.wire_base.specs.declared.numbers.Moment.{Moment}
 use Rattle.rounds.specs.CarrierTurns.{Carries, IsWork}
-use Rattle.rounds.specs.Crewed.{lanings}
+use Rattle.rounds.specs.Crewed.{bare_carriers, bare_lanes, lanings}
 use Rattle.rounds.specs.KeeperTurns.{IsKeeping, KeeperRan}
 use Rattle.rounds.specs.Pairs.{Pairs, SomeOf, SomePair}
 use Rattle.rounds.specs.Words.{DiskWords, LinkWords, TailWords, WireWords, Words}
@@ -73,14 +73,22 @@ pub record StoringWasStill {D : Type 0} (disks : DiskWords D) (old new : Storing
 
 -- ---- all of them, up to where their passes met
 
-pub record HaveMoved {T W L D : Type 0} (words : Words T W L D) (queue : BoundedQueue) (desk : BoundedBox) (when : When) (old : Crew T W L D) : Type 0 where
+-- lanes, workers and the keeper as their passes met: but for these they are so afterwards
+pub record IsAsMet {T W L D : Type 0} (mid new : Crew T W L D) : Type 0 where
+  pub lanes : bare_lanes (lanings new.lanes.items) ≡ bare_lanes (lanings mid.lanes.items)
+  pub carriers : bare_carriers new.carriers.items ≡ bare_carriers mid.carriers.items
+  pub storing : new.storing ≡ mid.storing
+
+pub record HaveMoved {T W L D : Type 0} (words : Words T W L D) (queue : BoundedQueue) (desk : BoundedBox) (when : When) (old new : Crew T W L D) : Type 0 where
   pub mid : Crew T W L D
+  pub met : IsAsMet mid new
   pub some : SomePair (LaneMoved words.tails queue.capacity desk.capacity when) (lanings old.lanes.items) (lanings mid.lanes.items)
       ⊎ (SomePair (CarrierMoved words.links words.wires desk.capacity when.now) old.carriers.items mid.carriers.items
       ⊎ StoringMoved words.disks old.storing mid.storing)
 
-pub record WereStill {T W L D : Type 0} (words : Words T W L D) (queue : BoundedQueue) (desk : BoundedBox) (when : When) (old : Crew T W L D) : Type 0 where
+pub record WereStill {T W L D : Type 0} (words : Words T W L D) (queue : BoundedQueue) (desk : BoundedBox) (when : When) (old new : Crew T W L D) : Type 0 where
   pub mid : Crew T W L D
+  pub met : IsAsMet mid new
   pub lanes : Pairs (LaneWasStill words.tails queue.capacity desk.capacity when) (lanings old.lanes.items) (lanings mid.lanes.items)
   pub carriers : Pairs (CarrierWasStill words.links words.wires desk.capacity when.now) old.carriers.items mid.carriers.items
   pub storing : StoringWasStill words.disks old.storing mid.storing

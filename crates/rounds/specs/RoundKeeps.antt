@@ -6,7 +6,7 @@ use Rattle.ship_core.specs.Orderly.{AreOrderly}
 use Rattle.lanes.specs.declared.run.When.{When}
 use Rattle.rounds.specs.Books.{AreBooked, Told}
 use Rattle.rounds.specs.Crewed.{lanings}
-use Rattle.rounds.specs.Images.{AreKept, ImagesAreFronts}
+use Rattle.rounds.specs.Images.{AreAtRest, ImagesAreFronts}
 use Rattle.rounds.specs.Moved.{HaveMoved, WereStill}
 use Rattle.rounds.specs.Placed.{IsPlacedAfter}
 use Rattle.rounds.specs.Rounds.{IsReady}
@@ -20,8 +20,8 @@ pub record RoundKeeps {T W L D : Type 0} (words : Words T W L D) (queue : Bounde
   -- each span is in one place, and nothing else is settled
   pub placed : (told : Told) → AreBooked words.links words.wires told (lanings old.lanes.items) old.carriers.items → IsPlacedAfter words queue desk when told old new
   -- moved means moved
-  pub still : round.moved ≡ false → WereStill words queue desk when old
-  pub moved : round.moved ≡ true → HaveMoved words queue desk when old
+  pub still : round.moved ≡ false → WereStill words queue desk when old new
+  pub moved : round.moved ≡ true → HaveMoved words queue desk when old new
   -- images are prefixes
-  pub images : AreKept words.disks old.storing → AreOrderly new.storing.keeper.tracked.notes → ImagesAreFronts words.disks old.storing new.storing
-  pub kept : round.memory ≡ false → round.disk ≡ false → AreKept words.disks old.storing → AreKept words.disks new.storing
+  pub images : AreAtRest words.disks old.storing → AreOrderly new.storing.keeper.tracked.notes → ImagesAreFronts words.disks old.storing new.storing
+  pub at_rest : round.memory ≡ false → round.disk ≡ false → AreAtRest words.disks old.storing → AreAtRest words.disks new.storing

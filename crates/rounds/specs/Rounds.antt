@@ -1,15 +1,17 @@
 -- One round (this project's profile): lanes, workers and the keeper have their turns, all at once; then all passes meet.
-use Rattle.std.specs.Prelude.{◌≡◌, ◌≢◌, ◌⊎◌, ◌+◌, ◌-◌, ◌^◌, min, All, Bool, true, false, []}
+use Rattle.std.specs.Prelude.{◌≡◌, ◌≢◌, ◌⊎◌, ◌+◌, ◌-◌, ◌^◌, ◌++◌, ℕ, min, All, Bool, true, false, []}
 use Rattle.atomic_table.specs.Seated.{TableId}
 use Rattle.mem_queue.specs.BoundedQueue.{BoundedQueue}
 use Rattle.settle_box.specs.BoundedBox.{BoundedBox}
+use Rattle.settle_box.specs.Senders.{posts_of}
 use Rattle.lanes.specs.declared.run.When.{When}
 use Rattle.rounds.specs.Answer.{have_others_moved, round_of}
-use Rattle.rounds.specs.Crewed.{lanings}
+use Rattle.rounds.specs.Crewed.{carriers_passes, lanes_passes, lanings}
 use Rattle.rounds.specs.Due.{IsDue}
 use Rattle.rounds.specs.KeeperTurns.{begun_stored}
 use Rattle.rounds.specs.Meeting.{HaveAllPasses, HaveMet}
 use Rattle.rounds.specs.Pairs.{Pairs}
+use Rattle.rounds.specs.Passes.{senders}
 use Rattle.rounds.specs.Running.{CarrierHasRun, IsLaneReady, IsStoringReady, LaneHasRun, StoringHasRun}
 use Rattle.rounds.specs.Words.{DiskWords, LinkWords, TailWords, WireWords, Words}
 use Rattle.rounds.specs.declared.crew.Crew.{Crew}
@@ -24,18 +26,18 @@ pub record IsReady {T W L D : Type 0} (tails : TailWords T) (queue desk : TableI
   pub storing : IsStoringReady desk crew.storing
 
 -- the keeper had its turns, since it was due or nothing else moved
-pub record KeeperHad {T W L D : Type 0} (disks : DiskWords D) (when : When) (moved : Bool) (old new : Crew T W L D) : Type 0 where
-  pub why : IsDue when.last old ⊎ (moved ≡ false)
+pub record KeeperHad {T W L D : Type 0} (disks : DiskWords D) (moved : Bool) (old new : Crew T W L D) : Type 0 where
+  pub why : IsDue old ⊎ (moved ≡ false)
   pub ran : StoringHasRun disks old.storing new.storing
   pub without : new.without ≡ 0
 
 -- the keeper had none
-pub record KeeperRested {T W L D : Type 0} (when : When) (moved : Bool) (old new : Crew T W L D) : Type 0 where
-  pub why : (¬ (IsDue when.last old)) × (moved ≡ true)
+pub record KeeperRested {T W L D : Type 0} (moved : Bool) (old new : Crew T W L D) : Type 0 where
+  pub why : (¬ (IsDue old)) × (moved ≡ true)
   pub same : new.storing ≡ record old.storing { stored = begun_stored }
   pub without : new.without ≡ min (old.without + 1) (2 ^ 32 - 1)
 
--- lanes and workers had their turns, and nothing else changed
+-- lanes and workers had their turns
 pub record OthersRan {T W L D : Type 0} (tails : TailWords T) (links : LinkWords L) (wires : WireWords W) (queue : BoundedQueue) (desk : BoundedBox) (when : When) (old new : Crew T W L D) : Type 0 where
   pub lanes : Pairs (LaneHasRun tails queue.capacity desk.capacity when) (lanings old.lanes.items) (lanings new.lanes.items)
   pub carriers : Pairs (CarrierHasRun links wires desk.capacity when.now) old.carriers.items new.carriers.items
@@ -44,7 +46,7 @@ pub record OthersRan {T W L D : Type 0} (tails : TailWords T) (links : LinkWords
 pub record AllRan {T W L D : Type 0} (words : Words T W L D) (queue : BoundedQueue) (desk : BoundedBox) (when : When) (old new : Crew T W L D) : Type 0 where
   pub others : OthersRan words.tails words.links words.wires queue desk when old new
   pub keeper : let moved = have_others_moved (lanings new.lanes.items) new.carriers.items in
-      KeeperHad words.disks when moved old new ⊎ KeeperRested when moved old new
+      KeeperHad words.disks moved old new ⊎ KeeperRested moved old new
   pub room : new.room ≡ old.room
 
 -- there are lanes and workers, and all passes may meet
@@ -54,11 +56,16 @@ pub record CanMeet {T W L D : Type 0} (queue desk : TableId) (crew : Crew T W L 
   pub have : HaveAllPasses queue desk (lanings crew.lanes.items) crew.carriers.items
   pub pass : crew.storing.keeper.pass.desk ≡ desk
 
+-- how many notes the box holds as the passes meet: all that were posted but for those that were collected
+abbrev pub boxed_in : {T W L D : Type 0} → Crew T W L D → ℕ
+boxed_in crew = min (posts_of (senders (lanes_passes (lanings crew.lanes.items)) ++ senders (carriers_passes crew.carriers.items))) (2 ^ 64 - 1) - crew.storing.keeper.collected
+
 -- the passes met, and nothing else changed but what is known of the box
 pub record MeetsIn {T W L D : Type 0} (queue desk : TableId) (old new : Crew T W L D) : Type 0 where
   pub met : HaveMet queue desk old.storing.keeper.pass.got (lanings old.lanes.items) (lanings new.lanes.items) old.carriers.items new.carriers.items
   pub storing : new.storing ≡ old.storing
   pub room : new.room ≡ old.room
+  pub boxed : new.boxed ≡ boxed_in old
   pub without : new.without ≡ old.without
 
 -- the keeper had its turns, since nothing else had moved

@@ -66,12 +66,12 @@ impl<T: Tail, L: Link, W: Wire<Link = L>, D: Disk> Crew<T, W, L, D> {
         (lanes, carriers, storing)
     }
 
-    // Whether the keeper has turns beside the others: with the last round, where half of the box's room is taken, and where it
-    // has gone without for 32 rounds. A commit is two syncs, so a busy round does not wait for the disk.
-    pub(crate) fn is_due(&self, last: bool) -> bool
-        ensures due { OnTrue result (IsDue last self.now) }
-        ensures early { OnFalse result (¬ (IsDue last self.now)) }
+    // Whether the keeper has turns beside the others: where half of the box's room is taken, and where it has gone without for
+    // 32 rounds. A commit is two syncs, so a busy round does not wait for the disk.
+    pub(crate) fn is_due(&self) -> bool
+        ensures due { OnTrue result (IsDue self.now) }
+        ensures early { OnFalse result (¬ (IsDue self.now)) }
     {
-        last || self.without >= MAX_ROUNDS_WITHOUT || self.boxed >= u64::from(self.room / 2)
+        self.without >= MAX_ROUNDS_WITHOUT || self.boxed >= u64::from(self.room / 2)
     }
 }

@@ -79,7 +79,7 @@ impl<T: Tail + Send, L: Link + Send, W: Wire<Link = L> + Send, D: Disk + Send> C
             (disk_words D.contents D.images D.moment D.images_since D.faults))
             shift.entry.outlets.queue.now shift.entry.outlets.desk.now shift.entry.when self.old self.new }
     {
-        if self.is_due(shift.when.last) {
+        if self.is_due() {
             self.run_all(rt, shift);
             self.without = 0;
         } else {

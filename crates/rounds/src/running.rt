@@ -35,8 +35,21 @@ pub(crate) fn run_lanes<T: Tail + Send, R: Threads + Wait + Sync>(
         shift.entry.outlets.queue.now.capacity shift.entry.outlets.desk.now.capacity
         shift.entry.when) (lanings lanes.old) (lanings lanes.new) }
 {
-    let threads = lanes.len().max(1);
+    // No thread is begun where one lane alone has work.
+    let threads = if busy_lanes(lanes) > 1 {
+        lanes.len().max(1)
+    } else {
+        1
+    };
     thread::for_each_mut(rt, lanes, threads, &|_, lane| run_lane(rt, shift, lane));
+}
+
+// How many lanes have a harvester, or hold something.
+fn busy_lanes<T: Tail>(lanes: &[Lane<T>]) -> usize {
+    match lanes.split_first() {
+        Some((lane, lanes)) => busy_lanes(lanes).saturating_add(usize::from(!lane.is_at_rest())),
+        None => 0,
+    }
 }
 
 fn run_lane<T: Tail, R: Wait>(rt: &R, shift: Shift<'_>, lane: &mut Lane<T>)

@@ -15,7 +15,7 @@ turns-init g c = record {
 
 pub returns-then-not-turn : goal.returns-then-not-turn
 returns-then-not-turn g c = carries_on (link_words g.L.Link.told g.L.Link.faults g.L.Link.idles) (wire_words g.W.Wire.outcomes g.W.Wire.open_links g.W.Wire.faults g.W.Wire.idles) c.args.outlets.desk.now.capacity c.args.now
-    c.turns.turns _ c.args.self.now c.turns.self c.turn.new.self c.turns.invariant.so_far c.turns-test.true c.turn.ensures
+    c.turns.turns _ c.args.self.now c.turns.self c.turn.new.self c.turns.invariant.so_far c.turns-test.true c.if-not-turn.true c.turn.ensures
 
 pub turns-preserved : goal.turns-preserved
 turns-preserved g c =

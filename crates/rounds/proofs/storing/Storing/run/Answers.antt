@@ -14,7 +14,7 @@ turns-init g c = record {
 
 pub returns-then-not-turn : goal.returns-then-not-turn
 returns-then-not-turn g c = ran_on (disk_words g.D.Disk.contents g.D.Disk.images g.D.Disk.moment g.D.Disk.images_since g.D.Disk.faults)
-    c.turns.turns _ c.args.self.now c.turns.self c.turn.new.self c.turns.invariant.so_far c.turns-test.true c.turn.ensures
+    c.turns.turns _ c.args.self.now c.turns.self c.turn.new.self c.turns.invariant.so_far c.turns-test.true c.if-not-turn.true c.turn.ensures
 
 pub turns-preserved : goal.turns-preserved
 turns-preserved g c =
