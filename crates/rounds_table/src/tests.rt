@@ -1,0 +1,7 @@
+mod carrier_parts;
+mod crews;
+mod events;
+mod files;
+mod lane_parts;
+mod outcome;
+mod tail;
