@@ -256,6 +256,7 @@ none_open_stays before now scan (tail ∷ tails) on none = (
     looks = none.0.looks;
     faults = none.0.faults;
     closed = event_stays before.trace now.trace none.0.place (Closed tail.opening none.0.looks none.0.faults) on.trace none.0.closed;
+    since = none.0.since;
     before = none.0.before;
   },
   none_open_stays before now scan tails on none.1,
@@ -285,6 +286,7 @@ none_open_behind_stays before now number (tail ∷ tails) on none =
         looks = none.0.looks;
         faults = none.0.faults;
         closed = event_stays before.trace now.trace none.0.place event on.trace none.0.closed;
+        since = none.0.since;
         before = subst (λ (l : List Scan). AllByRecursion (IsBehind none.0.place) (drop (number + 1) l)) (sym on.scans)
             (all_dropped (IsBehind none.0.place) (number + 1) before.scans on.more_scans none.0.before
             (all_behind none.0.place (length before.trace.events) within on.more_scans on.made_later));

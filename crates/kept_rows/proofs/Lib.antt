@@ -8,6 +8,7 @@ pub mod Links
 pub mod Showing
 pub mod Worked
 mod Lives
+mod Older
 mod Refused
 mod Removed
 mod Undrained

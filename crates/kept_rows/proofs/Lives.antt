@@ -75,10 +75,10 @@ abbrev later_looks : List Look
 later_looks = look Length 1 2 ∷ look (ReadAt 0 2) 1 2 ∷ look Length 1 2 ∷ look (ReadAt 2 0) 1 2 ∷ []
 
 abbrev first_reading : Reading
-first_reading = record { opening = 1; segment = record { place = 0; fall = None; looks = first_looks } }
+first_reading = record { opening = 2; segment = record { place = 0; fall = None; looks = first_looks } }
 
 abbrev second_reading : Reading
-second_reading = record { opening = 1; segment = record { place = 0; fall = Some fall; looks = later_looks } }
+second_reading = record { opening = 2; segment = record { place = 0; fall = Some fall; looks = later_looks } }
 
 abbrev c_event : AccountedEvent
 c_event = event 0 2 (codes "c") (Some (place_at 0 0))
@@ -99,7 +99,7 @@ truncated = record {
     base = 0;
     known_from = 0;
     gone_after = None;
-    tails = record { opening = 1; place = 0; looks = first_looks ++ fall ∷ later_looks; beyond = [] } ∷ [];
+    tails = record { opening = 2; place = 0; looks = first_looks ++ fall ∷ later_looks; beyond = [] } ∷ [];
   };
   number = 0;
   changed = 0;

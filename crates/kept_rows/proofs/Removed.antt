@@ -20,7 +20,7 @@ use Rattle.told_events.proofs.Worked.{a_log, event_of, first_line, life, payload
 use Rattle.told_events.specs.Told.{ToldEvent}
 use Rattle.wire_base.specs.declared.row.Row.{Row}
 use Rattle.wire_base.specs.KeyOrder.{compare}
-use Rattle.kept_rows.specs.Account.{EpochAccount, SlotAccount}
+use Rattle.kept_rows.specs.Account.{EpochAccount, Reading, SlotAccount}
 use Rattle.kept_rows.specs.Lost.{IsRightlyLost, IsRightlyLostInImage}
 use Rattle.kept_rows.specs.Run.{Asking, Run, Scan}
 use Rattle.kept_rows.specs.Scans.{IsFirstPath, IsWhole, ShowsEntry, ShowsFile, ShowsKey}
@@ -205,8 +205,11 @@ first_is_b = record {
 abbrev renamed : SlotAccount
 renamed = record slot_account { following = record { slot = 0; input = 0; key = numbers_key; epoch = 0; base = 0; known_from = 0; gone_after = None; tails = record { opening = 1; place = 0; looks = looks; beyond = [] } ∷ [] } }
 
+abbrev renamed_reading : Reading
+renamed_reading = record reading { opening = 1 }
+
 abbrev epoch_read : EpochAccount
-epoch_read = record { epoch = 0; start = 0; life = 0; readings = reading ∷ []; licences = []; told = [] }
+epoch_read = record { epoch = 0; start = 0; life = 0; readings = renamed_reading ∷ []; licences = []; told = [] }
 
 abbrev told_by : List ℕ → ToldEvent
 told_by path = record { span = first_line.span; path = path; now = 0; fate = (event_of first_line (payload (codes "0") (codes "a"))).fate }
@@ -214,7 +217,7 @@ told_by path = record { span = first_line.span; path = path; now = 0; fate = (ev
 -- the event is told by the new path
 pub told_by_the_new_path : IsPathOf renamed_run renamed epoch_read (record { event = told_by b_log; reading = 0; place = None })
 told_by_the_new_path = record {
-  reading = reading;
+  reading = renamed_reading;
   reading_is = refl;
   behind_its_start = lit≤ tt;
   read = lit≤ tt;

@@ -1,5 +1,5 @@
 -- What scans show stays as the run goes on.
-use Rattle.std.proofs.Common.{◌≡◌, inl, inr, ℕ, ◌<◌, ◌≤◌, List, [], ◌∷◌, ◌++◌, length, Option, Some, None, option_map, sym, ap, ◌∙◌, subst, arith, append_assoc}
+use Rattle.std.proofs.Common.{◌≡◌, inl, inr, ℕ, zero, suc, ◌<◌, ◌≤◌, drop, List, [], ◌∷◌, ◌++◌, length, Option, Some, None, option_map, sym, ap, ◌∙◌, subst, arith, append_assoc}
 use Rattle.std.specs.List.{AllByRecursion, Contains, slice_get}
 use Rattle.std.proofs.lemmas.List.Elements.{All-contains, All-from_recursion}
 use Rattle.std.proofs.lemmas.Option.{slice_get_within}
@@ -14,7 +14,7 @@ use Rattle.outside.specs.Folders.{Event, Listed, Opened, NotThere}
 use Rattle.kept_rows.specs.Going.{IsMadeFrom, RunGoesOn, TraceGoesOn}
 use Rattle.kept_rows.specs.Run.{Asking, Run, Scan}
 use Rattle.kept_rows.specs.Scans.{AsksFor, Gave, IsAskedIn, IsBehind, IsFirstPath, IsGoodListing, IsWhole, MetNoFault, ShowsEntry, ShowsFile, ShowsFileTo, ShowsKey, WasAskedByTail, WasAskedWell, globs_in}
-use Rattle.kept_rows.specs.Trace.{Closing, IsTail, Trace, WasGone, closing_by, closing_in, first_of_two, looks_of, open_looks_in}
+use Rattle.kept_rows.specs.Trace.{Closing, IsTail, Trace, WasGone, closing_by, closing_in, closing_of, first_of_two, looks_of, open_looks_in}
 use Rattle.kept_rows.proofs.Acknowledging.{got_in_front}
 
 -- ---- lists
@@ -47,11 +47,18 @@ closing_stays opening (event ∷ events) more closing is = go (closing_by openin
     go None e again = again e
     go (Some first) e again = e
 
-closed_stays : (before now : Trace) (opening : ℕ) (closing : Closing) → TraceGoesOn before now → closing_in opening before.events ≡ Some closing → closing_in opening now.events ≡ Some closing
-closed_stays before now opening closing on is = ap (closing_in opening) on.events ∙ closing_stays opening before.events on.more_events closing is
+-- behind so many of them, too
+closing_stays_behind : (count opening : ℕ) (events more : List Event) (closing : Closing) → closing_in opening (drop count events) ≡ Some closing → closing_in opening (drop count (events ++ more)) ≡ Some closing
+closing_stays_behind zero opening events more closing is = closing_stays opening events more closing is
+closing_stays_behind (suc count) opening [] more closing is = absurd (let q : None ≡ Some closing = is in cc)
+closing_stays_behind (suc count) opening (event ∷ events) more closing is = closing_stays_behind count opening events more closing is
+
+closed_stays : (before now : Trace) (opening : ℕ) (closing : Closing) → TraceGoesOn before now → closing_of before opening ≡ Some closing → closing_of now opening ≡ Some closing
+closed_stays before now opening closing on is =
+    ap (λ (l : List Event). closing_in opening (drop (suc opening) l)) on.events ∙ closing_stays_behind (suc opening) opening before.events on.more_events closing is
 
 -- the looks of a closed tail are those of its closing
-closed_looks : (trace : Trace) (opening : ℕ) (closing : Closing) → closing_in opening trace.events ≡ Some closing → looks_of trace opening ≡ Some closing.looks
+closed_looks : (trace : Trace) (opening : ℕ) (closing : Closing) → closing_of trace opening ≡ Some closing → looks_of trace opening ≡ Some closing.looks
 closed_looks trace opening closing is =
     ap (λ (o : Option Closing). first_of_two (option_map (λ (c : Closing). c.looks) o) (open_looks_in opening trace.open_tails)) is
 

@@ -49,7 +49,8 @@ none_gone : (opening : ℕ) → slice_get trace.events opening ≡ Some (NotTher
 none_gone zero is = absurd cc
 none_gone (suc zero) is = absurd cc
 none_gone (suc (suc zero)) is = absurd cc
-none_gone (suc (suc (suc more))) is = absurd (let q : None ≡ Some (NotThere a_log) = is in cc)
+none_gone (suc (suc (suc zero))) is = absurd cc
+none_gone (suc (suc (suc (suc more)))) is = absurd (let q : None ≡ Some (NotThere a_log) = is in cc)
 
 -- the only end look is at 4
 abbrev count_of : Question → ℕ

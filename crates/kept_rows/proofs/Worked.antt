@@ -1,5 +1,6 @@
 -- A worked account: the file of two plain lines, read once, both events acknowledged. The row at its end is kept, the
--- folder is drained, only told events were sent, and the premises hold.
+-- folder is drained, only told events were sent, and the premises hold. Before the run the folder took a tail of another
+-- folder back, which had the number that the run's own opening gets only later.
 use Rattle.std.proofs.Common.{◌≡◌, ◌≢◌, inl, inr, ℕ, zero, suc, ◌<◌, ◌≤◌, true, false, List, [], ◌∷◌, ◌++◌, Some, None, refl, sym, ap, ◌∙◌, subst, arith, append-nil, lit≤, codes}
 use Rattle.std.specs.Char.{encode_utf8}
 use Rattle.std.specs.List.{AllByRecursion, Contains, slice_get}
@@ -90,6 +91,10 @@ look question = record { question = question; sight = sight }
 abbrev pub looks : List Look
 looks = look Length ∷ look (ReadAt 0 4) ∷ look Length ∷ look (ReadAt 4 0) ∷ []
 
+-- what the other folder's tail told
+abbrev pub older_looks : List Look
+older_looks = look Length ∷ []
+
 abbrev pub shown : Shown
 shown = record { entry = record { path = a_log; size = 4; native = None; changed = record { 0 = 0 } }; file = 0; life = 0 }
 
@@ -105,15 +110,15 @@ wires = record { outcomes = Finished talk 0 0 ∷ []; open_talk = None } ∷ []
 abbrev pub trace : Trace
 trace = record {
   files = file ∷ [];
-  events = Listed (root_of (codes "/w/*")) (depth_of (codes "/w/*")) (shown ∷ []) ∷ Opened a_log 0 sight ∷ Closed 1 looks 0 ∷ [];
-  began = 0;
+  events = Closed 2 older_looks 1 ∷ Listed (root_of (codes "/w/*")) (depth_of (codes "/w/*")) (shown ∷ []) ∷ Opened a_log 0 sight ∷ Closed 2 looks 0 ∷ [];
+  began = 1;
   open_tails = [];
   moments = 0 ∷ [];
   wires = wires;
 }
 
 abbrev pub scan : Scan
-scan = record { moment = 0; listings = 0 ∷ []; askings = record { input = 0; path = a_log; opening = None } ∷ [] }
+scan = record { moment = 0; listings = 1 ∷ []; askings = record { input = 0; path = a_log; opening = None } ∷ [] }
 
 abbrev pub run : Run
 run = record { settings = settings; once = true; opening = []; trace = trace; scans = scan ∷ [] }
@@ -136,13 +141,13 @@ abbrev pub segment : Segment
 segment = record { place = 0; fall = None; looks = looks }
 
 abbrev pub reading : Reading
-reading = record { opening = 1; segment = segment }
+reading = record { opening = 2; segment = segment }
 
 abbrev pub epoch_account : EpochAccount
 epoch_account = record { epoch = 0; start = 0; life = 0; readings = reading ∷ []; licences = []; told = accounted }
 
 abbrev pub tail : FollowedTail
-tail = record { opening = 1; place = 0; looks = looks; beyond = [] }
+tail = record { opening = 2; place = 0; looks = looks; beyond = [] }
 
 abbrev pub following : Following
 following = record { slot = 0; input = 0; key = key; epoch = 0; base = 0; known_from = 0; gone_after = None; tails = tail ∷ [] }
@@ -163,7 +168,7 @@ pub is_covered : IsCovered input.paths a_log
 is_covered = (0, codes "/w/*", omega arith, refl, covered)
 
 pub entry : ShowsEntry trace scan shown
-entry = record { listing = 0; of_scan = (0, omega arith, refl); root = root_of (codes "/w/*"); depth = depth_of (codes "/w/*"); entries = shown ∷ []; listed = refl; among = (0, omega arith, refl) }
+entry = record { listing = 1; of_scan = (0, omega arith, refl); root = root_of (codes "/w/*"); depth = depth_of (codes "/w/*"); entries = shown ∷ []; listed = refl; among = (0, omega arith, refl) }
 
 pub asks : AsksFor run scan shown 0 (record { input = 0; path = a_log; opening = None })
 asks = record { entry = entry; asked_in = tt; of_scan = (0, omega arith, refl); input_is = refl; path_is = refl }
@@ -195,7 +200,7 @@ path_in (Opened path number begun) = path
 path_in _ = []
 
 pub only_entry : (other : Shown) → ShowsEntry trace scan other → shown ≡ other
-only_entry other shows = elim (there_cases 0 shows.listing [] shows.of_scan) [
+only_entry other shows = elim (there_cases 1 shows.listing [] shows.of_scan) [
   | inr nothing ↦ absurd (none_there shows.listing nothing)
   | inl first ↦
       let q : Some (Listed (root_of (codes "/w/*")) (depth_of (codes "/w/*")) (shown ∷ [])) ≡ Some (Listed shows.root shows.depth shows.entries) =
@@ -235,7 +240,7 @@ whole = record {
 
 -- ---- the account is one of the run
 
-is_tail : IsTail trace 1 a_log 0 (looks ++ [])
+is_tail : IsTail trace 2 a_log 0 (looks ++ [])
 is_tail = record { in_this_run = omega arith; begun = sight; opened = refl; tells = refl }
 
 gives : StillHasKey input key a_log file looks
@@ -276,7 +281,7 @@ told_in = record {
   );
 }
 
-pub listed_before : WasListedWith run key 1 (λ size. 0 ≤ size)
+pub listed_before : WasListedWith run key 2 (λ size. 0 ≤ size)
 listed_before = record {
   front = [];
   scan = scan;
@@ -296,9 +301,10 @@ goes_on_from_its_start = record { no_fall = refl; told_place = refl; listed = li
 
 serves : EachOpeningServes run (following ∷ [])
 serves zero path number begun since is = absurd cc
-serves (suc zero) path number begun since is = inl (0, omega arith, refl)
-serves (suc (suc zero)) path number begun since is = absurd cc
-serves (suc (suc (suc later))) path number begun since is = absurd (let q : None ≡ Some (Opened path number begun) = is in cc)
+serves (suc zero) path number begun since is = absurd cc
+serves (suc (suc zero)) path number begun since is = inl (0, omega arith, refl)
+serves (suc (suc (suc zero))) path number begun since is = absurd cc
+serves (suc (suc (suc (suc later)))) path number begun since is = absurd (let q : None ≡ Some (Opened path number begun) = is in cc)
 
 asked_each : AllButTheLast (AreAsked run) (scan ∷ [])
 asked_each = tt
@@ -334,7 +340,7 @@ is_followed = record {
   slots_rise = (omega arith, tt);
   in_turn = (tt, tt);
   newly_known = ((λ later. absurd (omega (arith, later))), tt);
-  openings_apart = (none_there 1, tt);
+  openings_apart = (none_there 2, tt);
   openings_serve = serves;
 }
 
@@ -512,7 +518,7 @@ premises = record {
         by_entry other path (subst (λ (s : Scan). ShowsFile run s key other path) (sym same) shows)
     listed one (suc place) other path is known shows = absurd (let q : None ≡ Some one = is in cc)
 
-    opened_as : (path : List ℕ) (other : ℕ) → IsTail trace 1 path other (looks ++ []) → (other ≡ 0) × (path ≡ a_log)
+    opened_as : (path : List ℕ) (other : ℕ) → IsTail trace 2 path other (looks ++ []) → (other ≡ 0) × (path ≡ a_log)
     opened_as path other told =
         let q : Some (Opened a_log 0 sight) ≡ Some (Opened path other told.begun) = told.opened in
         let event : Opened a_log 0 sight ≡ Opened path other told.begun = cc in

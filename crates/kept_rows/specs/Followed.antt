@@ -96,12 +96,13 @@ pub record IsFollowedTail (run : Run) (rule : InputRule) (key : List ℕ) (tail 
   pub reads_on : AllByRecursion (λ segment. ReadOn (steps_in segment)) (segments_of tail.place tail.looks)
   pub end : (tail.beyond ≡ []) ⊎ LostItsKey rule key path file tail
 
--- the tail was closed before the next one was opened
+-- the tail was closed, behind its own opening, before the next one was opened
 pub record IsClosedBefore (trace : Trace) (tail next : FollowedTail) : Type 0 where
   pub place : ℕ
   pub looks : List Look
   pub faults : ℕ
   pub closed : slice_get trace.events place ≡ Some (Closed tail.opening looks faults)
+  pub since : tail.opening < place
   pub before : place < next.opening
 
 abbrev pub AreOneByOne : Trace → List FollowedTail → Type 0

@@ -18,12 +18,13 @@ use Rattle.kept_rows.specs.Trace.{WireTold}
 
 -- ---- no tail of it was open as the scan was made
 
--- the tail was closed before the scan
+-- the tail was closed, behind its own opening, before the scan
 pub record WasClosedBefore (run : Run) (scan : Scan) (tail : FollowedTail) : Type 0 where
   pub place : ℕ
   pub looks : List Look
   pub faults : ℕ
   pub closed : slice_get run.trace.events place ≡ Some (Closed tail.opening looks faults)
+  pub since : tail.opening < place
   pub before : IsBehind place scan
 
 abbrev pub HadNoOpenTail : Run → Scan → SlotAccount → Type 0
@@ -61,12 +62,13 @@ pub record WasRemovedRightly (run : Run) (wires : List WireTold) (rule : InputRu
 
 -- ---- it had not changed for long
 
--- the tail was closed before each scan behind the one of this number
+-- the tail was closed, behind its own opening, before each scan behind the one of this number
 pub record WasClosedBehind (run : Run) (number : ℕ) (tail : FollowedTail) : Type 0 where
   pub place : ℕ
   pub looks : List Look
   pub faults : ℕ
   pub closed : slice_get run.trace.events place ≡ Some (Closed tail.opening looks faults)
+  pub since : tail.opening < place
   pub before : AllByRecursion (IsBehind place) (drop (number + 1) run.scans)
 
 abbrev pub HadNoOpenTailBehind : Run → ℕ → SlotAccount → Type 0

@@ -21,7 +21,7 @@ use Rattle.outside.specs.Folders.{Event, Listed, ListingFailed, Opened, NotThere
 use Rattle.wire_base.specs.declared.numbers.TheConstants.{MAX_MOMENT}
 use Rattle.wire_base.specs.KeyOrder.{compare}
 use Rattle.kept_rows.specs.Run.{Asking, Run, Scan}
-use Rattle.kept_rows.specs.Trace.{IsTail, Trace, WasGone, closing_in}
+use Rattle.kept_rows.specs.Trace.{IsTail, Trace, WasGone, closing_of}
 
 abbrev pub IsCovered : List (List ℕ) → List ℕ → Type 0
 IsCovered globs path = Any (λ glob. Covers glob path) globs
@@ -181,7 +181,7 @@ pub record WasAskedByTail (trace : Trace) (rule : IdentityRule) (path : List ℕ
   pub looks : List Look
   pub tail : IsTail trace opening path number looks
   pub asking : IsAsking rule looks
-  pub closed : closing_in opening trace.events ≡ Some (record { looks = looks; faults = 0 })
+  pub closed : closing_of trace opening ≡ Some (record { looks = looks; faults = 0 })
 
 abbrev pub MetNoFault : Trace → IdentityRule → List ℕ → Option ℕ → Type 0
 MetNoFault trace rule path None = IsNoFingerprint rule
