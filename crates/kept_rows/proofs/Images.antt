@@ -1,21 +1,21 @@
 -- Rows over the first of backed notes are kept.
-use Rattle.std.proofs.Common.{◌≡◌, ◌⊎◌, inl, inr, ℕ, cond, List, [], ◌∷◌, max, Some, None, refl, sym, ap, ◌∙◌, subst}
+use Rattle.std.proofs.Common.{◌≡◌, ◌⊎◌, inl, inr, ℕ, cond, if◌then◌else◌, List, [], ◌∷◌, ◌++◌, max, Some, None, refl, sym, ap, ◌∙◌, subst, append_assoc}
 use Rattle.std.specs.List.{Contains, filter, fold}
 use Rattle.std.specs.Option.{is_some}
 use Rattle.std.specs.Ordering.{is_eq}
 use Rattle.std.specs.declared.cmp.Ordering.{Ordering}
 use Rattle.std.specs.declared.cmp.Ordering.TheVariants.{Less, Equal, Greater}
 use Rattle.wire_base.specs.KeyOrder.{compare}
-use Rattle.wire_base.proofs.ByteOrder.{same_key}
+use Rattle.wire_base.proofs.ByteOrder.{compare_greater, compare_same, same_key}
 use Rattle.wire_base.specs.declared.note.Note.{Note}
 use Rattle.wire_base.specs.declared.row.Row.{Row}
-use Rattle.ship_core.proofs.Members.{none_there}
+use Rattle.ship_core.proofs.Members.{none_there, there_cases}
 use Rattle.ship_core.specs.RowOver.{row_over}
-use Rattle.ship_core.specs.Rows.{find}
+use Rattle.ship_core.specs.Rows.{IsBefore, IsInOrder, find}
 use Rattle.ship_core.specs.RowsOver.{AreRowsOver, row_among, row_for, row_of_greatest, slots_for}
 use Rattle.told_events.proofs.Going.{all_front}
 use Rattle.kept_rows.specs.Account.{SlotAccount, slot_of}
-use Rattle.kept_rows.specs.Backed.{AreBacked, AreBegun, AreInRows, AreRowsOverFronts, Backs}
+use Rattle.kept_rows.specs.Backed.{AreBacked, AreBegun, AreInRows, AreRowsOverFronts, Backs, IsRowOverAFront}
 use Rattle.kept_rows.specs.Kept.{IsKept, IsKeptInImage, IsUnbegun, StandsAsOpened}
 use Rattle.kept_rows.specs.Trace.{WireTold}
 use Rattle.kept_rows.proofs.Backing.{ClosesBy, row_is_kept}
@@ -81,3 +81,37 @@ kept_at_the_end closes account opening wires notes rows in_rows backed begun ove
         as_opened key opening row opened.1,
       )
     ]
+
+-- ---- what rows over the first of notes are of more notes, and rows by their keys
+
+-- the first of notes are the first of more
+front_goes_on : (opening : List Row) (notes more : List Note) (rows : List Row) (key : List ℕ) → IsRowOverAFront opening notes rows key → IsRowOverAFront opening (notes ++ more) rows key
+front_goes_on opening notes more rows key over = record {
+  front = over.front;
+  rest = over.rest ++ more;
+  notes_are = ap (λ (l : List Note). l ++ more) over.notes_are ∙ append_assoc over.front over.rest more;
+  is = over.is;
+}
+
+pub fronts_go_on : (opening : List Row) (notes more : List Note) (rows : List Row) → AreRowsOverFronts opening notes rows → AreRowsOverFronts opening (notes ++ more) rows
+fronts_go_on opening notes more rows over = record { in_order = over.in_order; each = λ key. front_goes_on opening notes more rows key (over.each key) }
+
+-- rows over notes are so over the first of these and more
+pub over_the_first : (opening : List Row) (notes more : List Note) (rows : List Row) → AreRowsOver opening notes rows → AreRowsOverFronts opening (notes ++ more) rows
+over_the_first opening notes more rows over = record { in_order = over.in_order; each = λ key. record { front = notes; rest = more; notes_are = refl; is = over.each key } }
+
+-- of rows in order each is the one that is found by its key
+pub found_by_its_key : (rows : List Row) (row : Row) → IsInOrder rows → Contains rows row → find row.key rows ≡ Some row
+found_by_its_key [] row ordered there = absurd (none_there row there)
+found_by_its_key (first ∷ rows) row ordered there = by_case (there_cases first row rows there) (found_by_its_key rows row ordered.1)
+  where
+    behind : (rows : List Row) → IsBefore first.key rows → Contains rows row → compare row.key first.key ≡ Greater
+    behind [] before there = absurd (none_there row there)
+    behind (next ∷ rows) before there = elim (there_cases next row rows there) [
+      | inl same ↦ compare_greater first.key row.key (subst (λ (r : Row). compare first.key r.key ≡ Less) same before.0)
+      | inr later ↦ behind rows before.1 later
+    ]
+
+    by_case : (first ≡ row) ⊎ Contains rows row → (Contains rows row → find row.key rows ≡ Some row) → (if is_eq (compare row.key first.key) then Some first else find row.key rows) ≡ Some row
+    by_case (inl same) rest = rw (compare_same row.key first.key (ap (λ (r : Row). r.key) (sym same))) (ap Some same)
+    by_case (inr later) rest = rw (behind rows ordered.0 later) (rest later)

@@ -1,9 +1,12 @@
 pub mod Acknowledging
 pub mod Backing
+pub mod Begun
+pub mod Closings
 pub mod Draining
 pub mod Growing
 pub mod Images
 pub mod Joining
+pub mod Keys
 pub mod Links
 pub mod Showing
 pub mod Worked
