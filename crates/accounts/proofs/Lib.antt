@@ -1,0 +1,15 @@
+pub mod Accounting
+pub mod Apart
+pub mod Cuts
+pub mod Given
+pub mod Ground
+pub mod Histories
+pub mod Licensed
+pub mod Lists
+pub mod Lives
+pub mod Often
+pub mod Onward
+pub mod Same
+pub mod Singles
+pub mod Within
+pub mod Worked

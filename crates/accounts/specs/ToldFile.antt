@@ -1,0 +1,59 @@
+-- What was told of a file in a run that reads files once, by paths that stay (this project's profile): its history goes on from
+-- how it was opened, at moments that the clock gave; its epochs are told; and its looks are those of its tail. This outlives the
+-- harvester.
+use Rattle.std.specs.Prelude.{◌≡◌, ℕ, ◌+◌, false, List, [], ◌∷◌, Contains, Option, IfSome}
+use Rattle.std.specs.List.{AllByRecursion}
+use Rattle.event_tree.specs.declared.processor_rule.ProcessorRule.{ProcessorRule}
+use Rattle.file_looks.specs.Looks.{TellsLooks}
+use Rattle.harvester.specs.History.{Ended, History, IsTelling, Telling, left_to_tell, rules_in}
+use Rattle.harvester.specs.Looked.{AreLookedAt}
+use Rattle.kept_rows.specs.Scans.{StandInOrder}
+use Rattle.outside.specs.Tails.{TailHistory}
+use Rattle.told_events.specs.Told.{ToldEvent}
+use Rattle.accounts.specs.Opened.{IsTailOf, Opened}
+use Rattle.accounts.specs.Turned.{Turned, tellings_in}
+
+-- each one behind this epoch is the next one, and is told from the file's first byte on
+abbrev pub AreNumberedFrom : ℕ → List Telling → Type 0
+AreNumberedFrom before [] = Unit {0}
+AreNumberedFrom before (telling ∷ later) = (telling.epoch ≡ before + 1) × (telling.start ≡ 0) × AreNumberedFrom (before + 1) later
+
+-- the first is the one with which the file was begun, and is told from the place with which it was
+abbrev pub AreEpochsFrom : ℕ → ℕ → List Telling → Type 0
+AreEpochsFrom epoch base [] = ⊥
+AreEpochsFrom epoch base (first ∷ later) = (first.epoch ≡ epoch) × (first.start ≡ base) × AreNumberedFrom epoch later
+
+-- the event was told by this path, at one of these moments
+pub record IsToldBy (path moments : List ℕ) (event : ToldEvent) : Type 0 where
+  pub path_is : event.path ≡ path
+  pub given : Contains moments event.now
+
+abbrev pub AreToldBy : List ℕ → List ℕ → Telling → Type 0
+AreToldBy path moments telling = AllByRecursion (IsToldBy path moments) telling.told
+
+-- the history of a file that was opened so, which nothing was told but turns at some of these moments
+pub record IsHistoryOf (processors : List ProcessorRule) (opened : Opened) (moments : List ℕ) (history : History) : Type 0 where
+  pub rule : history.rule ≡ opened.rule
+  pub processors_are : history.processors ≡ processors
+  pub begin : history.begin ≡ opened.begin
+  pub none_before : history.before ≡ []
+  pub path : history.path ≡ opened.begin.path
+  pub not_ending : history.ends ≡ false
+  pub not_forgotten : history.forgets ≡ false
+  pub epochs : AreEpochsFrom opened.begin.epoch.0 opened.begin.base (tellings_in history)
+  pub at : StandInOrder history.moments moments
+  pub told : AllByRecursion (AreToldBy opened.begin.path moments) (tellings_in history)
+
+-- its end was found, and all complete lines are told
+pub record IsToldToItsEnd (history : History) : Type 0 where
+  pub ended : history.stage ≡ Ended
+  pub all_told : left_to_tell history ≡ []
+
+-- of what its tail tells, where that does
+pub record IsToldFile (processors : List ProcessorRule) (opened : Opened) (moments : List ℕ) (turned : Turned) (told : Option TailHistory) : Type 0 where
+  pub slot : turned.slot ≡ opened.begin.slot
+  pub history : IsHistoryOf processors opened moments turned.history
+  pub epochs : AllByRecursion (IsTelling (rules_in turned.history)) (tellings_in turned.history)
+  pub looked : AreLookedAt opened.file.numbers turned.history told
+  pub tail : IfSome told (IsTailOf opened)
+  pub tells : IfSome told TellsLooks

@@ -1,0 +1,10 @@
+//! What harvesters told in a run that reads files once, by paths that stay: from what their lanes gave to the account of
+//! the run.
+//!
+//! The history of each file gives a parcel for each event that is shipped, a settlement for each that a rule dropped, and
+//! an announcement for each epoch but the first. A turn of a harvester gives its lane just what its history then has more;
+//! so do turns of several, one behind the other. Nothing is given twice, and what is given has its ground in some event or
+//! epoch. What was told of a file outlives its harvester, and from it and from the looks of its tail its account is made.
+//!
+//! Definitions and lemmas alone; nothing here runs.
+#![tactic(auto)]
