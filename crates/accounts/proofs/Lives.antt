@@ -13,7 +13,6 @@ use Rattle.outside.specs.Files.{File, life_of}
 use Rattle.outside.specs.declared.history.Look.{Look}
 use Rattle.outside.specs.declared.history.Sight.{Sight}
 use Rattle.told_events.specs.Rules.{Rules}
-use Rattle.told_events.specs.Told.{AreTold}
 use Rattle.accounts.specs.Accounted.{life_by, readings_by}
 use Rattle.accounts.specs.Opened.{Opened}
 use Rattle.accounts.proofs.Within.{none_of_nothing}
@@ -62,12 +61,12 @@ module _ (h : History) (file : File) (telling : Telling) (segment : Segment) (re
       bytes : take (read_to segment - segment.place) (drop telling.start (life_of file life)) ≡ telling.bytes
       bytes = ap (λ (n : ℕ). take (read_to segment - segment.place) (drop n (life_of file life))) (sym read.place) ∙ sym reads.bytes ∙ read.bytes
 
-  -- nothing was told, or the events are told of the life
-  pub told_of_life : (rules : Rules) (opened : Opened) (last : ℕ) → IsGroupRule rules.events → ReadsLife file (last_life last (steps_in segment)) segment →
-      IsTelling rules telling → (telling.told ≡ []) ⊎ AreTold rules telling.licences (life_of file (life_by opened segment)) telling.start telling.told
-  told_of_life rules opened last in_range reads tells = by_case telling.bytes refl
+  -- nothing was told, or the life has the bytes
+  pub life_has_bytes : (rules : Rules) (opened : Opened) (last : ℕ) → IsGroupRule rules.events → ReadsLife file (last_life last (steps_in segment)) segment →
+      IsTelling rules telling → (telling.told ≡ []) ⊎ HasBytes telling.start telling.bytes (life_of file (life_by opened segment))
+  life_has_bytes rules opened last in_range reads tells = by_case telling.bytes refl
     where
-      by_case : (bytes : List ℕ) → telling.bytes ≡ bytes → (telling.told ≡ []) ⊎ AreTold rules telling.licences (life_of file (life_by opened segment)) telling.start telling.told
+      by_case : (bytes : List ℕ) → telling.bytes ≡ bytes → (telling.told ≡ []) ⊎ HasBytes telling.start telling.bytes (life_of file (life_by opened segment))
       by_case [] none = inl (none_of_nothing rules telling in_range none tells)
       by_case (byte ∷ bytes) are =
           let to = read.to in
@@ -75,5 +74,5 @@ module _ (h : History) (file : File) (telling : Telling) (segment : Segment) (re
           let long : length telling.bytes ≡ length (byte ∷ bytes) = ap length are in
           let some : segment.place < read_to segment = omega (arith, to, place, long) in
           let life : life_by opened segment ≡ last_life last (steps_in segment) = life_is opened segment some last in
-          inr (subst (λ (n : ℕ). AreTold rules telling.licences (life_of file n) telling.start telling.told) (sym life)
-          (tells (life_of file (last_life last (steps_in segment))) (has_bytes (last_life last (steps_in segment)) reads some)))
+          inr (subst (λ (n : ℕ). HasBytes telling.start telling.bytes (life_of file n)) (sym life)
+          (has_bytes (last_life last (steps_in segment)) reads some))
