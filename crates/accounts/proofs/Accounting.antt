@@ -98,10 +98,10 @@ module _ (opened : Opened) (placed : Parcel → Option Place) where
 
   -- ---- of the file
 
-  module _ (listed changed : ℕ) (looks : List Look) (history : History) where
+  module _ (changed : ℕ) (looks : List Look) (history : History) where
     numbers_of : (epoch base : ℕ) (tellings : List Telling) (first : Segment) (later : List Segment) → epoch ≡ opened.begin.epoch.0 → base ≡ opened.begin.base →
         AreEpochsFrom epoch base tellings → (all : List EpochAccount) → epoch_accounts opened placed epoch tellings (first ∷ later) ≡ all →
-        AreNumbered (record (slot_account opened listed changed looks placed history) { epochs = all })
+        AreNumbered (record (slot_account opened changed looks placed history) { epochs = all })
     numbers_of epoch base [] first later epoch_is base_is are all is = absurd are
     numbers_of epoch base (telling ∷ tellings) first later epoch_is base_is are all is = record {
       first = epoch_account opened placed telling first;
@@ -113,27 +113,27 @@ module _ (opened : Opened) (placed : Parcel → Option Place) where
           (numbered_from telling.epoch tellings later (subst (λ (n : ℕ). AreNumberedFrom n tellings) (sym are.0) are.2));
     }
 
-    pub are_numbered : AreEpochsFrom opened.begin.epoch.0 opened.begin.base (tellings_in history) → AreNumbered (slot_account opened listed changed looks placed history)
+    pub are_numbered : AreEpochsFrom opened.begin.epoch.0 opened.begin.base (tellings_in history) → AreNumbered (slot_account opened changed looks placed history)
     are_numbered are = by_segments (segments_of opened.begin.base looks) refl
       where
-        by_segments : (segments : List Segment) → segments_of opened.begin.base looks ≡ segments → AreNumbered (slot_account opened listed changed looks placed history)
+        by_segments : (segments : List Segment) → segments_of opened.begin.base looks ≡ segments → AreNumbered (slot_account opened changed looks placed history)
         by_segments [] is = absurd cc
         by_segments (first ∷ later) is =
             numbers_of opened.begin.epoch.0 opened.begin.base (tellings_in history) first later refl refl are
-            (slot_account opened listed changed looks placed history).epochs
+            (slot_account opened changed looks placed history).epochs
             (ap (epoch_accounts opened placed opened.begin.epoch.0 (tellings_in history)) (sym is))
 
     pub reads_together : length (tellings_in history) ≤ length (segments_of opened.begin.base looks) →
-        flat_map (λ (e : EpochAccount). e.readings) (slot_account opened listed changed looks placed history).epochs
-        ≡ flat_map readings_of (slot_account opened listed changed looks placed history).following.tails
+        flat_map (λ (e : EpochAccount). e.readings) (slot_account opened changed looks placed history).epochs
+        ≡ flat_map readings_of (slot_account opened changed looks placed history).following.tails
     reads_together few =
         readings_are opened.begin.epoch.0 (tellings_in history) (segments_of opened.begin.base looks) few
         ∙ sym (append-nil (map (λ (segment : Segment). record { opening = opened.opening; segment = segment }) (segments_of opened.begin.base looks)))
 
-    pub tell_in_order : AllByRecursion (λ (e : EpochAccount). AreReadInOrder 0 e.told) (slot_account opened listed changed looks placed history).epochs
+    pub tell_in_order : AllByRecursion (λ (e : EpochAccount). AreReadInOrder 0 e.told) (slot_account opened changed looks placed history).epochs
     tell_in_order = each_in_order opened.begin.epoch.0 (tellings_in history) (segments_of opened.begin.base looks)
 
-    pub are_of_lives : AllByRecursion IsLifeOf (slot_account opened listed changed looks placed history).epochs
+    pub are_of_lives : AllByRecursion IsLifeOf (slot_account opened changed looks placed history).epochs
     are_of_lives = each_life opened.begin.epoch.0 (tellings_in history) (segments_of opened.begin.base looks)
 
 -- ---- why its epochs rise
@@ -201,12 +201,12 @@ module _ (run : Run) (key : List ℕ) (opened : Opened) (placed : Parcel → Opt
     listed = listed;
   }
 
-  module _ (listed changed : ℕ) (looks : List Look) (history : History) (key_is : key ≡ opened.begin.key)
+  module _ (changed : ℕ) (looks : List Look) (history : History) (key_is : key ≡ opened.begin.key)
       (was_listed : WasListedWith run key opened.opening (λ size. opened.begin.base ≤ size))
       (numbered : AreEpochsFrom opened.begin.epoch.0 opened.begin.base (tellings_in history))
       (few : length (tellings_in history) ≤ length (segments_of opened.begin.base looks)) where
     abbrev one : SlotAccount
-    one = slot_account opened listed changed looks placed history
+    one = slot_account opened changed looks placed history
 
     rises_and_goes_on : (tellings : List Telling) (segments : List Segment) → AreEpochsFrom opened.begin.epoch.0 opened.begin.base tellings →
         AreSegments opened.begin.base looks segments →
@@ -226,16 +226,16 @@ module _ (run : Run) (key : List ℕ) (opened : Opened) (placed : Parcel → Opt
         )
 
     -- the epochs of the account are those of the slot
-    pub are_epochs : AreEpochs run (slot_account opened listed changed looks placed history)
+    pub are_epochs : AreEpochs run (slot_account opened changed looks placed history)
     are_epochs =
         let both = rises_and_goes_on (tellings_in history) (segments_of opened.begin.base looks) numbered (segments_are opened.begin.base looks) in
         record {
-          numbered = are_numbered opened placed listed changed looks history numbered;
+          numbered = are_numbered opened placed changed looks history numbered;
           rises = subst (λ (k : List ℕ). EachRises run k one.epochs) key_is both.0;
           go_on = subst (λ (k : List ℕ). AllByRecursion (λ (e : EpochAccount). GoOnWithin run k e e.readings) one.epochs) key_is both.1;
-          in_order = tell_in_order opened placed listed changed looks history;
-          lives = are_of_lives opened placed listed changed looks history;
-          together = reads_together opened placed listed changed looks history few;
+          in_order = tell_in_order opened placed changed looks history;
+          lives = are_of_lives opened placed changed looks history;
+          together = reads_together opened placed changed looks history few;
         }
 
 -- ---- no epoch is without its segment

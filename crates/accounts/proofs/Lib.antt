@@ -11,6 +11,7 @@ pub mod Often
 pub mod Onward
 pub mod Same
 pub mod Singles
+pub mod Slots
 pub mod Telling
 pub mod Turning
 pub mod Within

@@ -10,13 +10,13 @@ use Rattle.event_tree.specs.declared.processor_rule.ProcessorRule.{ProcessorRule
 use Rattle.file_looks.specs.Reading.{EachReadsLife, ReadsLife, last_life}
 use Rattle.file_looks.specs.Segment.{Segment, steps_in}
 use Rattle.harvester.specs.History.{HasBytes, History, IsTelling, Telling, read_to, timeout_in}
-use Rattle.harvester.specs.Looked.{AreReadBy, IsReadBy}
+use Rattle.harvester.specs.Looked.{IsReadBy}
 use Rattle.kept_rows.specs.Account.{AccountedEvent, EpochAccount, Place, SlotAccount, events_of}
 use Rattle.kept_rows.specs.Run.{Run, Scan}
 use Rattle.kept_rows.specs.Scans.{IsFirstPath}
 use Rattle.kept_rows.specs.Telling.{IsEpochTold, IsLicence, IsToldOf}
 use Rattle.multiline_core.specs.Rule.{IsGroupRule, timeout_of}
-use Rattle.outside.specs.Files.{life_of}
+use Rattle.outside.specs.Files.{File, life_of}
 use Rattle.outside.specs.declared.history.Look.{Look}
 use Rattle.ship_core.specs.CoveredEnd.{Adjoin}
 use Rattle.told_events.specs.Licence.{LieApart}
@@ -32,6 +32,12 @@ use Rattle.accounts.proofs.Licensed.{licences_are_given, lie_apart_among}
 use Rattle.accounts.proofs.Lives.{life_has_bytes}
 use Rattle.accounts.proofs.Singles.{single_needs_no_licence}
 use Rattle.accounts.proofs.Within.{told_within_read}
+
+-- the first of the segments read these
+abbrev pub AreReadFirst : History → File → List Telling → List Segment → Type 0
+AreReadFirst h file [] segments = Unit {0}
+AreReadFirst h file (telling ∷ tellings) [] = ⊥
+AreReadFirst h file (telling ∷ tellings) (segment ∷ segments) = IsReadBy h file telling segment × AreReadFirst h file tellings segments
 
 -- ---- events
 
@@ -83,11 +89,11 @@ module _ (rules : Rules) (life : List ℕ) (start : ℕ) (told : List ToldEvent)
 -- ---- an epoch
 
 module _ (run : Run) (processors : List ProcessorRule) (opened : Opened) (h : History) (is : IsHistoryOf processors opened run.trace.moments h)
-    (placed : Parcel → Option Place) (listed changed : ℕ) (looks : List Look) (file_is : slice_get run.trace.files listed ≡ Some opened.file)
-    (once : run.once ≡ true) (scan : Scan) (scans : run.scans ≡ scan ∷ []) (first : IsFirstPath run scan opened.begin.key listed opened.begin.path)
+    (placed : Parcel → Option Place) (changed : ℕ) (looks : List Look) (file_is : slice_get run.trace.files opened.number ≡ Some opened.file)
+    (once : run.once ≡ true) (scan : Scan) (scans : run.scans ≡ scan ∷ []) (first : IsFirstPath run scan opened.begin.key opened.number opened.begin.path)
     (in_range : IsGroupRule opened.rule.multiline) where
   abbrev one : SlotAccount
-  one = slot_account opened listed changed looks placed h
+  one = slot_account opened changed looks placed h
 
   abbrev rules : Rules
   rules = rules_of opened.rule processors
@@ -108,7 +114,7 @@ module _ (run : Run) (processors : List ProcessorRule) (opened : Opened) (h : Hi
         scan = scan;
         behind = [];
         scans_are = scans;
-        first = subst (λ (path : List ℕ). IsFirstPath run scan opened.begin.key listed path) (sym so.by.path_is) first;
+        first = subst (λ (path : List ℕ). IsFirstPath run scan opened.begin.key opened.number path) (sym so.by.path_is) first;
         none_nearer = tt;
       };
       given = so.by.given;
@@ -162,7 +168,7 @@ module _ (run : Run) (processors : List ProcessorRule) (opened : Opened) (h : Hi
   untold_are_told number [] = tt
   untold_are_told number (segment ∷ segments) = (inl refl, untold_are_told (number + 1) segments)
 
-  epochs_are_told : (number last : ℕ) (tellings : List Telling) (segments : List Segment) → AreReadBy h opened.file tellings segments →
+  pub epochs_are_told : (number last : ℕ) (tellings : List Telling) (segments : List Segment) → AreReadFirst h opened.file tellings segments →
       EachReadsLife opened.file last segments → AllByRecursion (IsTelling rules) tellings →
       AllByRecursion (AreToldBy opened.begin.path run.trace.moments) tellings →
       AllByRecursion (IsEpochTold run rules one) (epoch_accounts opened placed number tellings segments)

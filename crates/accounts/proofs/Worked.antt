@@ -58,7 +58,7 @@ history = record {
 abbrev placed : Parcel → Option Place
 placed parcel = Some (record { wire = 0; connection = 0; number = if parcel.span.start == 0 then 0 else 1 })
 
-pub two_plain_lines_are_accounted : slot_account opened 0 0 worked.looks placed history ≡ worked.slot_account
+pub two_plain_lines_are_accounted : slot_account opened 0 worked.looks placed history ≡ worked.slot_account
 two_plain_lines_are_accounted = refl
 
 -- ---- what it gave

@@ -1,14 +1,17 @@
 -- The account of a file that was told in a run that reads files once, by a path that stays (this project's profile): one tail
 -- followed it, and each of its epochs was read through one segment of that tail's looks. Behind its last epoch may stand one of
 -- which nothing was told, where the length fell at last.
-use Rattle.std.specs.Prelude.{ℕ, ◌+◌, List, [], ◌∷◌, map, Option, None}
+use Rattle.std.specs.Prelude.{◌≡◌, ℕ, ◌+◌, ◌≤◌, List, [], ◌∷◌, map, slice_get, Option, None, Some}
 use Rattle.std.specs.Option.{option_map_or}
 use Rattle.event_tree.specs.declared.group_rule.GroupRule.{GroupRule}
 use Rattle.event_tree.specs.declared.group_rule.GroupRule.TheVariants.{Count, Pattern, Single}
 use Rattle.file_looks.specs.Segment.{Segment, segments_of}
 use Rattle.harvester.specs.History.{History, Telling}
 use Rattle.kept_rows.specs.Account.{AccountedEvent, EpochAccount, Place, Reading, SlotAccount}
-use Rattle.kept_rows.specs.Epochs.{first_sight_of, life_read}
+use Rattle.kept_rows.specs.Epochs.{WasListedWith, first_sight_of, life_read}
+use Rattle.kept_rows.specs.Run.{Run, Scan}
+use Rattle.kept_rows.specs.Scans.{IsFirstPath}
+use Rattle.kept_rows.specs.Trace.{IsTail}
 use Rattle.outside.specs.declared.history.Look.{Look}
 use Rattle.told_events.specs.Fate.{DroppedBy, Fate, ShippedAs}
 use Rattle.told_events.specs.Told.{ToldEvent}
@@ -74,9 +77,9 @@ epoch_accounts opened placed before (telling ∷ tellings) [] = []
 epoch_accounts opened placed before (telling ∷ tellings) (segment ∷ segments) =
     epoch_account opened placed telling segment ∷ epoch_accounts opened placed telling.epoch tellings segments
 
--- of the file that was listed, by the looks of its tail; `changed` is the greatest moment that was noted of it
-abbrev pub slot_account : Opened → ℕ → ℕ → List Look → (Parcel → Option Place) → History → SlotAccount
-slot_account opened listed changed looks placed history = record {
+-- by the looks of its tail; `changed` is the greatest moment that was noted of it
+abbrev pub slot_account : Opened → ℕ → List Look → (Parcel → Option Place) → History → SlotAccount
+slot_account opened changed looks placed history = record {
   following = record {
     slot = opened.begin.slot.0;
     input = opened.begin.input;
@@ -87,7 +90,18 @@ slot_account opened listed changed looks placed history = record {
     gone_after = None;
     tails = record { opening = opened.opening; place = opened.begin.base; looks = looks; beyond = [] } ∷ [];
   };
-  number = listed;
+  number = opened.number;
   changed = changed;
   epochs = epoch_accounts opened placed opened.begin.epoch.0 (tellings_in history) (segments_of opened.begin.base looks);
 }
+
+-- what the run shows of it: of which input it is, what its tail told, and that the one scan showed it, by this path first, with at
+-- least the size from which on it was followed
+pub record IsFileOf (run : Run) (opened : Opened) (looks : List Look) : Type 0 where
+  pub rule_is : slice_get run.settings.inputs opened.begin.input ≡ Some opened.rule
+  pub file_is : slice_get run.trace.files opened.number ≡ Some opened.file
+  pub tail : IsTail run.trace opened.opening opened.begin.path opened.number looks
+  pub scan : Scan
+  pub only : run.scans ≡ scan ∷ []
+  pub first : IsFirstPath run scan opened.begin.key opened.number opened.begin.path
+  pub listed : WasListedWith run opened.begin.key opened.opening (λ size. opened.begin.base ≤ size)
