@@ -1,6 +1,7 @@
 pub mod Accounting
 pub mod Apart
 pub mod Cuts
+pub mod Falls
 pub mod Given
 pub mod Ground
 pub mod Histories

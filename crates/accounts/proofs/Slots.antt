@@ -14,8 +14,8 @@ use Rattle.file_looks.specs.Looks.{AreLooks}
 use Rattle.file_looks.specs.Reading.{ReadOn}
 use Rattle.file_looks.specs.Segment.{Segment, segments_of, steps_in}
 use Rattle.file_looks.specs.Truncation.{SeesTruncations}
-use Rattle.harvester.specs.History.{History, IsTelling, Telling, rules_in}
-use Rattle.harvester.specs.Looked.{AreReadBy, IsLookedAt, IsReadBy}
+use Rattle.harvester.specs.History.{Asks, Changed, Ended, History, IsTelling, Over, Reads, Stage, Telling, rules_in}
+use Rattle.harvester.specs.Looked.{AreReadBy, HasChanged, HasFallen, IsLookedAt, IsReadBy, StandBehind}
 use Rattle.kept_rows.specs.Account.{Place}
 use Rattle.kept_rows.specs.Premises.{KeepsIdentity}
 use Rattle.kept_rows.specs.Run.{Run, Scan}
@@ -34,6 +34,7 @@ use Rattle.accounts.specs.Opened.{Opened}
 use Rattle.accounts.specs.ToldFile.{IsToldFile}
 use Rattle.accounts.specs.Turned.{Turned, tellings_in}
 use Rattle.accounts.proofs.Accounting.{are_epochs, epochs_have_segments}
+use Rattle.accounts.proofs.Falls.{fallen, fallen_reads_on, segments_with_fall}
 use Rattle.accounts.proofs.Telling.{AreReadFirst, epochs_are_told}
 
 -- ---- the segments that read its epochs
@@ -76,6 +77,57 @@ read_whole h opened told file_is begin none looked nothing =
       on = subst (AllByRecursion (λ (segment : Segment). ReadOn (steps_in segment))) segments (reads_on h opened.file h.past h.present looked.front looked.last [] past present tt);
     }
 
+-- where the length was below what was read at last, and only the key was asked behind
+read_fallen : (h : History) (opened : Opened) (told : TailHistory) → told.file ≡ opened.file → h.begin ≡ opened.begin → h.before ≡ [] →
+    (looked : IsLookedAt opened.file.numbers h told) → HasFallen h looked.beyond → IsReadSo h opened told.looks
+read_fallen h opened told file_is begin none looked fallen_so =
+    let base : h.begin.base ≡ opened.begin.base = ap (λ (b : Begin). b.base) begin in
+    let all : told.looks ≡ looked.since ++ fallen_so.fall ∷ fallen_so.later = looked.looks_are ∙ ap (λ (l : List Look). l ++ (looked.since ++ looked.beyond)) none
+    ∙ ap (λ (l : List Look). looked.since ++ l) fallen_so.looks_are in
+    let to = looked.present.to in
+    let below = fallen_so.below in
+    let more = fallen fallen_so.fall fallen_so.later in
+    let segments : looked.front ++ looked.last ∷ more ≡ segments_of opened.begin.base told.looks =
+    sym (segments_with_fall h.begin.base looked.since fallen_so.fall fallen_so.later looked.front looked.last looked.segments fallen_so.asks (omega (arith, to, below)))
+    ∙ ap (λ (n : ℕ). segments_of n (looked.since ++ fallen_so.fall ∷ fallen_so.later)) base ∙ ap (segments_of opened.begin.base) (sym all) in
+    let file : with_numbers opened.file.numbers told.file ≡ opened.file = ap (with_numbers opened.file.numbers) file_is in
+    let past : AreReadBy h opened.file h.past looked.front = subst (λ (f : File). AreReadBy h f h.past looked.front) file looked.past in
+    let present : IsReadBy h opened.file h.present looked.last = subst (λ (f : File). IsReadBy h f h.present looked.last) file looked.present in
+    record {
+      few = epochs_have_segments opened.file.numbers opened h told begin none looked;
+      first = subst (AreReadFirst h opened.file (tellings_in h)) segments (read_first h opened.file h.past h.present looked.front looked.last more past present);
+      on = subst (AllByRecursion (λ (segment : Segment). ReadOn (steps_in segment))) segments
+          (reads_on h opened.file h.past h.present looked.front looked.last more past present (fallen_reads_on fallen_so.fall fallen_so.later fallen_so.only_reads));
+    }
+
+-- a file that is known by its path has no other key
+no_other_path : (identity : IdentityRule) (id key path : List ℕ) (file : File) (asked : List Look) → identity ≡ Path → named_key id Path path file.numbers ≡ Some key →
+    given_key id identity path file asked ≡ Some key
+no_other_path identity id key path file asked is key_is = ap (λ (i : IdentityRule). given_key id i path file asked) is ∙ key_is
+
+-- wherever the file stands
+read_by_path : (h : History) (opened : Opened) (told : TailHistory) → told.file ≡ opened.file → h.begin ≡ opened.begin → h.before ≡ [] → h.rule ≡ opened.rule →
+    opened.rule.file_identity ≡ Path → named_key opened.rule.id Path opened.begin.path opened.file.numbers ≡ Some opened.begin.key →
+    (looked : IsLookedAt opened.file.numbers h told) → IsReadSo h opened told.looks
+read_by_path h opened told file_is begin none rule_is by_path key_is looked = by_stage h.stage looked.stand_behind
+  where
+    no_other : HasChanged h (with_numbers opened.file.numbers told.file) looked.beyond → ⊥
+    no_other changed =
+        let identity : h.rule.file_identity ≡ Path = ap (λ (r : InputRule). r.file_identity) rule_is ∙ by_path in
+        let id : h.rule.id ≡ opened.rule.id = ap (λ (r : InputRule). r.id) rule_is in
+        let path : h.begin.path ≡ opened.begin.path = ap (λ (b : Begin). b.path) begin in
+        let key : h.begin.key ≡ opened.begin.key = ap (λ (b : Begin). b.key) begin in
+        let same : named_key h.rule.id Path h.begin.path opened.file.numbers ≡ Some h.begin.key =
+        (λ k. named_key (id k) Path (path k) opened.file.numbers) ∙ key_is ∙ ap Some (sym key) in
+        changed.other.other (no_other_path h.rule.file_identity h.rule.id h.begin.key h.begin.path (with_numbers opened.file.numbers told.file) changed.other.asked identity same)
+
+    by_stage : (stage : Stage) → StandBehind h (with_numbers opened.file.numbers told.file) stage looked.beyond → IsReadSo h opened told.looks
+    by_stage Reads behind = read_whole h opened told file_is begin none looked behind
+    by_stage Ended behind = read_whole h opened told file_is begin none looked behind
+    by_stage Asks behind = read_fallen h opened told file_is begin none looked behind
+    by_stage Over behind = read_fallen h opened told file_is begin none looked behind.fallen
+    by_stage Changed behind = absurd (no_other behind)
+
 -- ---- the account
 
 slot_by : (run : Run) (opened : Opened) (turned : Turned) (told : TailHistory) (placed : Parcel → Option Place) (changed last : ℕ) →
@@ -102,15 +154,15 @@ slot_by run opened turned told placed changed last is shown once in_range seen n
       went = tt;
     }
 
--- where no look stands behind its epochs
 pub is_slot_account : (run : Run) (opened : Opened) (turned : Turned) (told : TailHistory) (placed : Parcel → Option Place) (changed last : ℕ) →
-    (is : IsToldFile run.settings.processors opened run.trace.moments turned (Some told)) → is.looked.beyond ≡ [] → IsFileOf run opened told.looks → run.once ≡ true →
-    IsGroupRule opened.rule.multiline → SeesTruncations last (segments_of opened.begin.base told.looks) →
+    IsToldFile run.settings.processors opened run.trace.moments turned (Some told) → IsFileOf run opened told.looks → run.once ≡ true →
+    IsGroupRule opened.rule.multiline → opened.rule.file_identity ≡ Path → named_key opened.rule.id Path opened.begin.path opened.file.numbers ≡ Some opened.begin.key →
+    SeesTruncations last (segments_of opened.begin.base told.looks) →
     IsNotedMoment run (slot_account opened changed told.looks placed turned.history).following changed →
     IsSlotAccount run (slot_account opened changed told.looks placed turned.history)
-is_slot_account run opened turned told placed changed last is nothing shown once in_range seen noted =
+is_slot_account run opened turned told placed changed last is shown once in_range by_path key_is seen noted =
     slot_by run opened turned told placed changed last is shown once in_range seen noted
-    (read_whole turned.history opened told is.tail.file is.history.begin is.history.none_before is.looked nothing)
+    (read_by_path turned.history opened told is.tail.file is.history.begin is.history.none_before is.history.rule by_path key_is is.looked)
 
 -- ---- the file that was listed
 
