@@ -122,7 +122,7 @@ module _ (slot : Slot) (epoch : ℕ) where
 
 -- ---- the epochs of a file
 
-abbrev numbers_of : List Telling → List ℕ
+abbrev pub numbers_of : List Telling → List ℕ
 numbers_of tellings = map (λ (telling : Telling). telling.epoch) tellings
 
 numbers_later : (before : ℕ) (tellings : List Telling) (number : ℕ) → AreNumberedFrom before tellings → Contains (numbers_of tellings) number → before < number

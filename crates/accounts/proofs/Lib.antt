@@ -1,5 +1,6 @@
 pub mod Accounting
 pub mod Apart
+pub mod Backing
 pub mod Cuts
 pub mod Falls
 pub mod Given

@@ -1,4 +1,5 @@
 pub mod Accounted
+pub mod Filed
 pub mod Ground
 pub mod Once
 pub mod Opened

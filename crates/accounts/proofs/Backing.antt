@@ -1,0 +1,162 @@
+-- What files gave is backed by their accounts: the Begin of each, its announcements, and settlements of its events.
+use Rattle.std.proofs.Common.{◌≡◌, ◌⊎◌, inl, inr, ℕ, ◌≤◌, ◌==◌, List, [], ◌∷◌, Contains, IsSome, length, map, Option, Some, refl, sym, ap, subst, ◌∙◌, arith, if◌then◌else◌}
+use Rattle.std.specs.Option.{option_and_then}
+use Rattle.std.proofs.lemmas.Bool.{cond-false, cond-true, eq-eqb, ne_eqb}
+use Rattle.file_looks.specs.Segment.{Segment, segments_of}
+use Rattle.harvester.specs.History.{Telling}
+use Rattle.kept_rows.specs.Account.{EpochAccount, Place, SlotAccount, epoch_at, epoch_of, slot_at}
+use Rattle.kept_rows.specs.Acknowledged.{IsAcknowledgedAt}
+use Rattle.kept_rows.specs.Backed.{Backs, BacksMoment, BacksSettle}
+use Rattle.kept_rows.specs.Kept.{SettlesAs}
+use Rattle.kept_rows.specs.Scans.{AreDistinct}
+use Rattle.kept_rows.specs.Trace.{WireTold}
+use Rattle.ship_core.proofs.Members.{first_there, later_there, none_there, there_cases}
+use Rattle.told_events.specs.Fate.{DroppedBy, Fate, ShippedAs, cause_of_fate}
+use Rattle.told_events.specs.Told.{ToldEvent}
+use Rattle.wire_base.specs.Extent.{Extent}
+use Rattle.wire_base.specs.declared.note.Cause.{Cause}
+use Rattle.wire_base.specs.declared.note.Cause.TheVariants.{Acked}
+use Rattle.wire_base.specs.declared.note.Note.{Note}
+use Rattle.wire_base.specs.declared.note.Note.TheVariants.{Announce, Begin, Settle}
+use Rattle.wire_base.specs.declared.numbers.Moment.{Moment}
+use Rattle.wire_base.specs.declared.numbers.Slot.{Slot}
+use Rattle.wire_base.specs.declared.parcel.Parcel.{Parcel}
+use Rattle.accounts.specs.Accounted.{accounted, epoch_account, epoch_accounts, place_by}
+use Rattle.accounts.specs.Filed.{Filed, IsFiled, account_of, accounts_of, slot_in}
+use Rattle.accounts.specs.Ground.{IsSettlementOf}
+use Rattle.accounts.specs.Opened.{Opened}
+use Rattle.accounts.specs.Turned.{tellings_in}
+use Rattle.accounts.proofs.Apart.{epochs_apart, numbers_of}
+
+mapped_there : {A B : Type 0} (f : A → B) (xs : List A) (x : A) → Contains xs x → Contains (map f xs) (f x)
+mapped_there f [] x there = absurd (none_there x there)
+mapped_there f (first ∷ xs) x there = by_case (there_cases first x xs there) (mapped_there f xs x)
+  where
+    by_case : (first ≡ x) ⊎ Contains xs x → (Contains xs x → Contains (map f xs) (f x)) → Contains (f first ∷ map f xs) (f x)
+    by_case (inl same) others = subst (λ y. Contains (f first ∷ map f xs) (f y)) same (first_there (f first) (map f xs))
+    by_case (inr later) others = later_there (f first) (f x) (map f xs) (others later)
+
+-- ---- found in the account
+
+module _ (placed : Parcel → Option Place) where
+  pub slot_found : (files : List Filed) (file : Filed) → Contains files file → AreDistinct (map slot_in files) → slot_at (slot_in file) (accounts_of placed files) ≡ Some (account_of placed file)
+  slot_found [] file there apart = absurd (none_there file there)
+  slot_found (first ∷ files) file there apart =
+      by_case (there_cases first file files there) (λ later. slot_found files file later apart.1)
+    where
+      by_case : (first ≡ file) ⊎ Contains files file → (Contains files file → slot_at (slot_in file) (accounts_of placed files) ≡ Some (account_of placed file)) →
+          (if slot_in first == slot_in file then Some (account_of placed first) else slot_at (slot_in file) (accounts_of placed files)) ≡ Some (account_of placed file)
+      by_case (inl same) further =
+          cond-true (slot_in first == slot_in file) (Some (account_of placed first)) (slot_at (slot_in file) (accounts_of placed files))
+          (eq-eqb (slot_in first) (slot_in file) (ap slot_in same))
+          ∙ ap (λ (f : Filed). Some (account_of placed f)) same
+      by_case (inr later) further =
+          cond-false (slot_in first == slot_in file) (Some (account_of placed first)) (slot_at (slot_in file) (accounts_of placed files))
+          (ne_eqb (slot_in first) (slot_in file) (λ same. apart.0 (subst (λ (n : ℕ). Contains (map slot_in files) n) (sym same) (mapped_there slot_in files file later))))
+          ∙ further later
+
+  record HasEpoch (opened : Opened) (telling : Telling) (found : Option EpochAccount) : Type 0 where
+    segment : Segment
+    is : found ≡ Some (epoch_account opened placed telling segment)
+
+  epoch_found : (opened : Opened) (number : ℕ) (tellings : List Telling) (segments : List Segment) (telling : Telling) → Contains tellings telling → AreDistinct (numbers_of tellings) →
+      length tellings ≤ length segments → HasEpoch opened telling (epoch_at telling.epoch (epoch_accounts opened placed number tellings segments))
+  epoch_found opened number [] segments telling there apart few = absurd (none_there telling there)
+  epoch_found opened number (first ∷ tellings) [] telling there apart few = absurd (omega (arith, few))
+  epoch_found opened number (first ∷ tellings) (segment ∷ segments) telling there apart few =
+      by_case (there_cases first telling tellings there) (λ later. epoch_found opened first.epoch tellings segments telling later apart.1 (omega (arith, few)))
+    where
+      by_case : (first ≡ telling) ⊎ Contains tellings telling →
+          (Contains tellings telling → HasEpoch opened telling (epoch_at telling.epoch (epoch_accounts opened placed first.epoch tellings segments))) →
+          HasEpoch opened telling (if first.epoch == telling.epoch then Some (epoch_account opened placed first segment) else epoch_at telling.epoch (epoch_accounts opened placed first.epoch tellings segments))
+      by_case (inl same) further = record {
+        segment = segment;
+        is = cond-true (first.epoch == telling.epoch) (Some (epoch_account opened placed first segment)) (epoch_at telling.epoch (epoch_accounts opened placed first.epoch tellings segments))
+            (eq-eqb first.epoch telling.epoch (ap (λ (t : Telling). t.epoch) same))
+            ∙ ap (λ (t : Telling). Some (epoch_account opened placed t segment)) same;
+      }
+      by_case (inr later) further =
+          let found = further later in
+          record {
+            segment = found.segment;
+            is = cond-false (first.epoch == telling.epoch) (Some (epoch_account opened placed first segment)) (epoch_at telling.epoch (epoch_accounts opened placed first.epoch tellings segments))
+                (ne_eqb first.epoch telling.epoch (λ same. apart.0 (subst (λ (n : ℕ). Contains (numbers_of tellings) n) (sym same) (mapped_there (λ (t : Telling). t.epoch) tellings telling later))))
+                ∙ found.is;
+          }
+
+  -- ---- notes
+
+  module _ (wires : List WireTold) (files : List Filed) (apart : AreDistinct (map slot_in files)) (file : Filed) (among : Contains files file) (filed : IsFiled file) where
+    abbrev account : List SlotAccount
+    account = accounts_of placed files
+
+    slot_is : file.turned.slot.0 ≡ slot_in file
+    slot_is = ap (λ (s : Slot). s.0) filed.slot
+
+    epoch_in : (telling : Telling) → Contains (tellings_in file.turned.history) telling → HasEpoch file.opened telling (epoch_of account file.turned.slot.0 telling.epoch)
+    epoch_in telling there =
+        let numbers = epochs_apart file.opened.begin.epoch.0 file.opened.begin.base (tellings_in file.turned.history) filed.epochs in
+        let found = epoch_found file.opened file.opened.begin.epoch.0 (tellings_in file.turned.history) (segments_of file.opened.begin.base file.looks) telling there numbers filed.few in
+        record {
+          segment = found.segment;
+          is = ap (λ (n : ℕ). epoch_of account n telling.epoch) slot_is
+              ∙ ap (λ (o : Option SlotAccount). option_and_then (λ one. epoch_at telling.epoch one.epochs) o) (slot_found files file among apart)
+              ∙ found.is;
+        }
+
+    pub begin_is_backed : (key path : List ℕ) (changed : Moment) → key ≡ file.opened.begin.key → changed.0 ≤ file.changed →
+        Backs account wires (Begin file.opened.begin.slot key path file.opened.begin.epoch file.opened.begin.base changed)
+    begin_is_backed key path changed key_is within = (
+      record {
+        one = account_of placed file;
+        slot_is = slot_found files file among apart;
+        key_is = sym key_is;
+        epoch_is = refl;
+        base_is = refl;
+      },
+      record { one = account_of placed file; slot_is = slot_found files file among apart; moment_within = within },
+    )
+
+    pub moment_is_backed : (changed : ℕ) → changed ≤ file.changed → BacksMoment account (slot_in file) changed
+    moment_is_backed changed within = record { one = account_of placed file; slot_is = slot_found files file among apart; moment_within = within }
+
+    module _ (telling : Telling) (there : Contains (tellings_in file.turned.history) telling) where
+      pub announcement_is_backed : Backs account wires (Announce file.turned.slot (record { 0 = telling.epoch }))
+      announcement_is_backed = subst (λ (o : Option EpochAccount). IsSome o) (sym (epoch_in telling there).is) refl
+
+      event_is_settled : (event : ToldEvent) (cause : Cause) → Contains telling.told event → cause_of_fate event.fate ≡ cause →
+          SettlesAs wires event.fate (place_by placed file.opened.begin.slot telling.epoch event.span event.fate) →
+          BacksSettle account wires file.turned.slot.0 telling.epoch event.span cause
+      event_is_settled event cause told cause_is settled = record {
+        told_in = epoch_account file.opened placed telling (epoch_in telling there).segment;
+        epoch_is = (epoch_in telling there).is;
+        one = accounted placed file.opened.begin.slot telling.epoch event;
+        told = mapped_there (accounted placed file.opened.begin.slot telling.epoch) telling.told event told;
+        span_is = refl;
+        cause_is = cause_is;
+        settled = settled;
+      }
+
+      pub dropped_is_backed : (note : Note) → IsSettlementOf file.turned telling note → Backs account wires note
+      dropped_is_backed note of =
+          subst (Backs account wires) (sym of.is)
+          (event_is_settled of.event (cause_of_fate (DroppedBy of.rule)) of.told (ap cause_of_fate of.fate_is)
+          (subst (λ (fate : Fate). SettlesAs wires fate (place_by placed file.opened.begin.slot telling.epoch of.event.span fate)) (sym of.fate_is) tt))
+
+      -- of a parcel that was acknowledged where it is placed
+      pub acknowledged_is_backed : (event : ToldEvent) (parcel : Parcel) (place : Place) → Contains telling.told event → parcel.slot ≡ file.turned.slot → parcel.epoch.0 ≡ telling.epoch →
+          parcel.span ≡ event.span → event.fate ≡ ShippedAs parcel.payload → placed parcel ≡ Some place → IsAcknowledgedAt wires parcel.payload place →
+          Backs account wires (Settle parcel.slot parcel.epoch parcel.span Acked)
+      acknowledged_is_backed event parcel place told slot epoch span fate at acknowledged =
+          let slots : file.opened.begin.slot ≡ parcel.slot = sym filed.slot ∙ sym slot in
+          let epochs : telling.epoch ≡ parcel.epoch.0 = sym epoch in
+          let spans : event.span ≡ parcel.span = sym span in
+          let made : Parcel = record { slot = file.opened.begin.slot; epoch = record { 0 = telling.epoch }; span = event.span; payload = parcel.payload } in
+          let is : made ≡ parcel = λ k. record { slot = slots k; epoch = record { 0 = epochs k }; span = spans k; payload = parcel.payload } in
+          let settled : SettlesAs wires (ShippedAs parcel.payload) (placed made) =
+          subst (λ (o : Option Place). SettlesAs wires (ShippedAs parcel.payload) o) (sym (ap placed is ∙ at)) acknowledged in
+          let backed = event_is_settled event Acked told (ap cause_of_fate fate)
+          (subst (λ (one : Fate). SettlesAs wires one (place_by placed file.opened.begin.slot telling.epoch event.span one)) (sym fate) settled) in
+          let by_slot = subst (λ (s : Slot). BacksSettle account wires s.0 telling.epoch event.span Acked) (sym slot) backed in
+          let by_epoch = subst (λ (n : ℕ). BacksSettle account wires parcel.slot.0 n event.span Acked) epochs by_slot in
+          subst (λ (e : Extent). BacksSettle account wires parcel.slot.0 parcel.epoch.0 e Acked) spans by_epoch
