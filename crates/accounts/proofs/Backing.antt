@@ -28,7 +28,7 @@ use Rattle.accounts.specs.Opened.{Opened}
 use Rattle.accounts.specs.Turned.{tellings_in}
 use Rattle.accounts.proofs.Apart.{epochs_apart, numbers_of}
 
-mapped_there : {A B : Type 0} (f : A → B) (xs : List A) (x : A) → Contains xs x → Contains (map f xs) (f x)
+pub mapped_there : {A B : Type 0} (f : A → B) (xs : List A) (x : A) → Contains xs x → Contains (map f xs) (f x)
 mapped_there f [] x there = absurd (none_there x there)
 mapped_there f (first ∷ xs) x there = by_case (there_cases first x xs there) (mapped_there f xs x)
   where

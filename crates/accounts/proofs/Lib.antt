@@ -11,6 +11,7 @@ pub mod Lists
 pub mod Lives
 pub mod Often
 pub mod Onward
+pub mod Orderly
 pub mod Same
 pub mod Singles
 pub mod Slots
