@@ -250,7 +250,7 @@ more_segments (segment ∷ before) [] on = absurd (no before on)
 more_segments (segment ∷ []) (grown ∷ now) on = omega arith
 more_segments (segment ∷ other ∷ before) (same ∷ now) on = omega (arith, more_segments (other ∷ before) now on.1)
 
-as_many : (h : History) (file : File) (tellings : List Telling) (segments : List Segment) → AreReadBy h file tellings segments → length tellings ≡ length segments
+pub as_many : (h : History) (file : File) (tellings : List Telling) (segments : List Segment) → AreReadBy h file tellings segments → length tellings ≡ length segments
 as_many h file [] [] are = refl
 as_many h file [] (segment ∷ segments) are = absurd are
 as_many h file (telling ∷ tellings) [] are = absurd are

@@ -2,6 +2,7 @@ pub mod Accounting
 pub mod Apart
 pub mod Backing
 pub mod Cuts
+pub mod Ends
 pub mod Falls
 pub mod Given
 pub mod Ground

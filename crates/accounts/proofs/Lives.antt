@@ -61,13 +61,13 @@ module _ (h : History) (file : File) (telling : Telling) (segment : Segment) (re
       bytes : take (read_to segment - segment.place) (drop telling.start (life_of file life)) ≡ telling.bytes
       bytes = ap (λ (n : ℕ). take (read_to segment - segment.place) (drop n (life_of file life))) (sym read.place) ∙ sym reads.bytes ∙ read.bytes
 
-  -- nothing was told, or the life has the bytes
-  pub life_has_bytes : (rules : Rules) (opened : Opened) (last : ℕ) → IsGroupRule rules.events → ReadsLife file (last_life last (steps_in segment)) segment →
-      IsTelling rules telling → (telling.told ≡ []) ⊎ HasBytes telling.start telling.bytes (life_of file (life_by opened segment))
-  life_has_bytes rules opened last in_range reads tells = by_case telling.bytes refl
+  -- nothing was read, or the life has the bytes
+  pub bytes_or_none : (opened : Opened) (last : ℕ) → ReadsLife file (last_life last (steps_in segment)) segment →
+      (telling.bytes ≡ []) ⊎ HasBytes telling.start telling.bytes (life_of file (life_by opened segment))
+  bytes_or_none opened last reads = by_case telling.bytes refl
     where
-      by_case : (bytes : List ℕ) → telling.bytes ≡ bytes → (telling.told ≡ []) ⊎ HasBytes telling.start telling.bytes (life_of file (life_by opened segment))
-      by_case [] none = inl (none_of_nothing rules telling in_range none tells)
+      by_case : (bytes : List ℕ) → telling.bytes ≡ bytes → (telling.bytes ≡ []) ⊎ HasBytes telling.start telling.bytes (life_of file (life_by opened segment))
+      by_case [] none = inl none
       by_case (byte ∷ bytes) are =
           let to = read.to in
           let place = read.place in
@@ -76,3 +76,13 @@ module _ (h : History) (file : File) (telling : Telling) (segment : Segment) (re
           let life : life_by opened segment ≡ last_life last (steps_in segment) = life_is opened segment some last in
           inr (subst (λ (n : ℕ). HasBytes telling.start telling.bytes (life_of file n)) (sym life)
           (has_bytes (last_life last (steps_in segment)) reads some))
+
+  -- nothing was told, or the life has the bytes
+  pub life_has_bytes : (rules : Rules) (opened : Opened) (last : ℕ) → IsGroupRule rules.events → ReadsLife file (last_life last (steps_in segment)) segment →
+      IsTelling rules telling → (telling.told ≡ []) ⊎ HasBytes telling.start telling.bytes (life_of file (life_by opened segment))
+  life_has_bytes rules opened last in_range reads tells = by_case (bytes_or_none opened last reads)
+    where
+      by_case : (telling.bytes ≡ []) ⊎ HasBytes telling.start telling.bytes (life_of file (life_by opened segment)) →
+          (telling.told ≡ []) ⊎ HasBytes telling.start telling.bytes (life_of file (life_by opened segment))
+      by_case (inl none) = inl (none_of_nothing rules telling in_range none tells)
+      by_case (inr has) = inr has

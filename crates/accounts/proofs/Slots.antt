@@ -47,7 +47,7 @@ module _ (h : History) (file : File) where
   read_first (telling ∷ past) present [] last more are is = absurd are
   read_first (telling ∷ past) present (segment ∷ front) last more are is = (are.0, read_first past present front last more are.1 is)
 
-  reads_on : (past : List Telling) (present : Telling) (front : List Segment) (last : Segment) (more : List Segment) → AreReadBy h file past front → IsReadBy h file present last →
+  pub reads_on : (past : List Telling) (present : Telling) (front : List Segment) (last : Segment) (more : List Segment) → AreReadBy h file past front → IsReadBy h file present last →
       AllByRecursion (λ (segment : Segment). ReadOn (steps_in segment)) more → AllByRecursion (λ (segment : Segment). ReadOn (steps_in segment)) (front ++ last ∷ more)
   reads_on [] present [] last more are is others = (is.on, others)
   reads_on [] present (segment ∷ front) last more are is others = absurd are

@@ -1,0 +1,168 @@
+-- A file that is told to its end has a row that stands there, where its events are settled.
+use Rattle.std.proofs.Common.{◌≡◌, ◌⊎◌, inl, inr, ℕ, ◌+◌, ◌==◌, List, [], ◌∷◌, ◌++◌, Contains, length, drop, map, Option, Some, refl, sym, ap, subst, ◌∙◌, append-nil, arith}
+use Rattle.std.specs.Prelude.{slice_get}
+use Rattle.std.specs.List.{AllByRecursion}
+use Rattle.std.proofs.lemmas.Bool.{cond-false, cond-true, eq-eqb, ne_eqb}
+use Rattle.event_tree.specs.declared.input_rule.InputRule.{InputRule}
+use Rattle.event_tree.specs.declared.line_rule.LineRule.{LineRule}
+use Rattle.event_tree.specs.declared.processor_rule.ProcessorRule.{ProcessorRule}
+use Rattle.file_identity.specs.Answers.{with_numbers}
+use Rattle.file_looks.proofs.OneLife.{each_reads}
+use Rattle.file_looks.specs.Looks.{AreLooks}
+use Rattle.file_looks.specs.Reading.{EachReadsLife, ReadOn, ReadsLife, last_life}
+use Rattle.file_looks.specs.Segment.{Segment, segments_of, steps_in}
+use Rattle.file_looks.specs.Truncation.{SeesTruncations}
+use Rattle.harvester.specs.History.{HasBytes, History, IsTelling, Stage, Telling, read_to, rules_in, told_to}
+use Rattle.harvester.specs.Looked.{AreReadBy, IsReadBy, StandBehind}
+use Rattle.kept_rows.specs.Account.{Place, epoch_at}
+use Rattle.kept_rows.specs.Drained.{IsReadToItsEnd}
+use Rattle.kept_rows.specs.Run.{Run}
+use Rattle.kept_rows.specs.Scans.{AreDistinct}
+use Rattle.multiline_core.specs.Rule.{IsGroupRule}
+use Rattle.outside.specs.Files.{File, life_of}
+use Rattle.outside.specs.Tails.{TailHistory}
+use Rattle.outside.specs.declared.history.Look.{Look}
+use Rattle.ship_core.proofs.Members.{first_there, later_there}
+use Rattle.told_events.specs.Licence.{whole_lines_end}
+use Rattle.wire_base.specs.declared.note.Begin.{Begin}
+use Rattle.wire_base.specs.declared.parcel.Parcel.{Parcel}
+use Rattle.wire_base.specs.declared.row.Row.{Row}
+use Rattle.accounts.specs.Accounted.{epoch_account, epoch_accounts, life_by}
+use Rattle.accounts.specs.Filed.{Filed, IsFiled, accounts_of, account_of, slot_in}
+use Rattle.accounts.specs.Opened.{Opened}
+use Rattle.accounts.specs.ToldFile.{AreEpochsFrom, AreNumberedFrom, IsToldFile, IsToldToItsEnd}
+use Rattle.accounts.specs.Turned.{Turned, tellings_in}
+use Rattle.accounts.proofs.Accounting.{as_many, epochs_have_segments}
+use Rattle.accounts.proofs.Apart.{IsInEpochs, epochs_apart, numbers_of, told_spans_adjoin}
+use Rattle.accounts.proofs.Backing.{mapped_there, slot_found}
+use Rattle.accounts.proofs.Lists.{each_then, last_of_each}
+use Rattle.accounts.proofs.Lives.{bytes_or_none}
+use Rattle.accounts.proofs.Slots.{reads_on}
+use Rattle.accounts.proofs.Within.{ends_at_last_line}
+
+-- ---- of what was told of a file
+
+module _ (processors : List ProcessorRule) (opened : Opened) (moments : List ℕ) (turned : Turned) (in_range : IsGroupRule opened.rule.multiline) where
+  rule_in_range : (told : Option TailHistory) → IsToldFile processors opened moments turned told → IsGroupRule turned.history.rule.multiline
+  rule_in_range told is = subst (λ (r : InputRule). IsGroupRule r.multiline) (sym is.history.rule) in_range
+
+  pub is_in_epochs : (told : Option TailHistory) → IsToldFile processors opened moments turned told → IsInEpochs turned
+  is_in_epochs told is = record {
+    epoch = opened.begin.epoch.0;
+    base = opened.begin.base;
+    epochs = is.history.epochs;
+    adjoin = each_then (IsTelling (rules_in turned.history)) _ (tellings_in turned.history)
+        (λ telling tells. told_spans_adjoin (rules_in turned.history) telling (rule_in_range told is) tells) is.epochs;
+  }
+
+  pub is_filed : (told : TailHistory) (changed : ℕ) → IsToldFile processors opened moments turned (Some told) →
+      IsFiled (record { opened = opened; turned = turned; looks = told.looks; changed = changed })
+  is_filed told changed is = record {
+    slot = is.slot;
+    epochs = is.history.epochs;
+    few = epochs_have_segments opened.file.numbers opened turned.history told is.history.begin is.history.none_before is.looked;
+  }
+
+-- ---- the present epoch in the account
+
+last_there : (past : List Telling) (present : Telling) → Contains (past ++ present ∷ []) present
+last_there [] present = first_there present []
+last_there (first ∷ past) present = later_there first present (past ++ present ∷ []) (last_there past present)
+
+module _ (opened : Opened) (placed : Parcel → Option Place) where
+  last_epoch : (number : ℕ) (past : List Telling) (present : Telling) (front : List Segment) (last : Segment) (more : List Segment) → length past ≡ length front →
+      AreDistinct (numbers_of (past ++ present ∷ [])) →
+      epoch_at present.epoch (epoch_accounts opened placed number (past ++ present ∷ []) (front ++ last ∷ more)) ≡ Some (epoch_account opened placed present last)
+  last_epoch number [] present [] last more as_long apart =
+      cond-true (present.epoch == present.epoch) (Some (epoch_account opened placed present last)) (epoch_at present.epoch (epoch_accounts opened placed present.epoch [] more))
+      (eq-eqb present.epoch present.epoch refl)
+  last_epoch number [] present (segment ∷ front) last more as_long apart = absurd (omega (arith, as_long))
+  last_epoch number (first ∷ past) present [] last more as_long apart = absurd (omega (arith, as_long))
+  last_epoch number (first ∷ past) present (segment ∷ front) last more as_long apart =
+      cond-false (first.epoch == present.epoch) (Some (epoch_account opened placed first segment))
+      (epoch_at present.epoch (epoch_accounts opened placed first.epoch (past ++ present ∷ []) (front ++ last ∷ more)))
+      (ne_eqb first.epoch present.epoch (λ same. apart.0 (subst (λ (n : ℕ). Contains (numbers_of (past ++ present ∷ [])) n) (sym same)
+      (mapped_there (λ (t : Telling). t.epoch) (past ++ present ∷ []) present (last_there past present)))))
+      ∙ last_epoch first.epoch past present front last more (omega (arith, as_long)) apart.1
+
+-- ---- its bytes
+
+starts_at_none : (number : ℕ) (tellings : List Telling) → AreNumberedFrom number tellings → AllByRecursion (λ (telling : Telling). telling.start ≡ 0) tellings
+starts_at_none number [] are = tt
+starts_at_none number (telling ∷ tellings) are = (are.1, starts_at_none (number + 1) tellings are.2)
+
+start_is_none : (epoch base : ℕ) (tellings : List Telling) → base ≡ 0 → AreEpochsFrom epoch base tellings → AllByRecursion (λ (telling : Telling). telling.start ≡ 0) tellings
+start_is_none epoch base [] none are = absurd are
+start_is_none epoch base (first ∷ later) none are = (are.1 ∙ none, starts_at_none epoch later are.2)
+
+record ReadsSome (file : File) (segment : Segment) : Type 0 where
+  last : ℕ
+  reads : ReadsLife file (last_life last (steps_in segment)) segment
+
+last_reads : (file : File) (life : ℕ) (front : List Segment) (last : Segment) (more : List Segment) → EachReadsLife file life (front ++ last ∷ more) → ReadsSome file last
+last_reads file life [] last more each = record { last = life; reads = each.0 }
+last_reads file life (segment ∷ front) last more each = last_reads file (last_life life (steps_in segment)) front last more each.2
+
+life_has : (h : History) (opened : Opened) (segment : Segment) → h.present.start ≡ 0 → IsReadBy h opened.file h.present segment → ReadsSome opened.file segment →
+    HasBytes h.present.start h.present.bytes (life_of opened.file (life_by opened segment))
+life_has h opened segment start read some = by_case (bytes_or_none h opened.file h.present segment read opened some.last some.reads)
+  where
+    by_case : (h.present.bytes ≡ []) ⊎ HasBytes h.present.start h.present.bytes (life_of opened.file (life_by opened segment)) →
+        HasBytes h.present.start h.present.bytes (life_of opened.file (life_by opened segment))
+    by_case (inl none) = record {
+      within = omega (arith, start);
+      more = drop h.present.start (life_of opened.file (life_by opened segment));
+      behind = sym (ap (λ (l : List ℕ). l ++ drop h.present.start (life_of opened.file (life_by opened segment))) none);
+    }
+    by_case (inr has) = has
+
+-- ---- the row
+
+-- a file that was begun at its first byte, and is told to its end
+pub is_read_to_its_end : (run : Run) (placed : Parcel → Option Place) (files : List Filed) (opened : Opened) (turned : Turned) (told : TailHistory) (changed last : ℕ) →
+    AreDistinct (map slot_in files) → Contains files (record { opened = opened; turned = turned; looks = told.looks; changed = changed }) →
+    IsToldFile run.settings.processors opened run.trace.moments turned (Some told) → opened.begin.base ≡ 0 → slice_get run.trace.files opened.number ≡ Some opened.file →
+    SeesTruncations last (segments_of opened.begin.base told.looks) → IsToldToItsEnd turned.history →
+    (row : Row) → opened.begin.key ≡ row.key → row.epoch.0 ≡ turned.history.present.epoch → row.offset ≡ told_to turned.history.present →
+    IsReadToItsEnd run opened.rule (accounts_of placed files) row
+is_read_to_its_end run placed files opened turned told changed last apart among is from_none file_is seen ended row key epoch offset =
+    let h = turned.history in
+    let looked = is.looked in
+    let filed : Filed = record { opened = opened; turned = turned; looks = told.looks; changed = changed } in
+    let file : with_numbers opened.file.numbers told.file ≡ opened.file = ap (with_numbers opened.file.numbers) is.tail.file in
+    let past : AreReadBy h opened.file h.past looked.front = subst (λ (f : File). AreReadBy h f h.past looked.front) file looked.past in
+    let present : IsReadBy h opened.file h.present looked.last = subst (λ (f : File). IsReadBy h f h.present looked.last) file looked.present in
+    let nothing : looked.beyond ≡ [] = subst (λ (s : Stage). StandBehind h (with_numbers opened.file.numbers told.file) s looked.beyond) ended.ended looked.stand_behind in
+    let base : h.begin.base ≡ opened.begin.base = ap (λ (b : Begin). b.base) is.history.begin in
+    let since : told.looks ≡ looked.since = looked.looks_are ∙ ap (λ (l : List Look). l ++ (looked.since ++ looked.beyond)) is.history.none_before
+    ∙ ap (λ (l : List Look). looked.since ++ l) nothing ∙ append-nil looked.since in
+    let segments : looked.front ++ looked.last ∷ [] ≡ segments_of opened.begin.base told.looks =
+    sym looked.segments ∙ ap (λ (n : ℕ). segments_of n looked.since) base ∙ ap (segments_of opened.begin.base) (sym since) in
+    let on = subst (AllByRecursion (λ (segment : Segment). ReadOn (steps_in segment))) segments (reads_on h opened.file h.past h.present looked.front looked.last [] past present tt) in
+    let looks : AreLooks opened.file told.begun told.looks = subst (λ (f : File). AreLooks f told.begun told.looks) is.tail.file is.tells in
+    let lives = each_reads opened.file told.begun opened.begin.base last told.looks looks on seen in
+    let some = last_reads opened.file last looked.front looked.last [] (subst (EachReadsLife opened.file last) (sym segments) lives) in
+    let start : h.present.start ≡ 0 =
+    last_of_each (λ (telling : Telling). telling.start ≡ 0) h.past h.present (start_is_none opened.begin.epoch.0 opened.begin.base (tellings_in h) from_none is.history.epochs) in
+    let numbers = epochs_apart opened.begin.epoch.0 opened.begin.base (tellings_in h) is.history.epochs in
+    let found = last_epoch opened placed opened.begin.epoch.0 h.past h.present looked.front looked.last [] (as_many h opened.file h.past looked.front past) numbers in
+    let account = epoch_account opened placed h.present looked.last in
+    let present_told = last_of_each (IsTelling (rules_in h)) h.past h.present is.epochs in
+    let ends = ends_at_last_line h (life_of opened.file account.life) present_told ended.all_told (life_has h opened looked.last start present some) in
+    record {
+      slot = slot_in filed;
+      one = account_of placed filed;
+      slot_is = slot_found placed files filed among apart;
+      key_is = key;
+      epoch = account;
+      epoch_is = subst (λ (l : List Segment). epoch_at row.epoch.0 (epoch_accounts opened placed opened.begin.epoch.0 (tellings_in h) l) ≡ Some account) segments
+          (ap (λ (n : ℕ). epoch_at n (epoch_accounts opened placed opened.begin.epoch.0 (tellings_in h) (looked.front ++ looked.last ∷ []))) epoch ∙ found);
+      reading = record { opening = opened.opening; segment = looked.last };
+      of_epoch = first_there (record { opening = opened.opening; segment = looked.last }) [];
+      place = read_to h.present;
+      found = looked.end_look ended.ended;
+      file = opened.file;
+      file_is = file_is;
+      offset_is = offset ∙ sym ends
+          ∙ ap (λ (lines : LineRule). whole_lines_end lines (life_of opened.file account.life) h.present.start (read_to h.present)) (ap (λ (r : InputRule). r.lines) is.history.rule);
+    }
