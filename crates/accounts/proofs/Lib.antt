@@ -13,6 +13,7 @@ pub mod Lives
 pub mod Often
 pub mod Onward
 pub mod Orderly
+pub mod Placing
 pub mod Same
 pub mod Singles
 pub mod Slots
