@@ -1,6 +1,7 @@
 pub mod Accounting
 pub mod Apart
 pub mod Backing
+pub mod Beginning
 pub mod Cuts
 pub mod Ends
 pub mod Falls

@@ -1,8 +1,11 @@
 -- The files of a run with what was told of them (this project's profile), and their account as a whole.
-use Rattle.std.specs.Prelude.{◌≡◌, ℕ, ◌≤◌, List, length, map, Option}
+use Rattle.std.specs.Prelude.{◌≡◌, ℕ, ◌≤◌, List, Contains, length, map, Option}
 use Rattle.file_looks.specs.Segment.{segments_of}
 use Rattle.kept_rows.specs.Account.{Place, SlotAccount}
 use Rattle.outside.specs.declared.history.Look.{Look}
+use Rattle.wire_base.specs.declared.note.Note.{Note}
+use Rattle.wire_base.specs.declared.note.Note.TheVariants.{Begin}
+use Rattle.wire_base.specs.declared.numbers.Moment.{Moment}
 use Rattle.wire_base.specs.declared.parcel.Parcel.{Parcel}
 use Rattle.accounts.specs.Accounted.{slot_account}
 use Rattle.accounts.specs.Opened.{Opened}
@@ -30,3 +33,9 @@ pub record IsFiled (file : Filed) : Type 0 where
   pub slot : file.turned.slot ≡ file.opened.begin.slot
   pub epochs : AreEpochsFrom file.opened.begin.epoch.0 file.opened.begin.base (tellings_in file.turned.history)
   pub few : length (tellings_in file.turned.history) ≤ length (segments_of file.opened.begin.base file.looks)
+
+-- its Begin is among the notes
+pub record IsNoted (notes : List Note) (file : Filed) : Type 0 where
+  pub path : List ℕ
+  pub changed : Moment
+  pub there : Contains notes (Begin file.opened.begin.slot file.opened.begin.key path file.opened.begin.epoch file.opened.begin.base changed)
