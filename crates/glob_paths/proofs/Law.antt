@@ -1,10 +1,12 @@
--- Each path that a glob covers is its root's, with at most its depth of parts behind.
-use Rattle.std.proofs.Common.{◌≡◌, ◌≢◌, ℕ, ◌+◌, ◌<◌, ◌≤◌, Bool, true, false, cond, not, ◌&&◌, Some, None, List, [], ◌∷◌, ◌++◌, length, length-drop, drop, map, All, refl, sym, ap, ◌∙◌, subst, eqb, arith}
+-- Each path that a glob covers is its root's, with at most its depth of parts behind, and begins with its root.
+use Rattle.std.proofs.Common.{◌≡◌, ◌≢◌, ℕ, ◌+◌, ◌<◌, ◌≤◌, Bool, true, false, cond, not, ◌&&◌, Some, None, List, [], ◌∷◌, ◌++◌, length, length-drop, drop, take, map, slice_get, All, refl, sym, ap, ◌∙◌, subst, eqb, arith}
 use Rattle.std.proofs.lemmas.Bool.{false≢true}
-use Rattle.std.proofs.lemmas.Bool.Decides.{nat_tests}
+use Rattle.std.proofs.lemmas.Bool.Decides.{Decides-eqb, nat_tests}
 use Rattle.std.proofs.lemmas.List.Elements.{All-from_recursion, recursion_from_All}
 use Rattle.std.proofs.lemmas.List.{append-nil}
+use Rattle.std.proofs.lemmas.Slice.Eq.{starts_is}
 use Rattle.std.proofs.lemmas.Str.{IsUtf8-nil}
+use Rattle.std.specs.Cmp.Lexicographic.{pointwise}
 use Rattle.std.specs.List.{AllByRecursion, list_all}
 use Rattle.std.specs.Str.{IsUtf8, bytes_eq}
 use Rattle.wire_base.specs.Path.{parts_of, folder_parts, on_first_part, IsBelow}
@@ -184,3 +186,76 @@ covered_below text path within names other =
     more : (behind : List (List ℕ)) → parts_of path ≡ folder_parts (root_of text) ++ behind → 0 < length behind
     more [] spelled = absurd (other (spelled ∙ append-nil (folder_parts (root_of text))))
     more (part ∷ behind) spelled = omega arith
+
+-- ---- a glob covers only what its root stands in front of
+
+front_of : (root path : List ℕ) (behind : List (List ℕ)) → parts_of path ≡ parts_of root ++ behind → (rest : List ℕ) × (path ≡ root ++ rest)
+front_of [] path behind same = (path, refl)
+front_of (byte ∷ root) [] behind same = absurd (by_test (eqb byte 47) (parts_of root) (some_part root) same)
+  where
+    by_test : (slash : Bool) (parts : List (List ℕ)) → parts ≢ [] → [] ∷ [] ≡ cond slash ([] ∷ parts) (on_first_part byte parts) ++ behind → ⊥
+    by_test slash [] some same = some refl
+    by_test true (part ∷ parts) some same = cc
+    by_test false (part ∷ parts) some same = cc
+front_of (byte ∷ root) (first ∷ path) behind same = by_tests (λ parts. front_of root path behind parts) (eqb byte 47) refl (eqb first 47) refl same
+  where
+    at : (first ≡ byte) → ((rest : List ℕ) × (path ≡ root ++ rest)) → (rest : List ℕ) × (first ∷ path ≡ byte ∷ (root ++ rest))
+    at first_is more = (more.0, ap (λ (b : ℕ). b ∷ path) first_is ∙ ap (λ (l : List ℕ). byte ∷ l) more.1)
+
+    apart : (ones others : List (List ℕ)) → others ≢ [] → [] ∷ ones ≡ on_first_part byte others ++ behind → ⊥
+    apart ones [] some same = some refl
+    apart ones (part ∷ parts) some same = cc
+
+    apart_back : (ones others : List (List ℕ)) → ones ≢ [] → on_first_part first ones ≡ [] ∷ others → ⊥
+    apart_back [] others some same = some refl
+    apart_back (part ∷ parts) others some same = cc
+
+    both : (ones others : List (List ℕ)) → ones ≢ [] → others ≢ [] → on_first_part first ones ≡ on_first_part byte others ++ behind → (first ≡ byte) × (ones ≡ others ++ behind)
+    both [] others some more same = absurd (some refl)
+    both (one ∷ ones) [] some more same = absurd (more refl)
+    both (one ∷ ones) (other ∷ others) some more same =
+        let first_is : first ≡ byte = cc in
+        let one_is : one ≡ other = cc in
+        let rest_is : ones ≡ others ++ behind = cc in
+        (first_is, ap (λ (p : List ℕ). p ∷ ones) one_is ∙ ap (λ (l : List (List ℕ)). other ∷ l) rest_is)
+
+    by_tests : (parts_of path ≡ parts_of root ++ behind → (rest : List ℕ) × (path ≡ root ++ rest)) →
+        (slash : Bool) → eqb byte 47 ≡ slash → (other : Bool) → eqb first 47 ≡ other →
+        cond other ([] ∷ parts_of path) (on_first_part first (parts_of path)) ≡ cond slash ([] ∷ parts_of root) (on_first_part byte (parts_of root)) ++ behind →
+        (rest : List ℕ) × (first ∷ path ≡ byte ∷ (root ++ rest))
+    by_tests later true is true other same =
+        let byte_is : byte ≡ 47 = grind (arith, nat_tests) in
+        let first_is : first ≡ 47 = grind (arith, nat_tests) in
+        let parts : parts_of path ≡ parts_of root ++ behind = cc in
+        at (first_is ∙ sym byte_is) (later parts)
+    by_tests later true is false other same = absurd (apart_back (parts_of path) (parts_of root ++ behind) (some_part path) same)
+    by_tests later false is true other same = absurd (apart (parts_of path) (parts_of root) (some_part root) same)
+    by_tests later false is false other same =
+        let heads = both (parts_of path) (parts_of root) (some_part path) (some_part root) same in
+        at heads.0 (later heads.1)
+
+pub covered_front : (text path : List ℕ) → IsUtf8 text → fault_of text ≡ None → Covers text path → (rest : List ℕ) × (path ≡ root_of text ++ rest)
+covered_front text path utf8 faultless covers = by_root (root_of text) (covered_within text path utf8 faultless covers).behind (covered_within text path utf8 faultless covers).spelled
+  where
+    slash_first : (path : List ℕ) → slice_get path 0 ≡ Some 47 → (rest : List ℕ) × (path ≡ 47 ∷ rest)
+    slash_first [] is = cc
+    slash_first (byte ∷ rest) is = let same : byte ≡ 47 = cc in (rest, ap (λ (b : ℕ). b ∷ rest) same)
+
+    by_root : (root : List ℕ) (behind : List (List ℕ)) → parts_of path ≡ folder_parts root ++ behind → (rest : List ℕ) × (path ≡ root ++ rest)
+    by_root [] behind spelled = (path, refl)
+    by_root (byte ∷ []) behind spelled = by_test (eqb byte 47) refl spelled
+      where
+        by_test : (slash : Bool) → eqb byte 47 ≡ slash → parts_of path ≡ cond slash ([] ∷ []) ((byte ∷ []) ∷ []) ++ behind → (rest : List ℕ) × (path ≡ byte ∷ rest)
+        by_test true is spelled =
+            let byte_is : byte ≡ 47 = grind (arith, nat_tests) in
+            let first = slash_first path covers.1 in
+            (first.0, first.1 ∙ ap (λ (b : ℕ). b ∷ first.0) (sym byte_is))
+        by_test false is spelled = front_of (byte ∷ []) path behind (spelled ∙ ap (λ (test : Bool). cond test ([] ∷ [] ∷ []) ((byte ∷ []) ∷ []) ++ behind) (sym is))
+    by_root (byte ∷ next ∷ root) behind spelled = front_of (byte ∷ next ∷ root) path behind spelled
+
+-- a path that does not begin with the root is not covered
+pub not_in_front : (text root path : List ℕ) (test : Bool) → IsUtf8 text → fault_of text ≡ None → root ≡ root_of text → test ≡ pointwise eqb root (take (length root) path) → test ≡ false → Covers text path → ⊥
+not_in_front text root path test utf8 faultless root_is is other covers =
+    let front = covered_front text path utf8 faultless covers in
+    let starts : test ≡ true = (starts_is Decides-eqb path root test is).1 front.0 (front.1 ∙ ap (λ (r : List ℕ). r ++ front.0) (sym root_is)) in
+    false≢true (sym other ∙ starts)

@@ -54,7 +54,8 @@ impl Glob {
         })
     }
 
-    /// Takes no memory, and time of the order of the lengths of the glob and the path multiplied.
+    /// Takes no memory, and time of the order of the lengths of the glob and the path multiplied; of
+    /// a path that does not begin with the root it looks at that front alone.
     ///
     /// A path that it covers lies below the root within the depth, if it has no empty part behind
     /// its first slash, which a `*` matches too, and is not the root, which a `**` at the end covers.
@@ -64,7 +65,11 @@ impl Glob {
         ensures below { IsTrue result → HasNames path.now → parts_of path.now ≢ folder_parts (root_of self.now)
             → IsBelow (root_of self.now) (depth_of self.now) path.now }
     {
-        text_covers(self.text.as_str(), path)
+        let text = self.text.as_str();
+        if !path.starts_with(self.root.bytes()) {
+            return false;
+        }
+        text_covers(text, path)
     }
 
     /// The folder to list: the longest row of leading parts without `*`, `?`, `[` and backslash,

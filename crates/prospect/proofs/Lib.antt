@@ -1,4 +1,8 @@
 pub mod Adding
+pub mod Covering
 pub mod Lacking
 pub mod Listing
 pub mod Naming
+pub mod Numbering
+pub mod Showing
+pub mod Telling

@@ -29,10 +29,10 @@ use Rattle.prospect.proofs.Listing.{only_listed}
 
 -- ---- the inputs as they were read
 
-contains_later : {X : Type 0} (first x : X) (more : List X) → Contains more x → Contains (first ∷ more) x
+pub contains_later : {X : Type 0} (first x : X) (more : List X) → Contains more x → Contains (first ∷ more) x
 contains_later first x more (k, within, is) = (suc k, omega arith, is)
 
-any_later : {X : Type 0} (P : X → Type 0) (first : X) (more : List X) → Any P more → Any P (first ∷ more)
+pub any_later : {X : Type 0} (P : X → Type 0) (first : X) (more : List X) → Any P more → Any P (first ∷ more)
 any_later P first more (k, x, within, is, holds) = (suc k, x, omega arith, is, holds)
 
 any_rule : (P : InputRule → Type 0) (Q : InputGlobs → Type 0) → ((input : InputRule) (read : InputGlobs) → IsReadOf input read → Q read → P input) →

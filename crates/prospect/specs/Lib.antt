@@ -1,4 +1,8 @@
 pub mod Collecting
+pub mod Covered
+pub mod Entries
 pub mod Lacks
+pub mod ListedFiles
 pub mod Members
+pub mod Readings
 pub mod Scan

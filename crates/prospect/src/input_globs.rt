@@ -31,7 +31,8 @@ pub fn read_inputs(alloc: Global, inputs: &[InputRule]) -> Result<Vec<InputGlobs
     Ok(read)
 }
 
-fn read_globs(alloc: Global, texts: &[Text]) -> Result<Vec<Glob>, NoMemory>
+/// The globs of texts without a fault.
+pub fn read_globs(alloc: Global, texts: &[Text]) -> Result<Vec<Glob>, NoMemory>
     requires { AreGlobs texts.now }
     ensures { IfOk result (λ globs. globs.items ≡ texts.now) }
 {

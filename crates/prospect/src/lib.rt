@@ -5,14 +5,21 @@
 //! lacking, are definitions of `specs/`. Nothing here opens a file.
 #![tactic(auto)]
 
+mod by_path;
 mod collect;
+mod entries;
+mod files;
 mod input_globs;
 mod lack;
+mod listed;
 mod listings;
 mod member;
 mod scan_error;
+mod scan_input;
 
+pub use files::list_files;
 pub use lack::first_lack;
+pub use listed::Listed;
 pub use listings::{MAX_FILES, scan};
 pub use member::Member;
 pub use scan_error::ScanError;

@@ -12,12 +12,17 @@ use std::alloc::Global;
 use std::test::Fail;
 use wire_base::Text;
 
-fn inputs(alloc: Global, rules: &[(&str, &[&str])]) -> Result<Vec<InputRule>, Fail>
+fn inputs(
+    alloc: Global,
+    rules: &[(&str, &[&str])],
+    asks: &[(usize, Ask)],
+) -> Result<Vec<InputRule>, Fail>
     ensures { IfOk result (λ inputs. HaveGlobs inputs.items) }
 {
     let mut inputs = Vec::new(alloc);
     for (id, texts) in rules {
-        inputs.push(input(alloc, id, globs(alloc, texts)?, 0, &[])?)?;
+        let number = inputs.len();
+        inputs.push(input(alloc, id, globs(alloc, texts)?, number, asks)?)?;
     }
     Ok(inputs)
 }
@@ -47,7 +52,7 @@ const INPUTS: [(&str, &[&str]); 3] = [
 #[test]
 fn each_covered_path_is_a_member_once_for_its_input(rt: HostRuntime) -> Result<(), Fail> {
     let alloc = rt.alloc();
-    let inputs = inputs(alloc, &INPUTS)?;
+    let inputs = inputs(alloc, &INPUTS, &[])?;
     let mut folder = folder(alloc, &PATHS, usize::MAX)?;
     let members = scan(alloc, &mut folder, &inputs)?;
     let mut found = String::new(alloc);
@@ -71,7 +76,7 @@ filestream::w::path::/w/b.log /w/b.log
 #[test]
 fn failed_listing_ends_the_scan(rt: HostRuntime) -> Result<(), Fail> {
     let alloc = rt.alloc();
-    let inputs = inputs(alloc, &INPUTS)?;
+    let inputs = inputs(alloc, &INPUTS, &[])?;
     let mut folder = folder(alloc, &PATHS, 2)?;
     let scanned = scan(alloc, &mut folder, &inputs);
     assert!(rt; matches!(scanned, Err(ScanError::Failed)));
@@ -82,7 +87,7 @@ fn failed_listing_ends_the_scan(rt: HostRuntime) -> Result<(), Fail> {
 #[test]
 fn one_file_above_the_limit_is_too_many(rt: HostRuntime) -> Result<(), Fail> {
     let alloc = rt.alloc();
-    let inputs = inputs(alloc, &[("w", &["/w/*.log"])])?;
+    let inputs = inputs(alloc, &[("w", &["/w/*.log"])], &[])?;
     let mut folder = folder(alloc, &[], usize::MAX)?;
     for number in (0..65_536u32).rev() {
         let path = format!(in alloc; "/w/{number:05}.log")?;
@@ -97,6 +102,73 @@ fn one_file_above_the_limit_is_too_many(rt: HostRuntime) -> Result<(), Fail> {
     };
     assert_eq!(rt; count, 65_536);
     assert_eq!(rt; path, "/w/65535.log");
+    Ok(())
+}
+
+// What each input asks of identities, and the files: the input, its key, the path, its size and its moment of change.
+const FILES: [(&[(usize, Ask)], &str); 2] = [
+    (
+        &[],
+        "\
+0 filestream::w::path::/w/a.log /w/a.log 8 8
+1 filestream::w-x::path::/w/a.log /w/a.log 8 8
+0 filestream::w::path::/w/a.txt /w/a.txt 8 8
+0 filestream::w::path::/w/b.log /w/b.log 8 8
+1 filestream::w-x::path::/w/x/a.log /w/x/a.log 10 10
+",
+    ),
+    (
+        &[(0, Ask::Native), (1, Ask::Fingerprint)],
+        "\
+0 filestream::w::native::8-1 /w/a.log 8 8
+1 - /w/a.log 8 8
+0 - /w/a.txt 8 8
+0 filestream::w::native::8-1 /w/b.log 8 8
+1 - /w/x/a.log 10 10
+",
+    ),
+];
+
+#[test]
+fn each_covered_path_is_told_for_each_input_by_path_and_input(rt: HostRuntime) -> Result<(), Fail> {
+    let alloc = rt.alloc();
+    for (asks, wanted) in &FILES {
+        let inputs = inputs(alloc, &INPUTS, asks)?;
+        let mut folder = folder(alloc, &PATHS, usize::MAX)?;
+        let mut found = String::new(alloc);
+        for file in &list_files(alloc, &mut folder, &inputs)? {
+            let key = file.key.as_ref().map(|key| key.as_str()).unwrap_or("-");
+            let (input, path) = (file.input, file.path.as_str());
+            let (size, changed) = (file.size, file.changed.0);
+            writeln!(&mut found, "{input} {key} {path} {size} {changed}")?;
+        }
+        assert_eq!(rt; found.as_str(), *wanted);
+        assert_eq!(rt; folder.listings.as_str(), "/w 1\n/w 1\n/w 9\n/none 1\n");
+    }
+    Ok(())
+}
+
+#[test]
+fn first_file_too_many_is_told_by_its_path(rt: HostRuntime) -> Result<(), Fail> {
+    let alloc = rt.alloc();
+    let inputs = inputs(alloc, &[("b", &["/w/*.log"]), ("a", &["/w/*.log"])], &[])?;
+    let mut folder = folder(alloc, &[], usize::MAX)?;
+    for number in (0..32_768u32).rev() {
+        let path = format!(in alloc; "/w/{number:05}.log")?;
+        folder.paths.push(Text::from_string(path))?;
+    }
+    let count = list_files(alloc, &mut folder, &inputs)?.len();
+    folder.paths.push(Text::from_bytes(alloc, b"/w/99999.log")?)?;
+    let listed = list_files(alloc, &mut folder, &inputs);
+    let path = match &listed {
+        Err(ScanError::TooMany { path }) => path.as_str(),
+        _ => "",
+    };
+    assert_eq!(rt; count, 65_536);
+    assert_eq!(rt; path, "/w/99999.log");
+    folder.failing = 5;
+    let listed = list_files(alloc, &mut folder, &inputs);
+    assert!(rt; matches!(listed, Err(ScanError::Failed)));
     Ok(())
 }
 

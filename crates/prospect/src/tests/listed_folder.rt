@@ -1,7 +1,11 @@
+ghost use Rattle.std.specs.Prelude.{IfOk};
+ghost use Rattle.outside.specs.Folders.{IsListable};
+ghost use Rattle.wire_base.specs.Ranges.{IsPath};
+
 use outside::{Entry, Failed, Folder, FolderError, Tail};
 use std::alloc::Global;
 use std::fmt::Write;
-use wire_base::{MAX_PATH, Moment, Text};
+use wire_base::{MAX_PATH, Moment, NoMemory, Text};
 
 /// Nothing is opened in these tests.
 #[derive(Drop)]
@@ -29,7 +33,8 @@ impl Tail for NoTail {
     }
 }
 
-/// A folder of these paths that tells nothing, and writes down each listing.
+/// A folder of these paths that tells nothing, and writes down each listing. Sizes, inodes and moments of change are
+/// the lengths of the paths; a `.txt` has no inode.
 #[derive(Drop)]
 pub struct ListedFolder {
     pub paths: Vec<Text>,
@@ -47,6 +52,24 @@ fn is_below(path: &str, root: &str, depth: u32) -> bool {
         Some(below) => below.split('/').count() <= (depth as usize).saturating_add(1),
         None => false,
     }
+}
+
+fn entry(alloc: Global, path: &Text) -> Result<Entry, NoMemory>
+    requires { IsPath path.now }
+    ensures { IfOk result IsListable }
+{
+    let size = path.bytes().len() as u64;
+    let native = if path.as_str().ends_with(".txt") {
+        None
+    } else {
+        Some((size, 1))
+    };
+    Ok(Entry {
+        path: path.copy(alloc)?,
+        size,
+        native,
+        changed: Moment(size),
+    })
 }
 
 impl Folder for ListedFolder {
@@ -78,12 +101,7 @@ impl Folder for ListedFolder {
         let mut entries = Vec::new(alloc);
         for path in &self.paths {
             if path.bytes().len() <= MAX_PATH && is_below(path.as_str(), root, depth) {
-                entries.push(Entry {
-                    path: path.copy(alloc)?,
-                    size: 0,
-                    native: None,
-                    changed: Moment(0),
-                })?;
+                entries.push(entry(alloc, path)?)?;
             }
         }
         Ok(entries)

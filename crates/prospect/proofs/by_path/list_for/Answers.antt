@@ -1,0 +1,17 @@
+use Rattle.std.proofs.Common.{List, ap, ◌∙◌, ◌++◌, ◌∷◌, [], arith, rules}
+use Rattle.prospect.specs.declared.listed.Listed.{Listed}
+use Rattle.prospect.proofs.Covering.{adds_covered, adds_uncovered, stops_here}
+use Rattle.prospect.proofs.by_path.list_for.Goals as goal
+
+pub returns-then-not-covers-clause-covered : goal.returns-then-not-covers-clause-covered
+returns-then-not-covers-clause-covered c = adds_uncovered _ _ (search rules)
+
+pub returns-clause-covered : goal.returns-clause-covered
+returns-clause-covered c =
+    adds_covered _ _ _ (record { covers = c.covers.ensures.0 c.if-not-covers.false; numbers = c.in_ok-file.ensures.numbers })
+    (c.in_ok-push.ensures.items ∙ ap (λ (one : Listed). c.args.listed.now.items ++ one ∷ []) c.in_ok-file.ensures.file)
+
+pub returns-then-len-ge-MAX_FILES-clause-stops : goal.returns-then-len-ge-MAX_FILES-clause-stops
+returns-then-len-ge-MAX_FILES-clause-stops c =
+    stops_here _ _ _ (record { covers = c.covers.ensures.0 c.if-not-covers.false; numbers = c.in_ok-file.ensures.numbers })
+    (omega (arith, c.requires, c.if-len-ge-MAX_FILES.true, c.len.ensures)) (ap (λ (one : Listed). one.path) c.in_ok-file.ensures.file)

@@ -1,0 +1,18 @@
+use Rattle.std.proofs.Common.{refl, ◌∙◌, arith}
+use Rattle.prospect.proofs.Listing.{on_err, then_only_listed}
+use Rattle.prospect.proofs.Showing.{lists_next_input, lists_nothing, only_shown}
+use Rattle.prospect.proofs.files.list_inputs.Goals as goal
+
+pub loop-input-init : goal.loop-input-init
+loop-input-init g c = record { lists = lists_nothing _ _; open_tails = refl; faults = omega arith }
+
+pub loop-input-preserved : goal.loop-input-preserved
+loop-input-preserved g c = record {
+  lists = lists_next_input _ _ c.input-item.result _ _ _ _ _ _ c.loop-input-test.true c.input-item.is c.loop-input.invariant.lists (rw c.deref.ensures.value at c.in_ok-list_globs.ensures.listed);
+  open_tails = c.in_ok-list_globs.ensures.open_tails_kept ∙ c.loop-input.invariant.open_tails;
+  faults = omega (arith, c.loop-input.invariant.faults, c.in_ok-list_globs.ensures.faults_never_fall);
+}
+
+pub returns-in_err-list_globs-clause-only_listed : goal.returns-in_err-list_globs-clause-only_listed
+returns-in_err-list_globs-clause-only_listed g c =
+    on_err _ _ (then_only_listed _ _ _ (only_shown _ _ _ _ _ c.loop-input.invariant.lists) c.in_err-list_globs.ensures.only_listed)

@@ -1,0 +1,16 @@
+use wire_base::{Moment, Text};
+
+/// One file of an input, as a scan shows it.
+#[derive(Debug, Drop, PartialEq, Eq)]
+pub struct Listed {
+    /// The input's place in the settings, from 0.
+    pub input: u32,
+    /// The key, as far as the entry alone tells it (Filebeat reference, file identity): none for a
+    /// fingerprint, which is asked of the open file, and none for native numbers that were not told.
+    pub key: Option<Text>,
+    pub path: Text,
+    /// The size at the moment of the listing, in bytes.
+    pub size: u64,
+    /// When the file was last changed, as the listing tells it.
+    pub changed: Moment,
+}
