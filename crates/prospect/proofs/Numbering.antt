@@ -1,11 +1,9 @@
 -- The inputs as they were read, each with its place.
-use Rattle.std.proofs.Common.{◌≡◌, ℕ, zero, suc, ◌+◌, ◌<◌, ◌≤◌, List, [], ◌∷◌, ◌++◌, length, map, take, get_or, Some, slice_get, refl, sym, ◌∙◌, ap, subst, arith}
-use Rattle.std.specs.List.{AllByRecursion}
+use Rattle.std.proofs.Common.{◌≡◌, ℕ, suc, ◌+◌, ◌<◌, List, [], ◌∷◌, ◌++◌, length, map, take, get_or, sym, ◌∙◌, ap, arith}
 use Rattle.std.proofs.lemmas.List.{map-append, take_more, length-take}
 use Rattle.event_tree.specs.declared.input_rule.InputRule.{InputRule}
 use Rattle.prospect.specs.declared.scan_input.ScanInput.{ScanInput}
-use Rattle.prospect.specs.Members.{globs_of}
-use Rattle.prospect.specs.Readings.{Reading, globs_read, reading, reading_of, readings_from}
+use Rattle.prospect.specs.Readings.{Reading, reading, reading_of, readings_from}
 
 one_more : (number : ℕ) (inputs : List InputRule) (input : InputRule) → readings_from number (inputs ++ input ∷ []) ≡ readings_from number inputs ++ reading (number + length inputs) input ∷ []
 one_more number [] input = ap (λ (n : ℕ). reading n input ∷ []) (omega arith)
@@ -27,4 +25,3 @@ reads_next inputs i input reads after read within is before here after_is =
     ∙ sym (one_more 0 (take i inputs) input)
     ∙ ap (λ (x : InputRule). readings_from 0 (take i inputs ++ x ∷ [])) is
     ∙ ap (λ (l : List InputRule). readings_from 0 l) (sym (take_more inputs i input within))
-

@@ -1,6 +1,5 @@
 -- The entries that the listings of a scan showed, one listing after the other.
 use Rattle.std.proofs.Common.{◌≡◌, ◌⊎◌, inl, inr, ⊎_elim, ℕ, ◌+◌, ◌<◌, Bool, true, false, cond, List, [], ◌∷◌, ◌++◌, length, map, take, get_or, All, Option, Some, None, Ok, IfSome, IsSome, Vec, refl, sym, ◌∙◌, ap, subst, append-nil, append_assoc, rules}
-use Rattle.std.specs.Prelude.{Contains, flat_map}
 use Rattle.std.specs.BTreeMap.{get, is_at, Updates}
 use Rattle.std.specs.declared.alloc.Global.{Global}
 use Rattle.std.proofs.lemmas.List.{map-append, take_more}

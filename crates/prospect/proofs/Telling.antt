@@ -1,6 +1,6 @@
 -- What a scan tells of what it has found.
-use Rattle.std.proofs.Common.{◌≡◌, ◌⊎◌, inl, inr, ⊎_elim, ℕ, zero, suc, ◌+◌, ◌<◌, ◌≤◌, List, [], ◌∷◌, ◌++◌, length, map, get_or, All, Any, Contains, Option, Some, None, IfSome, IsSome, slice_get, refl, sym, ◌∙◌, ap, subst, arith, append_assoc, length-append}
-use Rattle.std.specs.Prelude.{◌^◌, decimal, flat_map, option_map}
+use Rattle.std.proofs.Common.{◌≡◌, ◌⊎◌, inl, inr, ⊎_elim, ℕ, zero, suc, ◌+◌, ◌<◌, ◌≤◌, List, [], ◌∷◌, ◌++◌, length, map, All, Any, Contains, Option, Some, None, IfSome, IsSome, slice_get, refl, sym, ◌∙◌, ap, subst, arith, append_assoc, length-append}
+use Rattle.std.specs.Prelude.{◌^◌, flat_map, option_map}
 use Rattle.std.specs.BTreeMap.{get, is_at, IsOrdered}
 use Rattle.std.specs.Cmp.{IsTotalOrder, on_total, then_total, nat_cmp_is, nat_cmp_total}
 use Rattle.std.specs.List.{AllByRecursion}
@@ -28,7 +28,6 @@ use Rattle.wire_base.specs.KeyOrder.{compare}
 use Rattle.wire_base.specs.Ranges.{IsKey, IsPath}
 use Rattle.wire_base.proofs.ByteOrder.{compare_same}
 use Rattle.prospect.specs.declared.listed.Listed.{Listed}
-use Rattle.prospect.specs.declared.listings.TheConstants.{MAX_FILES}
 use Rattle.prospect.specs.declared.scan_error.ScanError.{ScanError}
 use Rattle.prospect.specs.declared.scan_error.ScanError.TheVariants.{Failed, NoMemory, TooMany}
 use Rattle.prospect.specs.declared.scan_input.ScanInput.{ScanInput}
@@ -37,7 +36,7 @@ use Rattle.prospect.specs.Entries.{ByPath, IsOne, Lists, ShowEntries}
 use Rattle.prospect.specs.ListedFiles.{AreOfShown, EndsAs, FindsOneMore, HasFile, IsCoveredBy, IsListedBy, IsListedInRange, Place, ScansFiles, place_at, place_of, place_order, shown_in}
 use Rattle.prospect.specs.Members.{globs_of, HaveShortIds, IsCovered}
 use Rattle.prospect.specs.Readings.{Reading, globs_read, reading, reading_of, readings_from}
-use Rattle.prospect.specs.Scan.{AreListed, Listing, TellsPath}
+use Rattle.prospect.specs.Scan.{AreListed, TellsPath}
 use Rattle.prospect.proofs.Adding.{contains_none}
 use Rattle.prospect.proofs.Covering.{covered_append, entry_by}
 use Rattle.prospect.proofs.Naming.{any_later, contains_later}
@@ -431,7 +430,7 @@ module _ (inputs : List InputRule) (reads : List ScanInput) (told after : Option
     entry_at : (one : Shown) → IsIn (shown_in shows.listings) one → (entry : Entry) × IsIn (map entry_by found.entries) entry × (entry.path ≡ one.entry.path)
     entry_at one among =
         let entries : Contains lists.entries one.entry = subst (λ (l : List Entry). Contains l one.entry) (sym shows.entries_are)
-            (contains_in (map (λ one. one.entry) (shown_in shows.listings)) one.entry (in_map (λ (s : Shown). s.entry) (shown_in shows.listings) one among)) in
+        (contains_in (map (λ one. one.entry) (shown_in shows.listings)) one.entry (in_map (λ (s : Shown). s.entry) (shown_in shows.listings) one among)) in
         by_value (get compare found one.entry.path) refl (lists.added.every one.entry entries)
       where
         by_value : (value : Option Entry) → get compare found one.entry.path ≡ value → IsSome value → (entry : Entry) × IsIn (map entry_by found.entries) entry × (entry.path ≡ one.entry.path)
@@ -481,8 +480,8 @@ module _ (inputs : List InputRule) (reads : List ScanInput) (told after : Option
           every_before = λ s input is less.
               let at = pair_at s input is in
               let stands : IsIn one.before at.pair = in_before one.before one.pair one.behind at.pair (subst AreSorted one.pairs_are sorted)
-                  (subst (λ (l : List Pair). IsIn l at.pair) one.pairs_are at.among)
-                  (subst (λ (p : Place). place_order p (pair_place one.pair) ≡ Less) (sym at.place_is) less) in
+              (subst (λ (l : List Pair). IsIn l at.pair) one.pairs_are at.among)
+              (subst (λ (p : Place). place_order p (pair_place one.pair) ≡ Less) (sym at.place_is) less) in
               file_at one.more (place_at s input) at.pair (covered_has one.before one.more at.pair one.covered_before stands at.covers) at.place_is;
           in_order = files_in_order front files covered in_front;
         }

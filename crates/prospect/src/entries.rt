@@ -10,11 +10,7 @@ use wire_base::{NoMemory, Text};
 pub type Entries = BTreeMap<Text, Entry>;
 
 /// Adds the entries of a listing.
-pub fn add_entries(
-    alloc: Global,
-    entries: &mut Entries,
-    shown: Vec<Entry>,
-) -> Result<(), NoMemory>
+pub fn add_entries(alloc: Global, entries: &mut Entries, shown: Vec<Entry>) -> Result<(), NoMemory>
     ensures { OnOk result (Adds shown.items entries.old entries.new) }
 {
     for entry in shown {

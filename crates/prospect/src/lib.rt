@@ -3,6 +3,9 @@
 //!
 //! A scan lists once for each glob of the settings. What it hands out, and what of the settings is
 //! lacking, are definitions of `specs/`. Nothing here opens a file.
+//!
+//! `list_files` tells files by their paths, each with what the listing showed of it. `scan` tells keys
+//! and paths by the keys, and goes once a run takes the former.
 #![tactic(auto)]
 
 mod by_path;

@@ -11,7 +11,7 @@ pub enum ScanError {
     Failed,
     NoMemory,
     /// There are more than `MAX_FILES` keys; the path is that of the first one too many, in byte
-    /// order of the keys.
+    /// order of the keys, or of the paths where files are told by path.
     TooMany { path: Text },
 }
 

@@ -158,7 +158,9 @@ fn first_file_too_many_is_told_by_its_path(rt: HostRuntime) -> Result<(), Fail> 
         folder.paths.push(Text::from_string(path))?;
     }
     let count = list_files(alloc, &mut folder, &inputs)?.len();
-    folder.paths.push(Text::from_bytes(alloc, b"/w/99999.log")?)?;
+    folder
+        .paths
+        .push(Text::from_bytes(alloc, b"/w/99999.log")?)?;
     let listed = list_files(alloc, &mut folder, &inputs);
     let path = match &listed {
         Err(ScanError::TooMany { path }) => path.as_str(),

@@ -1,4 +1,4 @@
-use Rattle.std.proofs.Common.{List, ap, ◌∙◌, ◌++◌, ◌∷◌, [], arith, rules}
+use Rattle.std.proofs.Common.{ap, ◌∙◌, ◌++◌, ◌∷◌, [], arith, rules}
 use Rattle.prospect.specs.declared.listed.Listed.{Listed}
 use Rattle.prospect.proofs.Covering.{adds_covered, adds_uncovered, stops_here}
 use Rattle.prospect.proofs.by_path.list_for.Goals as goal
