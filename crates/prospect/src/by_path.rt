@@ -21,7 +21,8 @@ pub fn list_entries(
     entries: Entries,
 ) -> Result<Vec<Listed>, ScanError>
     ensures covered { IfOk result
-        (λ listed. AreCovered (pairs_of (map reading_of inputs.now) (values entries)) listed.items) }
+        (λ listed. AreCovered (pairs_of (map reading_of inputs.now) (values entries))
+        listed.items) }
     ensures few { IfOk result (λ listed. length listed.items ≤ MAX_FILES) }
     ensures stops { IfErr result
         (StopsAt (pairs_of (map reading_of inputs.now) (values entries)) []) }
@@ -43,7 +44,8 @@ fn list_entry(
 ) -> Result<(), ScanError>
     requires { length listed.old.items ≤ MAX_FILES }
     ensures covered { OnOk result
-        (AddsCovered (pairs_with (map reading_of inputs.now) entry.now) listed.old.items listed.new.items) }
+        (AddsCovered (pairs_with (map reading_of inputs.now) entry.now)
+        listed.old.items listed.new.items) }
     ensures few { OnOk result (length listed.new.items ≤ MAX_FILES) }
     ensures stops { IfErr result
         (StopsAt (pairs_with (map reading_of inputs.now) entry.now) listed.old.items) }
@@ -63,7 +65,8 @@ fn list_for(
 ) -> Result<(), ScanError>
     requires { length listed.old.items ≤ MAX_FILES }
     ensures covered { OnOk result
-        (AddsCovered (pair_of entry.now (reading_of input.now) ∷ []) listed.old.items listed.new.items) }
+        (AddsCovered (pair_of entry.now (reading_of input.now) ∷ [])
+        listed.old.items listed.new.items) }
     ensures few { OnOk result (length listed.new.items ≤ MAX_FILES) }
     ensures stops { IfErr result
         (StopsAt (pair_of entry.now (reading_of input.now) ∷ []) listed.old.items) }

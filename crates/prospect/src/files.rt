@@ -62,7 +62,8 @@ fn list_inputs<F: Folder>(
     entries: &mut Entries,
 ) -> Result<(), FolderError>
     ensures listed { OnOk result
-        (Lists (globs_read inputs.now) (F.told folder.old) entries.old entries.new (F.told folder.new)) }
+        (Lists (globs_read inputs.now) (F.told folder.old)
+        entries.old entries.new (F.told folder.new)) }
     ensures only_listed { OnErr result
         (IfSome (F.told folder.old) (λ told. OnlyListed told (F.told folder.new))) }
     ensures failed_only_where_faults_rose { IsErrOf result FolderError.Failed

@@ -105,7 +105,8 @@ fn one_file_above_the_limit_is_too_many(rt: HostRuntime) -> Result<(), Fail> {
     Ok(())
 }
 
-// What each input asks of identities, and the files: the input, its key, the path, its size and its moment of change.
+// What each input asks of identities, and the files: the input, its key, the path, its size and its
+// moment of change.
 const FILES: [(&[(usize, Ask)], &str); 2] = [
     (
         &[],

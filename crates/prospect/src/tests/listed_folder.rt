@@ -33,8 +33,8 @@ impl Tail for NoTail {
     }
 }
 
-/// A folder of these paths that tells nothing, and writes down each listing. Sizes, inodes and moments of change are
-/// the lengths of the paths; a `.txt` has no inode.
+/// A folder of these paths that tells nothing, and writes down each listing. Sizes, inodes and
+/// moments of change are the lengths of the paths; a `.txt` has no inode.
 #[derive(Drop)]
 pub struct ListedFolder {
     pub paths: Vec<Text>,
