@@ -1,7 +1,7 @@
 -- A worker that stands for parcels may finish its link, and then stands for the same.
-use Rattle.std.proofs.Common.{◌≡◌, ℕ, suc, ◌-◌, ◌^◌, ◌<◌, ◌≤◌, List, [], ◌∷◌, ◌++◌, take, drop, Option, Some, None, IfSome, refl, sym, ap, subst, ◌∙◌, append_assoc, append-nil, arith}
+use Rattle.std.proofs.Common.{◌≡◌, ℕ, suc, ◌-◌, ◌^◌, ◌<◌, ◌≤◌, List, [], ◌∷◌, ◌++◌, length, length-append, take, drop, Option, Some, None, IfSome, refl, sym, ap, subst, ◌∙◌, append_assoc, append-nil, arith}
 use Rattle.std.specs.List.{flat_map}
-use Rattle.std.proofs.lemmas.List.{map-append, take-append-drop}
+use Rattle.std.proofs.lemmas.List.{drop-append-le, map-append, take-append-drop}
 use Rattle.lumber_client.specs.Exchange.{Exchange, acknowledged_in, anew, parcels_by, payloads_of}
 use Rattle.lumber_client.specs.Held.{Held, begun_in}
 use Rattle.lumber_client.specs.Standing.{StandsFor as WindowStandsFor}
@@ -101,47 +101,70 @@ module _ {L : Type 0} (told : L → Option Talk) where
       (subst (λ (pieces : List Piece). Acknowledges pieces (payloads_of (acknowledged_in e))) (sym speaks) (acknowledges w e s))
       (ap out_bytes speaks) finished sent
 
-  pub may_finish : (most : ℕ) (w : Held) (link : Option L) (outcomes : Option (List Outcome)) (acknowledged : List Parcel) (e : Exchange) → WindowStandsFor w e → Speaks told link outcomes e.talk → AreSmall most e.begun
-      → acknowledged ≡ e.earlier ++ acknowledged_in e → IfSome outcomes (λ list. AcknowledgeInAll list (payloads_of e.earlier)) → IfSome outcomes (AreSentOnly most (acknowledged ++ carried_in w))
-      → CanFinish told most acknowledged (acknowledged ++ carried_in w) link outcomes
-  may_finish most w None None acknowledged e s speaks small are finished sent = tt
-  may_finish most w (Some link) None acknowledged e s speaks small are finished sent = tt
-  may_finish most w None (Some outcomes) acknowledged e s speaks small are finished sent = record {
-    acknowledges = subst (λ (l : List Parcel). AcknowledgeInAll outcomes (payloads_of l)) (sym (are ∙ ap (λ (l : List Parcel). e.earlier ++ l) (none_acknowledged e speaks) ∙ append-nil e.earlier)) finished;
+  pub may_finish : (start most : ℕ) (w : Held) (link : Option L) (outcomes : Option (List Outcome)) (acknowledged : List Parcel) (e : Exchange) → WindowStandsFor w e → Speaks told link outcomes e.talk → AreSmall most e.begun
+      → acknowledged ≡ e.earlier ++ acknowledged_in e → IfSome outcomes (λ list. AcknowledgeInAll (drop start list) (payloads_of e.earlier)) → IfSome outcomes (λ list. AreSentOnly most (acknowledged ++ carried_in w) (drop start list))
+      → CanFinish told start most acknowledged (acknowledged ++ carried_in w) link outcomes
+  may_finish start most w None None acknowledged e s speaks small are finished sent = tt
+  may_finish start most w (Some link) None acknowledged e s speaks small are finished sent = tt
+  may_finish start most w None (Some outcomes) acknowledged e s speaks small are finished sent = record {
+    acknowledges = subst (λ (l : List Parcel). AcknowledgeInAll (drop start outcomes) (payloads_of l)) (sym (are ∙ ap (λ (l : List Parcel). e.earlier ++ l) (none_acknowledged e speaks) ∙ append-nil e.earlier)) finished;
     sent = sent;
   }
-  may_finish most w (Some link) (Some outcomes) acknowledged e s speaks small are finished sent = has_talk most w outcomes acknowledged e (told link) s speaks small are finished sent
+  may_finish start most w (Some link) (Some outcomes) acknowledged e s speaks small are finished sent = has_talk most w (drop start outcomes) acknowledged e (told link) s speaks small are finished sent
 
-  pub may_end : (w : Working L) (outcomes : Option (List Outcome)) (acknowledged : List Parcel) → StandsFor told w outcomes acknowledged → MayEnd told w outcomes acknowledged
-  may_end w outcomes acknowledged s = record {
+  pub may_end : (start : ℕ) (w : Working L) (outcomes : Option (List Outcome)) (acknowledged : List Parcel) → StandsFor told start w outcomes acknowledged → MayEnd told start w outcomes acknowledged
+  may_end start w outcomes acknowledged s = record {
     exchange = s.exchange;
     window = s.window;
     are = s.are;
-    finishing = may_finish w.window.most w.window w.link outcomes acknowledged s.exchange s.window s.talk s.small s.are s.finished s.sent;
+    reached = s.reached;
+    finishing = may_finish start w.window.most w.window w.link outcomes acknowledged s.exchange s.window s.talk s.small s.are s.finished s.sent;
   }
 
   -- ---- and it is finished
 
-  finished_talks : (faults idles : L → ℕ) (link : L) (before after : Seen) (outcomes : Option (List Outcome)) (talk : Option Talk) (most : ℕ) (acknowledged taken : List Parcel)
-      → TellsFinishing outcomes talk (faults link) (idles link) after.outcomes → talk ≡ told link → CanFinish told most acknowledged taken (Some link) outcomes → IfSome after.outcomes (HasTalks most acknowledged taken)
-  finished_talks faults idles link before after None talk most acknowledged taken tells is can = subst (λ (o : Option (List Outcome)). IfSome o (HasTalks most acknowledged taken)) (sym tells) tt
-  finished_talks faults idles link before after (Some outcomes) None most acknowledged taken tells is can = absurd (subst (WithTalk most acknowledged taken outcomes) (sym is) can)
-  finished_talks faults idles link before after (Some outcomes) (Some talk) most acknowledged taken tells is can =
-      let with_talk : (f i : ℕ) → HasTalks most acknowledged taken (outcomes ++ Finished talk f i ∷ []) = subst (WithTalk most acknowledged taken outcomes) (sym is) can in
-      subst (λ (o : Option (List Outcome)). IfSome o (HasTalks most acknowledged taken)) (sym tells) (with_talk (faults link) (idles link))
+  -- the talks from a place on
+  abbrev TalksSince : ℕ → ℕ → List Parcel → List Parcel → Option (List Outcome) → Type 0
+  TalksSince start most acknowledged taken outcomes = IfSome outcomes (λ list. HasTalks most acknowledged taken (drop start list))
 
-  pub ended_talks : (faults idles : L → ℕ) (link : Option L) (before after : Seen) (most : ℕ) (acknowledged taken : List Parcel)
-      → EndsLink told faults idles link before after → CanFinish told most acknowledged taken link before.outcomes → IfSome after.outcomes (HasTalks most acknowledged taken)
-  ended_talks faults idles None before after most acknowledged taken ends can = subst (λ (s : Seen). IfSome s.outcomes (HasTalks most acknowledged taken)) (sym ends) (none_left before.outcomes can)
+  finished_talks : (faults idles : L → ℕ) (link : L) (before after : Seen) (outcomes : Option (List Outcome)) (talk : Option Talk) (start most : ℕ) (acknowledged taken : List Parcel)
+      → TellsFinishing outcomes talk (faults link) (idles link) after.outcomes → talk ≡ told link → IfSome outcomes (λ list. start ≤ length list) → CanFinish told start most acknowledged taken (Some link) outcomes
+      → TalksSince start most acknowledged taken after.outcomes
+  finished_talks faults idles link before after None talk start most acknowledged taken tells is reached can = subst (TalksSince start most acknowledged taken) (sym tells) tt
+  finished_talks faults idles link before after (Some outcomes) None start most acknowledged taken tells is reached can = absurd (subst (WithTalk most acknowledged taken (drop start outcomes)) (sym is) can)
+  finished_talks faults idles link before after (Some outcomes) (Some talk) start most acknowledged taken tells is reached can =
+      let with_talk : (f i : ℕ) → HasTalks most acknowledged taken (drop start outcomes ++ Finished talk f i ∷ []) = subst (WithTalk most acknowledged taken (drop start outcomes)) (sym is) can in
+      let one : Outcome = Finished talk (faults link) (idles link) in
+      subst (TalksSince start most acknowledged taken) (sym tells)
+      (subst (HasTalks most acknowledged taken) (sym (drop-append-le start outcomes (one ∷ []) reached)) (with_talk (faults link) (idles link)))
+
+  pub ended_talks : (faults idles : L → ℕ) (link : Option L) (before after : Seen) (start most : ℕ) (acknowledged taken : List Parcel)
+      → EndsLink told faults idles link before after → IfSome before.outcomes (λ list. start ≤ length list) → CanFinish told start most acknowledged taken link before.outcomes
+      → IfSome after.outcomes (λ list. HasTalks most acknowledged taken (drop start list))
+  ended_talks faults idles None before after start most acknowledged taken ends reached can = subst (λ (s : Seen). TalksSince start most acknowledged taken s.outcomes) (sym ends) (none_left before.outcomes can)
     where
-      none_left : (o : Option (List Outcome)) → CanFinish told most acknowledged taken None o → IfSome o (HasTalks most acknowledged taken)
+      none_left : (o : Option (List Outcome)) → CanFinish told start most acknowledged taken None o → TalksSince start most acknowledged taken o
       none_left None can = tt
       none_left (Some outcomes) can = can
-  ended_talks faults idles (Some link) before after most acknowledged taken ends can = finished_talks faults idles link before after before.outcomes (told link) most acknowledged taken ends.outcome refl can
+  ended_talks faults idles (Some link) before after start most acknowledged taken ends reached can = finished_talks faults idles link before after before.outcomes (told link) start most acknowledged taken ends.outcome refl reached can
 
-  both_talks : (outcomes : Option (List Outcome)) (most : ℕ) (acknowledged taken : List Parcel) → IfSome outcomes (HasTalks most acknowledged taken) → IfSome outcomes (λ list. AcknowledgeInAll list (payloads_of acknowledged)) × IfSome outcomes (AreSentOnly most taken)
-  both_talks None most acknowledged taken h = (tt, tt)
-  both_talks (Some outcomes) most acknowledged taken h = (h.acknowledges, h.sent)
+  both_talks : (outcomes : Option (List Outcome)) (start most : ℕ) (acknowledged taken : List Parcel) → TalksSince start most acknowledged taken outcomes
+      → IfSome outcomes (λ list. AcknowledgeInAll (drop start list) (payloads_of acknowledged)) × IfSome outcomes (λ list. AreSentOnly most taken (drop start list))
+  both_talks None start most acknowledged taken h = (tt, tt)
+  both_talks (Some outcomes) start most acknowledged taken h = (h.acknowledges, h.sent)
+
+  -- the list only grows
+  still_reached : (faults idles : L → ℕ) (link : Option L) (before after : Seen) (start : ℕ) → EndsLink told faults idles link before after → IfSome before.outcomes (λ list. start ≤ length list) → IfSome after.outcomes (λ list. start ≤ length list)
+  still_reached faults idles None before after start ends reached = subst (λ (s : Seen). IfSome s.outcomes (λ list. start ≤ length list)) (sym ends) reached
+  still_reached faults idles (Some link) before after start ends reached = longer before.outcomes (told link) after.outcomes ends.outcome reached
+    where
+      longer : (o : Option (List Outcome)) (talk : Option Talk) (now : Option (List Outcome)) → TellsFinishing o talk (faults link) (idles link) now → IfSome o (λ list. start ≤ length list) → IfSome now (λ list. start ≤ length list)
+      longer None talk now tells reached = subst (λ (l : Option (List Outcome)). IfSome l (λ list. start ≤ length list)) (sym tells) tt
+      longer (Some list) None now tells reached = subst (λ (l : Option (List Outcome)). IfSome l (λ list. start ≤ length list)) (sym tells) reached
+      longer (Some list) (Some talk) now tells reached =
+          let one : Outcome = Finished talk (faults link) (idles link) in
+          let further : start ≤ length (list ++ one ∷ []) = omega (arith, reached, length-append list (one ∷ [])) in
+          subst (λ (l : Option (List Outcome)). IfSome l (λ list. start ≤ length list)) (sym tells) further
 
   fewer_links : (faults idles : L → ℕ) (link : Option L) (before after : Seen) (others : ℕ) → EndsLink told faults idles link before after → before.open_links ≡ with_link others link → ¬ (IsAtEnd others) → after.open_links ≡ others
   fewer_links faults idles None before after others ends is few = ap (λ (s : Seen). s.open_links) ends ∙ is
@@ -157,7 +180,7 @@ module _ {L : Type 0} (told : L → Option Talk) where
   no_fewer_faults faults idles (Some link) before after ends = omega (arith, ends.counts_faults)
 
   pub failing_keeps : (faults idles : L → ℕ) (before after : Seen) (old : Working L) (now : Moment) → EndsLink told faults idles old.link before after
-      → Keeps (MayEnd told old before.outcomes) (StandsFor told (unlinked (failed_at old now)) after.outcomes) before after old (unlinked (failed_at old now))
+      → Keeps (λ start. MayEnd told start old before.outcomes) (λ start. StandsFor told start (unlinked (failed_at old now)) after.outcomes) before after old (unlinked (failed_at old now))
   failing_keeps faults idles before after old now ends = record {
     taken = [];
     acknowledged = [];
@@ -175,20 +198,21 @@ module _ {L : Type 0} (told : L → Option Talk) where
     faults = no_fewer_faults faults idles old.link before after ends;
   }
     where
-      acknowledged_still : (o : Option (List Outcome)) (earlier all : List Parcel) → earlier ≡ all → IfSome o (λ list. AcknowledgeInAll list (payloads_of earlier)) → IfSome o (λ list. AcknowledgeInAll list (payloads_of all))
-      acknowledged_still None earlier all same h = tt
-      acknowledged_still (Some list) earlier all same h = subst (λ (l : List Parcel). AcknowledgeInAll list (payloads_of l)) same h
+      acknowledged_still : (o : Option (List Outcome)) (start : ℕ) (earlier all : List Parcel) → earlier ≡ all → IfSome o (λ list. AcknowledgeInAll (drop start list) (payloads_of earlier)) → IfSome o (λ list. AcknowledgeInAll (drop start list) (payloads_of all))
+      acknowledged_still None start earlier all same h = tt
+      acknowledged_still (Some list) start earlier all same h = subst (λ (l : List Parcel). AcknowledgeInAll (drop start list) (payloads_of l)) same h
 
-      stands : (earlier : List Parcel) → MayEnd told old before.outcomes earlier → StandsFor told (unlinked (failed_at old now)) after.outcomes (earlier ++ [])
-      stands earlier m =
-          let talks = both_talks after.outcomes old.window.most earlier (earlier ++ carried_in old.window) (ended_talks faults idles old.link before after old.window.most earlier (earlier ++ carried_in old.window) ends m.finishing) in
-          subst (StandsFor told (unlinked (failed_at old now)) after.outcomes) (sym (append-nil earlier)) (record {
+      stands : (start : ℕ) (earlier : List Parcel) → MayEnd told start old before.outcomes earlier → StandsFor told start (unlinked (failed_at old now)) after.outcomes (earlier ++ [])
+      stands start earlier m =
+          let talks = both_talks after.outcomes start old.window.most earlier (earlier ++ carried_in old.window) (ended_talks faults idles old.link before after start old.window.most earlier (earlier ++ carried_in old.window) ends m.reached m.finishing) in
+          subst (StandsFor told start (unlinked (failed_at old now)) after.outcomes) (sym (append-nil earlier)) (record {
             exchange = anew m.exchange;
             window = stands_again old.window m.exchange m.window;
             talk = refl;
             small = tt;
             are = m.are ∙ sym (append-nil (m.exchange.earlier ++ acknowledged_in m.exchange));
-            finished = acknowledged_still after.outcomes earlier (m.exchange.earlier ++ acknowledged_in m.exchange) m.are talks.0;
+            reached = still_reached faults idles old.link before after start ends m.reached;
+            finished = acknowledged_still after.outcomes start earlier (m.exchange.earlier ++ acknowledged_in m.exchange) m.are talks.0;
             sent = talks.1;
           })
 

@@ -116,8 +116,8 @@ module _ {L : Type 0} where
   owed_are old v none =
       ap (λ (l : List Note). l ++ notes_of (settled_in v)) (ap (λ (n : ℕ). noted old.refused ++ notes_of (take n old.window.parcels)) none ∙ append-nil (noted old.refused))
 
-  heard_goes : (P Q : List Parcel → Type 0) (s : Seen) (old : Working L) (link later : L) (v : Held) (fault : Option ℕ) (now : Moment) → KeepsParcels old.window v → old.window.acknowledged ≡ 0 → old.link ≡ Some link
-      → ((earlier : List Parcel) → P earlier → Q (earlier ++ settled_in v)) → Goes P Q s s old (heard_as old later v fault now)
+  heard_goes : (P Q : ℕ → List Parcel → Type 0) (s : Seen) (old : Working L) (link later : L) (v : Held) (fault : Option ℕ) (now : Moment) → KeepsParcels old.window v → old.window.acknowledged ≡ 0 → old.link ≡ Some link
+      → ((start : ℕ) (earlier : List Parcel) → P start earlier → Q start (earlier ++ settled_in v)) → Goes P Q s s old (heard_as old later v fault now)
   heard_goes P Q s old link later v None now kept none was stands = record {
     keeps = record {
       taken = [];
@@ -188,8 +188,8 @@ module _ {L : Type 0} (told : L → Option Talk) (s : Seen) (now : Moment) (old 
       let h : Hears now (record old { link = Some r.later }) new x.bytes None = subst (λ (m : Working L). Hears now m new x.bytes None) r.is x.hears in
       let v = h.window in
       subst (λ (w : Working L). WorkerGoes told s s old w) (sym h.is)
-      (heard_goes (StandsFor told old s.outcomes) (StandsFor told (heard_as old r.later v None now) s.outcomes) s old r.link r.later v None now h.kept none r.was
-      (λ earlier p. stands_by told old (heard_as old r.later v None now) s.outcomes earlier (settled_in v) [] p (with_talk p.exchange (with_bytes p.exchange.talk x.bytes)) (h.fed p.exchange p.window)
+      (heard_goes (λ start. StandsFor told start old s.outcomes) (λ start. StandsFor told start (heard_as old r.later v None now) s.outcomes) s old r.link r.later v None now h.kept none r.was
+      (λ start earlier p. stands_by told old (heard_as old r.later v None now) s.outcomes start earlier (settled_in v) [] p (with_talk p.exchange (with_bytes p.exchange.talk x.bytes)) (h.fed p.exchange p.window)
       (speaks_heard s.outcomes p.exchange.talk x.bytes r.link r.later old.link r.was r.cause p.talk) p.small refl
       (acknowledged_more old.window v p.exchange (with_talk p.exchange (with_bytes p.exchange.talk x.bytes)) p.window (h.fed p.exchange p.window) refl none)
       h.kept.most (carried_are old.window v h.kept none)))
@@ -213,10 +213,10 @@ module _ {L : Type 0} (told : L → Option Talk) (s : Seen) (now : Moment) (old 
       has_fault true is h = h
       has_fault false is h = absurd cc
 
-  fault_ends : (outcomes : Option (List Outcome)) (at : ℕ) (bytes : List ℕ) (link later : L) (v : Held) (earlier : List Parcel) → old.window.acknowledged ≡ 0 → old.link ≡ Some link → Gets told bytes link later → KeepsParcels old.window v → v.hearing.failed ≡ true
+  fault_ends : (start : ℕ) (outcomes : Option (List Outcome)) (at : ℕ) (bytes : List ℕ) (link later : L) (v : Held) (earlier : List Parcel) → old.window.acknowledged ≡ 0 → old.link ≡ Some link → Gets told bytes link later → KeepsParcels old.window v → v.hearing.failed ≡ true
       → ((e : Exchange) → WindowStandsFor old.window e → FeedsTo v e bytes at)
-      → StandsFor told old outcomes earlier → MayEnd told (heard_as old later v (Some at) now) outcomes (earlier ++ settled_in v)
-  fault_ends outcomes at bytes link later v earlier none was gets kept failed fed p =
+      → StandsFor told start old outcomes earlier → MayEnd told start (heard_as old later v (Some at) now) outcomes (earlier ++ settled_in v)
+  fault_ends start outcomes at bytes link later v earlier none was gets kept failed fed p =
       let e = p.exchange in
       let f = fed e p.window in
       let g = with_talk e (with_bytes e.talk (f.front ++ f.byte ∷ [])) in
@@ -225,24 +225,25 @@ module _ {L : Type 0} (told : L → Option Talk) (s : Seen) (now : Moment) (old 
         exchange = anew g;
         window = stands_again v g f.stands;
         are = more ∙ sym (append-nil (e.earlier ++ acknowledged_in g));
+        reached = p.reached;
         finishing = can outcomes p.talk p.finished p.sent f more;
       }
     where
-      can : (o : Option (List Outcome)) → Speaks told old.link o p.exchange.talk → IfSome o (λ list. AcknowledgeInAll list (payloads_of p.exchange.earlier)) → IfSome o (AreSentOnly old.window.most (earlier ++ carried_in old.window)) → (f : FeedsTo v p.exchange bytes at)
-          → earlier ++ settled_in v ≡ p.exchange.earlier ++ acknowledged_in (with_talk p.exchange (with_bytes p.exchange.talk (f.front ++ f.byte ∷ []))) → CanFinish told v.most (earlier ++ settled_in v) ((earlier ++ settled_in v) ++ carried_in v) (Some later) o
+      can : (o : Option (List Outcome)) → Speaks told old.link o p.exchange.talk → IfSome o (λ list. AcknowledgeInAll (drop start list) (payloads_of p.exchange.earlier)) → IfSome o (λ list. AreSentOnly old.window.most (earlier ++ carried_in old.window) (drop start list)) → (f : FeedsTo v p.exchange bytes at)
+          → earlier ++ settled_in v ≡ p.exchange.earlier ++ acknowledged_in (with_talk p.exchange (with_bytes p.exchange.talk (f.front ++ f.byte ∷ []))) → CanFinish told start v.most (earlier ++ settled_in v) ((earlier ++ settled_in v) ++ carried_in v) (Some later) o
       can None speaks finished sent f more = tt
       can (Some list) speaks finished sent f more =
-          fault_talk v p.exchange bytes at f (told link) (told later) v.most (earlier ++ settled_in v) list failed gets.told_is (subst (λ (o : Option L). Speaks told o (Some list) p.exchange.talk) was speaks)
+          fault_talk v p.exchange bytes at f (told link) (told later) v.most (earlier ++ settled_in v) (drop start list) failed gets.told_is (subst (λ (o : Option L). Speaks told o (Some list) p.exchange.talk) was speaks)
           (subst (λ (n : ℕ). AreSmall n p.exchange.begun) (sym kept.most) p.small) more finished
-          (subst (λ (n : ℕ). AreSentOnly n ((earlier ++ settled_in v) ++ carried_in v) list) (sym kept.most)
-          (are_sent_more (Some list) old.window.most (earlier ++ carried_in old.window) _ [] (all_taken earlier (settled_in v) (carried_in old.window) [] (carried_in v) (carried_are old.window v kept none)) sent))
+          (subst (λ (n : ℕ). AreSentOnly n ((earlier ++ settled_in v) ++ carried_in v) (drop start list)) (sym kept.most)
+          (are_sent_more (Some list) start old.window.most (earlier ++ carried_in old.window) _ [] (all_taken earlier (settled_in v) (carried_in old.window) [] (carried_in v) (carried_are old.window v kept none)) sent))
 
   -- bytes with a fault
-  pub fault_goes : (at : ℕ) → old.window.acknowledged ≡ 0 → HearsOver told now old new (Some at) → Goes (StandsFor told old s.outcomes) (MayEnd told new s.outcomes) s s old new
+  pub fault_goes : (at : ℕ) → old.window.acknowledged ≡ 0 → HearsOver told now old new (Some at) → Goes (λ start. StandsFor told start old s.outcomes) (λ start. MayEnd told start new s.outcomes) s s old new
   fault_goes at none x =
       let r = x.received in
       let h : Hears now (record old { link = Some r.later }) new x.bytes (Some at) = subst (λ (m : Working L). Hears now m new x.bytes (Some at)) r.is x.hears in
       let v = h.window in
-      subst (λ (w : Working L). Goes (StandsFor told old s.outcomes) (MayEnd told w s.outcomes) s s old w) (sym h.is)
-      (heard_goes (StandsFor told old s.outcomes) (MayEnd told (heard_as old r.later v (Some at) now) s.outcomes) s old r.link r.later v (Some at) now h.kept none r.was
-      (λ earlier p. fault_ends s.outcomes at x.bytes r.link r.later v earlier none r.was r.cause h.kept h.failed h.fed p))
+      subst (λ (w : Working L). Goes (λ start. StandsFor told start old s.outcomes) (λ start. MayEnd told start w s.outcomes) s s old w) (sym h.is)
+      (heard_goes (λ start. StandsFor told start old s.outcomes) (λ start. MayEnd told start (heard_as old r.later v (Some at) now) s.outcomes) s old r.link r.later v (Some at) now h.kept none r.was
+      (λ start earlier p. fault_ends start s.outcomes at x.bytes r.link r.later v earlier none r.was r.cause h.kept h.failed h.fed p))

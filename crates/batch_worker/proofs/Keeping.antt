@@ -1,5 +1,5 @@
 -- What the calls of a worker keep, one behind the other.
-use Rattle.std.proofs.Common.{◌≡◌, ℕ, List, [], ◌∷◌, ◌++◌, Option, Some, None, IfSome, refl, sym, ap, subst, ◌∙◌, append_assoc, append-nil, arith}
+use Rattle.std.proofs.Common.{◌≡◌, ℕ, List, [], ◌∷◌, ◌++◌, drop, Option, Some, None, IfSome, refl, sym, ap, subst, ◌∙◌, append_assoc, append-nil, arith}
 use Rattle.std.proofs.lemmas.List.{map-append}
 use Rattle.lumber_client.specs.Exchange.{Exchange, acknowledged_in, payloads_of}
 use Rattle.lumber_client.specs.Standing.{StandsFor as WindowStandsFor}
@@ -51,7 +51,7 @@ since_on (parcel ∷ first) (other ∷ then) failures = refl
 -- ---- nothing happens, and one thing behind the other
 
 module _ {L : Type 0} where
-  pub keeps_same : (P : List Parcel → Type 0) (s : Seen) (w : Working L) → Keeps P P s s w w
+  pub keeps_same : (P : ℕ → List Parcel → Type 0) (s : Seen) (w : Working L) → Keeps P P s s w w
   keeps_same P s w = record {
     taken = [];
     acknowledged = [];
@@ -64,12 +64,12 @@ module _ {L : Type 0} where
     post = none_posted w.post;
     parcels_are = append-nil (carried_in w.window);
     notes_are = append-nil (owed_by w);
-    stands = λ earlier p. subst P (sym (append-nil earlier)) p;
+    stands = λ start earlier p. subst (P start) (sym (append-nil earlier)) p;
     open_links = λ others is few. is;
     faults = omega arith;
   }
 
-  pub keeps_on : (P Q R : List Parcel → Type 0) (a b c : Seen) (x y z : Working L) → Keeps P Q a b x y → Keeps Q R b c y z → Keeps P R a c x z
+  pub keeps_on : (P Q R : ℕ → List Parcel → Type 0) (a b c : Seen) (x y z : Working L) → Keeps P Q a b x y → Keeps Q R b c y z → Keeps P R a c x z
   keeps_on P Q R a b c x y z first then = record {
     taken = first.taken ++ then.taken;
     acknowledged = first.acknowledged ++ then.acknowledged;
@@ -84,16 +84,16 @@ module _ {L : Type 0} where
         ∙ balanced (carried_in x.window) (parcels first.taken) (parcels then.taken) first.acknowledged then.acknowledged (carried_in y.window) (carried_in z.window) first.parcels_are then.parcels_are;
     notes_are = ap (λ (l : List Note). owed_by x ++ l) (map-append note_of first.acknowledged then.acknowledged)
         ∙ balanced (owed_by x) (notes_of first.acknowledged) (notes_of then.acknowledged) first.posted then.posted (owed_by y) (owed_by z) first.notes_are then.notes_are;
-    stands = λ earlier p. subst R (append_assoc earlier first.acknowledged then.acknowledged) (then.stands (earlier ++ first.acknowledged) (first.stands earlier p));
+    stands = λ start earlier p. subst (R start) (append_assoc earlier first.acknowledged then.acknowledged) (then.stands start (earlier ++ first.acknowledged) (first.stands start earlier p));
     open_links = λ others is few. then.open_links others (first.open_links others is few) few;
     faults = omega (arith, first.faults, then.faults);
   }
 
-  pub goes_nowhere : (P : List Parcel → Type 0) (s : Seen) (w : Working L) → Goes P P s s w w
+  pub goes_nowhere : (P : ℕ → List Parcel → Type 0) (s : Seen) (w : Working L) → Goes P P s s w w
   unfolding keeps_same
   goes_nowhere P s w = record { keeps = keeps_same P s w; failures = refl; failed = refl }
 
-  pub goes_on : (P Q R : List Parcel → Type 0) (a b c : Seen) (x y z : Working L) → Goes P Q a b x y → Goes Q R b c y z → Goes P R a c x z
+  pub goes_on : (P Q R : ℕ → List Parcel → Type 0) (a b c : Seen) (x y z : Working L) → Goes P Q a b x y → Goes Q R b c y z → Goes P R a c x z
   unfolding keeps_on
   goes_on P Q R a b c x y z first then = record {
     keeps = keeps_on P Q R a b c x y z first.keeps then.keeps;
@@ -102,11 +102,11 @@ module _ {L : Type 0} where
   }
 
   -- a failure behind what came before it
-  pub failing_on : (told : L → Option Talk) (Q : List Parcel → Type 0) (before after : Seen) (old mid new : Working L) (now : Moment) → Goes (StandsFor told old before.outcomes) Q before before old mid
-      → (k : Keeps Q (StandsFor told new after.outcomes) before after mid new) → k.acknowledged ≡ [] → new.failures ≡ one_failure_more mid.failures → new.failed ≡ now → new.link ≡ None → FailsAt told before after old new now
+  pub failing_on : (told : L → Option Talk) (Q : ℕ → List Parcel → Type 0) (before after : Seen) (old mid new : Working L) (now : Moment) → Goes (λ start. StandsFor told start old before.outcomes) Q before before old mid
+      → (k : Keeps Q (λ start. StandsFor told start new after.outcomes) before after mid new) → k.acknowledged ≡ [] → new.failures ≡ one_failure_more mid.failures → new.failed ≡ now → new.link ≡ None → FailsAt told before after old new now
   unfolding keeps_on
   failing_on told Q before after old mid new now g k nothing failures failed none = record {
-    keeps = keeps_on (StandsFor told old before.outcomes) Q (StandsFor told new after.outcomes) before before after old mid new g.keeps k;
+    keeps = keeps_on (λ start. StandsFor told start old before.outcomes) Q (λ start. StandsFor told start new after.outcomes) before before after old mid new g.keeps k;
     failures = failures ∙ ap one_failure_more (g.failures ∙ ap (λ (l : List Parcel). failures_since l old.failures) (sym (append-nil g.keeps.acknowledged) ∙ ap (λ (l : List Parcel). g.keeps.acknowledged ++ l) (sym nothing)));
     failed = failed;
     unlinked = none;
@@ -131,9 +131,9 @@ all_send_more : (most : ℕ) (all more : List Parcel) (outcomes : List Outcome) 
 all_send_more most all more [] s = tt
 all_send_more most all more (outcome ∷ outcomes) s = (sends_more most all more outcome s.0, all_send_more most all more outcomes s.1)
 
-pub are_sent_more : (outcomes : Option (List Outcome)) (most : ℕ) (all now more : List Parcel) → now ≡ all ++ more → IfSome outcomes (AreSentOnly most all) → IfSome outcomes (AreSentOnly most now)
-are_sent_more None most all now more is s = tt
-are_sent_more (Some outcomes) most all now more is s = subst (λ (l : List Parcel). AreSentOnly most l outcomes) (sym is) (all_send_more most all more outcomes s)
+pub are_sent_more : (outcomes : Option (List Outcome)) (start most : ℕ) (all now more : List Parcel) → now ≡ all ++ more → IfSome outcomes (λ list. AreSentOnly most all (drop start list)) → IfSome outcomes (λ list. AreSentOnly most now (drop start list))
+are_sent_more None start most all now more is s = tt
+are_sent_more (Some outcomes) start most all now more is s = subst (λ (l : List Parcel). AreSentOnly most l (drop start outcomes)) (sym is) (all_send_more most all more (drop start outcomes) s)
 
 pub all_taken : (earlier acknowledged carried taken left : List Parcel) → carried ++ taken ≡ acknowledged ++ left → (earlier ++ acknowledged) ++ left ≡ (earlier ++ carried) ++ taken
 all_taken earlier acknowledged carried taken left are =
@@ -142,21 +142,22 @@ all_taken earlier acknowledged carried taken left are =
 -- ---- a step over the same link
 
 module _ {L : Type 0} (told : L → Option Talk) (old new : Working L) (outcomes : Option (List Outcome)) where
-  pub stands_by : (earlier acknowledged taken : List Parcel) (s : StandsFor told old outcomes earlier) (e : Exchange)
+  pub stands_by : (start : ℕ) (earlier acknowledged taken : List Parcel) (s : StandsFor told start old outcomes earlier) (e : Exchange)
       → WindowStandsFor new.window e → Speaks told new.link outcomes e.talk → AreSmall old.window.most e.begun → e.earlier ≡ s.exchange.earlier
       → e.earlier ++ acknowledged_in e ≡ (s.exchange.earlier ++ acknowledged_in s.exchange) ++ acknowledged → new.window.most ≡ old.window.most
-      → carried_in old.window ++ taken ≡ acknowledged ++ carried_in new.window → StandsFor told new outcomes (earlier ++ acknowledged)
-  stands_by earlier acknowledged taken s e window speaks small same are most parcels_are = record {
+      → carried_in old.window ++ taken ≡ acknowledged ++ carried_in new.window → StandsFor told start new outcomes (earlier ++ acknowledged)
+  stands_by start earlier acknowledged taken s e window speaks small same are most parcels_are = record {
     exchange = e;
     window = window;
     talk = speaks;
     small = subst (λ (n : ℕ). AreSmall n e.begun) (sym most) small;
     are = ap (λ (l : List Parcel). l ++ acknowledged) s.are ∙ sym are;
+    reached = s.reached;
     finished = finished_still outcomes same s.finished;
-    sent = subst (λ (n : ℕ). IfSome outcomes (AreSentOnly n ((earlier ++ acknowledged) ++ carried_in new.window))) (sym most)
-        (are_sent_more outcomes old.window.most (earlier ++ carried_in old.window) _ taken (all_taken earlier acknowledged (carried_in old.window) taken (carried_in new.window) parcels_are) s.sent);
+    sent = subst (λ (n : ℕ). IfSome outcomes (λ list. AreSentOnly n ((earlier ++ acknowledged) ++ carried_in new.window) (drop start list))) (sym most)
+        (are_sent_more outcomes start old.window.most (earlier ++ carried_in old.window) _ taken (all_taken earlier acknowledged (carried_in old.window) taken (carried_in new.window) parcels_are) s.sent);
   }
     where
-      finished_still : (o : Option (List Outcome)) → e.earlier ≡ s.exchange.earlier → IfSome o (λ list. AcknowledgeInAll list (payloads_of s.exchange.earlier)) → IfSome o (λ list. AcknowledgeInAll list (payloads_of e.earlier))
+      finished_still : (o : Option (List Outcome)) → e.earlier ≡ s.exchange.earlier → IfSome o (λ list. AcknowledgeInAll (drop start list) (payloads_of s.exchange.earlier)) → IfSome o (λ list. AcknowledgeInAll (drop start list) (payloads_of e.earlier))
       finished_still None is f = tt
-      finished_still (Some list) is f = subst (λ (l : List Parcel). AcknowledgeInAll list (payloads_of l)) (sym is) f
+      finished_still (Some list) is f = subst (λ (l : List Parcel). AcknowledgeInAll (drop start list) (payloads_of l)) (sym is) f

@@ -1,6 +1,6 @@
 -- What becomes of a worker's link while its window stays: it is made, it fails, or nothing comes over it.
-use Rattle.std.proofs.Common.{◌≡◌, ℕ, ◌<◌, ◌≤◌, false, List, [], ◌∷◌, ◌++◌, length, take, Option, Some, None, IfSome, Ok, Err, is_some, refl, sym, ap, subst, ◌∙◌, append-nil, arith, inl, inr}
-use Rattle.std.proofs.lemmas.List.{length-take}
+use Rattle.std.proofs.Common.{◌≡◌, ℕ, ◌<◌, ◌≤◌, false, List, [], ◌∷◌, ◌++◌, length, take, drop, Option, Some, None, IfSome, Ok, Err, is_some, refl, sym, ap, subst, ◌∙◌, append-nil, arith, inl, inr, length-append}
+use Rattle.std.proofs.lemmas.List.{drop-append-le, length-take}
 use Rattle.lumber_client.specs.Exchange.{Exchange, acknowledged_in, payloads_of, with_begun, with_sent}
 use Rattle.lumber_client.specs.Held.{Held, begun_as, next_in, sent_as, waiting_in}
 use Rattle.lumber_client.specs.Standing.{StandsFor as WindowStandsFor}
@@ -63,7 +63,7 @@ module _ {L : Type 0} (told : L → Option Talk) where
   over_link w link = record w { link = link }
 
   -- nothing but the link changes
-  pub link_goes : (before after : Seen) (old : Working L) (link : Option L) → ((earlier : List Parcel) → StandsFor told old before.outcomes earlier → StandsFor told (over_link old link) after.outcomes earlier)
+  pub link_goes : (before after : Seen) (old : Working L) (link : Option L) → ((start : ℕ) (earlier : List Parcel) → StandsFor told start old before.outcomes earlier → StandsFor told start (over_link old link) after.outcomes earlier)
       → ((others : ℕ) → before.open_links ≡ with_link others old.link → ¬ (IsAtEnd others) → after.open_links ≡ with_link others link) → before.faults ≤ after.faults → WorkerGoes told before after old (over_link old link)
   link_goes before after old link stands opens faults = record {
     keeps = record {
@@ -78,7 +78,7 @@ module _ {L : Type 0} (told : L → Option Talk) where
       post = none_posted old.post;
       parcels_are = append-nil (carried_in old.window);
       notes_are = append-nil (owed_by old);
-      stands = λ earlier p. subst (StandsFor told (over_link old link) after.outcomes) (sym (append-nil earlier)) (stands earlier p);
+      stands = λ start earlier p. subst (StandsFor told start (over_link old link) after.outcomes) (sym (append-nil earlier)) (stands start earlier p);
       open_links = opens;
       faults = faults;
     };
@@ -87,50 +87,57 @@ module _ {L : Type 0} (told : L → Option Talk) where
   }
 
   -- a worker without a link, over another list of its wire
-  over_list : (w : Working L) (link : Option L) (outcomes now : Option (List Outcome)) (earlier : List Parcel) (p : StandsFor told w outcomes earlier) → Speaks told link now p.exchange.talk
-      → IfSome now (λ list. AcknowledgeInAll list (payloads_of p.exchange.earlier)) → IfSome now (AreSentOnly w.window.most (earlier ++ carried_in w.window)) → StandsFor told (over_link w link) now earlier
-  over_list w link outcomes now earlier p speaks finished sent = record {
+  over_list : (start : ℕ) (w : Working L) (link : Option L) (outcomes now : Option (List Outcome)) (earlier : List Parcel) (p : StandsFor told start w outcomes earlier) → Speaks told link now p.exchange.talk
+      → IfSome now (λ list. start ≤ length list) → IfSome now (λ list. AcknowledgeInAll (drop start list) (payloads_of p.exchange.earlier)) → IfSome now (λ list. AreSentOnly w.window.most (earlier ++ carried_in w.window) (drop start list))
+      → StandsFor told start (over_link w link) now earlier
+  over_list start w link outcomes now earlier p speaks reached finished sent = record {
     exchange = p.exchange;
     window = p.window;
     talk = speaks;
     small = p.small;
     are = p.are;
+    reached = reached;
     finished = finished;
     sent = sent;
   }
 
-  refused_stands : (w : Working L) (error : Failed) (outcomes now : Option (List Outcome)) (faults : ℕ) (earlier : List Parcel) → w.link ≡ None → TellsConnecting told outcomes (Err error) now faults → StandsFor told w outcomes earlier → StandsFor told (over_link w None) now earlier
-  refused_stands w error None now faults earlier none tells p =
-      subst (λ (o : Option (List Outcome)). StandsFor told (over_link w None) o earlier) (sym tells.0) (over_list w None None None earlier p (subst (λ (l : Option L). Speaks told l None p.exchange.talk) none p.talk) tt tt)
-  refused_stands w error (Some outcomes) now faults earlier none tells p =
+  refused_stands : (start : ℕ) (w : Working L) (error : Failed) (outcomes now : Option (List Outcome)) (faults : ℕ) (earlier : List Parcel) → w.link ≡ None → TellsConnecting told outcomes (Err error) now faults
+      → StandsFor told start w outcomes earlier → StandsFor told start (over_link w None) now earlier
+  refused_stands start w error None now faults earlier none tells p =
+      subst (λ (o : Option (List Outcome)). StandsFor told start (over_link w None) o earlier) (sym tells.0) (over_list start w None None None earlier p (subst (λ (l : Option L). Speaks told l None p.exchange.talk) none p.talk) tt tt tt)
+  refused_stands start w error (Some outcomes) now faults earlier none tells p =
       let speaks = subst (λ (l : Option L). Speaks told l (Some outcomes) p.exchange.talk) none p.talk in
+      let behind : drop start (outcomes ++ Refused ∷ []) ≡ drop start outcomes ++ Refused ∷ [] = drop-append-le start outcomes (Refused ∷ []) p.reached in
+      let further : start ≤ length (outcomes ++ Refused ∷ []) = omega (arith, p.reached, length-append outcomes (Refused ∷ [])) in
+      let finished = subst (λ (l : List Outcome). AcknowledgeInAll l (payloads_of p.exchange.earlier)) (sym behind) (with_refused (drop start outcomes) (payloads_of p.exchange.earlier) p.finished) in
+      let sent = subst (AreSentOnly w.window.most (earlier ++ carried_in w.window)) (sym behind) (sent_with_one w.window.most (earlier ++ carried_in w.window) (drop start outcomes) Refused p.sent tt) in
       elim tells [
-        | inl more ↦ subst (λ (o : Option (List Outcome)). StandsFor told (over_link w None) o earlier) (sym more) (over_list w None (Some outcomes) (Some (outcomes ++ Refused ∷ [])) earlier p speaks
-            (with_refused outcomes (payloads_of p.exchange.earlier) p.finished) (sent_with_one w.window.most (earlier ++ carried_in w.window) outcomes Refused p.sent tt))
-        | inr same ↦ subst (λ (o : Option (List Outcome)). StandsFor told (over_link w None) o earlier) (sym same.1) (over_list w None (Some outcomes) (Some outcomes) earlier p speaks p.finished p.sent)
+        | inl more ↦ subst (λ (o : Option (List Outcome)). StandsFor told start (over_link w None) o earlier) (sym more) (over_list start w None (Some outcomes) (Some (outcomes ++ Refused ∷ [])) earlier p speaks further finished sent)
+        | inr same ↦ subst (λ (o : Option (List Outcome)). StandsFor told start (over_link w None) o earlier) (sym same.1) (over_list start w None (Some outcomes) (Some outcomes) earlier p speaks p.reached p.finished p.sent)
       ]
 
   pub refused_goes : (before after : Seen) (w : Working L) (error : Failed) → w.link ≡ None → TellsConnecting told before.outcomes (Err error) after.outcomes after.faults → after.open_links ≡ before.open_links → before.faults ≤ after.faults → WorkerGoes told before after w w
   refused_goes before after w error none tells opens faults =
       subst (λ (v : Working L). WorkerGoes told before after w v) (ap (over_link w) (sym none))
-      (link_goes before after w None (λ earlier p. refused_stands w error before.outcomes after.outcomes after.faults earlier none tells p) (λ others is few. opens ∙ is ∙ ap (with_link others) none) faults)
+      (link_goes before after w None (λ start earlier p. refused_stands start w error before.outcomes after.outcomes after.faults earlier none tells p) (λ others is few. opens ∙ is ∙ ap (with_link others) none) faults)
 
-  linked_stands : (w : Working L) (link : L) (outcomes now : Option (List Outcome)) (faults : ℕ) (earlier : List Parcel) → w.link ≡ None → TellsConnecting told outcomes (Ok link) now faults → StandsFor told w outcomes earlier → StandsFor told (over_link w (Some link)) now earlier
-  linked_stands w link None now faults earlier none tells p =
-      subst (λ (o : Option (List Outcome)). StandsFor told (over_link w (Some link)) o earlier) (sym tells.0) (over_list w (Some link) None None earlier p tt tt tt)
-  linked_stands w link (Some outcomes) now faults earlier none tells p =
+  linked_stands : (start : ℕ) (w : Working L) (link : L) (outcomes now : Option (List Outcome)) (faults : ℕ) (earlier : List Parcel) → w.link ≡ None → TellsConnecting told outcomes (Ok link) now faults
+      → StandsFor told start w outcomes earlier → StandsFor told start (over_link w (Some link)) now earlier
+  linked_stands start w link None now faults earlier none tells p =
+      subst (λ (o : Option (List Outcome)). StandsFor told start (over_link w (Some link)) o earlier) (sym tells.0) (over_list start w (Some link) None None earlier p tt tt tt tt)
+  linked_stands start w link (Some outcomes) now faults earlier none tells p =
       let silent : p.exchange.talk ≡ [] = subst (λ (l : Option L). Speaks told l (Some outcomes) p.exchange.talk) none p.talk in
-      subst (λ (o : Option (List Outcome)). StandsFor told (over_link w (Some link)) o earlier) (sym tells.1)
-      (over_list w (Some link) (Some outcomes) (Some outcomes) earlier p (subst (λ (t : Option Talk). HasTalk t p.exchange.talk) (sym tells.0) (sym silent)) p.finished p.sent)
+      subst (λ (o : Option (List Outcome)). StandsFor told start (over_link w (Some link)) o earlier) (sym tells.1)
+      (over_list start w (Some link) (Some outcomes) (Some outcomes) earlier p (subst (λ (t : Option Talk). HasTalk t p.exchange.talk) (sym tells.0) (sym silent)) p.reached p.finished p.sent)
 
   pub linked_goes : (before after : Seen) (w : Working L) (link : L) → w.link ≡ None → TellsConnecting told before.outcomes (Ok link) after.outcomes after.faults → after.open_links ≡ next_count before.open_links → before.faults ≤ after.faults → WorkerGoes told before after w (over_link w (Some link))
   linked_goes before after w link none tells opens faults =
-      link_goes before after w (Some link) (λ earlier p. linked_stands w link before.outcomes after.outcomes after.faults earlier none tells p) (λ others is few. opens ∙ ap next_count (is ∙ ap (with_link others) none)) faults
+      link_goes before after w (Some link) (λ start earlier p. linked_stands start w link before.outcomes after.outcomes after.faults earlier none tells p) (λ others is few. opens ∙ ap next_count (is ∙ ap (with_link others) none)) faults
 
   -- the link goes on, and its talk's pieces are the same
   pub later_goes : (s : Seen) (w : Working L) (link later : L) → w.link ≡ Some link → ((pieces : List Piece) → HasTalk (told link) pieces → HasTalk (told later) pieces) → WorkerGoes told s s w (over_link w (Some later))
   later_goes s w link later was same =
-      link_goes s s w (Some later) (λ earlier p. over_list w (Some later) s.outcomes s.outcomes earlier p (speaks s.outcomes p.exchange.talk p.talk) p.finished p.sent) (λ others is few. is ∙ ap (with_link others) was) (omega arith)
+      link_goes s s w (Some later) (λ start earlier p. over_list start w (Some later) s.outcomes s.outcomes earlier p (speaks s.outcomes p.exchange.talk p.talk) p.reached p.finished p.sent) (λ others is few. is ∙ ap (with_link others) was) (omega arith)
     where
       speaks : (outcomes : Option (List Outcome)) (pieces : List Piece) → Speaks told w.link outcomes pieces → Speaks told (Some later) outcomes pieces
       speaks None pieces sp = tt
@@ -165,7 +172,7 @@ module _ {L : Type 0} (told : L → Option Talk) (s : Seen) where
           post = none_posted old.post;
           parcels_are = append-nil (carried_in old.window);
           notes_are = append-nil (owed_by old);
-          stands = λ earlier p. stands_by told old (begun_one old new.window.out new.window.behind) s.outcomes earlier [] [] p (with_begun p.exchange (next_in old.window)) (window p.exchange p.window) p.talk
+          stands = λ start earlier p. stands_by told old (begun_one old new.window.out new.window.behind) s.outcomes start earlier [] [] p (with_begun p.exchange (next_in old.window)) (window p.exchange p.window) p.talk
               (small_with old.window.most p.exchange.begun (next_in old.window) few p.small) refl
               (acknowledged_same old.window (begun_as old.window new.window.out new.window.behind) p.exchange (with_begun p.exchange (next_in old.window)) p.window (window p.exchange p.window) refl refl)
               refl (append-nil (carried_in old.window));
@@ -212,7 +219,7 @@ module _ {L : Type 0} (told : L → Option Talk) (s : Seen) where
           post = none_posted old.post;
           parcels_are = append-nil (carried_in old.window);
           notes_are = append-nil (owed_by old);
-          stands = λ earlier p. stands_by told old (sent_one old x.later new.window.out new.window.behind now) s.outcomes earlier [] [] p (with_sent p.exchange (take x.count old.window.out)) (window p.exchange p.window)
+          stands = λ start earlier p. stands_by told old (sent_one old x.later new.window.out new.window.behind now) s.outcomes start earlier [] [] p (with_sent p.exchange (take x.count old.window.out)) (window p.exchange p.window)
               (speaks s.outcomes p.exchange.talk old.link x.was p.talk) p.small refl
               (acknowledged_same old.window (sent_as old.window new.window.out new.window.behind) p.exchange (with_sent p.exchange (take x.count old.window.out)) p.window (window p.exchange p.window) refl refl)
               refl (append-nil (carried_in old.window));

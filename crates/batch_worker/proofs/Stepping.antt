@@ -67,7 +67,7 @@ module _ {L : Type 0} (told : L → Option Talk) (s : Seen) where
           post = none_posted old.post;
           parcels_are = carried;
           notes_are = ap (λ (l : List Note). l ++ []) owed ∙ append-nil (noted old.refused ++ notes_of (take old.window.acknowledged (old.window.parcels ++ t.entry.parcel ∷ [])));
-          stands = λ earlier p. stands_by told old (took_one old t.entry) s.outcomes earlier [] (t.entry.parcel ∷ []) p p.exchange (window p.exchange p.window) p.talk p.small refl (sym (append-nil _)) refl carried;
+          stands = λ start earlier p. stands_by told old (took_one old t.entry) s.outcomes start earlier [] (t.entry.parcel ∷ []) p p.exchange (window p.exchange p.window) p.talk p.small refl (sym (append-nil _)) refl carried;
           open_links = λ others is few. is;
           faults = omega arith;
         };
@@ -101,7 +101,7 @@ module _ {L : Type 0} (told : L → Option Talk) (s : Seen) where
           post = noted_posted old.post old.refused;
           parcels_are = append-nil (carried_in old.window);
           notes_are = append-nil (owed_by old);
-          stands = λ earlier p. stands_by told old (record old { post = with_noted old.post old.refused; refused = None }) s.outcomes earlier [] [] p p.exchange p.window p.talk p.small refl (sym (append-nil _)) refl (append-nil (carried_in old.window));
+          stands = λ start earlier p. stands_by told old (record old { post = with_noted old.post old.refused; refused = None }) s.outcomes start earlier [] [] p p.exchange p.window p.talk p.small refl (sym (append-nil _)) refl (append-nil (carried_in old.window));
           open_links = λ others same few. same;
           faults = omega arith;
         };
@@ -124,7 +124,7 @@ module _ {L : Type 0} (told : L → Option Talk) (s : Seen) where
           post = none_posted old.post;
           parcels_are = append-nil (carried_in old.window) ∙ carried;
           notes_are = append-nil (owed_by old) ∙ owed;
-          stands = λ earlier p. stands_by told old (owed_one old new.window t.parcel) s.outcomes earlier [] [] p (with_handed p.exchange t.parcel) (window p.exchange p.window) p.talk p.small refl (sym (append-nil _)) refl (append-nil (carried_in old.window) ∙ carried);
+          stands = λ start earlier p. stands_by told old (owed_one old new.window t.parcel) s.outcomes start earlier [] [] p (with_handed p.exchange t.parcel) (window p.exchange p.window) p.talk p.small refl (sym (append-nil _)) refl (append-nil (carried_in old.window) ∙ carried);
           open_links = λ others same few. same;
           faults = omega arith;
         };
@@ -170,7 +170,7 @@ posts_still desk (Some p) (Some note) of = of
 module _ {L : Type 0} (told : L → Option Talk) where
   pub filling_begins : (queue : TableId) (w : Working L) → w.window.acknowledged ≡ 0 → TakesOf queue w.take → Filling told queue w w
   filling_begins queue w none of = record {
-    goes = λ s. goes_nowhere (StandsFor told w s.outcomes) s w;
+    goes = λ s. goes_nowhere (λ start. StandsFor told start w s.outcomes) s w;
     nothing_to_settle = none;
     of_this_queue = of;
     filled = record {

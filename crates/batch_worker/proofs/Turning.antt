@@ -35,7 +35,7 @@ use Rattle.batch_worker.proofs.Linking.{begun_goes, later_goes, over_link, sent_
 module _ {L : Type 0} (told : L → Option Talk) (faults idles : L → ℕ) where
   -- ---- a failure behind what came before it
 
-  pub goes_to_end : (a b : Seen) (old mid : Working L) → WorkerGoes told a b old mid → Goes (StandsFor told old a.outcomes) (MayEnd told mid b.outcomes) a b old mid
+  pub goes_to_end : (a b : Seen) (old mid : Working L) → WorkerGoes told a b old mid → Goes (λ start. StandsFor told start old a.outcomes) (λ start. MayEnd told start mid b.outcomes) a b old mid
   goes_to_end a b old mid g = record {
     keeps = record {
       taken = g.keeps.taken;
@@ -49,7 +49,7 @@ module _ {L : Type 0} (told : L → Option Talk) (faults idles : L → ℕ) wher
       post = g.keeps.post;
       parcels_are = g.keeps.parcels_are;
       notes_are = g.keeps.notes_are;
-      stands = λ earlier p. may_end told mid b.outcomes (earlier ++ g.keeps.acknowledged) (g.keeps.stands earlier p);
+      stands = λ start earlier p. may_end told start mid b.outcomes (earlier ++ g.keeps.acknowledged) (g.keeps.stands start earlier p);
       open_links = g.keeps.open_links;
       faults = g.keeps.faults;
     };
@@ -57,11 +57,11 @@ module _ {L : Type 0} (told : L → Option Talk) (faults idles : L → ℕ) wher
     failed = g.failed;
   }
 
-  pub fails_at : (before after : Seen) (old mid new : Working L) (now : Moment) → Goes (StandsFor told old before.outcomes) (MayEnd told mid before.outcomes) before before old mid → new ≡ unlinked (failed_at mid now)
+  pub fails_at : (before after : Seen) (old mid new : Working L) (now : Moment) → Goes (λ start. StandsFor told start old before.outcomes) (λ start. MayEnd told start mid before.outcomes) before before old mid → new ≡ unlinked (failed_at mid now)
       → EndsLink told faults idles mid.link before after → FailsAt told before after old new now
   fails_at before after old mid new now g is ends =
       subst (λ (w : Working L). FailsAt told before after old w now) (sym is)
-      (failing_on told (MayEnd told mid before.outcomes) before after old mid (unlinked (failed_at mid now)) now g (failing_keeps told faults idles before after mid now ends)
+      (failing_on told (λ start. MayEnd told start mid before.outcomes) before after old mid (unlinked (failed_at mid now)) now g (failing_keeps told faults idles before after mid now ends)
       (nothing_acknowledged told faults idles before after mid now ends) refl refl refl)
 
   -- ---- sending
@@ -98,7 +98,7 @@ module _ {L : Type 0} (told : L → Option Talk) (faults idles : L → ℕ) wher
       }
 
   -- the sending failed
-  pub send_goes_to_end : (s : Seen) (old mid : Working L) → FailsToSend told faults old mid → Goes (StandsFor told old s.outcomes) (MayEnd told mid s.outcomes) s s old mid
+  pub send_goes_to_end : (s : Seen) (old mid : Working L) → FailsToSend told faults old mid → Goes (λ start. StandsFor told start old s.outcomes) (λ start. MayEnd told start mid s.outcomes) s s old mid
   send_goes_to_end s old mid x =
       goes_to_end s s old mid (subst (λ (w : Working L). WorkerGoes told s s old w) (sym x.is)
       (later_goes told s old x.link x.later x.was (λ pieces has. subst (λ (t : Option Talk). HasTalk t pieces) (sym x.told_is) has)))
@@ -143,7 +143,7 @@ module _ {L : Type 0} (told : L → Option Talk) (faults idles : L → ℕ) wher
 
   -- ---- nothing but a failure is counted
 
-  pub counted : (P : List Parcel → Type 0) (a b : Seen) (old mid : Working L) (now : Moment) → Keeps P (StandsFor told mid b.outcomes) a b old mid → Keeps P (StandsFor told (failed_at mid now) b.outcomes) a b old (failed_at mid now)
+  pub counted : (P : ℕ → List Parcel → Type 0) (a b : Seen) (old mid : Working L) (now : Moment) → Keeps P (λ start. StandsFor told start mid b.outcomes) a b old mid → Keeps P (λ start. StandsFor told start (failed_at mid now) b.outcomes) a b old (failed_at mid now)
   counted P a b old mid now k = record {
     taken = k.taken;
     acknowledged = k.acknowledged;
@@ -156,18 +156,19 @@ module _ {L : Type 0} (told : L → Option Talk) (faults idles : L → ℕ) wher
     post = k.post;
     parcels_are = k.parcels_are;
     notes_are = k.notes_are;
-    stands = λ earlier p. still (earlier ++ k.acknowledged) (k.stands earlier p);
+    stands = λ start earlier p. still start (earlier ++ k.acknowledged) (k.stands start earlier p);
     open_links = k.open_links;
     faults = k.faults;
   }
     where
-      still : (earlier : List Parcel) → StandsFor told mid b.outcomes earlier → StandsFor told (failed_at mid now) b.outcomes earlier
-      still earlier p = record {
+      still : (start : ℕ) (earlier : List Parcel) → StandsFor told start mid b.outcomes earlier → StandsFor told start (failed_at mid now) b.outcomes earlier
+      still start earlier p = record {
         exchange = p.exchange;
         window = p.window;
         talk = p.talk;
         small = p.small;
         are = p.are;
+        reached = p.reached;
         finished = p.finished;
         sent = p.sent;
       }
@@ -207,7 +208,7 @@ module _ {L : Type 0} (told : L → Option Talk) (faults idles : L → ℕ) wher
       })
 
   pub fault_is_told : (before : Seen) (now : Moment) (old new : Working L) (at : ℕ) (x : HearsOver told now old new (Some at)) → IsPeersFault told before old at x.received.link x.received.later
-  fault_is_told before now old new at x acknowledged p = tells before.outcomes p.talk
+  fault_is_told before now old new at x start acknowledged p = tells before.outcomes p.talk
     where
       tells : (o : Option (List Outcome)) → Speaks told old.link o p.exchange.talk → IfSome o (λ _. FaultIsTold (told x.received.later) at)
       tells None speaks = tt
@@ -244,7 +245,7 @@ module _ {L : Type 0} (told : L → Option Talk) (faults idles : L → ℕ) wher
   failed_behind : (before after : Seen) (old linked : Working L) (now : Moment) → WorkerGoes told before after old linked → linked.link ≡ None → FailsAt told before after old (failed_at linked now) now
   unfolding counted
   failed_behind before after old linked now g none = record {
-    keeps = counted (StandsFor told old before.outcomes) before after old linked now g.keeps;
+    keeps = counted (λ start. StandsFor told start old before.outcomes) before after old linked now g.keeps;
     failures = ap one_failure_more g.failures;
     failed = refl;
     unlinked = none;
@@ -270,7 +271,7 @@ module _ {L : Type 0} (told : L → Option Talk) (faults idles : L → ℕ) wher
 module _ {L : Type 0} (told : L → Option Talk) (faults idles : L → ℕ) where
   keeps_still : (before after : Seen) (old new : Working L) → new ≡ old → after ≡ before → WorkerKeeps told before after old new
   keeps_still before after old new same wire =
-      subst (λ (s : Seen). WorkerKeeps told before s old new) (sym wire) (subst (λ (w : Working L). WorkerKeeps told before before old w) (sym same) (keeps_same (StandsFor told old before.outcomes) before old))
+      subst (λ (s : Seen). WorkerKeeps told before s old new) (sym wire) (subst (λ (w : Working L). WorkerKeeps told before before old w) (sym same) (keeps_same (λ start. StandsFor told start old before.outcomes) before old))
 
   pub turn_keeps : (capacity : ℕ) (before after : Seen) (now : Moment) (old new : Working L) (turn : WorkerTurn) → IsTurn told faults idles capacity before after now old new turn → WorkerKeeps told before after old new
   turn_keeps capacity before after now old new Worked t = t.goes.keeps

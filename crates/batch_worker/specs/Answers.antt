@@ -103,7 +103,7 @@ FaultIsTold (Some talk) at = IsFaultAt talk.pieces at
 
 -- so it is where the wire tells, and the worker stands for what its talks acknowledged
 abbrev pub IsPeersFault : {L : Type 0} → (L → Option Talk) → Seen → Working L → ℕ → L → L → Type 0
-IsPeersFault told before old at link ended = (acknowledged : List Parcel) → StandsFor told old before.outcomes acknowledged → IfSome before.outcomes (λ _. FaultIsTold (told ended) at)
+IsPeersFault told before old at link ended = (start : ℕ) (acknowledged : List Parcel) → StandsFor told start old before.outcomes acknowledged → IfSome before.outcomes (λ _. FaultIsTold (told ended) at)
 
 -- windows were out and not acknowledged in full, nothing came, and nothing was sent after that; the peer was silent for the
 -- timeout

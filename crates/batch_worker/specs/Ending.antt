@@ -1,6 +1,6 @@
--- A worker that is to finish its link (this project's profile): with the link's talk, all talks acknowledge the parcels that
--- it has acknowledged, and send nothing but what it took. Cited by private calls alone.
-use Rattle.std.specs.Prelude.{◌≡◌, ℕ, ◌-◌, ◌≤◌, List, [], ◌∷◌, ◌++◌, Option, Some, None}
+-- A worker that is to finish its link (this project's profile): with the link's talk, the talks of its links acknowledge the
+-- parcels that it has acknowledged, and send nothing but what it took. Cited by private calls alone.
+use Rattle.std.specs.Prelude.{◌≡◌, ℕ, ◌-◌, ◌≤◌, List, [], ◌∷◌, ◌++◌, length, drop, Option, Some, None, IfSome}
 use Rattle.lumber_client.specs.Exchange.{Exchange, acknowledged_in, payloads_of}
 use Rattle.lumber_client.specs.Held.{made_again}
 use Rattle.lumber_client.specs.Standing.{StandsFor as WindowStandsFor}
@@ -16,7 +16,7 @@ use Rattle.batch_worker.specs.Seen.{Seen}
 use Rattle.batch_worker.specs.Sent.{AreSentOnly}
 use Rattle.batch_worker.specs.Working.{Working}
 
--- these are the talks of all links
+-- these outcomes have the talks of all links
 pub record HasTalks (most : ℕ) (acknowledged taken : List Parcel) (outcomes : List Outcome) : Type 0 where
   pub acknowledges : AcknowledgeInAll outcomes (payloads_of acknowledged)
   pub sent : AreSentOnly most taken outcomes
@@ -26,16 +26,18 @@ abbrev pub WithTalk : ℕ → List Parcel → List Parcel → List Outcome → O
 WithTalk most acknowledged taken outcomes None = ⊥
 WithTalk most acknowledged taken outcomes (Some talk) = (faults idles : ℕ) → HasTalks most acknowledged taken (outcomes ++ Finished talk faults idles ∷ [])
 
-abbrev pub CanFinish : {L : Type 0} → (L → Option Talk) → ℕ → List Parcel → List Parcel → Option L → Option (List Outcome) → Type 0
-CanFinish told most acknowledged taken link None = Unit {0}
-CanFinish told most acknowledged taken None (Some outcomes) = HasTalks most acknowledged taken outcomes
-CanFinish told most acknowledged taken (Some link) (Some outcomes) = WithTalk most acknowledged taken outcomes (told link)
+-- so of the outcomes from this place on
+abbrev pub CanFinish : {L : Type 0} → (L → Option Talk) → ℕ → ℕ → List Parcel → List Parcel → Option L → Option (List Outcome) → Type 0
+CanFinish told start most acknowledged taken link None = Unit {0}
+CanFinish told start most acknowledged taken None (Some outcomes) = HasTalks most acknowledged taken (drop start outcomes)
+CanFinish told start most acknowledged taken (Some link) (Some outcomes) = WithTalk most acknowledged taken (drop start outcomes) (told link)
 
-pub record MayEnd {L : Type 0} (told : L → Option Talk) (w : Working L) (outcomes : Option (List Outcome)) (acknowledged : List Parcel) : Type 0 where
+pub record MayEnd {L : Type 0} (told : L → Option Talk) (start : ℕ) (w : Working L) (outcomes : Option (List Outcome)) (acknowledged : List Parcel) : Type 0 where
   pub exchange : Exchange
   pub window : WindowStandsFor w.window exchange
   pub are : acknowledged ≡ exchange.earlier ++ acknowledged_in exchange
-  pub finishing : CanFinish told w.window.most acknowledged (acknowledged ++ carried_in w.window) w.link outcomes
+  pub reached : IfSome outcomes (λ list. start ≤ length list)
+  pub finishing : CanFinish told start w.window.most acknowledged (acknowledged ++ carried_in w.window) w.link outcomes
 
 -- ---- the link is finished
 

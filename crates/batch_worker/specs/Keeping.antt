@@ -26,9 +26,9 @@ abbrev pub with_posted : Option Poster → List Note → Option Poster
 with_posted None notes = None
 with_posted (Some post) notes = Some (poster post.desk post.share (sender post.mine.name post.mine.made (post.mine.posted ++ notes)) post.joined)
 
--- from what a worker stands for before to what it stands for behind: `Before` and `After` say it of the parcels that were
--- acknowledged so far
-pub record Keeps {L : Type 0} (Before After : List Parcel → Type 0) (before after : Seen) (old new : Working L) : Type 0 where
+-- from what a worker stands for before to what it stands for behind: `Before` and `After` say it of a place among the wire's
+-- outcomes and of the parcels that were acknowledged since then
+pub record Keeps {L : Type 0} (Before After : ℕ → List Parcel → Type 0) (before after : Seen) (old new : Working L) : Type 0 where
   -- what was taken, acknowledged and posted, each in order
   pub taken : List Entry
   pub acknowledged : List Parcel
@@ -41,13 +41,13 @@ pub record Keeps {L : Type 0} (Before After : List Parcel → Type 0) (before af
   pub post : new.post ≡ with_posted old.post posted
   pub parcels_are : carried_in old.window ++ parcels taken ≡ acknowledged ++ carried_in new.window
   pub notes_are : owed_by old ++ notes_of acknowledged ≡ posted ++ owed_by new
-  pub stands : (earlier : List Parcel) → Before earlier → After (earlier ++ acknowledged)
+  pub stands : (start : ℕ) (earlier : List Parcel) → Before start earlier → After start (earlier ++ acknowledged)
   -- the wire's other links stay as many, and its faults never fall
   pub open_links : (others : ℕ) → before.open_links ≡ with_link others old.link → ¬ (IsAtEnd others) → after.open_links ≡ with_link others new.link
   pub faults : before.faults ≤ after.faults
 
 abbrev pub WorkerKeeps : {L : Type 0} → (L → Option Talk) → Seen → Seen → Working L → Working L → Type 0
-WorkerKeeps told before after old new = Keeps (StandsFor told old before.outcomes) (StandsFor told new after.outcomes) before after old new
+WorkerKeeps told before after old new = Keeps (λ start. StandsFor told start old before.outcomes) (λ start. StandsFor told start new after.outcomes) before after old new
 
 -- ---- failures in a row
 
@@ -61,13 +61,13 @@ abbrev pub one_failure_more : ℕ → ℕ
 one_failure_more failures = min (failures + 1) (2 ^ 32 - 1)
 
 -- no failure came
-pub record Goes {L : Type 0} (Before After : List Parcel → Type 0) (before after : Seen) (old new : Working L) : Type 0 where
+pub record Goes {L : Type 0} (Before After : ℕ → List Parcel → Type 0) (before after : Seen) (old new : Working L) : Type 0 where
   pub keeps : Keeps Before After before after old new
   pub failures : new.failures ≡ failures_since keeps.acknowledged old.failures
   pub failed : new.failed ≡ old.failed
 
 abbrev pub WorkerGoes : {L : Type 0} → (L → Option Talk) → Seen → Seen → Working L → Working L → Type 0
-WorkerGoes told before after old new = Goes (StandsFor told old before.outcomes) (StandsFor told new after.outcomes) before after old new
+WorkerGoes told before after old new = Goes (λ start. StandsFor told start old before.outcomes) (λ start. StandsFor told start new after.outcomes) before after old new
 
 -- one failure came, and the link is gone
 pub record FailsAt {L : Type 0} (told : L → Option Talk) (before after : Seen) (old new : Working L) (now : Moment) : Type 0 where

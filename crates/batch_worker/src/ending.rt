@@ -1,4 +1,4 @@
-ghost use Rattle.std.specs.Prelude.{◌≡◌, ◌≤◌, List, [], ◌++◌, ℕ, None, Some, IfSome, IsSome};
+ghost use Rattle.std.specs.Prelude.{◌≡◌, ◌≤◌, List, [], ◌++◌, ℕ, drop, None, Some, IfSome, IsSome};
 ghost use Rattle.outside.specs.Counts.{IsAtEnd};
 ghost use Rattle.wire_base.specs.Ranges.{IsMoment};
 ghost use Rattle.wire_base.specs.declared.parcel.Parcel.{Parcel};
@@ -22,8 +22,10 @@ impl<L: Link> Worker<L> {
         ensures finished { EndsLink L.told L.faults L.idles self.link
             (seen (W.outcomes wire.old) (W.open_links wire.old) (W.faults wire.old) (W.idles wire.old))
             (seen (W.outcomes wire.new) (W.open_links wire.new) (W.faults wire.new) (W.idles wire.new)) }
-        ensures talks { (acknowledged : List Parcel) → StandsFor L.told self (W.outcomes wire.old) acknowledged →
-            IfSome (W.outcomes wire.new) (HasTalks self.window.most acknowledged (acknowledged ++ carried_in self.window)) }
+        ensures talks { (start : ℕ) (acknowledged : List Parcel) →
+            StandsFor L.told start self (W.outcomes wire.old) acknowledged →
+            IfSome (W.outcomes wire.new) (λ list. HasTalks self.window.most acknowledged
+            (acknowledged ++ carried_in self.window) (drop start list)) }
     {
         let Worker {
             take,

@@ -1,4 +1,4 @@
-ghost use Rattle.std.specs.Prelude.{◌≡◌, ◌%◌, ◌<◌, ◌≤◌, List, [], length, None, Some, Option, IfOk, IfErr, IfSome, IsSome, MatchOption, slice_get};
+ghost use Rattle.std.specs.Prelude.{◌≡◌, ◌%◌, ◌<◌, ◌≤◌, List, [], length, None, Some, Option, IfOk, IfErr, IsSome, MatchOption, slice_get};
 ghost use Rattle.std.specs.VecDeque.{deque_capacity};
 ghost use Rattle.outside.specs.Wires.{Outcome};
 ghost use Rattle.lumber_client.specs.Exchange.{no_exchange};
@@ -7,7 +7,7 @@ ghost use Rattle.lumber_client.specs.Standing.{StandsFor as WindowStandsFor};
 ghost use Rattle.batch_worker.specs.Begun.{begun_with, without_passes, with_passes};
 ghost use Rattle.batch_worker.specs.Rests.{IsResting, rest_after, rest_end};
 ghost use Rattle.batch_worker.specs.Rule.{IsWorkable};
-ghost use Rattle.batch_worker.specs.Standing.{StandsFor};
+ghost use Rattle.batch_worker.specs.Standing.{StandsFor, length_of};
 
 use event_tree::OutputRule;
 use lumber_client::Window;
@@ -83,7 +83,7 @@ impl<L: Link> Worker<L> {
             slice_get rule.now.hosts (number % length rule.now.hosts) ≡ Some worker.host) }
         ensures begun { IfOk result (λ worker. worker ≡ begun_with worker.host rule.now take post) }
         ensures stands { IfOk result (λ worker. (outcomes : Option (List Outcome)) →
-            IfSome outcomes (λ list. list ≡ []) → StandsFor L.told worker outcomes []) }
+            StandsFor L.told (length_of outcomes) worker outcomes []) }
         ensures given_back { IfErr result (λ back. (back.0 ≡ take) × (back.1 ≡ post)) }
     {
         match parts(alloc, number, rule) {

@@ -7,7 +7,7 @@ use Rattle.batch_worker.proofs.Finishing.{ended_talks, may_end}
 use Rattle.batch_worker.proofs.worker.Worker.end.Goals as goal
 
 pub returns-clause-talks : goal.returns-clause-talks
-returns-clause-talks g c = λ acknowledged s.
+returns-clause-talks g c = λ start acknowledged s.
     let w = c.args.self in
     let old = c.args.wire.now in
     let new = c.finish_link.new.wire in
@@ -16,4 +16,4 @@ returns-clause-talks g c = λ acknowledged s.
     let ends = subst (λ (v : Working g.row.L.Denot). EndsLink g.L.Link.told g.L.Link.faults g.L.Link.idles v.link before after) c.self.view_is c.finish_link.ensures in
     ended_talks g.L.Link.told g.L.Link.faults g.L.Link.idles w.link
     before after
-    w.window.most acknowledged (acknowledged ++ carried_in w.window) ends (may_end g.L.Link.told w (g.W.Wire.outcomes old) acknowledged s).finishing
+    start w.window.most acknowledged (acknowledged ++ carried_in w.window) ends s.reached (may_end g.L.Link.told start w (g.W.Wire.outcomes old) acknowledged s).finishing
