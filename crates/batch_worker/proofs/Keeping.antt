@@ -1,6 +1,7 @@
 -- What the calls of a worker keep, one behind the other.
-use Rattle.std.proofs.Common.{◌≡◌, ℕ, List, [], ◌∷◌, ◌++◌, drop, Option, Some, None, IfSome, refl, sym, ap, subst, ◌∙◌, append_assoc, append-nil, arith}
+use Rattle.std.proofs.Common.{◌≡◌, ◌⊎◌, ℕ, All, Contains, List, [], ◌∷◌, ◌++◌, drop, Option, Some, None, IfSome, refl, sym, ap, subst, ◌∙◌, append_assoc, append-nil, arith, inl}
 use Rattle.std.proofs.lemmas.List.{map-append}
+use Rattle.std.proofs.lemmas.List.Elements.{All-contains_itself, All-weaker}
 use Rattle.lumber_client.specs.Exchange.{Exchange, acknowledged_in, payloads_of}
 use Rattle.lumber_client.specs.Standing.{StandsFor as WindowStandsFor}
 use Rattle.mem_queue.specs.Entries.{parcels}
@@ -15,7 +16,7 @@ use Rattle.wire_base.specs.declared.parcel.Parcel.{Parcel}
 use Rattle.wire_base.specs.declared.numbers.Moment.{Moment}
 use Rattle.batch_worker.specs.Acknowledged.{AcknowledgeInAll}
 use Rattle.batch_worker.specs.Held.{carried_in, note_of, notes_of, owed_by}
-use Rattle.batch_worker.specs.Keeping.{FailsAt, Goes, Keeps, failures_since, one_failure_more, with_posted, with_taken}
+use Rattle.batch_worker.specs.Keeping.{FailsAt, Goes, Keeps, KeepsMoments, SameMoments, failures_since, one_failure_more, with_posted, with_taken}
 use Rattle.batch_worker.specs.Seen.{Seen}
 use Rattle.batch_worker.specs.Sent.{AreSentOnly, AreSmall, IsSentOnly}
 use Rattle.batch_worker.specs.Standing.{Speaks, StandsFor}
@@ -103,14 +104,34 @@ module _ {L : Type 0} where
 
   -- a failure behind what came before it
   pub failing_on : (told : L → Option Talk) (Q : ℕ → List Parcel → Type 0) (before after : Seen) (old mid new : Working L) (now : Moment) → Goes (λ start. StandsFor told start old before.outcomes) Q before before old mid
-      → (k : Keeps Q (λ start. StandsFor told start new after.outcomes) before after mid new) → k.acknowledged ≡ [] → new.failures ≡ one_failure_more mid.failures → new.failed ≡ now → new.link ≡ None → FailsAt told before after old new now
+      → (k : Keeps Q (λ start. StandsFor told start new after.outcomes) before after mid new) → k.acknowledged ≡ [] → new.failures ≡ one_failure_more mid.failures → new.failed ≡ now → new.link ≡ None → KeepsMoments now old new → FailsAt told before after old new now
   unfolding keeps_on
-  failing_on told Q before after old mid new now g k nothing failures failed none = record {
+  failing_on told Q before after old mid new now g k nothing failures failed none moments = record {
     keeps = keeps_on (λ start. StandsFor told start old before.outcomes) Q (λ start. StandsFor told start new after.outcomes) before before after old mid new g.keeps k;
     failures = failures ∙ ap one_failure_more (g.failures ∙ ap (λ (l : List Parcel). failures_since l old.failures) (sym (append-nil g.keeps.acknowledged) ∙ ap (λ (l : List Parcel). g.keeps.acknowledged ++ l) (sym nothing)));
     failed = failed;
     unlinked = none;
+    moments = moments;
   }
+
+-- ---- moments
+
+-- it was there before, or is now
+abbrev pub WasOrIsNow : List Moment → Moment → Moment → Type 0
+WasOrIsNow outs now out = Contains outs out ⊎ (out ≡ now)
+
+pub all_were : (outs : List Moment) (now : Moment) → All (WasOrIsNow outs now) outs
+all_were outs now = All-weaker (Contains outs) (WasOrIsNow outs now) (λ out was. inl was) outs (All-contains_itself outs)
+
+module _ {L : Type 0} where
+  pub same_keeps_moments : (now : Moment) (old new : Working L) → SameMoments old new → KeepsMoments now old new
+  same_keeps_moments now old new same = record {
+    outs = subst (All (WasOrIsNow old.outs now)) (sym same.outs) (all_were old.outs now);
+    heard = inl same.heard;
+  }
+
+  pub moments_on : (a b c : Working L) → SameMoments a b → SameMoments b c → SameMoments a c
+  moments_on a b c first then = record { outs = then.outs ∙ first.outs; heard = then.heard ∙ first.heard }
 
 -- ---- what was sent as parcels that were taken stays so as more is taken
 

@@ -6,7 +6,7 @@ use Rattle.lumber_client.specs.Held.{Held, begun_as, next_in, sent_as, waiting_i
 use Rattle.lumber_client.specs.Standing.{StandsFor as WindowStandsFor}
 use Rattle.outside.specs.Counts.{IsAtEnd, next_count}
 use Rattle.outside.specs.Talks.{Talk, TellsReceiving, TellsSending, with_sent as talk_with_sent}
-use Rattle.outside.specs.Wires.{Outcome, Refused, Finished, TellsConnecting}
+use Rattle.outside.specs.Wires.{Outcome, Refused, Finished, KeepsRefusal, TellsConnecting}
 use Rattle.outside.specs.declared.failed.Failed.{Failed}
 use Rattle.outside.specs.declared.link.Recv.TheVariants.{Got}
 use Rattle.wire_base.specs.declared.numbers.Moment.{Moment}
@@ -59,6 +59,16 @@ with_refused (Finished talk f i ∷ outcomes) payloads all = record {
 -- ---- the wire's list changes, and the worker's link
 
 module _ {L : Type 0} (told : L → Option Talk) where
+  -- a link that is made stands not in the list yet
+  pub connecting_tells_none : (link : L) (outcomes now : Option (List Outcome)) (faults : ℕ) → TellsConnecting told outcomes (Ok link) now faults → now ≡ outcomes
+  connecting_tells_none link None now faults tells = tells.0
+  connecting_tells_none link (Some outcomes) now faults tells = tells.1
+
+  -- one that is refused does, where the wire tells
+  pub connecting_tells_refusal : (error : Failed) (outcomes now : Option (List Outcome)) (faults : ℕ) → TellsConnecting told outcomes (Err error) now faults → IfSome outcomes (λ list. KeepsRefusal list now faults)
+  connecting_tells_refusal error None now faults tells = tt
+  connecting_tells_refusal error (Some outcomes) now faults tells = tells
+
   abbrev pub over_link : Working L → Option L → Working L
   over_link w link = record w { link = link }
 

@@ -11,12 +11,12 @@ use Rattle.settle_box.specs.Poster.{Poster}
 use Rattle.wire_base.specs.declared.note.Note.{Note}
 use Rattle.wire_base.specs.declared.parcel.Parcel.{Parcel}
 use Rattle.batch_worker.specs.Held.{carried_in, note_of, noted, notes_of, owed_by, settled_in}
-use Rattle.batch_worker.specs.Keeping.{WorkerGoes, with_posted, with_taken}
+use Rattle.batch_worker.specs.Keeping.{SameMoments, WorkerGoes, with_posted, with_taken}
 use Rattle.batch_worker.specs.Seen.{Seen}
 use Rattle.batch_worker.specs.Standing.{StandsFor}
 use Rattle.batch_worker.specs.Steps.{IsFilled, PostsOf, SettlesOne, TakesOf, TakesOne, with_noted}
 use Rattle.batch_worker.specs.Working.{Working}
-use Rattle.batch_worker.proofs.Keeping.{goes_nowhere, goes_on, none_posted, none_taken, stands_by}
+use Rattle.batch_worker.proofs.Keeping.{goes_nowhere, goes_on, moments_on, none_posted, none_taken, stands_by}
 
 drop_none : {A : Type 0} (n : ℕ) (xs ys : List A) → n ≡ 0 → drop n xs ++ ys ≡ drop n (xs ++ ys)
 drop_none zero xs ys e = refl
@@ -154,6 +154,7 @@ pub record Filling {L : Type 0} (told : L → Option Talk) (queue : TableId) (ol
 -- notes were posted so far, and none is refused
 pub record Posting {L : Type 0} (told : L → Option Talk) (desk : TableId) (old new : Working L) : Type 0 where
   pub goes : (s : Seen) → WorkerGoes told s s old new
+  pub moments : SameMoments old new
   pub none_refused : new.refused ≡ None
   pub of_this_box : PostsOf desk new.post
 
@@ -166,6 +167,13 @@ posts_still desk None None of = of
 posts_still desk None (Some note) of = of
 posts_still desk (Some p) None of = of
 posts_still desk (Some p) (Some note) of = of
+
+module _ {L : Type 0} where
+  noted_same : (old new : Working L) → new ≡ record old { post = with_noted old.post old.refused; refused = None } → SameMoments old new
+  noted_same old new is = record { outs = ap (λ (w : Working L). w.outs) is; heard = ap (λ (w : Working L). w.heard) is }
+
+  pub settled_same : (old new : Working L) → SettlesOne old new → SameMoments old new
+  settled_same old new t = record { outs = ap (λ (w : Working L). w.outs) t.is; heard = ap (λ (w : Working L). w.heard) t.is }
 
 module _ {L : Type 0} (told : L → Option Talk) where
   pub filling_begins : (queue : TableId) (w : Working L) → w.window.acknowledged ≡ 0 → TakesOf queue w.take → Filling told queue w w
@@ -204,6 +212,7 @@ module _ {L : Type 0} (told : L → Option Talk) where
   pub posting_begins : (desk : TableId) (old new : Working L) → new ≡ record old { post = with_noted old.post old.refused; refused = None } → PostsOf desk old.post → Posting told desk old new
   posting_begins desk old new is of = record {
     goes = λ s. posted_goes told s old new is;
+    moments = noted_same old new is;
     none_refused = ap (λ (w : Working L). w.refused) is;
     of_this_box = subst (λ (w : Working L). PostsOf desk w.post) (sym is) (posts_still desk old.post old.refused of);
   }
@@ -211,6 +220,7 @@ module _ {L : Type 0} (told : L → Option Talk) where
   pub posting_goes_on : (desk : TableId) (old mid owing new : Working L) → Posting told desk old mid → SettlesOne mid owing → new ≡ record owing { post = with_noted owing.post owing.refused; refused = None } → Posting told desk old new
   posting_goes_on desk old mid owing new p t is = record {
     goes = λ s. goes_on _ _ _ s s s old mid new (p.goes s) (goes_on _ _ _ s s s mid owing new (settled_goes told s mid owing p.none_refused t) (posted_goes told s owing new is));
+    moments = moments_on old mid new p.moments (moments_on mid owing new (settled_same mid owing t) (noted_same owing new is));
     none_refused = ap (λ (w : Working L). w.refused) is;
     of_this_box = subst (λ (w : Working L). PostsOf desk w.post) (sym is) (posts_still desk owing.post owing.refused (subst (λ (w : Working L). PostsOf desk w.post) (sym t.is) p.of_this_box));
   }

@@ -1,5 +1,6 @@
 -- The answers of a turn, by its steps.
-use Rattle.std.proofs.Common.{◌≡◌, ◌⊎◌, ℕ, ◌+◌, ◌<◌, ◌≤◌, ◌-◌, ◌^◌, min, Bool, true, false, List, [], ◌∷◌, ◌++◌, length, length-append, take, Option, Some, None, Ok, IfSome, refl, sym, ap, subst, ◌∙◌, append-nil, arith, inl, inr}
+use Rattle.std.proofs.Common.{◌≡◌, ◌⊎◌, ℕ, ◌+◌, ◌<◌, ◌≤◌, ◌-◌, ◌^◌, min, All, Bool, true, false, List, [], ◌∷◌, ◌++◌, length, length-append, take, Option, Some, None, Ok, IfSome, refl, sym, ap, subst, ◌∙◌, append-nil, arith, inl, inr}
+use Rattle.std.proofs.lemmas.List.Elements.{All-drop, All-nil, All-push}
 use Rattle.lumber_client.specs.Exchange.{Exchange, with_talk}
 use Rattle.lumber_client.specs.Held.{Held, next_in}
 use Rattle.lumber_client.specs.Standing.{HearsWith, window_asked}
@@ -7,7 +8,7 @@ use Rattle.lumber_frame.specs.PeerFault.{HasPeerFault}
 use Rattle.lumber_frame.specs.Talk.{in_bytes}
 use Rattle.outside.specs.Counts.{Rose}
 use Rattle.outside.specs.Talks.{Talk, TellsSending}
-use Rattle.outside.specs.Wires.{Outcome}
+use Rattle.outside.specs.Wires.{KeepsRefusal, Outcome}
 use Rattle.wire_base.specs.declared.note.Note.{Note}
 use Rattle.wire_base.specs.declared.numbers.Moment.{Moment}
 use Rattle.wire_base.specs.declared.parcel.Parcel.{Parcel}
@@ -16,21 +17,26 @@ use Rattle.wire_base.specs.declared.talk.Piece.TheVariants.{In, Out}
 use Rattle.batch_worker.specs.declared.answer.Failure.TheVariants.{Connect}
 use Rattle.batch_worker.specs.declared.answer.WorkerTurn.{WorkerTurn}
 use Rattle.batch_worker.specs.declared.answer.WorkerTurn.TheVariants.{Worked, Idle, Held as WasHeld, NotYet, Resting, Failed}
-use Rattle.batch_worker.specs.Answers.{Fails, FaultIsTold, Finishes, HasMore, IsPeersFault, IsWaiting, Works, IsTurn}
+use Rattle.batch_worker.specs.Answers.{Fails, FaultIsTold, Finishes, HasMore, IsPeersFault, IsWaiting, TalkIdles, Works, IsTurn}
 use Rattle.batch_worker.specs.Ending.{EndsLink, IsFinished, MayEnd, failed_at, unlinked}
 use Rattle.batch_worker.specs.Feeding.{FeedsTo, with_bytes}
 use Rattle.batch_worker.specs.Held.{notes_of, owed_by}
-use Rattle.batch_worker.specs.Keeping.{FailsAt, Goes, Keeps, WorkerGoes, one_failure_more, WorkerKeeps}
-use Rattle.batch_worker.specs.Receiving.{Faults, HasReceived, Hears, HearsOver, Idles, TalkGets, TalkIdles}
+use Rattle.batch_worker.specs.Keeping.{FailsAt, Goes, Keeps, KeepsMoments, SameMoments, WorkerGoes, one_failure_more, WorkerKeeps}
+use Rattle.batch_worker.specs.Receiving.{Faults, HasReceived, Hears, HearsOver, Idles, TalkGets}
 use Rattle.batch_worker.specs.Seen.{Seen}
+use Rattle.batch_worker.specs.Sound.{going_out}
 use Rattle.batch_worker.specs.Standing.{HasTalk, Speaks, StandsFor}
-use Rattle.batch_worker.specs.Steps.{BeginsOne, FailsToSend, FoundEmpty, IsFilled, SendsSome}
+use Rattle.batch_worker.specs.Steps.{BeginsOne, FailsToSend, FoundEmpty, IsFilled, SendsSome, outs_behind}
 use Rattle.batch_worker.specs.Waits.{silent_since}
 use Rattle.batch_worker.specs.Working.{Working}
 use Rattle.batch_worker.proofs.Finishing.{failing_keeps, may_end, nothing_acknowledged}
 use Rattle.batch_worker.proofs.Hearing.{bytes_go, with_snoc}
-use Rattle.batch_worker.proofs.Keeping.{failing_on, goes_on, keeps_same}
+use Rattle.batch_worker.proofs.Keeping.{WasOrIsNow, all_were, failing_on, goes_on, keeps_same, moments_on, same_keeps_moments}
 use Rattle.batch_worker.proofs.Linking.{begun_goes, later_goes, over_link, sent_goes, sent_talk, some_sent}
+
+-- a window that is in flight and not going out is out since some moment
+pub some_out : (outs : List Moment) (out : List ℕ) (flights : ℕ) → length outs + going_out out ≡ flights → out ≡ [] → 0 < flights → 0 < length outs
+some_out outs out flights are none some = omega (arith, are, ap going_out none, some)
 
 module _ {L : Type 0} (told : L → Option Talk) (faults idles : L → ℕ) where
   -- ---- a failure behind what came before it
@@ -57,16 +63,24 @@ module _ {L : Type 0} (told : L → Option Talk) (faults idles : L → ℕ) wher
     failed = g.failed;
   }
 
+  -- no moment of a link that is finished stays
+  no_moments : (old mid : Working L) (now : Moment) → KeepsMoments now old (unlinked (failed_at mid now))
+  no_moments old mid now = record { outs = All-nil (WasOrIsNow old.outs now); heard = inr (inr refl) }
+
   pub fails_at : (before after : Seen) (old mid new : Working L) (now : Moment) → Goes (λ start. StandsFor told start old before.outcomes) (λ start. MayEnd told start mid before.outcomes) before before old mid → new ≡ unlinked (failed_at mid now)
       → EndsLink told faults idles mid.link before after → FailsAt told before after old new now
   fails_at before after old mid new now g is ends =
       subst (λ (w : Working L). FailsAt told before after old w now) (sym is)
       (failing_on told (λ start. MayEnd told start mid before.outcomes) before after old mid (unlinked (failed_at mid now)) now g (failing_keeps told faults idles before after mid now ends)
-      (nothing_acknowledged told faults idles before after mid now ends) refl refl refl)
+      (nothing_acknowledged told faults idles before after mid now ends) refl refl refl (no_moments old mid now))
 
   -- ---- sending
 
-  pub send_works : (s : Seen) (now : Moment) (old new : Working L) → SendsSome told now old new → Works told s s old new
+  outs_sent : (out : List ℕ) (outs : List Moment) (now : Moment) → All (WasOrIsNow outs now) (outs_behind out outs now)
+  outs_sent [] outs now = All-push (WasOrIsNow outs now) outs now (all_were outs now) (inr refl)
+  outs_sent (byte ∷ bytes) outs now = all_were outs now
+
+  pub send_works : (s : Seen) (now : Moment) (old new : Working L) → SendsSome told now old new → Works told s s now old new
   send_works s now old new x = record {
     goes = sent_goes told s now old new x;
     did = inr (inr (inr (inr (record {
@@ -76,6 +90,8 @@ module _ {L : Type 0} (told : L → Option Talk) (faults idles : L → ℕ) wher
       is = ap (λ (w : Working L). w.link) x.is;
       grew = grew (told x.link) (told x.later) x.told_is;
     }))));
+    outcomes = refl;
+    moments = subst (λ (w : Working L). KeepsMoments now old w) (sym x.is) (record { outs = outs_sent new.window.out old.outs now; heard = inl refl });
   }
     where
       grew : (talk after : Option Talk) → TellsSending talk old.window.out (Ok x.count) after → HasMore talk after
@@ -84,9 +100,10 @@ module _ {L : Type 0} (told : L → Option Talk) (faults idles : L → ℕ) wher
 
   -- ---- a link that is finished
 
-  pub finishes : (before after : Seen) (old : Working L) (link later : L) (left : Option L) (Cause : L → L → Type 0) → old.link ≡ Some link → left ≡ Some later → EndsLink told faults idles left before after → Cause link later → Finishes told faults idles before after old Cause
-  finishes before after old link later left Cause was is ends cause =
-      let f : IsFinished told faults idles later before after = subst (λ (l : Option L). EndsLink told faults idles l before after) is ends in
+  pub finishes : (before after : Seen) (old mid new : Working L) (now : Moment) (link later : L) (Cause : L → L → Type 0) → old.link ≡ Some link → mid.link ≡ Some later → new ≡ unlinked (failed_at mid now)
+      → EndsLink told faults idles mid.link before after → Cause link later → Finishes told faults idles before after old new Cause
+  finishes before after old mid new now link later Cause was left is ends cause =
+      let f : IsFinished told faults idles later before after = subst (λ (l : Option L). EndsLink told faults idles l before after) left ends in
       record {
         link = link;
         was = was;
@@ -95,6 +112,8 @@ module _ {L : Type 0} (told : L → Option Talk) (faults idles : L → ℕ) wher
         counts_faults = f.counts_faults;
         counts_idles = f.counts_idles;
         cause = cause;
+        no_outs = ap (λ (w : Working L). w.outs) is;
+        unheard = ap (λ (w : Working L). w.heard.0) is;
       }
 
   -- the sending failed
@@ -125,7 +144,7 @@ module _ {L : Type 0} (told : L → Option Talk) (faults idles : L → ℕ) wher
   heard_link now old new fault x = ap (λ (w : Working L). w.link) x.hears.is ∙ ap (λ (w : Working L). w.link) x.received.is
 
   -- bytes came
-  pub bytes_work : (s : Seen) (now : Moment) (old new : Working L) → old.window.acknowledged ≡ 0 → HearsOver told now old new None → Works told s s old new
+  pub bytes_work : (s : Seen) (now : Moment) (old new : Working L) → old.window.acknowledged ≡ 0 → HearsOver told now old new None → Works told s s now old new
   bytes_work s now old new none x = record {
     goes = bytes_go told s now old new none x;
     did = inr (inr (inr (inr (record {
@@ -135,8 +154,16 @@ module _ {L : Type 0} (told : L → Option Talk) (faults idles : L → ℕ) wher
       is = heard_link now old new None x;
       grew = grew (told x.received.link) (told x.received.later) x.received.cause.told_is;
     }))));
+    outcomes = refl;
+    moments = moments x.received.later (subst (λ (m : Working L). Hears now m new x.bytes None) x.received.is x.hears);
   }
     where
+      moments : (later : L) → Hears now (record old { link = Some later }) new x.bytes None → KeepsMoments now old new
+      moments later h = subst (λ (w : Working L). KeepsMoments now old w) (sym h.is) (record {
+        outs = All-drop (WasOrIsNow old.outs now) (length old.outs - length h.window.flights) old.outs (all_were old.outs now);
+        heard = inr (inl refl);
+      })
+
       grew : (talk after : Option Talk) → TalkGets talk x.bytes after → HasMore talk after
       grew None after gets = gets
       grew (Some talk) after gets = (In x.bytes, subst (λ (t : Option Talk). HasTalk t (talk.pieces ++ In x.bytes ∷ [])) (sym gets) refl)
@@ -225,6 +252,7 @@ module _ {L : Type 0} (told : L → Option Talk) (faults idles : L → ℕ) wher
       subst (λ (w : Working L). IsWaiting told idles s s now old w) (sym x.is) (record {
         goes = later_goes told s old x.link x.later x.was (λ pieces has. idle_talk (told x.link) (told x.later) pieces x.cause.told_is has);
         wire = refl;
+        moments = same_keeps_moments now old (over_link told old (Some x.later)) (record { outs = refl; heard = refl });
         all_out = out;
         in_flight = flights;
         no_more = no_more;
@@ -242,28 +270,41 @@ module _ {L : Type 0} (told : L → Option Talk) (faults idles : L → ℕ) wher
 
   -- ---- connecting, and a window that is begun
 
-  failed_behind : (before after : Seen) (old linked : Working L) (now : Moment) → WorkerGoes told before after old linked → linked.link ≡ None → FailsAt told before after old (failed_at linked now) now
+  filled_same : (old mid : Working L) → IsFilled old mid → SameMoments old mid
+  filled_same old mid f = record { outs = ap (λ (w : Working L). w.outs) f.is; heard = ap (λ (w : Working L). w.heard) f.is }
+
+  begun_same : (mid linked new : Working L) → linked ≡ over_link told mid linked.link → BeginsOne linked new → SameMoments mid new
+  begun_same mid linked new is b = record {
+    outs = ap (λ (w : Working L). w.outs) b.is ∙ ap (λ (w : Working L). w.outs) is;
+    heard = ap (λ (w : Working L). w.heard) b.is ∙ ap (λ (w : Working L). w.heard) is;
+  }
+
+  failed_behind : (before after : Seen) (old linked : Working L) (now : Moment) → WorkerGoes told before after old linked → linked.link ≡ None → SameMoments old linked → FailsAt told before after old (failed_at linked now) now
   unfolding counted
-  failed_behind before after old linked now g none = record {
+  failed_behind before after old linked now g none same = record {
     keeps = counted (λ start. StandsFor told start old before.outcomes) before after old linked now g.keeps;
     failures = ap one_failure_more g.failures;
     failed = refl;
     unlinked = none;
+    moments = same_keeps_moments now old (failed_at linked now) (record { outs = same.outs; heard = same.heard });
   }
 
   pub connect_fails : (before after : Seen) (old mid linked new : Working L) (now : Moment) → ((s : Seen) → WorkerGoes told s s old mid) → IsFilled old mid → WorkerGoes told before after mid linked
-      → linked ≡ mid → mid.link ≡ None → new ≡ failed_at linked now → Rose before.faults after.faults → Fails told faults idles before after now old new Connect
-  connect_fails before after old mid linked new now gathered f g same none is rose =
+      → linked ≡ mid → mid.link ≡ None → new ≡ failed_at linked now → Rose before.faults after.faults → IfSome before.outcomes (λ list. KeepsRefusal list after.outcomes after.faults) → Fails told faults idles before after now old new Connect
+  connect_fails before after old mid linked new now gathered f g same none is rose kept =
       record {
-        fails = subst (λ (w : Working L). FailsAt told before after old w now) (sym is) (failed_behind before after old linked now (goes_on _ _ _ before before after old mid linked (gathered before) g) (ap (λ (w : Working L). w.link) same ∙ none));
-        cause = (sym (ap (λ (w : Working L). w.link) f.is) ∙ none, rose);
+        fails = subst (λ (w : Working L). FailsAt told before after old w now) (sym is) (failed_behind before after old linked now (goes_on _ _ _ before before after old mid linked (gathered before) g) (ap (λ (w : Working L). w.link) same ∙ none)
+            (moments_on old mid linked (filled_same old mid f) (record { outs = ap (λ (w : Working L). w.outs) same; heard = ap (λ (w : Working L). w.heard) same })));
+        cause = record { unlinked = sym (ap (λ (w : Working L). w.link) f.is) ∙ none; rose = rose; kept = kept };
       }
 
-  pub begin_works : (before after : Seen) (old mid linked new : Working L) → ((s : Seen) → WorkerGoes told s s old mid) → IsFilled old mid → WorkerGoes told before after mid linked
-      → linked ≡ over_link told mid linked.link → BeginsOne linked new → Works told before after old new
-  begin_works before after old mid linked new gathered f g is b = record {
+  pub begin_works : (before after : Seen) (now : Moment) (old mid linked new : Working L) → after.outcomes ≡ before.outcomes → ((s : Seen) → WorkerGoes told s s old mid) → IsFilled old mid → WorkerGoes told before after mid linked
+      → linked ≡ over_link told mid linked.link → BeginsOne linked new → Works told before after now old new
+  begin_works before after now old mid linked new outcomes gathered f g is b = record {
     goes = goes_on _ _ _ before before after old mid new (gathered before) (goes_on _ _ _ before after after mid linked new g (begun_goes told after linked new b));
     did = inr (inr (inr (inl (more_flights old mid linked new f is b))));
+    outcomes = outcomes;
+    moments = same_keeps_moments now old new (moments_on old mid new (filled_same old mid f) (begun_same mid linked new is b));
   }
 
 -- ---- each turn keeps

@@ -1,8 +1,8 @@
 -- What the answers of a worker's turn say (this project's profile).
-use Rattle.std.specs.Prelude.{◌≡◌, ◌⊎◌, ℕ, ◌+◌, ◌-◌, ◌^◌, ◌<◌, ◌≤◌, min, List, [], ◌∷◌, ◌++◌, length, Option, Some, None, IfSome, IsSome}
+use Rattle.std.specs.Prelude.{◌≡◌, ◌⊎◌, ℕ, ◌+◌, ◌-◌, ◌^◌, ◌<◌, ◌≤◌, min, true, List, [], ◌∷◌, ◌++◌, length, Option, Some, None, IfSome, IsSome}
 use Rattle.outside.specs.Counts.{Rose, added_counts}
 use Rattle.outside.specs.Talks.{Talk}
-use Rattle.outside.specs.Wires.{TellsFinishing}
+use Rattle.outside.specs.Wires.{KeepsRefusal, TellsFinishing}
 use Rattle.lumber_frame.specs.PeerFault.{HasPeerFault}
 use Rattle.lumber_frame.specs.Talk.{in_bytes}
 use Rattle.mem_queue.specs.declared.entry.Entry.{Entry}
@@ -15,7 +15,7 @@ use Rattle.batch_worker.specs.declared.answer.Failure.{Failure}
 use Rattle.batch_worker.specs.declared.answer.Failure.TheVariants.{Connect, Send, Receive, Closed, Peer, TimedOut}
 use Rattle.batch_worker.specs.declared.answer.WorkerTurn.{WorkerTurn}
 use Rattle.batch_worker.specs.declared.answer.WorkerTurn.TheVariants.{Worked, Idle, Held, NotYet, Resting, Failed}
-use Rattle.batch_worker.specs.Keeping.{FailsAt, WorkerGoes}
+use Rattle.batch_worker.specs.Keeping.{FailsAt, KeepsMoments, WorkerGoes}
 use Rattle.batch_worker.specs.Rests.{IsResting, rest_end}
 use Rattle.batch_worker.specs.Seen.{Seen}
 use Rattle.batch_worker.specs.Standing.{HasTalk, StandsFor}
@@ -42,9 +42,12 @@ abbrev pub DidSome : {L : Type 0} → (L → Option Talk) → Working L → Work
 DidSome told old new taken posted = (0 < length taken) ⊎ ((0 < length posted) ⊎ (((old.link ≡ None) × IsSome new.link)
     ⊎ ((length old.window.flights < length new.window.flights) ⊎ TalkGrew told old.link new.link)))
 
-pub record Works {L : Type 0} (told : L → Option Talk) (before after : Seen) (old new : Working L) : Type 0 where
+pub record Works {L : Type 0} (told : L → Option Talk) (before after : Seen) (now : Moment) (old new : Working L) : Type 0 where
   pub goes : WorkerGoes told before after old new
   pub did : DidSome told old new goes.keeps.taken goes.keeps.posted
+  -- no link was refused or finished
+  pub outcomes : after.outcomes ≡ before.outcomes
+  pub moments : KeepsMoments now old new
 
 -- ---- nothing to do
 
@@ -55,9 +58,10 @@ pub record IsIdle {L : Type 0} (before after : Seen) (old new : Working L) : Typ
   pub none : old.window.parcels ≡ []
   pub empty : FoundEmpty new.take
 
-pub record IsHeld {L : Type 0} (told : L → Option Talk) (capacity : ℕ) (before after : Seen) (old new : Working L) : Type 0 where
+pub record IsHeld {L : Type 0} (told : L → Option Talk) (capacity : ℕ) (before after : Seen) (now : Moment) (old new : Working L) : Type 0 where
   pub goes : WorkerGoes told before after old new
   pub wire : after ≡ before
+  pub moments : KeepsMoments now old new
   pub full : FoundFull capacity new.post
 
 -- all that was begun is out and not acknowledged in full, nothing came, and no further window may be begun or the queue was
@@ -65,6 +69,7 @@ pub record IsHeld {L : Type 0} (told : L → Option Talk) (capacity : ℕ) (befo
 pub record IsWaiting {L : Type 0} (told : L → Option Talk) (idles : L → ℕ) (before after : Seen) (now : Moment) (old new : Working L) : Type 0 where
   pub goes : WorkerGoes told before after old new
   pub wire : after ≡ before
+  pub moments : KeepsMoments now old new
   pub all_out : new.window.out ≡ []
   pub in_flight : 0 < length new.window.flights
   pub no_more : (new.window.depth ≤ length new.window.flights) ⊎ FoundEmpty new.take
@@ -77,8 +82,14 @@ pub record IsWaiting {L : Type 0} (told : L → Option Talk) (idles : L → ℕ)
 
 -- ---- failures
 
+-- no link could be made; the refusal stands among the outcomes, where the wire tells
+pub record IsRefused {L : Type 0} (before after : Seen) (old : Working L) : Type 0 where
+  pub unlinked : old.link ≡ None
+  pub rose : Rose before.faults after.faults
+  pub kept : IfSome before.outcomes (λ list. KeepsRefusal list after.outcomes after.faults)
+
 -- the link was finished; what it came to
-pub record Finishes {L : Type 0} (told : L → Option Talk) (faults idles : L → ℕ) (before after : Seen) (old : Working L) (Cause : L → L → Type 0) : Type 0 where
+pub record Finishes {L : Type 0} (told : L → Option Talk) (faults idles : L → ℕ) (before after : Seen) (old new : Working L) (Cause : L → L → Type 0) : Type 0 where
   pub link : L
   pub was : old.link ≡ Some link
   pub ended : L
@@ -86,6 +97,14 @@ pub record Finishes {L : Type 0} (told : L → Option Talk) (faults idles : L �
   pub counts_faults : added_counts before.faults (faults ended) ≤ after.faults
   pub counts_idles : added_counts before.idles (idles ended) ≤ after.idles
   pub cause : Cause link ended
+  -- no moment of it stays
+  pub no_outs : new.outs ≡ []
+  pub unheard : new.heard.0 ≡ 0
+
+-- it failed, or was found closed: its faults rose
+pub record IsFaulty {L : Type 0} (faults : L → ℕ) (link ended : L) : Type 0 where
+  pub rose : Rose (faults link) (faults ended)
+  pub no_fewer : faults link ≤ faults ended
 
 -- the byte at this place of all that were received makes a fault of the peer
 pub record IsFaultAt (talk : List Piece) (at : ℕ) : Type 0 where
@@ -105,30 +124,37 @@ FaultIsTold (Some talk) at = IsFaultAt talk.pieces at
 abbrev pub IsPeersFault : {L : Type 0} → (L → Option Talk) → Seen → Working L → ℕ → L → L → Type 0
 IsPeersFault told before old at link ended = (start : ℕ) (acknowledged : List Parcel) → StandsFor told start old before.outcomes acknowledged → IfSome before.outcomes (λ _. FaultIsTold (told ended) at)
 
+-- nothing had come
+abbrev pub TalkIdles : Option Talk → Option Talk → Type 0
+TalkIdles None after = after ≡ None
+TalkIdles (Some talk) after = after ≡ Some (record talk { idled = true })
+
 -- windows were out and not acknowledged in full, nothing came, and nothing was sent after that; the peer was silent for the
 -- timeout
-pub record IsTimedOut {L : Type 0} (idles : L → ℕ) (now : Moment) (old : Working L) (since until : Moment) (link ended : L) : Type 0 where
+pub record IsTimedOut {L : Type 0} (told : L → Option Talk) (idles : L → ℕ) (now : Moment) (old : Working L) (since until : Moment) (link ended : L) : Type 0 where
   pub all_out : old.window.out ≡ []
   pub in_flight : 0 < length old.window.flights
+  pub some_outs : 0 < length old.outs
+  pub idled : TalkIdles (told link) (told ended)
   pub idle : Rose (idles link) (idles ended)
   pub since_is : since.0 ≡ silent_since old
   pub until_is : until ≡ now
   pub apart : since.0 + old.timeout ≤ now.0
 
 -- by its cause
-abbrev pub FailsFor : {L : Type 0} → (L → Option Talk) → (L → ℕ) → (L → ℕ) → Seen → Seen → Moment → Working L → Failure → Type 0
-FailsFor told faults idles before after now old Connect = (old.link ≡ None) × Rose before.faults after.faults
-FailsFor told faults idles before after now old Send = Finishes told faults idles before after old (λ link ended. Rose (faults link) (faults ended))
-FailsFor told faults idles before after now old Receive = Finishes told faults idles before after old (λ link ended. Rose (faults link) (faults ended))
-FailsFor told faults idles before after now old Closed = Finishes told faults idles before after old (λ link ended. Rose (faults link) (faults ended))
-FailsFor told faults idles before after now old (Peer at) = Finishes told faults idles before after old (IsPeersFault told before old at)
-FailsFor told faults idles before after now old (TimedOut since until) = Finishes told faults idles before after old (IsTimedOut idles now old since until)
+abbrev pub FailsFor : {L : Type 0} → (L → Option Talk) → (L → ℕ) → (L → ℕ) → Seen → Seen → Moment → Working L → Working L → Failure → Type 0
+FailsFor told faults idles before after now old new Connect = IsRefused before after old
+FailsFor told faults idles before after now old new Send = Finishes told faults idles before after old new (IsFaulty faults)
+FailsFor told faults idles before after now old new Receive = Finishes told faults idles before after old new (IsFaulty faults)
+FailsFor told faults idles before after now old new Closed = Finishes told faults idles before after old new (IsFaulty faults)
+FailsFor told faults idles before after now old new (Peer at) = Finishes told faults idles before after old new (IsPeersFault told before old at)
+FailsFor told faults idles before after now old new (TimedOut since until) = Finishes told faults idles before after old new (IsTimedOut told idles now old since until)
 
 -- ---- each answer
 
 pub record Fails {L : Type 0} (told : L → Option Talk) (faults idles : L → ℕ) (before after : Seen) (now : Moment) (old new : Working L) (failure : Failure) : Type 0 where
   pub fails : FailsAt told before after old new now
-  pub cause : FailsFor told faults idles before after now old failure
+  pub cause : FailsFor told faults idles before after now old new failure
 
 pub record Rests {L : Type 0} (before after : Seen) (now : Moment) (old new : Working L) (until : Moment) : Type 0 where
   pub same : new ≡ old
@@ -137,9 +163,9 @@ pub record Rests {L : Type 0} (before after : Seen) (now : Moment) (old new : Wo
   pub until_is : until.0 ≡ rest_end old
 
 abbrev pub IsTurn : {L : Type 0} → (L → Option Talk) → (L → ℕ) → (L → ℕ) → ℕ → Seen → Seen → Moment → Working L → Working L → WorkerTurn → Type 0
-IsTurn told faults idles capacity before after now old new Worked = Works told before after old new
+IsTurn told faults idles capacity before after now old new Worked = Works told before after now old new
 IsTurn told faults idles capacity before after now old new Idle = IsIdle before after old new
-IsTurn told faults idles capacity before after now old new Held = IsHeld told capacity before after old new
+IsTurn told faults idles capacity before after now old new Held = IsHeld told capacity before after now old new
 IsTurn told faults idles capacity before after now old new NotYet = IsWaiting told idles before after now old new
 IsTurn told faults idles capacity before after now old new (Resting until) = Rests before after now old new until
 IsTurn told faults idles capacity before after now old new (Failed failure) = Fails told faults idles before after now old new failure

@@ -1,6 +1,6 @@
 -- What the calls of a worker keep (this project's profile): each parcel that it took is acknowledged or carried, in order;
 -- each that is acknowledged is posted or its note is owed, in order; and the talks of its links acknowledge just these.
-use Rattle.std.specs.Prelude.{◌≡◌, ℕ, ◌+◌, ◌-◌, ◌^◌, ◌≤◌, min, List, [], ◌∷◌, ◌++◌, Option, Some, None}
+use Rattle.std.specs.Prelude.{◌≡◌, ◌⊎◌, ℕ, ◌+◌, ◌-◌, ◌^◌, ◌≤◌, min, All, Contains, List, [], ◌∷◌, ◌++◌, Option, Some, None}
 use Rattle.mem_queue.specs.Entries.{parcels}
 use Rattle.mem_queue.specs.Known.{Known, known}
 use Rattle.mem_queue.specs.declared.entry.Entry.{Entry}
@@ -49,6 +49,19 @@ pub record Keeps {L : Type 0} (Before After : ℕ → List Parcel → Type 0) (b
 abbrev pub WorkerKeeps : {L : Type 0} → (L → Option Talk) → Seen → Seen → Working L → Working L → Type 0
 WorkerKeeps told before after old new = Keeps (λ start. StandsFor told start old before.outcomes) (λ start. StandsFor told start new after.outcomes) before after old new
 
+-- ---- moments
+
+-- each moment at which a window was out was one before, or is now; the last byte was heard when it was before, or now, or the
+-- link has heard none
+pub record KeepsMoments {L : Type 0} (now : Moment) (old new : Working L) : Type 0 where
+  pub outs : All (λ out. Contains old.outs out ⊎ (out ≡ now)) new.outs
+  pub heard : (new.heard ≡ old.heard) ⊎ ((new.heard ≡ now) ⊎ (new.heard.0 ≡ 0))
+
+-- all of them stay
+pub record SameMoments {L : Type 0} (old new : Working L) : Type 0 where
+  pub outs : new.outs ≡ old.outs
+  pub heard : new.heard ≡ old.heard
+
 -- ---- failures in a row
 
 -- so many still stand where these parcels were acknowledged
@@ -75,3 +88,4 @@ pub record FailsAt {L : Type 0} (told : L → Option Talk) (before after : Seen)
   pub failures : new.failures ≡ one_failure_more (failures_since keeps.acknowledged old.failures)
   pub failed : new.failed ≡ now
   pub unlinked : new.link ≡ None
+  pub moments : KeepsMoments now old new

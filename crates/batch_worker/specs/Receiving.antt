@@ -1,5 +1,5 @@
 -- What a worker makes of the bytes of its peer (this project's profile). Cited by private calls alone.
-use Rattle.std.specs.Prelude.{◌≡◌, ℕ, ◌-◌, ◌≤◌, true, List, [], ◌∷◌, ◌++◌, length, drop, Option, Some, None, is_some}
+use Rattle.std.specs.Prelude.{◌≡◌, ℕ, ◌-◌, ◌≤◌, List, [], ◌∷◌, ◌++◌, length, drop, Option, Some, None, is_some}
 use Rattle.lumber_client.specs.Exchange.{Exchange}
 use Rattle.lumber_client.specs.Held.{Held, made_again}
 use Rattle.lumber_client.specs.Newly.{KeepsParcels}
@@ -10,6 +10,7 @@ use Rattle.wire_base.specs.declared.talk.Piece.TheVariants.{In}
 use Rattle.wire_base.specs.declared.numbers.Moment.{Moment}
 use Rattle.batch_worker.specs.declared.receiving.Received.{Received}
 use Rattle.batch_worker.specs.declared.receiving.Received.TheVariants.{Bytes, Fault, Nothing, Closed, Failed}
+use Rattle.batch_worker.specs.Answers.{TalkIdles}
 use Rattle.batch_worker.specs.Feeding.{Feeds}
 use Rattle.batch_worker.specs.Held.{settled_in}
 use Rattle.batch_worker.specs.Keeping.{failures_since}
@@ -50,10 +51,6 @@ TalkGets None bytes after = after ≡ None
 TalkGets (Some talk) bytes after = after ≡ Some (record talk { pieces = talk.pieces ++ In bytes ∷ [] })
 
 -- nothing had come
-abbrev pub TalkIdles : Option Talk → Option Talk → Type 0
-TalkIdles None after = after ≡ None
-TalkIdles (Some talk) after = after ≡ Some (record talk { idled = true })
-
 pub record Idles {L : Type 0} (told : L → Option Talk) (idles : L → ℕ) (link later : L) : Type 0 where
   pub told_is : TalkIdles (told link) (told later)
   pub rose : Rose (idles link) (idles later)
@@ -62,6 +59,7 @@ pub record Idles {L : Type 0} (told : L → Option Talk) (idles : L → ℕ) (li
 pub record Faults {L : Type 0} (told : L → Option Talk) (faults : L → ℕ) (link later : L) : Type 0 where
   pub told_is : told later ≡ told link
   pub rose : Rose (faults link) (faults later)
+  pub no_fewer : faults link ≤ faults later
 
 -- these bytes came
 pub record Gets {L : Type 0} (told : L → Option Talk) (bytes : List ℕ) (link later : L) : Type 0 where

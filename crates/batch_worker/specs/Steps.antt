@@ -81,7 +81,8 @@ pub record FailsToSend {L : Type 0} (told : L → Option Talk) (faults : L → �
   pub later : L
   pub is : new ≡ record old { link = Some later }
   pub told_is : told later ≡ told link
-  pub fault : Rose (faults link) (faults later)
+  pub rose : Rose (faults link) (faults later)
+  pub no_fewer : faults link ≤ faults later
 
 -- parcels were taken, as many as were there, or none; nothing else changed
 pub record IsFilled {L : Type 0} (old new : Working L) : Type 0 where

@@ -1,7 +1,7 @@
 ghost use Rattle.std.specs.Prelude.{◌≡◌, ◌<◌, ◌↔◌, [], true, false, None, length, IsSome, IsTrue};
 ghost use Rattle.std.specs.Bool.{OnFalse, OnTrue};
 ghost use Rattle.batch_worker.specs.Held.{note_of, owed_by};
-ghost use Rattle.batch_worker.specs.Keeping.{WorkerGoes};
+ghost use Rattle.batch_worker.specs.Keeping.{SameMoments, WorkerGoes};
 ghost use Rattle.batch_worker.specs.Seen.{Seen};
 ghost use Rattle.batch_worker.specs.Steps.{FoundFull, PostsOf, SettlesOne, with_noted};
 
@@ -18,6 +18,7 @@ impl<L: Link> Worker<L> {
     pub fn hand_on<R: Wait>(&mut self, rt: &R, desk: &SettleBox) -> bool
         requires of_this_box { PostsOf desk.now.id self.old.post }
         ensures goes { (s : Seen) → WorkerGoes L.told s s self.old self.new }
+        ensures moments { SameMoments self.old self.new }
         ensures all_posted { IsTrue result ↔ (owed_by self.new ≡ []) }
         ensures left_only_where_full { OnFalse result (FoundFull desk.now.capacity self.new.post) }
     {

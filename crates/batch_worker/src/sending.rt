@@ -1,6 +1,7 @@
-ghost use Rattle.std.specs.Prelude.{◌≡◌, ◌<◌, [], length, None, IsSome, OnErr, OnOk};
+ghost use Rattle.std.specs.Prelude.{◌≡◌, ◌<◌, [], length, None, IfSome, IsSome, OnErr, OnOk};
 ghost use Rattle.std.specs.Bool.{OnFalse, OnTrue};
 ghost use Rattle.outside.specs.Counts.{Rose};
+ghost use Rattle.outside.specs.Wires.{KeepsRefusal};
 ghost use Rattle.batch_worker.specs.Keeping.{WorkerGoes};
 ghost use Rattle.batch_worker.specs.Seen.{seen};
 ghost use Rattle.batch_worker.specs.Steps.{BeginsOne, FailsToSend, SendsSome};
@@ -44,8 +45,11 @@ impl<L: Link> Worker<L> {
             self.old self.new }
         ensures is { self.new ≡ record self.old { link = self.new.link } }
         ensures linked { OnTrue result (IsSome self.new.link) }
+        ensures same_outcomes { OnTrue result (W.outcomes wire.new ≡ W.outcomes wire.old) }
         ensures refused { OnFalse result ((self.new ≡ self.old) × (self.old.link ≡ None) ×
             Rose (W.faults wire.old) (W.faults wire.new)) }
+        ensures kept { OnFalse result (IfSome (W.outcomes wire.old) (λ list.
+            KeepsRefusal list (W.outcomes wire.new) (W.faults wire.new))) }
     {
         if self.link.is_some() {
             return true;

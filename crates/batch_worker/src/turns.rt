@@ -144,7 +144,8 @@ impl<L: Link> Worker<L> {
 
     // Since when the peer is silent.
     fn silent_since(&self) -> Moment
-        ensures { result.0 ≡ silent_since self.now }
+        ensures is { result.0 ≡ silent_since self.now }
+        ensures some_outs { self.now.window.out ≡ [] → 0 < length self.now.window.flights → 0 < length self.now.outs }
     {
         let out = match self.outs.front() {
             Some(out) => out.0,

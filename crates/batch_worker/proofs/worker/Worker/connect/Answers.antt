@@ -3,7 +3,7 @@ use Rattle.batch_worker.specs.Keeping.{WorkerGoes}
 use Rattle.batch_worker.specs.Seen.{seen}
 use Rattle.batch_worker.specs.Working.{Working}
 use Rattle.batch_worker.proofs.Keeping.{goes_nowhere}
-use Rattle.batch_worker.proofs.Linking.{linked_goes, none_there, refused_goes}
+use Rattle.batch_worker.proofs.Linking.{connecting_tells_none, connecting_tells_refusal, linked_goes, none_there, refused_goes}
 use Rattle.batch_worker.proofs.worker.Worker.connect.Goals as goal
 
 pub returns-then-is_some-clause-goes : goal.returns-then-is_some-clause-goes
@@ -19,6 +19,18 @@ returns-in_default-clause-goes g c =
     let after = seen (g.W.Wire.outcomes new) (g.W.Wire.open_links new) (g.W.Wire.faults new) (g.W.Wire.idles new) in
     let none = none_there c.self.inside.link (sym c.is_some.ensures ∙ c.if-is_some.false) in
     rw (← c.self.view_is) (refused_goes g.L.Link.told before after _ c.in_default.field-0 none (rw c.in_default.is at c.connect.ensures.told) (rw c.in_default.is at c.connect.ensures.counts_open_links) c.connect.ensures.faults_never_fall)
+
+pub returns-in_default-clause-kept : goal.returns-in_default-clause-kept
+returns-in_default-clause-kept g c =
+    let old = c.args.wire.now in
+    let new = c.connect.new.self in
+    connecting_tells_refusal g.L.Link.told c.in_default.field-0 (g.W.Wire.outcomes old) (g.W.Wire.outcomes new) (g.W.Wire.faults new) (rw c.in_default.is at c.connect.ensures.told)
+
+pub returns-clause-same_outcomes : goal.returns-clause-same_outcomes
+returns-clause-same_outcomes g c =
+    let old = c.args.wire.now in
+    let new = c.connect.new.self in
+    connecting_tells_none g.L.Link.told c.in-Ok.link (g.W.Wire.outcomes old) (g.W.Wire.outcomes new) (g.W.Wire.faults new) (rw c.in-Ok.is at c.connect.ensures.told)
 
 pub returns-clause-goes : goal.returns-clause-goes
 returns-clause-goes g c =

@@ -22,7 +22,7 @@ returns-then-not-connect g c = λ capacity.
     let after = seen (g.W.Wire.outcomes later) (g.W.Wire.open_links later) (g.W.Wire.faults later) (g.W.Wire.idles later) in
     let refused = c.if-not-connect.ensures.refused in
     connect_fails g.L.Link.told g.L.Link.faults g.L.Link.idles before after c.args.self.now c.gather.new.self c.connect.new.self c.count_failure.new.self c.args.now
-    c.gather.ensures.goes c.gather.ensures.filled c.connect.ensures.goes refused.0 refused.1 c.count_failure.ensures refused.2
+    c.gather.ensures.goes c.gather.ensures.filled c.connect.ensures.goes refused.0 refused.1 c.count_failure.ensures refused.2 c.if-not-connect.ensures.kept
 
 pub returns : goal.returns
 returns g c = λ capacity.
@@ -30,5 +30,6 @@ returns g c = λ capacity.
     let later = c.connect.new.wire in
     let before = seen (g.W.Wire.outcomes wire) (g.W.Wire.open_links wire) (g.W.Wire.faults wire) (g.W.Wire.idles wire) in
     let after = seen (g.W.Wire.outcomes later) (g.W.Wire.open_links later) (g.W.Wire.faults later) (g.W.Wire.idles later) in
-    begin_works g.L.Link.told g.L.Link.faults g.L.Link.idles before after c.args.self.now c.gather.new.self c.connect.new.self c.begin.new.self
+    begin_works g.L.Link.told g.L.Link.faults g.L.Link.idles before after c.args.now c.args.self.now c.gather.new.self c.connect.new.self c.begin.new.self
+    c.if-not-connect.ensures.same_outcomes
     c.gather.ensures.goes c.gather.ensures.filled c.connect.ensures.goes c.connect.ensures.is c.begin.ensures.begun

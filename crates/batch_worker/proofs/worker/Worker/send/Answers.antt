@@ -22,5 +22,6 @@ returns-in-Err g c = λ capacity.
     record {
       fails = fails_at g.L.Link.told g.L.Link.faults g.L.Link.idles before after old mid c.fail.new.self c.args.now
           (send_goes_to_end g.L.Link.told g.L.Link.faults g.L.Link.idles before old mid x) c.fail.ensures.failed c.fail.ensures.finished;
-      cause = finishes g.L.Link.told g.L.Link.faults g.L.Link.idles before after old x.link x.later mid.link _ x.was (ap (λ (w : Working g.row.L.Denot). w.link) x.is) c.fail.ensures.finished x.fault;
+      cause = finishes g.L.Link.told g.L.Link.faults g.L.Link.idles before after old mid c.fail.new.self c.args.now x.link x.later _ x.was (ap (λ (w : Working g.row.L.Denot). w.link) x.is)
+          c.fail.ensures.failed c.fail.ensures.finished (record { rose = x.rose; no_fewer = x.no_fewer });
     }

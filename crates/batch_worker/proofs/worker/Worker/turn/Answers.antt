@@ -1,5 +1,6 @@
 use Rattle.std.proofs.Common.{inl, inr, refl}
 use Rattle.batch_worker.specs.Seen.{seen}
+use Rattle.batch_worker.proofs.Keeping.{same_keeps_moments}
 use Rattle.batch_worker.proofs.Turning.{all_posted}
 use Rattle.batch_worker.proofs.worker.Worker.turn.Goals as goal
 
@@ -11,6 +12,8 @@ returns-then-hand_on-clause-answers g c =
     record {
       goes = goes;
       did = inr (inl (all_posted g.L.Link.told g.L.Link.faults g.L.Link.idles s c.args.self.now c.hand_on.new.self goes (c.if-hand_on.ensures.all_posted.0 refl) c.if-owes.ensures.some));
+      outcomes = refl;
+      moments = same_keeps_moments c.args.now c.args.self.now c.hand_on.new.self c.hand_on.ensures.moments;
     }
 
 pub returns-else-hand_on-clause-answers : goal.returns-else-hand_on-clause-answers
@@ -20,6 +23,7 @@ returns-else-hand_on-clause-answers g c =
     record {
       goes = c.hand_on.ensures.goes s;
       wire = refl;
+      moments = same_keeps_moments c.args.now c.args.self.now c.hand_on.new.self c.hand_on.ensures.moments;
       full = c.if-hand_on.ensures.left_only_where_full;
     }
 
