@@ -107,7 +107,7 @@ module _ {W L : Type 0} (links : LinkWords L) (wires : WireWords W) (box : ℕ) 
   same_keeps : (a b : Seen) (x y : Working L) → y ≡ x → b ≡ a → WorkerKeeps links.told a b x y
   same_keeps a b x y same wire =
       subst (λ (s : Seen). WorkerKeeps links.told a s x y) (sym wire)
-      (subst (λ (w : Working L). WorkerKeeps links.told a a x w) (sym same) (keeps_same (StandsFor links.told x a.outcomes) a x))
+      (subst (λ (w : Working L). WorkerKeeps links.told a a x w) (sym same) (keeps_same (λ start. StandsFor links.told start x a.outcomes) a x))
 
   turn_keeps : (t : WorkerTurn) (old new : CarrierState W L) → CarrierTurned links wires box now t old new → StateKeeps old new
   unfolding StateKeeps
@@ -121,9 +121,9 @@ module _ {W L : Type 0} (links : LinkWords L) (wires : WireWords W) (box : ℕ) 
   run_keeps : (ts : List WorkerTurn) (old new : CarrierState W L) → CarrierRun links wires box now ts old new → StateKeeps old new
   unfolding StateKeeps
   run_keeps [] old new is = subst (λ (s : CarrierState W L). WorkerKeeps links.told (seen_of wires old.wire) (seen_of wires s.wire) old.worker s.worker) (sym is)
-      (keeps_same (StandsFor links.told old.worker (wires.outcomes old.wire)) (seen_of wires old.wire) old.worker)
+      (keeps_same (λ start. StandsFor links.told start old.worker (wires.outcomes old.wire)) (seen_of wires old.wire) old.worker)
   run_keeps (t ∷ ts) old new run =
-      keeps_on (StandsFor links.told old.worker (wires.outcomes old.wire)) (StandsFor links.told run.0.worker (wires.outcomes run.0.wire)) (StandsFor links.told new.worker (wires.outcomes new.wire))
+      keeps_on (λ start. StandsFor links.told start old.worker (wires.outcomes old.wire)) (λ start. StandsFor links.told start run.0.worker (wires.outcomes run.0.wire)) (λ start. StandsFor links.told start new.worker (wires.outcomes new.wire))
       (seen_of wires old.wire) (seen_of wires run.0.wire) (seen_of wires new.wire) old.worker run.0.worker new.worker
       (turn_keeps t old run.0 run.1) (run_keeps ts run.0 new run.2)
 

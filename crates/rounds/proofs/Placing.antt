@@ -15,7 +15,7 @@ use Rattle.settle_box.specs.declared.sender.Sent.{Sent}
 use Rattle.wire_base.specs.declared.note.Note.{Note}
 use Rattle.wire_base.specs.declared.numbers.Moment.{Moment}
 use Rattle.wire_base.specs.declared.parcel.Parcel.{Parcel}
-use Rattle.rounds.specs.Books.{Acknowledges, AreBooked, ArePlaced, Told, carried_by, flat, held_notes, held_parcels, owed_notes}
+use Rattle.rounds.specs.Books.{Acknowledges, AreBooked, ArePlaced, Heard, Told, carried_by, flat, held_notes, held_parcels, owed_notes}
 use Rattle.rounds.specs.Crewed.{bare_carrier, bare_carriers, bare_lanes, carriers_passes, lanes_passes}
 use Rattle.rounds.specs.Meeting.{HaveMet}
 use Rattle.rounds.specs.Pairs.{Pairs}
@@ -26,7 +26,7 @@ use Rattle.rounds.specs.Words.{LinkWords, TailWords, WireWords}
 use Rattle.rounds.specs.declared.carrier.Carrier.{Carrier}
 use Rattle.rounds.proofs.Books.{placed}
 use Rattle.rounds.proofs.CarrierSteps.{carrier_keeps}
-use Rattle.rounds.proofs.Sums.{CarriersKept, LanesKept, carrier_kept, lane_kept, none_carried, none_kept}
+use Rattle.rounds.proofs.Sums.{CarriersKept, LanesKept, carrier_kept, heard_more, lane_kept, none_carried, none_kept}
 
 -- ---- turns of all
 
@@ -50,12 +50,12 @@ module _ {T : Type 0} (tails : TailWords T) (queue_size box_size : ℕ) (when : 
       }
 
 module _ {W L : Type 0} (links : LinkWords L) (wires : WireWords W) (box : ℕ) (now : Moment) (queue desk : TableId) where
-  pub record CarriersStepped (before : List (List Parcel)) (xs ys : List (Carrier W L)) : Type 0 where
-    pub after : List (List Parcel)
+  pub record CarriersStepped (before : List Heard) (xs ys : List (Carrier W L)) : Type 0 where
+    pub after : List Heard
     pub more : Pairs GoesOn before after
     pub kept : CarriersKept links wires before after xs ys
 
-  pub carriers_stepped : (before : List (List Parcel)) (xs ys : List (Carrier W L)) → Pairs (CarrierHasRun links wires box now) xs ys → AreAllOf queue desk (carriers_passes xs) → Pairs (Acknowledges links wires) before xs → CarriersStepped before xs ys
+  pub carriers_stepped : (before : List Heard) (xs ys : List (Carrier W L)) → Pairs (CarrierHasRun links wires box now) xs ys → AreAllOf queue desk (carriers_passes xs) → Pairs (Acknowledges links wires) before xs → CarriersStepped before xs ys
   unfolding CarrierHasRun
   carriers_stepped [] [] [] ran of stand = record { after = []; more = tt; kept = none_carried links wires }
   carriers_stepped (a ∷ others) [] ys ran of stand = absurd stand
@@ -66,8 +66,8 @@ module _ {W L : Type 0} (links : LinkWords L) (wires : WireWords W) (box : ℕ) 
       let rest = carriers_stepped others xs ys ran.1 of.1 stand.1 in
       let keeps = carrier_keeps links wires box now x y ran.0 in
       record {
-        after = (a ++ keeps.acknowledged) ∷ rest.after;
-        more = (record { more = keeps.acknowledged; is = refl }, rest.more);
+        after = heard_more a keeps.acknowledged ∷ rest.after;
+        more = (record { more = keeps.acknowledged; start = refl; is = refl }, rest.more);
         kept = carrier_kept links wires queue desk x y xs ys a others rest.after of.0 keeps stand.0 rest.kept;
       }
 
@@ -91,19 +91,19 @@ bare_owed (c ∷ cs) = ap (λ (r : List Note). owed_by c.worker ++ r) (bare_owed
 
 module _ {W L : Type 0} (links : LinkWords L) (wires : WireWords W) where
   -- a worker without its passes stands for the same
-  of_bare_worker : (parcels : List Parcel) (carrier : Carrier W L) → Acknowledges links wires parcels carrier → Acknowledges links wires parcels (bare_carrier carrier)
-  of_bare_worker parcels carrier s = record { exchange = s.exchange; window = s.window; talk = s.talk; small = s.small; are = s.are; finished = s.finished; sent = s.sent }
+  of_bare_worker : (heard : Heard) (carrier : Carrier W L) → Acknowledges links wires heard carrier → Acknowledges links wires heard (bare_carrier carrier)
+  of_bare_worker heard carrier s = record { exchange = s.exchange; window = s.window; talk = s.talk; small = s.small; are = s.are; reached = s.reached; finished = s.finished; sent = s.sent }
 
-  of_worker : (parcels : List Parcel) (carrier : Carrier W L) → Acknowledges links wires parcels (bare_carrier carrier) → Acknowledges links wires parcels carrier
-  of_worker parcels carrier s = record { exchange = s.exchange; window = s.window; talk = s.talk; small = s.small; are = s.are; finished = s.finished; sent = s.sent }
+  of_worker : (heard : Heard) (carrier : Carrier W L) → Acknowledges links wires heard (bare_carrier carrier) → Acknowledges links wires heard carrier
+  of_worker heard carrier s = record { exchange = s.exchange; window = s.window; talk = s.talk; small = s.small; are = s.are; reached = s.reached; finished = s.finished; sent = s.sent }
 
-  to_bare : (acknowledged : List (List Parcel)) (carriers : List (Carrier W L)) → Pairs (Acknowledges links wires) acknowledged carriers → Pairs (Acknowledges links wires) acknowledged (bare_carriers carriers)
+  to_bare : (acknowledged : List Heard) (carriers : List (Carrier W L)) → Pairs (Acknowledges links wires) acknowledged carriers → Pairs (Acknowledges links wires) acknowledged (bare_carriers carriers)
   to_bare [] [] stand = tt
   to_bare [] (c ∷ cs) stand = absurd stand
   to_bare (a ∷ others) [] stand = absurd stand
   to_bare (a ∷ others) (c ∷ cs) stand = (of_bare_worker a c stand.0, to_bare others cs stand.1)
 
-  from_bare : (acknowledged : List (List Parcel)) (carriers : List (Carrier W L)) → Pairs (Acknowledges links wires) acknowledged (bare_carriers carriers) → Pairs (Acknowledges links wires) acknowledged carriers
+  from_bare : (acknowledged : List Heard) (carriers : List (Carrier W L)) → Pairs (Acknowledges links wires) acknowledged (bare_carriers carriers) → Pairs (Acknowledges links wires) acknowledged carriers
   from_bare [] [] stand = tt
   from_bare [] (c ∷ cs) stand = absurd stand
   from_bare (a ∷ others) [] stand = absurd stand

@@ -21,7 +21,7 @@ use Rattle.settle_box.specs.Senders.{posted_by}
 use Rattle.settle_box.specs.declared.sender.Sender.{Sender}
 use Rattle.wire_base.specs.declared.note.Note.{Note}
 use Rattle.wire_base.specs.declared.parcel.Parcel.{Parcel}
-use Rattle.rounds.specs.Books.{Acknowledges, AreBooked, Told, carried_by, flat, held_notes, held_parcels, owed_notes, told_on}
+use Rattle.rounds.specs.Books.{Acknowledges, AreBooked, Heard, Told, carried_by, flat, held_notes, held_parcels, owed_notes, told_on}
 use Rattle.rounds.specs.CarrierTurns.{seen_of}
 use Rattle.rounds.specs.Crewed.{carrier_passes, carriers_passes, lane_passes, lanes_passes}
 use Rattle.rounds.specs.Pairs.{Pairs}
@@ -118,12 +118,16 @@ module _ {T : Type 0} where
 
 -- ---- workers
 
+-- with these parcels, too
+abbrev pub heard_more : Heard → List Parcel → Heard
+heard_more heard more = record heard { parcels = heard.parcels ++ more }
+
 module _ {W L : Type 0} (links : LinkWords L) (wires : WireWords W) where
   -- what one carrier keeps
   abbrev pub CarrierKeeps : Carrier W L → Carrier W L → Type 0
-  CarrierKeeps old new = Keeps (StandsFor links.told old.worker (wires.outcomes old.wire)) (StandsFor links.told new.worker (wires.outcomes new.wire)) (seen_of wires old.wire) (seen_of wires new.wire) old.worker new.worker
+  CarrierKeeps old new = Keeps (λ start. StandsFor links.told start old.worker (wires.outcomes old.wire)) (λ start. StandsFor links.told start new.worker (wires.outcomes new.wire)) (seen_of wires old.wire) (seen_of wires new.wire) old.worker new.worker
 
-  pub record CarriersKept (before after : List (List Parcel)) (xs ys : List (Carrier W L)) : Type 0 where
+  pub record CarriersKept (before after : List Heard) (xs ys : List (Carrier W L)) : Type 0 where
     pub acknowledged : List Parcel
     pub are : AsOften (flat after) (flat before ++ acknowledged)
     pub parcels_are : (h : Parcel → ℕ) → weigh h (parcels (entries (carriers_passes ys))) + weigh h (carried_by xs) ≡ weigh h (parcels (entries (carriers_passes xs))) + (weigh h acknowledged + weigh h (carried_by ys))
@@ -150,8 +154,8 @@ module _ {W L : Type 0} (links : LinkWords L) (wires : WireWords W) where
         omega (arith, post, are, posted_on desk h old.worker.post k.posted of.post, weigh-append h (owed_by old.worker) (notes_of k.acknowledged), weigh-append h k.posted (owed_by new.worker))
 
     -- one more of them
-    pub carrier_kept : (x y : Carrier W L) (xs ys : List (Carrier W L)) (first : List Parcel) (before after : List (List Parcel)) → AreOf queue desk (carrier_passes x) → (k : CarrierKeeps x y)
-        → Acknowledges links wires first x → CarriersKept before after xs ys → CarriersKept (first ∷ before) ((first ++ k.acknowledged) ∷ after) (x ∷ xs) (y ∷ ys)
+    pub carrier_kept : (x y : Carrier W L) (xs ys : List (Carrier W L)) (first : Heard) (before after : List Heard) → AreOf queue desk (carrier_passes x) → (k : CarrierKeeps x y)
+        → Acknowledges links wires first x → CarriersKept before after xs ys → CarriersKept (first ∷ before) (heard_more first k.acknowledged ∷ after) (x ∷ xs) (y ∷ ys)
     carrier_kept x y xs ys first before after of k stands rest =
         let acks = k.acknowledged in
         record {
@@ -159,10 +163,10 @@ module _ {W L : Type 0} (links : LinkWords L) (wires : WireWords W) where
           are = λ h. omega (
             arith,
             rest.are h,
-            weigh-append h (first ++ acks) (flat after),
-            weigh-append h first acks,
-            weigh-append h (first ++ flat before) (acks ++ rest.acknowledged),
-            weigh-append h first (flat before),
+            weigh-append h (first.parcels ++ acks) (flat after),
+            weigh-append h first.parcels acks,
+            weigh-append h (first.parcels ++ flat before) (acks ++ rest.acknowledged),
+            weigh-append h first.parcels (flat before),
             weigh-append h (flat before) rest.acknowledged,
             weigh-append h acks rest.acknowledged,
           );
@@ -187,7 +191,7 @@ module _ {W L : Type 0} (links : LinkWords L) (wires : WireWords W) where
             ap (weigh h) (map-append note_of acks rest.acknowledged),
             weigh-append h (notes_of acks) (notes_of rest.acknowledged),
           );
-          stand = (k.stands first stands, rest.stand);
+          stand = (k.stands first.start first.parcels stands, rest.stand);
         }
 
 -- ---- both: what was told since is booked, too
@@ -196,7 +200,7 @@ noted_both : (h : Note → ℕ) (xs ys : List Parcel) → AsOften xs ys → weig
 noted_both h xs ys often = omega (arith, weigh-map h note_of xs, weigh-map h note_of ys, often (λ (p : Parcel). h (note_of p)))
 
 module _ {T W L : Type 0} (links : LinkWords L) (wires : WireWords W) where
-  pub booked_on : (told : Told) (steps : List Step) (after : List (List Parcel)) (lanes later : List (Laning T)) (carriers new : List (Carrier W L)) → LanesKept steps lanes later → CarriersKept links wires told.acknowledged after carriers new
+  pub booked_on : (told : Told) (steps : List Step) (after : List Heard) (lanes later : List (Laning T)) (carriers new : List (Carrier W L)) → LanesKept steps lanes later → CarriersKept links wires told.acknowledged after carriers new
       → AreBooked links wires told lanes carriers → AreBooked links wires (told_on told steps after) later new
   booked_on told steps after lanes later carriers new l w b = record {
     put = λ h. omega (

@@ -1,7 +1,7 @@
 -- Where everything is that was told (this project's profile): what harvesters told to be sent is held by a lane, stands in the
 -- queue, is carried by a worker or is acknowledged; and what lanes and workers noted is held or owed by them, stands in the box
 -- or was collected.
-use Rattle.std.specs.Prelude.{List, ◌++◌}
+use Rattle.std.specs.Prelude.{ℕ, List, ◌++◌}
 use Rattle.std.specs.List.{flat_map}
 use Rattle.batch_worker.specs.Held.{carried_in, notes_of, owed_by}
 use Rattle.batch_worker.specs.Standing.{StandsFor}
@@ -19,23 +19,28 @@ use Rattle.rounds.specs.Passes.{entries, senders}
 use Rattle.rounds.specs.Words.{LinkWords, WireWords}
 use Rattle.rounds.specs.declared.carrier.Carrier.{Carrier}
 
--- all that was told so far: the parcels that harvesters issued, the notes that they gave, and of each worker the parcels that its
--- wire's talks acknowledged, in order
+-- the parcels that a wire's talks acknowledged, in order, from this place among its outcomes on
+pub record Heard : Type 0 where
+  pub start : ℕ
+  pub parcels : List Parcel
+
+-- all that was told so far: the parcels that harvesters issued, the notes that they gave, and of each worker what its wire's
+-- talks acknowledged since it began
 pub record Told : Type 0 where
   pub issued : List Parcel
   pub noted : List Note
-  pub acknowledged : List (List Parcel)
+  pub acknowledged : List Heard
 
 -- with what these turns of files gave, and with what was acknowledged by now
-abbrev pub told_on : Told → List Step → List (List Parcel) → Told
+abbrev pub told_on : Told → List Step → List Heard → Told
 told_on told steps acknowledged = record {
   issued = told.issued ++ issued_in steps;
   noted = told.noted ++ noted_in steps;
   acknowledged = acknowledged;
 }
 
-abbrev pub flat : List (List Parcel) → List Parcel
-flat lists = flat_map (λ (ps : List Parcel). ps) lists
+abbrev pub flat : List Heard → List Parcel
+flat heard = flat_map (λ (h : Heard). h.parcels) heard
 
 -- what was refused, and is handed on later
 abbrev pub held_parcels : {T : Type 0} → List (Laning T) → List Parcel
@@ -52,8 +57,8 @@ abbrev pub owed_notes : {W L : Type 0} → List (Carrier W L) → List Note
 owed_notes {W} {L} carriers = flat_map (λ (c : Carrier W L). owed_by c.worker) carriers
 
 -- the talks of a worker's wire acknowledge just these
-abbrev pub Acknowledges : {W L : Type 0} → LinkWords L → WireWords W → List Parcel → Carrier W L → Type 0
-Acknowledges links wires parcels carrier = StandsFor links.told carrier.worker (wires.outcomes carrier.wire) parcels
+abbrev pub Acknowledges : {W L : Type 0} → LinkWords L → WireWords W → Heard → Carrier W L → Type 0
+Acknowledges links wires heard carrier = StandsFor links.told heard.start carrier.worker (wires.outcomes carrier.wire) heard.parcels
 
 -- what the passes know and what is held accounts for all that was told
 pub record AreBooked {T W L : Type 0} (links : LinkWords L) (wires : WireWords W) (told : Told) (lanes : List (Laning T)) (carriers : List (Carrier W L)) : Type 0 where

@@ -10,7 +10,7 @@ use Rattle.settle_box.specs.BoundedBox.{BoundedBox}
 use Rattle.settle_box.specs.Senders.{notes}
 use Rattle.wire_base.specs.declared.note.Note.{Note}
 use Rattle.wire_base.specs.declared.parcel.Parcel.{Parcel}
-use Rattle.rounds.specs.Books.{AreBooked, ArePlaced, Told, told_on}
+use Rattle.rounds.specs.Books.{AreBooked, ArePlaced, Heard, Told, told_on}
 use Rattle.rounds.specs.Crewed.{bare_lanes, lanings}
 use Rattle.rounds.specs.Pairs.{Pairs}
 use Rattle.rounds.specs.Words.{TailWords, Words}
@@ -24,15 +24,16 @@ AreStepsOf tails queue box when steps (old ∷ olds) [] = ⊥
 AreStepsOf tails queue box when steps (old ∷ olds) (new ∷ news) =
     (runs : LaneRuns tails.numbers tails.told tails.faults queue box when old new) × (rest : List Step) × (steps ≡ runs.keeps.steps ++ rest) × AreStepsOf tails queue box when rest olds news
 
--- the second goes on where the first ends
-pub record GoesOn (first second : List Parcel) : Type 0 where
+-- the second goes on where the first ends, from the same place on
+pub record GoesOn (first second : Heard) : Type 0 where
   pub more : List Parcel
-  pub is : second ≡ first ++ more
+  pub start : second.start ≡ first.start
+  pub is : second.parcels ≡ first.parcels ++ more
 
 pub record IsPlacedAfter {T W L D : Type 0} (words : Words T W L D) (queue : BoundedQueue) (desk : BoundedBox) (when : When) (told : Told) (old new : Crew T W L D) : Type 0 where
   -- what the files' turns gave, and what was acknowledged by now
   pub steps : List Step
-  pub acknowledged : List (List Parcel)
+  pub acknowledged : List Heard
   pub lanes : List (Laning T)
   pub steps_are : AreStepsOf words.tails queue.capacity desk.capacity when steps (lanings old.lanes.items) lanes
   pub lanes_are : bare_lanes (lanings new.lanes.items) ≡ bare_lanes lanes
