@@ -1,4 +1,5 @@
 mod Committing
 mod Few
 mod Gathering
+pub mod InARow
 mod Sounding

@@ -16,8 +16,8 @@ use std::sync::Wait;
 use wire_base::{Cause, NoMemory, Note};
 
 impl Keeper {
-    // Whether all that was noted is stored, and nothing is held.
-    pub(crate) fn is_stored_in_full(&self) -> bool
+    /// Whether all that was noted is stored, and nothing is held.
+    pub fn is_stored_in_full(&self) -> bool
         ensures all { OnTrue result (IsStoredInFull self.now) }
         ensures not_all { OnFalse result (¬ IsStoredInFull self.now) }
     {
