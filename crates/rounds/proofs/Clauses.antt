@@ -1,5 +1,7 @@
 -- What a round's clauses say, from the turns that it was made of.
 use Rattle.std.proofs.Common.{◌≡◌, ◌⊎◌, ⊎_elim, Bool, true, false, ◌||◌, inl, inr, refl, sym, ap, subst, ◌∙◌}
+use Rattle.keeper.specs.Collecting.{Collects}
+use Rattle.keeper.specs.Storing.{IsStoredInFull, Stores}
 use Rattle.lanes.specs.declared.run.When.{When}
 use Rattle.mem_queue.specs.BoundedQueue.{BoundedQueue}
 use Rattle.settle_box.specs.BoundedBox.{BoundedBox}
@@ -21,7 +23,8 @@ use Rattle.rounds.specs.declared.storing.Storing.{Storing}
 use Rattle.rounds.proofs.Images.{images_are_fronts, kept_still, rested_images, rested_kept}
 use Rattle.rounds.proofs.Moved.{answer_moved, bare_answer, carriers_moved, carriers_still, lanes_moved, lanes_still, storing_moved, storing_still}
 use Rattle.rounds.proofs.Placing.{booked_met, carriers_stepped, lanes_stepped, placed_met}
-use Rattle.rounds.proofs.Ready.{ready_still, stored_disk, stored_memory}
+use Rattle.rounds.proofs.Kept.{collects_ran, collects_same, in_full_where_still, stores_ran}
+use Rattle.rounds.proofs.Ready.{able_still, ready_still, stored_disk, stored_memory}
 use Rattle.rounds.proofs.Sums.{booked_on}
 
 -- ---- truth
@@ -49,8 +52,8 @@ module _ {T W L D : Type 0} (words : Words T W L D) (queue : BoundedQueue) (desk
   placed_after old new round told rounds ready booked =
       let mid = rounds.mid in
       let met = rounds.meets.met in
-      let lanes = lanes_stepped words.tails queue.capacity desk.capacity when queue.id desk.id (lanings old.lanes.items) (lanings mid.lanes.items) rounds.ran.others.lanes ready.have.lanes_have in
-      let carriers = carriers_stepped words.links words.wires desk.capacity when.now queue.id desk.id told.acknowledged old.carriers.items mid.carriers.items rounds.ran.others.carriers ready.have.carriers_have booked.acknowledged in
+      let lanes = lanes_stepped words.tails queue.capacity desk.capacity when queue.id desk.id (lanings old.lanes.items) (lanings mid.lanes.items) rounds.ran.others.lanes ready.able.have.lanes_have in
+      let carriers = carriers_stepped words.links words.wires desk.capacity when.now queue.id desk.id told.acknowledged old.carriers.items mid.carriers.items rounds.ran.others.carriers ready.able.have.carriers_have booked.acknowledged in
       let later = told_on told lanes.steps carriers.after in
       let booked_then = booked_on words.links words.wires told lanes.steps carriers.after (lanings old.lanes.items) (lanings mid.lanes.items) old.carriers.items mid.carriers.items lanes.kept carriers.kept booked in
       record {
@@ -141,6 +144,24 @@ module _ {T W L D : Type 0} (words : Words T W L D) (queue : BoundedQueue) (desk
       subst (λ (s : Storing D). AreAtRest words.disks s) (sym rounds.meets.storing)
       (kept_then old rounds.mid _ rounds.ran.keeper (ap (λ (s : Storing D). s.stored.disk) (sym rounds.meets.storing) ∙ disk_is) (ap (λ (s : Storing D). s.stored.memory) (sym rounds.meets.storing) ∙ memory_is) kept)
 
+  -- ---- what the keeper keeps
+
+  collects_then : (old mid : Crew T W L D) (moved : Bool) → KeeperHad words.disks moved old mid ⊎ KeeperRested moved old mid → Collects old.storing.keeper mid.storing.keeper
+  collects_then old mid moved (inl had) = collects_ran words.disks old.storing mid.storing had.ran
+  collects_then old mid moved (inr rested) = collects_same old.storing.keeper mid.storing.keeper (ap (λ (s : Storing D). s.keeper) rested.same)
+
+  stores_then : (old mid : Crew T W L D) (moved : Bool) → KeeperHad words.disks moved old mid ⊎ KeeperRested moved old mid → Stores old.storing.keeper.tracked old.storing.keeper.store → Stores mid.storing.keeper.tracked mid.storing.keeper.store
+  stores_then old mid moved (inl had) stores = stores_ran words.disks old.storing mid.storing had.ran stores
+  stores_then old mid moved (inr rested) stores = subst (λ (s : Storing D). Stores s.keeper.tracked s.keeper.store) (sym rested.same) stores
+
+  pub in_full : (old new : Crew T W L D) (round : Round) → Rounds words queue desk when old new round → round.moved ≡ false → round.memory ≡ false → round.disk ≡ false → IsStoredInFull new.storing.keeper
+  in_full old new round rounds moved memory disk =
+      let memory_is = stored_memory (lanings new.lanes.items) new.carriers.items new.storing.stored (sym (ap (λ (r : Round). r.memory) rounds.answer) ∙ memory) in
+      let disk_is = sym (stored_disk (lanings new.lanes.items) new.carriers.items new.storing.stored) ∙ sym (ap (λ (r : Round). r.disk) rounds.answer) ∙ disk in
+      let were = were_still old new round rounds moved in
+      subst (λ (s : Storing D). IsStoredInFull s.keeper) (sym were.met.storing)
+      (in_full_where_still words.disks old.storing were.mid.storing were.storing (ap (λ (s : Storing D). s.stored.disk) (sym were.met.storing) ∙ disk_is) (ap (λ (s : Storing D). s.stored.memory) (sym were.met.storing) ∙ memory_is))
+
   -- ---- all of them
 
   pub round_keeps : (old new : Crew T W L D) (round : Round) → Rounds words queue desk when old new round → IsReady words.tails queue.id desk.id old → RoundKeeps words queue desk when old new round
@@ -151,4 +172,8 @@ module _ {T W L D : Type 0} (words : Words T W L D) (queue : BoundedQueue) (desk
     moved = λ is. have_moved old new round rounds is;
     images = λ kept orderly. images old new round rounds kept orderly;
     at_rest = λ memory disk kept. areas_kept old new round rounds memory disk kept;
+    collects = subst (λ (s : Storing D). Collects old.storing.keeper s.keeper) (sym rounds.meets.storing) (collects_then old rounds.mid _ rounds.ran.keeper);
+    able = able_still words queue desk when old new round rounds ready.able;
+    stored = λ stores. subst (λ (s : Storing D). Stores s.keeper.tracked s.keeper.store) (sym rounds.meets.storing) (stores_then old rounds.mid _ rounds.ran.keeper stores);
+    in_full = λ moved memory disk. in_full old new round rounds moved memory disk;
   }

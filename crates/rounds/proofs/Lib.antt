@@ -6,6 +6,7 @@ pub mod Each
 pub mod Having
 pub mod Images
 pub mod KeeperSteps
+pub mod Kept
 pub mod Moved
 pub mod Parting
 pub mod Placing

@@ -1,4 +1,4 @@
--- After a round that found memory and whose disk went well, the next one may follow.
+-- After a round that found memory and whose disk went well, the next one may follow; after any, all may be let go.
 use Rattle.std.specs.List.{AllByRecursion}
 use Rattle.std.proofs.Common.{◌≡◌, ◌≢◌, ◌⊎◌, ℕ, zero, suc, All, Bool, true, false, ◌||◌, List, [], ◌∷◌, map, inl, inr, refl, sym, ap, subst, ◌∙◌, arith}
 use Rattle.atomic_table.specs.Seated.{TableId}
@@ -15,8 +15,8 @@ use Rattle.rounds.specs.Crewed.{bare_lanes, lanes_passes, lanings}
 use Rattle.rounds.specs.KeeperTurns.{KeeperRun, KeeperTurned, StoringState, begun_stored, stored_of, stored_with, storing_state}
 use Rattle.rounds.specs.Pairs.{Pairs}
 use Rattle.rounds.specs.Passes.{AreAllOf}
-use Rattle.rounds.specs.Rounds.{AllRan, CanMeet, IsReady, KeeperHad, KeeperRested, Rounds}
-use Rattle.rounds.specs.Running.{IsLaneReady, IsStoringReady, LaneHasRun, StoringHasRun}
+use Rattle.rounds.specs.Rounds.{AllRan, CanMeet, IsAble, IsReady, KeeperHad, KeeperRested, Rounds}
+use Rattle.rounds.specs.Running.{IsLaneReady, LaneHasRun, StoringHasRun}
 use Rattle.rounds.specs.Words.{DiskWords, TailWords, Words}
 use Rattle.rounds.specs.declared.answer.Round.{Round}
 use Rattle.rounds.specs.declared.carrier.Carrier.{Carrier}
@@ -97,12 +97,10 @@ module _ {D : Type 0} (disks : DiskWords D) where
   open_by [] stored a b is disk memory opened = ap (λ (s : StoringState D). s.keeper.store.closed) is ∙ opened
   open_by (t ∷ ts) stored a b run disk memory opened = open_by ts (stored_with t stored) run.0 b run.2 disk memory (open_then t ts stored a run.0 run.1 disk memory opened)
 
-  storing_ran : (desk : TableId) (a b : Storing D) → StoringHasRun disks a b → b.stored.disk ≡ false → b.stored.memory ≡ false → IsStoringReady desk a → IsStoringReady desk b
+  opened_ran : (a b : Storing D) → StoringHasRun disks a b → b.stored.disk ≡ false → b.stored.memory ≡ false → a.keeper.store.closed ≡ false → b.keeper.store.closed ≡ false
   unfolding StoringHasRun
-  storing_ran desk a b ran disk memory ready = record {
-    pass = pass_stays disks ran.turns (storing_state a) (storing_state b) ran.ran ∙ ready.pass;
-    is_open = open_by ran.turns begun_stored (storing_state a) (storing_state b) ran.ran (sym (ap (λ (s : Stored). s.disk) ran.stored) ∙ disk) (sym (ap (λ (s : Stored). s.memory) ran.stored) ∙ memory) ready.is_open;
-  }
+  opened_ran a b ran disk memory is_open =
+      open_by ran.turns begun_stored (storing_state a) (storing_state b) ran.ran (sym (ap (λ (s : Stored). s.disk) ran.stored) ∙ disk) (sym (ap (λ (s : Stored). s.memory) ran.stored) ∙ memory) is_open
 
 -- ---- lanes
 
@@ -154,45 +152,50 @@ some_as : {A B : Type 0} (f : A → B) (xs ys : List A) → map f ys ≡ map f x
 some_as f xs ys same some = some_mapped f ys (λ is. mapped_some f xs some (sym same ∙ is))
 
 module _ {T W L D : Type 0} (words : Words T W L D) (queue : BoundedQueue) (desk : BoundedBox) (when : When) where
-  storing_then : (old mid : Crew T W L D) (moved : Bool) → KeeperHad words.disks moved old mid ⊎ KeeperRested moved old mid → mid.storing.stored.disk ≡ false → mid.storing.stored.memory ≡ false
-      → IsStoringReady desk.id old.storing → IsStoringReady desk.id mid.storing
-  storing_then old mid moved (inl had) disk memory ready = storing_ran words.disks desk.id old.storing mid.storing had.ran disk memory ready
-  storing_then old mid moved (inr rested) disk memory ready = record {
-    pass = ap (λ (s : Storing D). s.keeper.pass.desk) rested.same ∙ ready.pass;
-    is_open = ap (λ (s : Storing D). s.keeper.store.closed) rested.same ∙ ready.is_open;
-  }
-
-  pub ready_still : (old new : Crew T W L D) (round : Round) → Rounds words queue desk when old new round → round.memory ≡ false → round.disk ≡ false → IsReady words.tails queue.id desk.id old → IsReady words.tails queue.id desk.id new
-  ready_still old new round rounds memory disk ready =
-      let mid = rounds.mid in
-      let met = rounds.meets.met in
-      let stored_memory_is = stored_memory (lanings new.lanes.items) new.carriers.items new.storing.stored (sym (ap (λ (r : Round). r.memory) rounds.answer) ∙ memory) in
-      let stored_disk_is = sym (stored_disk (lanings new.lanes.items) new.carriers.items new.storing.stored) ∙ sym (ap (λ (r : Round). r.disk) rounds.answer) ∙ disk in
-      let lanes_some = some_still (LaneHasRun words.tails queue.capacity desk.capacity when) (lanings old.lanes.items) (lanings mid.lanes.items) rounds.ran.others.lanes (mapped_some _ old.lanes.items ready.some_lanes) in
-      let carriers_some = some_still _ old.carriers.items mid.carriers.items rounds.ran.others.carriers ready.some_carriers in
-      record {
-        some_lanes = some_mapped _ new.lanes.items (some_as _ (lanings mid.lanes.items) (lanings new.lanes.items) met.lanes_same lanes_some);
-        some_carriers = some_as _ mid.carriers.items new.carriers.items met.carriers_same carriers_some;
-        have = met.have;
-        lanes = with_passes words.tails queue.id desk.id (lanings new.lanes.items)
-            (from_bare words.tails (lanings new.lanes.items) (subst (λ (ls : List (Laning T)). AllByRecursion (IsBareReady words.tails) ls) (sym met.lanes_same)
-            (to_bare words.tails (lanings mid.lanes.items) (lanes_ran words.tails queue.capacity desk.capacity when queue.id desk.id (lanings old.lanes.items) (lanings mid.lanes.items) rounds.ran.others.lanes ready.lanes))))
-            met.have.lanes_have;
-        storing = subst (λ (s : Storing D). IsStoringReady desk.id s) (sym rounds.meets.storing)
-            (storing_then old mid _ rounds.ran.keeper (ap (λ (s : Storing D). s.stored.disk) (sym rounds.meets.storing) ∙ stored_disk_is) (ap (λ (s : Storing D). s.stored.memory) (sym rounds.meets.storing) ∙ stored_memory_is) ready.storing);
-      }
-
-  -- ---- as lanes, workers and the keeper have had their turns
+  open_then_by : (old mid : Crew T W L D) (moved : Bool) → KeeperHad words.disks moved old mid ⊎ KeeperRested moved old mid → mid.storing.stored.disk ≡ false → mid.storing.stored.memory ≡ false
+      → old.storing.keeper.store.closed ≡ false → mid.storing.keeper.store.closed ≡ false
+  open_then_by old mid moved (inl had) disk memory is_open = opened_ran words.disks old.storing mid.storing had.ran disk memory is_open
+  open_then_by old mid moved (inr rested) disk memory is_open = ap (λ (s : Storing D). s.keeper.store.closed) rested.same ∙ is_open
 
   pass_then : (old mid : Crew T W L D) (moved : Bool) → KeeperHad words.disks moved old mid ⊎ KeeperRested moved old mid → mid.storing.keeper.pass.desk ≡ old.storing.keeper.pass.desk
   unfolding StoringHasRun
   pass_then old mid moved (inl had) = pass_stays words.disks had.ran.turns (storing_state old.storing) (storing_state mid.storing) had.ran.ran
   pass_then old mid moved (inr rested) = ap (λ (s : Storing D). s.keeper.pass.desk) rested.same
 
+  -- whatever the round came to
+  pub able_still : (old new : Crew T W L D) (round : Round) → Rounds words queue desk when old new round → IsAble words.tails queue.id desk.id old → IsAble words.tails queue.id desk.id new
+  able_still old new round rounds able =
+      let mid = rounds.mid in
+      let met = rounds.meets.met in
+      let lanes_some = some_still (LaneHasRun words.tails queue.capacity desk.capacity when) (lanings old.lanes.items) (lanings mid.lanes.items) rounds.ran.others.lanes (mapped_some _ old.lanes.items able.some_lanes) in
+      let carriers_some = some_still _ old.carriers.items mid.carriers.items rounds.ran.others.carriers able.some_carriers in
+      record {
+        some_lanes = some_mapped _ new.lanes.items (some_as _ (lanings mid.lanes.items) (lanings new.lanes.items) met.lanes_same lanes_some);
+        some_carriers = some_as _ mid.carriers.items new.carriers.items met.carriers_same carriers_some;
+        have = met.have;
+        lanes = with_passes words.tails queue.id desk.id (lanings new.lanes.items)
+            (from_bare words.tails (lanings new.lanes.items) (subst (λ (ls : List (Laning T)). AllByRecursion (IsBareReady words.tails) ls) (sym met.lanes_same)
+            (to_bare words.tails (lanings mid.lanes.items) (lanes_ran words.tails queue.capacity desk.capacity when queue.id desk.id (lanings old.lanes.items) (lanings mid.lanes.items) rounds.ran.others.lanes able.lanes))))
+            met.have.lanes_have;
+        pass = ap (λ (s : Storing D). s.keeper.pass.desk) rounds.meets.storing ∙ pass_then old mid _ rounds.ran.keeper ∙ able.pass;
+      }
+
+  pub ready_still : (old new : Crew T W L D) (round : Round) → Rounds words queue desk when old new round → round.memory ≡ false → round.disk ≡ false → IsReady words.tails queue.id desk.id old → IsReady words.tails queue.id desk.id new
+  ready_still old new round rounds memory disk ready =
+      let stored_memory_is = stored_memory (lanings new.lanes.items) new.carriers.items new.storing.stored (sym (ap (λ (r : Round). r.memory) rounds.answer) ∙ memory) in
+      let stored_disk_is = sym (stored_disk (lanings new.lanes.items) new.carriers.items new.storing.stored) ∙ sym (ap (λ (r : Round). r.disk) rounds.answer) ∙ disk in
+      record {
+        able = able_still old new round rounds ready.able;
+        is_open = ap (λ (s : Storing D). s.keeper.store.closed) rounds.meets.storing
+            ∙ open_then_by old rounds.mid _ rounds.ran.keeper (ap (λ (s : Storing D). s.stored.disk) (sym rounds.meets.storing) ∙ stored_disk_is) (ap (λ (s : Storing D). s.stored.memory) (sym rounds.meets.storing) ∙ stored_memory_is) ready.is_open;
+      }
+
+  -- ---- as lanes, workers and the keeper have had their turns
+
   pub can_meet : (old mid : Crew T W L D) → AllRan words queue desk when old mid → IsReady words.tails queue.id desk.id old → CanMeet queue.id desk.id mid
   can_meet old mid ran ready = record {
-    some_lanes = some_mapped _ mid.lanes.items (some_still (LaneHasRun words.tails queue.capacity desk.capacity when) (lanings old.lanes.items) (lanings mid.lanes.items) ran.others.lanes (mapped_some _ old.lanes.items ready.some_lanes));
-    some_carriers = some_still _ old.carriers.items mid.carriers.items ran.others.carriers ready.some_carriers;
-    have = all_still words.tails words.links words.wires queue.capacity desk.capacity when queue.id desk.id (lanings old.lanes.items) (lanings mid.lanes.items) old.carriers.items mid.carriers.items ran.others.lanes ran.others.carriers ready.have;
-    pass = pass_then old mid _ ran.keeper ∙ ready.storing.pass;
+    some_lanes = some_mapped _ mid.lanes.items (some_still (LaneHasRun words.tails queue.capacity desk.capacity when) (lanings old.lanes.items) (lanings mid.lanes.items) ran.others.lanes (mapped_some _ old.lanes.items ready.able.some_lanes));
+    some_carriers = some_still _ old.carriers.items mid.carriers.items ran.others.carriers ready.able.some_carriers;
+    have = all_still words.tails words.links words.wires queue.capacity desk.capacity when queue.id desk.id (lanings old.lanes.items) (lanings mid.lanes.items) old.carriers.items mid.carriers.items ran.others.lanes ran.others.carriers ready.able.have;
+    pass = pass_then old mid _ ran.keeper ∙ ready.able.pass;
   }

@@ -3,13 +3,15 @@ use Rattle.std.specs.Prelude.{◌≡◌, true, false}
 use Rattle.mem_queue.specs.BoundedQueue.{BoundedQueue}
 use Rattle.settle_box.specs.BoundedBox.{BoundedBox}
 use Rattle.ship_core.specs.Orderly.{AreOrderly}
+use Rattle.keeper.specs.Collecting.{Collects}
+use Rattle.keeper.specs.Storing.{IsStoredInFull, Stores}
 use Rattle.lanes.specs.declared.run.When.{When}
 use Rattle.rounds.specs.Books.{AreBooked, Told}
 use Rattle.rounds.specs.Crewed.{lanings}
 use Rattle.rounds.specs.Images.{AreAtRest, ImagesAreFronts}
 use Rattle.rounds.specs.Moved.{HaveMoved, WereStill}
 use Rattle.rounds.specs.Placed.{IsPlacedAfter}
-use Rattle.rounds.specs.Rounds.{IsReady}
+use Rattle.rounds.specs.Rounds.{IsAble, IsReady}
 use Rattle.rounds.specs.Words.{Words}
 use Rattle.rounds.specs.declared.answer.Round.{Round}
 use Rattle.rounds.specs.declared.crew.Crew.{Crew}
@@ -25,3 +27,11 @@ pub record RoundKeeps {T W L D : Type 0} (words : Words T W L D) (queue : Bounde
   -- images are prefixes
   pub images : AreAtRest words.disks old.storing → AreOrderly new.storing.keeper.tracked.notes → ImagesAreFronts words.disks old.storing new.storing
   pub at_rest : round.memory ≡ false → round.disk ≡ false → AreAtRest words.disks old.storing → AreAtRest words.disks new.storing
+  -- what was collected is noted, in order, or held
+  pub collects : Collects old.storing.keeper new.storing.keeper
+  -- whatever the round found, its lanes may be let go, and its workers and the keeper may end
+  pub able : IsAble words.tails queue.id desk.id new
+  -- what the store has is what was noted up to the last commit, also where the keeper rested
+  pub stored : Stores old.storing.keeper.tracked old.storing.keeper.store → Stores new.storing.keeper.tracked new.storing.keeper.store
+  -- where nothing moved, nothing is left to store
+  pub in_full : round.moved ≡ false → round.memory ≡ false → round.disk ≡ false → IsStoredInFull new.storing.keeper

@@ -12,18 +12,23 @@ use Rattle.rounds.specs.KeeperTurns.{begun_stored}
 use Rattle.rounds.specs.Meeting.{HaveAllPasses, HaveMet}
 use Rattle.rounds.specs.Pairs.{Pairs}
 use Rattle.rounds.specs.Passes.{senders}
-use Rattle.rounds.specs.Running.{CarrierHasRun, IsLaneReady, IsStoringReady, LaneHasRun, StoringHasRun}
+use Rattle.rounds.specs.Running.{CarrierHasRun, IsLaneReady, LaneHasRun, StoringHasRun}
 use Rattle.rounds.specs.Words.{DiskWords, LinkWords, TailWords, WireWords, Words}
 use Rattle.rounds.specs.declared.crew.Crew.{Crew}
 use Rattle.rounds.specs.declared.answer.Round.{Round}
 
--- there are lanes and workers, they have all passes, and each is ready
-pub record IsReady {T W L D : Type 0} (tails : TailWords T) (queue desk : TableId) (crew : Crew T W L D) : Type 0 where
+-- there are lanes and workers, they have all passes, and each is ready; the store may be closed
+pub record IsAble {T W L D : Type 0} (tails : TailWords T) (queue desk : TableId) (crew : Crew T W L D) : Type 0 where
   pub some_lanes : crew.lanes.items ≢ []
   pub some_carriers : crew.carriers.items ≢ []
   pub have : HaveAllPasses queue desk (lanings crew.lanes.items) crew.carriers.items
   pub lanes : All (IsLaneReady tails queue desk) (lanings crew.lanes.items)
-  pub storing : IsStoringReady desk crew.storing
+  pub pass : crew.storing.keeper.pass.desk ≡ desk
+
+-- and the store is open, so a round may follow
+pub record IsReady {T W L D : Type 0} (tails : TailWords T) (queue desk : TableId) (crew : Crew T W L D) : Type 0 where
+  pub able : IsAble tails queue desk crew
+  pub is_open : crew.storing.keeper.store.closed ≡ false
 
 -- the keeper had its turns, since it was due or nothing else moved
 pub record KeeperHad {T W L D : Type 0} (disks : DiskWords D) (moved : Bool) (old new : Crew T W L D) : Type 0 where

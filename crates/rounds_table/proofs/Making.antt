@@ -232,18 +232,21 @@ pub ready_by_parts : {T W L D : Type 0} (tails : TailWords T) (queue desk : Tabl
     → HaveAll queue desk takes (cut_half posts) (carriers_passes crew.carriers.items) → All (IsLaneReady tails queue desk) (lanings crew.lanes.items) → IsStoringReady desk crew.storing → IsWhole puts → IsWhole takes → IsWhole posts
     → IsReady tails queue desk crew
 ready_by_parts tails queue desk puts takes posts crew lanes carriers ready storing all_puts all_takes all_posts = record {
-  some_lanes = λ is. lanes.some (ap (λ (ls : List _). lanes_passes (lanings ls)) is);
-  some_carriers = λ is. carriers.some (ap (λ (cs : List (Carrier _ _)). carriers_passes cs) is);
-  have = record {
-    lanes_have = lanes.are;
-    carriers_have = carriers.are;
-    puts = whole_worth (shares (lanes_passes (lanings crew.lanes.items))) puts lanes.share all_puts;
-    takes = whole_worth (shares (carriers_passes crew.carriers.items)) takes carriers.share all_takes;
-    posts = whole_worth (post_shares (lanes_passes (lanings crew.lanes.items)) ++ post_shares (carriers_passes crew.carriers.items)) posts
-        (worth_rejoined posts (post_shares (lanes_passes (lanings crew.lanes.items))) (post_shares (carriers_passes crew.carriers.items))
-        (post_shares (lanes_passes (lanings crew.lanes.items)) ++ post_shares (carriers_passes crew.carriers.items)) lanes.post_share carriers.post_share refl)
-        all_posts;
+  able = record {
+    some_lanes = λ is. lanes.some (ap (λ (ls : List _). lanes_passes (lanings ls)) is);
+    some_carriers = λ is. carriers.some (ap (λ (cs : List (Carrier _ _)). carriers_passes cs) is);
+    have = record {
+      lanes_have = lanes.are;
+      carriers_have = carriers.are;
+      puts = whole_worth (shares (lanes_passes (lanings crew.lanes.items))) puts lanes.share all_puts;
+      takes = whole_worth (shares (carriers_passes crew.carriers.items)) takes carriers.share all_takes;
+      posts = whole_worth (post_shares (lanes_passes (lanings crew.lanes.items)) ++ post_shares (carriers_passes crew.carriers.items)) posts
+          (worth_rejoined posts (post_shares (lanes_passes (lanings crew.lanes.items))) (post_shares (carriers_passes crew.carriers.items))
+          (post_shares (lanes_passes (lanings crew.lanes.items)) ++ post_shares (carriers_passes crew.carriers.items)) lanes.post_share carriers.post_share refl)
+          all_posts;
+    };
+    lanes = ready;
+    pass = storing.pass;
   };
-  lanes = ready;
-  storing = storing;
+  is_open = storing.is_open;
 }

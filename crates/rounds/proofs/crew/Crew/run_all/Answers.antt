@@ -9,4 +9,4 @@ run_all-requires-clause-carriers_ready g c κs within =
     let queue = c.args.shift.outlets.queue.now.id in
     let desk = c.args.shift.outlets.desk.now.id in
     subst (λ (carriers : List (Carrier g.row.W.Denot g.row.L.Denot)). All (IsCarrierReady queue desk) carriers) (sym c.as_mut_slice-2.ensures.value)
-    (carriers_ready queue desk c.args.self.now.carriers.items c.requires.ready.have.carriers_have)
+    (carriers_ready queue desk c.args.self.now.carriers.items c.requires.ready.able.have.carriers_have)

@@ -1,0 +1,66 @@
+-- What the keeper's turns of a round keep: what was collected, what is stored, and that all is stored where none kept anything.
+use Rattle.std.specs.List.{AllByRecursion}
+use Rattle.std.proofs.Common.{◌≡◌, ◌<◌, Bool, true, false, List, [], ◌∷◌, length, sym, ap, subst, ◌∙◌, arith}
+use Rattle.keeper.specs.Collecting.{Collects}
+use Rattle.keeper.specs.Keeping.{Keeping}
+use Rattle.keeper.specs.Storing.{IsStoredInFull, Stores}
+use Rattle.keeper.specs.declared.turn.KeeperTurn.{KeeperTurn}
+use Rattle.keeper.specs.declared.turn.KeeperTurn.TheVariants.{Kept, Empty, DiskFault, NoMemory}
+use Rattle.keeper.proofs.InARow.{collects_more, collects_none}
+use Rattle.rounds.specs.KeeperTurns.{AllButLastKept, IsKeeping, KeeperRun, KeeperTurned, StoringState, begun_stored, stored_of, stored_with, storing_state}
+use Rattle.rounds.specs.Moved.{StoringWasStill}
+use Rattle.rounds.specs.Running.{StoringHasRun}
+use Rattle.rounds.specs.Words.{DiskWords}
+use Rattle.rounds.specs.declared.storing.Stored.{Stored}
+use Rattle.rounds.specs.declared.storing.Storing.{Storing}
+
+abbrev IsSet : Bool → Type 0
+IsSet true = Unit {0}
+IsSet false = ⊥
+
+apart : {P : Type 0} → true ≡ false → P
+apart is = absurd (subst IsSet is tt)
+
+pub collects_same : (old new : Keeping) → new ≡ old → Collects old new
+collects_same old new is = subst (Collects old) (sym is) (collects_none old)
+
+module _ {D : Type 0} (disks : DiskWords D) where
+  collects_by : (turns : List KeeperTurn) (old new : StoringState D) → KeeperRun disks turns old new → Collects old.keeper new.keeper
+  collects_by [] old new is = collects_same old.keeper new.keeper (ap (λ (s : StoringState D). s.keeper) is)
+  collects_by (t ∷ ts) old new run = collects_more old.keeper run.0.keeper new.keeper run.1.collected (collects_by ts run.0 new run.2)
+
+  pub collects_ran : (old new : Storing D) → StoringHasRun disks old new → Collects old.keeper new.keeper
+  unfolding StoringHasRun
+  collects_ran old new ran = collects_by ran.turns (storing_state old) (storing_state new) ran.ran
+
+  IsStored : Keeping → Type 0
+  IsStored keeper = Stores keeper.tracked keeper.store
+
+  stores_by : (turns : List KeeperTurn) (old new : StoringState D) → KeeperRun disks turns old new → IsStored old.keeper → IsStored new.keeper
+  unfolding IsStored
+  stores_by [] old new is stores = subst (λ (s : StoringState D). Stores s.keeper.tracked s.keeper.store) (sym is) stores
+  stores_by (t ∷ ts) old new run stores = stores_by ts run.0 new run.2 run.1.stored
+
+  pub stores_ran : (old new : Storing D) → StoringHasRun disks old new → Stores old.keeper.tracked old.keeper.store → Stores new.keeper.tracked new.keeper.store
+  unfolding StoringHasRun IsStored
+  stores_ran old new ran stores = stores_by ran.turns (storing_state old) (storing_state new) ran.ran stores
+
+  -- ---- where no turn kept anything, it found nothing to store
+
+  full_by : (turn : KeeperTurn) (stored : Stored) (old new : StoringState D) → KeeperTurned disks turn old new → ¬ (IsKeeping turn) → (stored_with turn stored).disk ≡ false → (stored_with turn stored).memory ≡ false → IsStoredInFull new.keeper
+  full_by (Kept count) stored old new turned still disk memory = absurd (still tt)
+  full_by Empty stored old new turned still disk memory = subst IsStoredInFull (sym turned.kept_where_empty) turned.nothing_to_store
+  full_by DiskFault stored old new turned still disk memory = apart disk
+  full_by NoMemory stored old new turned still disk memory = apart memory
+
+  full_run : (turns : List KeeperTurn) (stored : Stored) (old new : StoringState D) → KeeperRun disks turns old new → 0 < length turns → AllButLastKept turns → AllByRecursion (λ (t : KeeperTurn). ¬ (IsKeeping t)) turns
+      → (stored_of stored turns).disk ≡ false → (stored_of stored turns).memory ≡ false → IsStoredInFull new.keeper
+  full_run [] stored old new is some kept still disk memory = absurd (omega (arith, some))
+  full_run (t ∷ []) stored old new run some kept still disk memory =
+      subst (λ (s : StoringState D). IsStoredInFull s.keeper) (sym run.2) (full_by t stored old run.0 run.1 still.0 disk memory)
+  full_run (t ∷ u ∷ us) stored old new run some kept still disk memory = absurd (still.0 kept.0)
+
+  pub in_full_where_still : (old new : Storing D) → StoringWasStill disks old new → new.stored.disk ≡ false → new.stored.memory ≡ false → IsStoredInFull new.keeper
+  in_full_where_still old new was disk memory =
+      full_run was.ran.turns begun_stored (storing_state old) (storing_state new) was.ran.ran was.ran.some was.ran.kept was.each
+      (sym (ap (λ (s : Stored). s.disk) was.ran.stored) ∙ disk) (sym (ap (λ (s : Stored). s.memory) was.ran.stored) ∙ memory)
