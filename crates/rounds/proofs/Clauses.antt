@@ -1,14 +1,16 @@
 -- What a round's clauses say, from the turns that it was made of.
-use Rattle.std.proofs.Common.{◌≡◌, ◌⊎◌, ⊎_elim, Bool, true, false, ◌||◌, inl, inr, refl, sym, ap, subst, ◌∙◌}
+use Rattle.std.proofs.Common.{◌≡◌, ◌⊎◌, ⊎_elim, ◌≤◌, Bool, true, false, ◌||◌, inl, inr, refl, sym, ap, subst, ◌∙◌, arith}
 use Rattle.keeper.specs.Collecting.{Collects}
 use Rattle.keeper.specs.Storing.{IsStoredInFull, Stores}
 use Rattle.lanes.specs.declared.run.When.{When}
 use Rattle.mem_queue.specs.BoundedQueue.{BoundedQueue}
+use Rattle.outside.specs.Counts.{Rose}
 use Rattle.settle_box.specs.BoundedBox.{BoundedBox}
 use Rattle.settle_box.specs.Senders.{notes}
 use Rattle.ship_core.specs.Orderly.{AreOrderly}
 use Rattle.rounds.specs.Answer.{have_others_moved, round_of, some_carrier_moved, some_lane_moved}
 use Rattle.rounds.specs.Books.{AreBooked, ArePlaced, Told, told_on}
+use Rattle.rounds.specs.Causes.{LanesHad, RoundCauses}
 use Rattle.rounds.specs.Crewed.{lanings}
 use Rattle.rounds.specs.Images.{AreAtRest, ImagesAreFronts}
 use Rattle.rounds.specs.Moved.{HaveMoved, WereStill}
@@ -20,6 +22,7 @@ use Rattle.rounds.specs.Words.{Words}
 use Rattle.rounds.specs.declared.answer.Round.{Round}
 use Rattle.rounds.specs.declared.crew.Crew.{Crew}
 use Rattle.rounds.specs.declared.storing.Storing.{Storing}
+use Rattle.rounds.proofs.Causes.{a_faults_ran, answers_steps, b_faults_ran, rose_ran, wires_stay}
 use Rattle.rounds.proofs.Images.{images_are_fronts, kept_still, rested_images, rested_kept}
 use Rattle.rounds.proofs.Moved.{answer_moved, bare_answer, carriers_moved, carriers_still, lanes_moved, lanes_still, storing_moved, storing_still}
 use Rattle.rounds.proofs.Placing.{booked_met, carriers_stepped, lanes_stepped, placed_met}
@@ -162,6 +165,42 @@ module _ {T W L D : Type 0} (words : Words T W L D) (queue : BoundedQueue) (desk
       subst (λ (s : Storing D). IsStoredInFull s.keeper) (sym were.met.storing)
       (in_full_where_still words.disks old.storing were.mid.storing were.storing (ap (λ (s : Storing D). s.stored.disk) (sym were.met.storing) ∙ disk_is) (ap (λ (s : Storing D). s.stored.memory) (sym were.met.storing) ∙ memory_is))
 
+  -- ---- causes
+
+  keeper_causes : (old mid : Crew T W L D) (moved : Bool) → KeeperHad words.disks moved old mid ⊎ KeeperRested moved old mid → mid.storing.stored.disk ≡ true
+      → Rose (words.disks.faults old.storing.a) (words.disks.faults mid.storing.a) ⊎ Rose (words.disks.faults old.storing.b) (words.disks.faults mid.storing.b)
+  keeper_causes old mid moved (inl had) is = rose_ran words.disks old.storing mid.storing had.ran is
+  keeper_causes old mid moved (inr rested) is = apart (sym is ∙ ap (λ (s : Storing D). s.stored.disk) rested.same)
+
+  a_faults_then : (old mid : Crew T W L D) (moved : Bool) → KeeperHad words.disks moved old mid ⊎ KeeperRested moved old mid → words.disks.faults old.storing.a ≤ words.disks.faults mid.storing.a
+  a_faults_then old mid moved (inl had) = a_faults_ran words.disks old.storing mid.storing had.ran
+  a_faults_then old mid moved (inr rested) = subst (λ (s : Storing D). words.disks.faults old.storing.a ≤ words.disks.faults s.a) (sym rested.same) (omega arith)
+
+  b_faults_then : (old mid : Crew T W L D) (moved : Bool) → KeeperHad words.disks moved old mid ⊎ KeeperRested moved old mid → words.disks.faults old.storing.b ≤ words.disks.faults mid.storing.b
+  b_faults_then old mid moved (inl had) = b_faults_ran words.disks old.storing mid.storing had.ran
+  b_faults_then old mid moved (inr rested) = subst (λ (s : Storing D). words.disks.faults old.storing.b ≤ words.disks.faults s.b) (sym rested.same) (omega arith)
+
+  lanes_had : (old new : Crew T W L D) (round : Round) → Rounds words queue desk when old new round → IsReady words.tails queue.id desk.id old → LanesHad words.tails queue desk when old new
+  lanes_had old new round rounds ready =
+      let mid = rounds.mid in
+      let stepped = lanes_stepped words.tails queue.capacity desk.capacity when queue.id desk.id (lanings old.lanes.items) (lanings mid.lanes.items) rounds.ran.others.lanes ready.able.have.lanes_have in
+      record { steps = stepped.steps; lanes = lanings mid.lanes.items; steps_are = stepped.are; lanes_are = rounds.meets.met.lanes_same }
+
+  pub causes : (old new : Crew T W L D) (round : Round) → Rounds words queue desk when old new round → IsReady words.tails queue.id desk.id old → RoundCauses words queue desk when old new round
+  causes old new round rounds ready =
+      let mid = rounds.mid in
+      let same = rounds.meets.storing in
+      record {
+        disk = λ is. subst (λ (s : Storing D). Rose (words.disks.faults old.storing.a) (words.disks.faults s.a) ⊎ Rose (words.disks.faults old.storing.b) (words.disks.faults s.b)) (sym same)
+            (keeper_causes old mid _ rounds.ran.keeper
+            (ap (λ (s : Storing D). s.stored.disk) (sym same) ∙ sym (stored_disk (lanings new.lanes.items) new.carriers.items new.storing.stored) ∙ sym (ap (λ (r : Round). r.disk) rounds.answer) ∙ is));
+        had = lanes_had old new round rounds ready;
+        files = λ had. answers_steps words.tails queue.capacity desk.capacity when had.steps (lanings old.lanes.items) had.lanes (lanings new.lanes.items) new.carriers.items new.storing.stored round had.steps_are had.lanes_are rounds.answer;
+        a_faults = subst (λ (s : Storing D). words.disks.faults old.storing.a ≤ words.disks.faults s.a) (sym same) (a_faults_then old mid _ rounds.ran.keeper);
+        b_faults = subst (λ (s : Storing D). words.disks.faults old.storing.b ≤ words.disks.faults s.b) (sym same) (b_faults_then old mid _ rounds.ran.keeper);
+        wires = wires_stay words.wires words.links desk.capacity when.now old.carriers.items mid.carriers.items new.carriers.items rounds.ran.others.carriers rounds.meets.met.carriers_same;
+      }
+
   -- ---- all of them
 
   pub round_keeps : (old new : Crew T W L D) (round : Round) → Rounds words queue desk when old new round → IsReady words.tails queue.id desk.id old → RoundKeeps words queue desk when old new round
@@ -176,4 +215,5 @@ module _ {T W L D : Type 0} (words : Words T W L D) (queue : BoundedQueue) (desk
     able = able_still words queue desk when old new round rounds ready.able;
     stored = λ stores. subst (λ (s : Storing D). Stores s.keeper.tracked s.keeper.store) (sym rounds.meets.storing) (stores_then old rounds.mid _ rounds.ran.keeper stores);
     in_full = λ moved memory disk. in_full old new round rounds moved memory disk;
+    causes = causes old new round rounds ready;
   }

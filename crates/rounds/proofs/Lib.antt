@@ -1,5 +1,6 @@
 pub mod Books
 pub mod CarrierSteps
+pub mod Causes
 pub mod Clauses
 pub mod Crossing
 pub mod Each

@@ -1,6 +1,7 @@
 pub mod Answer
 pub mod Books
 pub mod CarrierTurns
+pub mod Causes
 pub mod Crewed
 pub mod Due
 pub mod Images

@@ -7,6 +7,7 @@ use Rattle.keeper.specs.Collecting.{Collects}
 use Rattle.keeper.specs.Storing.{IsStoredInFull, Stores}
 use Rattle.lanes.specs.declared.run.When.{When}
 use Rattle.rounds.specs.Books.{AreBooked, Told}
+use Rattle.rounds.specs.Causes.{RoundCauses}
 use Rattle.rounds.specs.Crewed.{lanings}
 use Rattle.rounds.specs.Images.{AreAtRest, ImagesAreFronts}
 use Rattle.rounds.specs.Moved.{HaveMoved, WereStill}
@@ -35,3 +36,5 @@ pub record RoundKeeps {T W L D : Type 0} (words : Words T W L D) (queue : Bounde
   pub stored : Stores old.storing.keeper.tracked old.storing.keeper.store → Stores new.storing.keeper.tracked new.storing.keeper.store
   -- where nothing moved, nothing is left to store
   pub in_full : round.moved ≡ false → round.memory ≡ false → round.disk ≡ false → IsStoredInFull new.storing.keeper
+  -- each answer has its cause
+  pub causes : RoundCauses words queue desk when old new round
