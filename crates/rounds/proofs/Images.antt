@@ -1,12 +1,12 @@
 -- The images that the keeper's turns leave.
-use Rattle.std.proofs.Common.{◌≡◌, ◌⊎◌, ⊎_elim, ℕ, Bool, true, false, List, [], ◌∷◌, ◌++◌, length, inl, inr, sym, ap, subst, ◌∙◌, append_assoc, append-nil}
+use Rattle.std.proofs.Common.{◌≡◌, ◌⊎◌, ⊎_elim, ℕ, Bool, true, false, List, [], ◌∷◌, ◌++◌, length, Option, inl, inr, sym, ap, subst, ◌∙◌, append_assoc, append-nil}
 use Rattle.kept_rows.specs.Backed.{AreRowsOverFronts, IsRowOverAFront}
 use Rattle.keeper.specs.Keeping.{Keeping}
 use Rattle.keeper.specs.Storing.{AreRowsBetween}
 use Rattle.keeper.specs.declared.turn.KeeperTurn.{KeeperTurn}
 use Rattle.keeper.specs.declared.turn.KeeperTurn.TheVariants.{Kept, Empty, DiskFault, NoMemory}
 use Rattle.outside.specs.DiskImages.{LeavesOnly}
-use Rattle.registry_store.specs.Committing.{GivesSome}
+use Rattle.registry_store.specs.Committing.{AreAfterSome, GivesSome, MayHold}
 use Rattle.registry_store.specs.Settled.{AreSettled}
 use Rattle.registry_store.specs.Sides.{of_area, other_area}
 use Rattle.registry_store.specs.Standing.{chosen_by, written_area}
@@ -14,8 +14,9 @@ use Rattle.ship_core.specs.Orderly.{AreOrderly}
 use Rattle.ship_core.specs.Rows.{find}
 use Rattle.ship_core.specs.RowsOver.{row_for}
 use Rattle.wire_base.specs.declared.note.Note.{Note}
+use Rattle.wire_base.specs.declared.row.Op.{Op}
 use Rattle.wire_base.specs.declared.row.Row.{Row}
-use Rattle.rounds.specs.Images.{AreAtRest, GivesFronts, ImagesAreFronts, IsFront, TurnLeaves, TurnsLeave}
+use Rattle.rounds.specs.Images.{AreAtRest, GivesFronts, ImagesAreFronts, IsFront, MayHoldFronts, TurnLeaves, TurnsLeave}
 use Rattle.rounds.specs.KeeperTurns.{AllButLastKept, IsKeeping, KeeperRan, KeeperRun, KeeperTurned, StoringState, begun_stored, stored_of, stored_with, storing_state}
 use Rattle.rounds.specs.Words.{DiskWords}
 use Rattle.rounds.specs.declared.storing.Stored.{Stored}
@@ -58,6 +59,28 @@ fronts_of opening committed now notes rows first then between = record {
   in_order = between.in_order;
   each = λ key. row_of opening committed now notes rows key first then (between.each key);
 }
+
+-- the rows after some of the updates, where they are between those over the committed notes and those over all
+module _ (opening : List Row) (committed now notes : List Note) (rows : List Row) (ops : List Op) (first : IsFront committed notes) (then : IsFront now notes)
+    (between : (found : List Row) → AreAfterSome rows ops found → AreRowsBetween opening committed now found) where
+  gives_fronts : (a b : List ℕ) → GivesSome rows ops a b → GivesFronts opening notes a b
+  gives_fronts a b some = record {
+    rows = some.found;
+    given = some.given;
+    fronts = fronts_of opening committed now notes some.found first then (between some.found some.after);
+  }
+
+  holds_fronts : (before : Option (List ℕ)) (generation : ℕ) (area : List ℕ) → MayHold before generation rows ops area → MayHoldFronts opening notes before generation area
+  holds_fronts before generation area (inl same) = inl same
+  holds_fronts before generation area (inr (inl shut)) = inr (inl shut)
+  holds_fronts before generation area (inr (inr is)) = inr (inr (record {
+    its_generation = is.its_generation;
+    rows = is.found;
+    end = is.end;
+    later = is.later;
+    opened = is.opened;
+    fronts = fronts_of opening committed now notes is.found first then (between is.found is.after);
+  }))
 
 -- ---- moments
 
@@ -105,21 +128,27 @@ module _ {D : Type 0} (disks : DiskWords D) where
   turn_leaves t old new notes turned settled committed noted orderly =
       let commits = turned.commits settled in
       let written = written_area old.keeper.store commits.ops in
+      let opening = old.keeper.tracked.opening in
+      let rows = old.keeper.store.rows in
+      let generation = old.keeper.store.generation in
+      let before = old.keeper.tracked.committed in
+      let now = new.keeper.tracked.notes in
+      let between = commits.between (orderly_front now notes noted orderly) in
       record {
         written = written;
         leaves = leaves_as disks.moment disks.images_since (of_area written old.a old.b) (of_area written new.a new.b)
-            (λ image. (other : List ℕ) → disks.images (of_area (other_area written) old.a old.b) other → GivesSome old.keeper.store.rows commits.ops (of_area written image other) (of_area written other image))
-            (λ image. (other : List ℕ) → disks.images (of_area (other_area written) old.a old.b) other → GivesFronts old.keeper.tracked.opening notes (of_area written image other) (of_area written other image))
-            (λ image gives other is.
-            let some = gives other is in
-            record {
-              rows = some.found;
-              given = some.given;
-              fronts = fronts_of old.keeper.tracked.opening old.keeper.tracked.committed new.keeper.tracked.notes notes some.found committed noted
-                  (commits.between (orderly_front new.keeper.tracked.notes notes noted orderly) some.found some.after);
-            })
+            (λ image. (other : List ℕ) → disks.images (of_area (other_area written) old.a old.b) other → GivesSome rows commits.ops (of_area written image other) (of_area written other image))
+            (λ image. (other : List ℕ) → disks.images (of_area (other_area written) old.a old.b) other → GivesFronts opening notes (of_area written image other) (of_area written other image))
+            (λ image gives other is. gives_fronts opening before now notes rows commits.ops committed noted between (of_area written image other) (of_area written other image) (gives other is))
             commits.each_moment;
         other_same = commits.other_area_kept;
+        of_a = leaves_as disks.moment disks.images_since old.a new.a (MayHold (disks.contents old.a) generation rows commits.ops) (MayHoldFronts opening notes (disks.contents old.a) generation)
+            (λ image may. holds_fronts opening before now notes rows commits.ops committed noted between (disks.contents old.a) generation image may)
+            commits.goes_on.of_a;
+        of_b = leaves_as disks.moment disks.images_since old.b new.b (MayHold (disks.contents old.b) generation rows commits.ops) (MayHoldFronts opening notes (disks.contents old.b) generation)
+            (λ image may. holds_fronts opening before now notes rows commits.ops committed noted between (disks.contents old.b) generation image may)
+            commits.goes_on.of_b;
+        left = λ first second first_is second_is. gives_fronts opening before now notes rows commits.ops committed noted between first second (commits.left first second first_is second_is);
       }
 
   turns_leave : (turns : List KeeperTurn) (old new : StoringState D) (notes : List Note) → KeeperRun disks turns old new → AllButLastKept turns → Settled old → IsFront old.keeper.tracked.committed old.keeper.tracked.notes

@@ -1,8 +1,10 @@
 -- Images are prefixes (this project's profile): at every moment of the keeper's turns, each image of an area gives for each key the
 -- row over the opening rows and some first ones of the notes for which the keeper stands, or none.
-use Rattle.std.specs.Prelude.{◌≡◌, ℕ, zero, suc, List, ◌++◌}
+use Rattle.std.specs.Prelude.{◌≡◌, ◌⊎◌, ℕ, zero, suc, ◌≤◌, List, ◌++◌, Option, Some}
 use Rattle.kept_rows.specs.Backed.{AreRowsOverFronts}
 use Rattle.outside.specs.DiskImages.{LeavesOnly}
+use Rattle.registry_log.specs.Starting.{IsBlank, IsClosed}
+use Rattle.registry_log.specs.State.{IsOpened}
 use Rattle.registry_store.specs.Choice.{GivesRows}
 use Rattle.registry_store.specs.Settled.{AreSettled}
 use Rattle.registry_store.specs.Sides.{of_area, other_area}
@@ -20,6 +22,21 @@ pub record GivesFronts (opening : List Row) (notes : List Note) (first second : 
   pub given : GivesRows first second rows
   pub fronts : AreRowsOverFronts opening notes rows
 
+-- an area is opened, with at least this generation, and has rows, each over some first ones of these notes
+pub record IsOpenedOverFronts (opening : List Row) (notes : List Note) (generation : ℕ) (area : List ℕ) : Type 0 where
+  pub its_generation : ℕ
+  pub rows : List Row
+  pub end : ℕ
+  pub later : generation ≤ its_generation
+  pub opened : IsOpened area its_generation rows end
+  pub fronts : AreRowsOverFronts opening notes rows
+
+-- an area holds what it held before, be it opened with whatever rows it had then; or nothing that is read; or is opened with such
+-- rows
+abbrev pub MayHoldFronts : List Row → List Note → Option (List ℕ) → ℕ → List ℕ → Type 0
+MayHoldFronts opening notes before generation area =
+    (before ≡ Some area) ⊎ ((IsBlank area ⊎ IsClosed area) ⊎ IsOpenedOverFronts opening notes generation area)
+
 -- the committed notes are the first of all
 pub record IsFront (front notes : List Note) : Type 0 where
   pub rest : List Note
@@ -33,6 +50,11 @@ module _ {D : Type 0} (disks : DiskWords D) (opening : List Row) (notes : List N
         (λ image. (other : List ℕ) → disks.images (of_area (other_area written) old.a old.b) other →
         GivesFronts opening notes (of_area written image other) (of_area written other image))
     pub other_same : of_area (other_area written) new.a new.b ≡ of_area (other_area written) old.a old.b
+    -- each area alone, be it the one that is chosen or not
+    pub of_a : LeavesOnly disks.moment disks.images_since old.a new.a (MayHoldFronts opening notes (disks.contents old.a) old.keeper.store.generation)
+    pub of_b : LeavesOnly disks.moment disks.images_since old.b new.b (MayHoldFronts opening notes (disks.contents old.b) old.keeper.store.generation)
+    -- and what both hold after the turn, also where a disk failed
+    pub left : (first second : List ℕ) → disks.contents new.a ≡ Some first → disks.contents new.b ≡ Some second → GivesFronts opening notes first second
 
   -- so many turns, one behind the other
   abbrev pub TurnsLeave : ℕ → StoringState D → StoringState D → Type 0
