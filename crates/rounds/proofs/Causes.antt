@@ -187,15 +187,15 @@ module _ {D : Type 0} (disks : DiskWords D) where
       (λ later. inr (either_earlier old run.0 new run.1.a_faults_never_fall run.1.b_faults_never_fall later))
       (rose_by ts (stored_with t stored) run.0 new run.2 is)
 
-  pub a_faults_ran : (old new : Storing D) → StoringHasRun disks old new → disks.faults old.a ≤ disks.faults new.a
+  pub a_faults_ran : (old new : Storing D) → StoringHasRun disks old new → disks.faults old.a.now ≤ disks.faults new.a.now
   unfolding StoringHasRun
   a_faults_ran old new ran = a_faults_by ran.turns (storing_state old) (storing_state new) ran.ran
 
-  pub b_faults_ran : (old new : Storing D) → StoringHasRun disks old new → disks.faults old.b ≤ disks.faults new.b
+  pub b_faults_ran : (old new : Storing D) → StoringHasRun disks old new → disks.faults old.b.now ≤ disks.faults new.b.now
   unfolding StoringHasRun
   b_faults_ran old new ran = b_faults_by ran.turns (storing_state old) (storing_state new) ran.ran
 
-  pub rose_ran : (old new : Storing D) → StoringHasRun disks old new → new.stored.disk ≡ true → Rose (disks.faults old.a) (disks.faults new.a) ⊎ Rose (disks.faults old.b) (disks.faults new.b)
+  pub rose_ran : (old new : Storing D) → StoringHasRun disks old new → new.stored.disk ≡ true → Rose (disks.faults old.a.now) (disks.faults new.a.now) ⊎ Rose (disks.faults old.b.now) (disks.faults new.b.now)
   unfolding StoringHasRun
   rose_ran old new ran is =
       ⊎_elim (λ begun. absurd (let q : false ≡ true = begun in cc)) (λ rose. rose)

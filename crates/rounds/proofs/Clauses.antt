@@ -13,6 +13,7 @@ use Rattle.rounds.specs.Books.{AreBooked, ArePlaced, Told, told_on}
 use Rattle.rounds.specs.Causes.{LanesHad, RoundCauses}
 use Rattle.rounds.specs.Crewed.{lanings}
 use Rattle.rounds.specs.Images.{AreAtRest, ImagesAreFronts}
+use Rattle.rounds.specs.KeeperTurns.{SameAreas, begun_stored}
 use Rattle.rounds.specs.Moved.{HaveMoved, WereStill}
 use Rattle.rounds.specs.Placed.{IsPlacedAfter}
 use Rattle.rounds.specs.RoundKeeps.{RoundKeeps}
@@ -20,9 +21,10 @@ use Rattle.rounds.specs.Rounds.{IsReady, KeeperHad, KeeperRested, Rounds}
 use Rattle.rounds.specs.Running.{StoringHasRun}
 use Rattle.rounds.specs.Words.{Words}
 use Rattle.rounds.specs.declared.answer.Round.{Round}
-use Rattle.rounds.specs.declared.crew.Crew.{Crew}
+use Rattle.rounds.specs.Crewing.{Crewing}
 use Rattle.rounds.specs.declared.storing.Storing.{Storing}
 use Rattle.rounds.proofs.Causes.{a_faults_ran, answers_steps, b_faults_ran, rose_ran, wires_stay}
+use Rattle.rounds.proofs.KeeperSteps.{areas_by}
 use Rattle.rounds.proofs.Images.{images_are_fronts, kept_still, rested_images, rested_kept}
 use Rattle.rounds.proofs.Moved.{answer_moved, bare_answer, carriers_moved, carriers_still, lanes_moved, lanes_still, storing_moved, storing_still}
 use Rattle.rounds.proofs.Placing.{booked_met, carriers_stepped, lanes_stepped, placed_met}
@@ -50,7 +52,7 @@ one_true false b is = inr is
 module _ {T W L D : Type 0} (words : Words T W L D) (queue : BoundedQueue) (desk : BoundedBox) (when : When) where
   -- ---- each span is in one place
 
-  pub placed_after : (old new : Crew T W L D) (round : Round) (told : Told) → Rounds words queue desk when old new round → IsReady words.tails queue.id desk.id old
+  pub placed_after : (old new : Crewing T W L D) (round : Round) (told : Told) → Rounds words queue desk when old new round → IsReady words.tails queue.id desk.id old
       → AreBooked words.links words.wires told (lanings old.lanes.items) old.carriers.items → IsPlacedAfter words queue desk when told old new
   placed_after old new round told rounds ready booked =
       let mid = rounds.mid in
@@ -76,7 +78,7 @@ module _ {T W L D : Type 0} (words : Words T W L D) (queue : BoundedQueue) (desk
   -- ---- moved means moved
 
   -- by what lanes, workers and the keeper told before their passes met
-  moved_is : (old new : Crew T W L D) (round : Round) → (rounds : Rounds words queue desk when old new round)
+  moved_is : (old new : Crewing T W L D) (round : Round) → (rounds : Rounds words queue desk when old new round)
       → round.moved ≡ ((rounds.mid.storing.stored.moved || some_lane_moved (lanings rounds.mid.lanes.items)) || some_carrier_moved rounds.mid.carriers.items)
   moved_is old new round rounds =
       ap (λ (r : Round). r.moved) rounds.answer
@@ -84,15 +86,15 @@ module _ {T W L D : Type 0} (words : Words T W L D) (queue : BoundedQueue) (desk
       ∙ ap (λ (s : Storing D). (round_of (lanings rounds.mid.lanes.items) rounds.mid.carriers.items s.stored).moved) rounds.meets.storing
       ∙ answer_moved (lanings rounds.mid.lanes.items) rounds.mid.carriers.items rounds.mid.storing.stored
 
-  keeper_moved : (old mid : Crew T W L D) (moved : Bool) → KeeperHad words.disks moved old mid ⊎ KeeperRested moved old mid → mid.storing.stored.moved ≡ true → KeeperHad words.disks moved old mid
+  keeper_moved : (old mid : Crewing T W L D) (moved : Bool) → KeeperHad words.disks moved old mid ⊎ KeeperRested moved old mid → mid.storing.stored.moved ≡ true → KeeperHad words.disks moved old mid
   keeper_moved old mid moved (inl had) is = had
   keeper_moved old mid moved (inr rested) is = apart (sym is ∙ ap (λ (s : Storing D). s.stored.moved) rested.same)
 
-  keeper_had : (old mid : Crew T W L D) (moved : Bool) → KeeperHad words.disks moved old mid ⊎ KeeperRested moved old mid → moved ≡ false → KeeperHad words.disks moved old mid
+  keeper_had : (old mid : Crewing T W L D) (moved : Bool) → KeeperHad words.disks moved old mid ⊎ KeeperRested moved old mid → moved ≡ false → KeeperHad words.disks moved old mid
   keeper_had old mid moved (inl had) is = had
   keeper_had old mid moved (inr rested) is = apart (sym rested.why.1 ∙ is)
 
-  pub were_still : (old new : Crew T W L D) (round : Round) → Rounds words queue desk when old new round → round.moved ≡ false → WereStill words queue desk when old new
+  pub were_still : (old new : Crewing T W L D) (round : Round) → Rounds words queue desk when old new round → round.moved ≡ false → WereStill words queue desk when old new
   were_still old new round rounds is =
       let mid = rounds.mid in
       let none = both_false (mid.storing.stored.moved || some_lane_moved (lanings mid.lanes.items)) (some_carrier_moved mid.carriers.items) (sym (moved_is old new round rounds) ∙ is) in
@@ -106,7 +108,7 @@ module _ {T W L D : Type 0} (words : Words T W L D) (queue : BoundedQueue) (desk
         storing = storing_still words.disks old.storing mid.storing (keeper_had old mid _ rounds.ran.keeper others).ran first.0;
       }
 
-  pub have_moved : (old new : Crew T W L D) (round : Round) → Rounds words queue desk when old new round → round.moved ≡ true → HaveMoved words queue desk when old new
+  pub have_moved : (old new : Crewing T W L D) (round : Round) → Rounds words queue desk when old new round → round.moved ≡ true → HaveMoved words queue desk when old new
   have_moved old new round rounds is =
       let mid = rounds.mid in
       record {
@@ -123,24 +125,24 @@ module _ {T W L D : Type 0} (words : Words T W L D) (queue : BoundedQueue) (desk
 
   -- ---- images are prefixes
 
-  images_then : (old mid : Crew T W L D) (moved : Bool) → KeeperHad words.disks moved old mid ⊎ KeeperRested moved old mid → AreAtRest words.disks old.storing → AreOrderly mid.storing.keeper.tracked.notes
+  images_then : (old mid : Crewing T W L D) (moved : Bool) → KeeperHad words.disks moved old mid ⊎ KeeperRested moved old mid → AreAtRest words.disks old.storing → AreOrderly mid.storing.keeper.tracked.notes
       → ImagesAreFronts words.disks old.storing mid.storing
   unfolding StoringHasRun
   images_then old mid moved (inl had) kept orderly = images_are_fronts words.disks old.storing mid.storing had.ran kept orderly
   images_then old mid moved (inr rested) kept orderly = rested_images words.disks old.storing mid.storing rested.same
 
-  kept_then : (old mid : Crew T W L D) (moved : Bool) → KeeperHad words.disks moved old mid ⊎ KeeperRested moved old mid → mid.storing.stored.disk ≡ false → mid.storing.stored.memory ≡ false → AreAtRest words.disks old.storing
+  kept_then : (old mid : Crewing T W L D) (moved : Bool) → KeeperHad words.disks moved old mid ⊎ KeeperRested moved old mid → mid.storing.stored.disk ≡ false → mid.storing.stored.memory ≡ false → AreAtRest words.disks old.storing
       → AreAtRest words.disks mid.storing
   unfolding StoringHasRun
   kept_then old mid moved (inl had) disk memory kept = kept_still words.disks old.storing mid.storing had.ran disk memory kept
   kept_then old mid moved (inr rested) disk memory kept = rested_kept words.disks old.storing mid.storing rested.same kept
 
-  pub images : (old new : Crew T W L D) (round : Round) → Rounds words queue desk when old new round → AreAtRest words.disks old.storing → AreOrderly new.storing.keeper.tracked.notes → ImagesAreFronts words.disks old.storing new.storing
+  pub images : (old new : Crewing T W L D) (round : Round) → Rounds words queue desk when old new round → AreAtRest words.disks old.storing → AreOrderly new.storing.keeper.tracked.notes → ImagesAreFronts words.disks old.storing new.storing
   images old new round rounds kept orderly =
       subst (λ (s : Storing D). ImagesAreFronts words.disks old.storing s) (sym rounds.meets.storing)
       (images_then old rounds.mid _ rounds.ran.keeper kept (subst (λ (s : Storing D). AreOrderly s.keeper.tracked.notes) rounds.meets.storing orderly))
 
-  pub areas_kept : (old new : Crew T W L D) (round : Round) → Rounds words queue desk when old new round → round.memory ≡ false → round.disk ≡ false → AreAtRest words.disks old.storing → AreAtRest words.disks new.storing
+  pub areas_kept : (old new : Crewing T W L D) (round : Round) → Rounds words queue desk when old new round → round.memory ≡ false → round.disk ≡ false → AreAtRest words.disks old.storing → AreAtRest words.disks new.storing
   areas_kept old new round rounds memory disk kept =
       let memory_is = stored_memory (lanings new.lanes.items) new.carriers.items new.storing.stored (sym (ap (λ (r : Round). r.memory) rounds.answer) ∙ memory) in
       let disk_is = sym (stored_disk (lanings new.lanes.items) new.carriers.items new.storing.stored) ∙ sym (ap (λ (r : Round). r.disk) rounds.answer) ∙ disk in
@@ -149,15 +151,15 @@ module _ {T W L D : Type 0} (words : Words T W L D) (queue : BoundedQueue) (desk
 
   -- ---- what the keeper keeps
 
-  collects_then : (old mid : Crew T W L D) (moved : Bool) → KeeperHad words.disks moved old mid ⊎ KeeperRested moved old mid → Collects old.storing.keeper mid.storing.keeper
+  collects_then : (old mid : Crewing T W L D) (moved : Bool) → KeeperHad words.disks moved old mid ⊎ KeeperRested moved old mid → Collects old.storing.keeper mid.storing.keeper
   collects_then old mid moved (inl had) = collects_ran words.disks old.storing mid.storing had.ran
   collects_then old mid moved (inr rested) = collects_same old.storing.keeper mid.storing.keeper (ap (λ (s : Storing D). s.keeper) rested.same)
 
-  stores_then : (old mid : Crew T W L D) (moved : Bool) → KeeperHad words.disks moved old mid ⊎ KeeperRested moved old mid → Stores old.storing.keeper.tracked old.storing.keeper.store → Stores mid.storing.keeper.tracked mid.storing.keeper.store
+  stores_then : (old mid : Crewing T W L D) (moved : Bool) → KeeperHad words.disks moved old mid ⊎ KeeperRested moved old mid → Stores old.storing.keeper.tracked old.storing.keeper.store → Stores mid.storing.keeper.tracked mid.storing.keeper.store
   stores_then old mid moved (inl had) stores = stores_ran words.disks old.storing mid.storing had.ran stores
   stores_then old mid moved (inr rested) stores = subst (λ (s : Storing D). Stores s.keeper.tracked s.keeper.store) (sym rested.same) stores
 
-  pub in_full : (old new : Crew T W L D) (round : Round) → Rounds words queue desk when old new round → round.moved ≡ false → round.memory ≡ false → round.disk ≡ false → IsStoredInFull new.storing.keeper
+  pub in_full : (old new : Crewing T W L D) (round : Round) → Rounds words queue desk when old new round → round.moved ≡ false → round.memory ≡ false → round.disk ≡ false → IsStoredInFull new.storing.keeper
   in_full old new round rounds moved memory disk =
       let memory_is = stored_memory (lanings new.lanes.items) new.carriers.items new.storing.stored (sym (ap (λ (r : Round). r.memory) rounds.answer) ∙ memory) in
       let disk_is = sym (stored_disk (lanings new.lanes.items) new.carriers.items new.storing.stored) ∙ sym (ap (λ (r : Round). r.disk) rounds.answer) ∙ disk in
@@ -167,43 +169,53 @@ module _ {T W L D : Type 0} (words : Words T W L D) (queue : BoundedQueue) (desk
 
   -- ---- causes
 
-  keeper_causes : (old mid : Crew T W L D) (moved : Bool) → KeeperHad words.disks moved old mid ⊎ KeeperRested moved old mid → mid.storing.stored.disk ≡ true
-      → Rose (words.disks.faults old.storing.a) (words.disks.faults mid.storing.a) ⊎ Rose (words.disks.faults old.storing.b) (words.disks.faults mid.storing.b)
+  keeper_causes : (old mid : Crewing T W L D) (moved : Bool) → KeeperHad words.disks moved old mid ⊎ KeeperRested moved old mid → mid.storing.stored.disk ≡ true
+      → Rose (words.disks.faults old.storing.a.now) (words.disks.faults mid.storing.a.now) ⊎ Rose (words.disks.faults old.storing.b.now) (words.disks.faults mid.storing.b.now)
   keeper_causes old mid moved (inl had) is = rose_ran words.disks old.storing mid.storing had.ran is
   keeper_causes old mid moved (inr rested) is = apart (sym is ∙ ap (λ (s : Storing D). s.stored.disk) rested.same)
 
-  a_faults_then : (old mid : Crew T W L D) (moved : Bool) → KeeperHad words.disks moved old mid ⊎ KeeperRested moved old mid → words.disks.faults old.storing.a ≤ words.disks.faults mid.storing.a
+  a_faults_then : (old mid : Crewing T W L D) (moved : Bool) → KeeperHad words.disks moved old mid ⊎ KeeperRested moved old mid → words.disks.faults old.storing.a.now ≤ words.disks.faults mid.storing.a.now
   a_faults_then old mid moved (inl had) = a_faults_ran words.disks old.storing mid.storing had.ran
-  a_faults_then old mid moved (inr rested) = subst (λ (s : Storing D). words.disks.faults old.storing.a ≤ words.disks.faults s.a) (sym rested.same) (omega arith)
+  a_faults_then old mid moved (inr rested) = subst (λ (s : Storing D). words.disks.faults old.storing.a.now ≤ words.disks.faults s.a.now) (sym rested.same) (omega arith)
 
-  b_faults_then : (old mid : Crew T W L D) (moved : Bool) → KeeperHad words.disks moved old mid ⊎ KeeperRested moved old mid → words.disks.faults old.storing.b ≤ words.disks.faults mid.storing.b
+  b_faults_then : (old mid : Crewing T W L D) (moved : Bool) → KeeperHad words.disks moved old mid ⊎ KeeperRested moved old mid → words.disks.faults old.storing.b.now ≤ words.disks.faults mid.storing.b.now
   b_faults_then old mid moved (inl had) = b_faults_ran words.disks old.storing mid.storing had.ran
-  b_faults_then old mid moved (inr rested) = subst (λ (s : Storing D). words.disks.faults old.storing.b ≤ words.disks.faults s.b) (sym rested.same) (omega arith)
+  b_faults_then old mid moved (inr rested) = subst (λ (s : Storing D). words.disks.faults old.storing.b.now ≤ words.disks.faults s.b.now) (sym rested.same) (omega arith)
 
-  lanes_had : (old new : Crew T W L D) (round : Round) → Rounds words queue desk when old new round → IsReady words.tails queue.id desk.id old → LanesHad words.tails queue desk when old new
+  lanes_had : (old new : Crewing T W L D) (round : Round) → Rounds words queue desk when old new round → IsReady words.tails queue.id desk.id old → LanesHad words.tails queue desk when old new
   lanes_had old new round rounds ready =
       let mid = rounds.mid in
       let stepped = lanes_stepped words.tails queue.capacity desk.capacity when queue.id desk.id (lanings old.lanes.items) (lanings mid.lanes.items) rounds.ran.others.lanes ready.able.have.lanes_have in
       record { steps = stepped.steps; lanes = lanings mid.lanes.items; steps_are = stepped.are; lanes_are = rounds.meets.met.lanes_same }
 
-  pub causes : (old new : Crew T W L D) (round : Round) → Rounds words queue desk when old new round → IsReady words.tails queue.id desk.id old → RoundCauses words queue desk when old new round
+  pub causes : (old new : Crewing T W L D) (round : Round) → Rounds words queue desk when old new round → IsReady words.tails queue.id desk.id old → RoundCauses words queue desk when old new round
   causes old new round rounds ready =
       let mid = rounds.mid in
       let same = rounds.meets.storing in
       record {
-        disk = λ is. subst (λ (s : Storing D). Rose (words.disks.faults old.storing.a) (words.disks.faults s.a) ⊎ Rose (words.disks.faults old.storing.b) (words.disks.faults s.b)) (sym same)
+        disk = λ is. subst (λ (s : Storing D). Rose (words.disks.faults old.storing.a.now) (words.disks.faults s.a.now) ⊎ Rose (words.disks.faults old.storing.b.now) (words.disks.faults s.b.now)) (sym same)
             (keeper_causes old mid _ rounds.ran.keeper
             (ap (λ (s : Storing D). s.stored.disk) (sym same) ∙ sym (stored_disk (lanings new.lanes.items) new.carriers.items new.storing.stored) ∙ sym (ap (λ (r : Round). r.disk) rounds.answer) ∙ is));
         had = lanes_had old new round rounds ready;
         files = λ had. answers_steps words.tails queue.capacity desk.capacity when had.steps (lanings old.lanes.items) had.lanes (lanings new.lanes.items) new.carriers.items new.storing.stored round had.steps_are had.lanes_are rounds.answer;
-        a_faults = subst (λ (s : Storing D). words.disks.faults old.storing.a ≤ words.disks.faults s.a) (sym same) (a_faults_then old mid _ rounds.ran.keeper);
-        b_faults = subst (λ (s : Storing D). words.disks.faults old.storing.b ≤ words.disks.faults s.b) (sym same) (b_faults_then old mid _ rounds.ran.keeper);
+        a_faults = subst (λ (s : Storing D). words.disks.faults old.storing.a.now ≤ words.disks.faults s.a.now) (sym same) (a_faults_then old mid _ rounds.ran.keeper);
+        b_faults = subst (λ (s : Storing D). words.disks.faults old.storing.b.now ≤ words.disks.faults s.b.now) (sym same) (b_faults_then old mid _ rounds.ran.keeper);
         wires = wires_stay words.wires words.links desk.capacity when.now old.carriers.items mid.carriers.items new.carriers.items rounds.ran.others.carriers rounds.meets.met.carriers_same;
       }
 
+  -- ---- the areas are the same disks
+
+  areas_then : (old mid : Crewing T W L D) (moved : Bool) → KeeperHad words.disks moved old mid ⊎ KeeperRested moved old mid → SameAreas old.storing mid.storing
+  unfolding StoringHasRun
+  areas_then old mid moved (inl had) = had.ran.same_areas
+  areas_then old mid moved (inr rested) = areas_by begun_stored old.storing mid.storing rested.same
+
+  pub same_areas : (old new : Crewing T W L D) (round : Round) → Rounds words queue desk when old new round → SameAreas old.storing new.storing
+  same_areas old new round rounds = subst (λ (s : Storing D). SameAreas old.storing s) (sym rounds.meets.storing) (areas_then old rounds.mid _ rounds.ran.keeper)
+
   -- ---- all of them
 
-  pub round_keeps : (old new : Crew T W L D) (round : Round) → Rounds words queue desk when old new round → IsReady words.tails queue.id desk.id old → RoundKeeps words queue desk when old new round
+  pub round_keeps : (old new : Crewing T W L D) (round : Round) → Rounds words queue desk when old new round → IsReady words.tails queue.id desk.id old → RoundKeeps words queue desk when old new round
   round_keeps old new round rounds ready = record {
     ready = λ memory disk. ready_still words queue desk when old new round rounds memory disk ready;
     placed = λ told booked. placed_after old new round told rounds ready booked;
@@ -216,4 +228,5 @@ module _ {T W L D : Type 0} (words : Words T W L D) (queue : BoundedQueue) (desk
     stored = λ stores. subst (λ (s : Storing D). Stores s.keeper.tracked s.keeper.store) (sym rounds.meets.storing) (stores_then old rounds.mid _ rounds.ran.keeper stores);
     in_full = λ moved memory disk. in_full old new round rounds moved memory disk;
     causes = causes old new round rounds ready;
+    same_areas = same_areas old new round rounds;
   }

@@ -3,7 +3,7 @@ use Rattle.std.proofs.Common.{◌≡◌, ℕ, suc, ◌+◌, ◌<◌, Bool, true,
 use Rattle.settle_box.specs.Collector.{Collector}
 use Rattle.keeper.specs.declared.turn.KeeperTurn.{KeeperTurn}
 use Rattle.keeper.specs.declared.turn.KeeperTurn.TheVariants.{Kept, Empty, DiskFault, NoMemory}
-use Rattle.rounds.specs.KeeperTurns.{AllButLastKept, AllKept, Counts, EndStill, HasKept, IsKeeping, KeeperRan, KeeperRun, KeeperTurned, KeepsOne, KeepsSoFar, StoringState, begun_stored, stored_of, stored_with, storing_state}
+use Rattle.rounds.specs.KeeperTurns.{AllButLastKept, AllKept, Counts, EndStill, HasKept, IsKeeping, KeeperRan, KeeperRun, KeeperTurned, KeepsOne, KeepsSoFar, SameAreas, StoringState, begun_stored, stored_of, stored_with, storing_state}
 use Rattle.rounds.specs.Words.{DiskWords}
 use Rattle.rounds.specs.declared.storing.Stored.{Stored}
 use Rattle.rounds.specs.declared.storing.Storing.{Storing}
@@ -35,6 +35,14 @@ one_longer : (ts : List KeeperTurn) (t : KeeperTurn) → length (ts ++ t ∷ [])
 one_longer [] t = refl
 one_longer (s ∷ ss) t = ap suc (one_longer ss t)
 
+-- ---- the areas
+
+pub areas_by : {D : Type 0} (stored : Stored) (a b : Storing D) → b ≡ record a { stored = stored } → SameAreas a b
+areas_by {D} stored a b is = record { a = ap (λ (s : Storing D). s.a.ghost_name) is; b = ap (λ (s : Storing D). s.b.ghost_name) is }
+
+pub areas_on : {D : Type 0} (a b c : Storing D) → SameAreas a b → SameAreas b c → SameAreas a c
+areas_on a b c first second = record { a = second.a ∙ first.a; b = second.b ∙ first.b }
+
 module _ {D : Type 0} (disks : DiskWords D) where
   run_on : (ts : List KeeperTurn) (t : KeeperTurn) (a b c : StoringState D) → KeeperRun disks ts a b → KeeperTurned disks t b c → KeeperRun disks (ts ++ t ∷ []) a c
   run_on [] t a b c is turned = (c, subst (λ (s : StoringState D). KeeperTurned disks t s c) is turned, refl)
@@ -46,6 +54,7 @@ module _ {D : Type 0} (disks : DiskWords D) where
     many = refl;
     kept = tt;
     ran = ap (λ (s : Storing D). storing_state s) is;
+    same_areas = areas_by begun_stored a b is;
     stored = ap (λ (s : Storing D). s.stored) is;
     is_open = ap (λ (s : Storing D). s.keeper.store.closed) is ∙ opened;
   }
@@ -65,6 +74,7 @@ module _ {D : Type 0} (disks : DiskWords D) where
         many = omega (arith, one_longer so.turns one.turn, so.many);
         kept = kept_on so.turns one.turn so.kept one_kept;
         ran = run_on so.turns one.turn (storing_state a) (storing_state b) (storing_state c) so.ran one.turned;
+        same_areas = areas_on a b c so.same_areas one.same_areas;
         stored = one.stored ∙ ap (stored_with one.turn) so.stored ∙ sym (stored_on begun_stored so.turns one.turn);
         is_open = open_still one.turn (storing_state b) (storing_state c) one.turned one_kept;
       }
@@ -77,6 +87,7 @@ module _ {D : Type 0} (disks : DiskWords D) where
     kept = all_but_last so.turns one.turn so.kept;
     over = inr (ends_still so.turns one.turn (subst (λ (k : Bool). HasKept k one.turn) is one.kept_is));
     ran = run_on so.turns one.turn (storing_state a) (storing_state b) (storing_state c) so.ran one.turned;
+    same_areas = areas_on a b c so.same_areas one.same_areas;
     stored = one.stored ∙ ap (stored_with one.turn) so.stored ∙ sym (stored_on begun_stored so.turns one.turn);
   }
 
@@ -88,6 +99,7 @@ module _ {D : Type 0} (disks : DiskWords D) where
     kept = all_of so.turns so.kept;
     over = inl (so.many ∙ is);
     ran = so.ran;
+    same_areas = so.same_areas;
     stored = so.stored;
   }
 
@@ -101,10 +113,11 @@ module _ {D : Type 0} (disks : DiskWords D) where
   pass_still kept a b one = ap (λ (p : Collector). p.desk) one.turned.collected.pass
 
   -- a turn, and then it is counted
-  pub keeps_one : (turn : KeeperTurn) (kept : Bool) (a b c : Storing D) → KeeperTurned disks turn (storing_state a) (storing_state b) → b.stored ≡ a.stored → Counts turn kept b c → KeepsOne disks kept a c
-  keeps_one turn kept a b c turned same counts = record {
+  pub keeps_one : (turn : KeeperTurn) (kept : Bool) (a b c : Storing D) → KeeperTurned disks turn (storing_state a) (storing_state b) → SameAreas a b → b.stored ≡ a.stored → Counts turn kept b c → KeepsOne disks kept a c
+  keeps_one turn kept a b c turned areas same counts = record {
     turn = turn;
     turned = subst (λ (s : Storing D). KeeperTurned disks turn (storing_state a) (storing_state s)) (sym counts.is) turned;
+    same_areas = areas_on a b c areas (areas_by (stored_with turn b.stored) b c counts.is);
     stored = ap (λ (s : Storing D). s.stored) counts.is ∙ ap (stored_with turn) same;
     kept_is = counts.kept_is;
   }

@@ -20,7 +20,7 @@ use Rattle.rounds.specs.Running.{IsLaneReady, LaneHasRun, StoringHasRun}
 use Rattle.rounds.specs.Words.{DiskWords, TailWords, Words}
 use Rattle.rounds.specs.declared.answer.Round.{Round}
 use Rattle.rounds.specs.declared.carrier.Carrier.{Carrier}
-use Rattle.rounds.specs.declared.crew.Crew.{Crew}
+use Rattle.rounds.specs.Crewing.{Crewing}
 use Rattle.rounds.specs.declared.storing.Stored.{Stored}
 use Rattle.rounds.specs.declared.storing.Storing.{Storing}
 use Rattle.rounds.proofs.Having.{all_still, some_still}
@@ -152,18 +152,18 @@ some_as : {A B : Type 0} (f : A → B) (xs ys : List A) → map f ys ≡ map f x
 some_as f xs ys same some = some_mapped f ys (λ is. mapped_some f xs some (sym same ∙ is))
 
 module _ {T W L D : Type 0} (words : Words T W L D) (queue : BoundedQueue) (desk : BoundedBox) (when : When) where
-  open_then_by : (old mid : Crew T W L D) (moved : Bool) → KeeperHad words.disks moved old mid ⊎ KeeperRested moved old mid → mid.storing.stored.disk ≡ false → mid.storing.stored.memory ≡ false
+  open_then_by : (old mid : Crewing T W L D) (moved : Bool) → KeeperHad words.disks moved old mid ⊎ KeeperRested moved old mid → mid.storing.stored.disk ≡ false → mid.storing.stored.memory ≡ false
       → old.storing.keeper.store.closed ≡ false → mid.storing.keeper.store.closed ≡ false
   open_then_by old mid moved (inl had) disk memory is_open = opened_ran words.disks old.storing mid.storing had.ran disk memory is_open
   open_then_by old mid moved (inr rested) disk memory is_open = ap (λ (s : Storing D). s.keeper.store.closed) rested.same ∙ is_open
 
-  pass_then : (old mid : Crew T W L D) (moved : Bool) → KeeperHad words.disks moved old mid ⊎ KeeperRested moved old mid → mid.storing.keeper.pass.desk ≡ old.storing.keeper.pass.desk
+  pass_then : (old mid : Crewing T W L D) (moved : Bool) → KeeperHad words.disks moved old mid ⊎ KeeperRested moved old mid → mid.storing.keeper.pass.desk ≡ old.storing.keeper.pass.desk
   unfolding StoringHasRun
   pass_then old mid moved (inl had) = pass_stays words.disks had.ran.turns (storing_state old.storing) (storing_state mid.storing) had.ran.ran
   pass_then old mid moved (inr rested) = ap (λ (s : Storing D). s.keeper.pass.desk) rested.same
 
   -- whatever the round came to
-  pub able_still : (old new : Crew T W L D) (round : Round) → Rounds words queue desk when old new round → IsAble words.tails queue.id desk.id old → IsAble words.tails queue.id desk.id new
+  pub able_still : (old new : Crewing T W L D) (round : Round) → Rounds words queue desk when old new round → IsAble words.tails queue.id desk.id old → IsAble words.tails queue.id desk.id new
   able_still old new round rounds able =
       let mid = rounds.mid in
       let met = rounds.meets.met in
@@ -180,7 +180,7 @@ module _ {T W L D : Type 0} (words : Words T W L D) (queue : BoundedQueue) (desk
         pass = ap (λ (s : Storing D). s.keeper.pass.desk) rounds.meets.storing ∙ pass_then old mid _ rounds.ran.keeper ∙ able.pass;
       }
 
-  pub ready_still : (old new : Crew T W L D) (round : Round) → Rounds words queue desk when old new round → round.memory ≡ false → round.disk ≡ false → IsReady words.tails queue.id desk.id old → IsReady words.tails queue.id desk.id new
+  pub ready_still : (old new : Crewing T W L D) (round : Round) → Rounds words queue desk when old new round → round.memory ≡ false → round.disk ≡ false → IsReady words.tails queue.id desk.id old → IsReady words.tails queue.id desk.id new
   ready_still old new round rounds memory disk ready =
       let stored_memory_is = stored_memory (lanings new.lanes.items) new.carriers.items new.storing.stored (sym (ap (λ (r : Round). r.memory) rounds.answer) ∙ memory) in
       let stored_disk_is = sym (stored_disk (lanings new.lanes.items) new.carriers.items new.storing.stored) ∙ sym (ap (λ (r : Round). r.disk) rounds.answer) ∙ disk in
@@ -192,7 +192,7 @@ module _ {T W L D : Type 0} (words : Words T W L D) (queue : BoundedQueue) (desk
 
   -- ---- as lanes, workers and the keeper have had their turns
 
-  pub can_meet : (old mid : Crew T W L D) → AllRan words queue desk when old mid → IsReady words.tails queue.id desk.id old → CanMeet queue.id desk.id mid
+  pub can_meet : (old mid : Crewing T W L D) → AllRan words queue desk when old mid → IsReady words.tails queue.id desk.id old → CanMeet queue.id desk.id mid
   can_meet old mid ran ready = record {
     some_lanes = some_mapped _ mid.lanes.items (some_still (LaneHasRun words.tails queue.capacity desk.capacity when) (lanings old.lanes.items) (lanings mid.lanes.items) ran.others.lanes (mapped_some _ old.lanes.items ready.able.some_lanes));
     some_carriers = some_still _ old.carriers.items mid.carriers.items ran.others.carriers ready.able.some_carriers;

@@ -15,10 +15,10 @@ use Rattle.rounds.specs.Placed.{AreStepsOf}
 use Rattle.rounds.specs.Words.{TailWords, WireWords, Words}
 use Rattle.rounds.specs.declared.answer.Round.{Round}
 use Rattle.rounds.specs.declared.carrier.Carrier.{Carrier}
-use Rattle.rounds.specs.declared.crew.Crew.{Crew}
+use Rattle.rounds.specs.Crewing.{Crewing}
 
 -- turns that lead the lanes, lane by lane, to what they are afterwards but for their passes
-pub record LanesHad {T W L D : Type 0} (tails : TailWords T) (queue : BoundedQueue) (desk : BoundedBox) (when : When) (old new : Crew T W L D) : Type 0 where
+pub record LanesHad {T W L D : Type 0} (tails : TailWords T) (queue : BoundedQueue) (desk : BoundedBox) (when : When) (old new : Crewing T W L D) : Type 0 where
   pub steps : List Step
   pub lanes : List (Laning T)
   pub steps_are : AreStepsOf tails queue.capacity desk.capacity when steps (lanings old.lanes.items) lanes
@@ -42,12 +42,12 @@ pub record AnswersSteps (round : Round) (steps : List Step) : Type 0 where
 abbrev pub WireFaultsStay : {W L : Type 0} → WireWords W → Carrier W L → Carrier W L → Type 0
 WireFaultsStay wires old new = wires.faults old.wire ≤ wires.faults new.wire
 
-pub record RoundCauses {T W L D : Type 0} (words : Words T W L D) (queue : BoundedQueue) (desk : BoundedBox) (when : When) (old new : Crew T W L D) (round : Round) : Type 0 where
-  pub disk : round.disk ≡ true → Rose (words.disks.faults old.storing.a) (words.disks.faults new.storing.a) ⊎ Rose (words.disks.faults old.storing.b) (words.disks.faults new.storing.b)
+pub record RoundCauses {T W L D : Type 0} (words : Words T W L D) (queue : BoundedQueue) (desk : BoundedBox) (when : When) (old new : Crewing T W L D) (round : Round) : Type 0 where
+  pub disk : round.disk ≡ true → Rose (words.disks.faults old.storing.a.now) (words.disks.faults new.storing.a.now) ⊎ Rose (words.disks.faults old.storing.b.now) (words.disks.faults new.storing.b.now)
   -- the lanes had turns, and whichever lead to what they are, the answer is by these
   pub had : LanesHad words.tails queue desk when old new
   pub files : (had : LanesHad words.tails queue desk when old new) → AnswersSteps round had.steps
   -- no count of faults falls
-  pub a_faults : words.disks.faults old.storing.a ≤ words.disks.faults new.storing.a
-  pub b_faults : words.disks.faults old.storing.b ≤ words.disks.faults new.storing.b
+  pub a_faults : words.disks.faults old.storing.a.now ≤ words.disks.faults new.storing.a.now
+  pub b_faults : words.disks.faults old.storing.b.now ≤ words.disks.faults new.storing.b.now
   pub wires : Pairs (WireFaultsStay words.wires) old.carriers.items new.carriers.items

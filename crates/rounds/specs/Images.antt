@@ -63,7 +63,7 @@ module _ {D : Type 0} (disks : DiskWords D) (opening : List Row) (notes : List N
 
 -- what is asked of the keeper's areas as a round begins
 pub record AreAtRest {D : Type 0} (disks : DiskWords D) (storing : Storing D) : Type 0 where
-  pub settled : AreSettled disks.contents disks.images storing.a storing.b (chosen_by storing.keeper.store)
+  pub settled : AreSettled disks.contents disks.images storing.a.now storing.b.now (chosen_by storing.keeper.store)
   pub committed : IsFront storing.keeper.tracked.committed storing.keeper.tracked.notes
 
 -- the turns of the keeper, as many as it had

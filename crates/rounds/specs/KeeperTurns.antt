@@ -66,7 +66,12 @@ pub record StoringState (D : Type 0) : Type 0 where
   pub b : D
 
 abbrev pub storing_state : {D : Type 0} → Storing D → StoringState D
-storing_state storing = record { keeper = storing.keeper; a = storing.a; b = storing.b }
+storing_state storing = record { keeper = storing.keeper; a = storing.a.now; b = storing.b.now }
+
+-- the areas are the same disks as before, whatever was written
+pub record SameAreas {D : Type 0} (old new : Storing D) : Type 0 where
+  pub a : new.a.ghost_name ≡ old.a.ghost_name
+  pub b : new.b.ghost_name ≡ old.b.ghost_name
 
 module _ {D : Type 0} (disks : DiskWords D) where
   -- one turn, as the keeper's contract says
@@ -110,6 +115,7 @@ module _ {D : Type 0} (disks : DiskWords D) where
     pub kept : AllButLastKept turns
     pub over : (length turns ≡ 256) ⊎ EndStill turns
     pub ran : KeeperRun turns (storing_state old) (storing_state new)
+    pub same_areas : SameAreas old new
     pub stored : new.stored ≡ stored_of begun_stored turns
 
   -- ---- for private clauses
@@ -118,6 +124,7 @@ module _ {D : Type 0} (disks : DiskWords D) where
   pub record KeepsOne (kept : Bool) (old new : Storing D) : Type 0 where
     pub turn : KeeperTurn
     pub turned : KeeperTurned turn (storing_state old) (storing_state new)
+    pub same_areas : SameAreas old new
     pub stored : new.stored ≡ stored_with turn old.stored
     pub kept_is : HasKept kept turn
 
@@ -127,5 +134,6 @@ module _ {D : Type 0} (disks : DiskWords D) where
     pub many : length turns ≡ count
     pub kept : AllKept turns
     pub ran : KeeperRun turns (storing_state old) (storing_state new)
+    pub same_areas : SameAreas old new
     pub stored : new.stored ≡ stored_of begun_stored turns
     pub is_open : new.keeper.store.closed ≡ false

@@ -3,6 +3,7 @@ pub mod Books
 pub mod CarrierTurns
 pub mod Causes
 pub mod Crewed
+pub mod Crewing
 pub mod Due
 pub mod Images
 pub mod KeeperTurns

@@ -19,7 +19,7 @@ use Rattle.rounds.specs.KeeperTurns.{IsKeeping, KeeperRan}
 use Rattle.rounds.specs.Pairs.{Pairs, SomeOf, SomePair}
 use Rattle.rounds.specs.Words.{DiskWords, LinkWords, TailWords, WireWords, Words}
 use Rattle.rounds.specs.declared.carrier.Carrier.{Carrier}
-use Rattle.rounds.specs.declared.crew.Crew.{Crew}
+use Rattle.rounds.specs.Crewing.{Crewing}
 use Rattle.rounds.specs.declared.storing.Storing.{Storing}
 
 -- ---- lanes
@@ -74,20 +74,20 @@ pub record StoringWasStill {D : Type 0} (disks : DiskWords D) (old new : Storing
 -- ---- all of them, up to where their passes met
 
 -- lanes, workers and the keeper as their passes met: but for these they are so afterwards
-pub record IsAsMet {T W L D : Type 0} (mid new : Crew T W L D) : Type 0 where
+pub record IsAsMet {T W L D : Type 0} (mid new : Crewing T W L D) : Type 0 where
   pub lanes : bare_lanes (lanings new.lanes.items) ≡ bare_lanes (lanings mid.lanes.items)
   pub carriers : bare_carriers new.carriers.items ≡ bare_carriers mid.carriers.items
   pub storing : new.storing ≡ mid.storing
 
-pub record HaveMoved {T W L D : Type 0} (words : Words T W L D) (queue : BoundedQueue) (desk : BoundedBox) (when : When) (old new : Crew T W L D) : Type 0 where
-  pub mid : Crew T W L D
+pub record HaveMoved {T W L D : Type 0} (words : Words T W L D) (queue : BoundedQueue) (desk : BoundedBox) (when : When) (old new : Crewing T W L D) : Type 0 where
+  pub mid : Crewing T W L D
   pub met : IsAsMet mid new
   pub some : SomePair (LaneMoved words.tails queue.capacity desk.capacity when) (lanings old.lanes.items) (lanings mid.lanes.items)
       ⊎ (SomePair (CarrierMoved words.links words.wires desk.capacity when.now) old.carriers.items mid.carriers.items
       ⊎ StoringMoved words.disks old.storing mid.storing)
 
-pub record WereStill {T W L D : Type 0} (words : Words T W L D) (queue : BoundedQueue) (desk : BoundedBox) (when : When) (old new : Crew T W L D) : Type 0 where
-  pub mid : Crew T W L D
+pub record WereStill {T W L D : Type 0} (words : Words T W L D) (queue : BoundedQueue) (desk : BoundedBox) (when : When) (old new : Crewing T W L D) : Type 0 where
+  pub mid : Crewing T W L D
   pub met : IsAsMet mid new
   pub lanes : Pairs (LaneWasStill words.tails queue.capacity desk.capacity when) (lanings old.lanes.items) (lanings mid.lanes.items)
   pub carriers : Pairs (CarrierWasStill words.links words.wires desk.capacity when.now) old.carriers.items mid.carriers.items

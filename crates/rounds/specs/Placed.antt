@@ -14,7 +14,7 @@ use Rattle.rounds.specs.Books.{AreBooked, ArePlaced, Heard, Told, told_on}
 use Rattle.rounds.specs.Crewed.{bare_lanes, lanings}
 use Rattle.rounds.specs.Pairs.{Pairs}
 use Rattle.rounds.specs.Words.{TailWords, Words}
-use Rattle.rounds.specs.declared.crew.Crew.{Crew}
+use Rattle.rounds.specs.Crewing.{Crewing}
 
 -- the turns of all these lanes, lane by lane
 abbrev pub AreStepsOf : {T : Type 0} → TailWords T → ℕ → ℕ → When → List Step → List (Laning T) → List (Laning T) → Type 0
@@ -30,7 +30,7 @@ pub record GoesOn (first second : Heard) : Type 0 where
   pub start : second.start ≡ first.start
   pub is : second.parcels ≡ first.parcels ++ more
 
-pub record IsPlacedAfter {T W L D : Type 0} (words : Words T W L D) (queue : BoundedQueue) (desk : BoundedBox) (when : When) (told : Told) (old new : Crew T W L D) : Type 0 where
+pub record IsPlacedAfter {T W L D : Type 0} (words : Words T W L D) (queue : BoundedQueue) (desk : BoundedBox) (when : When) (told : Told) (old new : Crewing T W L D) : Type 0 where
   -- what the files' turns gave, and what was acknowledged by now
   pub steps : List Step
   pub acknowledged : List Heard

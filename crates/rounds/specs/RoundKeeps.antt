@@ -9,15 +9,16 @@ use Rattle.lanes.specs.declared.run.When.{When}
 use Rattle.rounds.specs.Books.{AreBooked, Told}
 use Rattle.rounds.specs.Causes.{RoundCauses}
 use Rattle.rounds.specs.Crewed.{lanings}
+use Rattle.rounds.specs.Crewing.{Crewing}
 use Rattle.rounds.specs.Images.{AreAtRest, ImagesAreFronts}
+use Rattle.rounds.specs.KeeperTurns.{SameAreas}
 use Rattle.rounds.specs.Moved.{HaveMoved, WereStill}
 use Rattle.rounds.specs.Placed.{IsPlacedAfter}
 use Rattle.rounds.specs.Rounds.{IsAble, IsReady}
 use Rattle.rounds.specs.Words.{Words}
 use Rattle.rounds.specs.declared.answer.Round.{Round}
-use Rattle.rounds.specs.declared.crew.Crew.{Crew}
 
-pub record RoundKeeps {T W L D : Type 0} (words : Words T W L D) (queue : BoundedQueue) (desk : BoundedBox) (when : When) (old new : Crew T W L D) (round : Round) : Type 0 where
+pub record RoundKeeps {T W L D : Type 0} (words : Words T W L D) (queue : BoundedQueue) (desk : BoundedBox) (when : When) (old new : Crewing T W L D) (round : Round) : Type 0 where
   -- another round may follow
   pub ready : round.memory ≡ false → round.disk ≡ false → IsReady words.tails queue.id desk.id new
   -- each span is in one place, and nothing else is settled
@@ -38,3 +39,5 @@ pub record RoundKeeps {T W L D : Type 0} (words : Words T W L D) (queue : Bounde
   pub in_full : round.moved ≡ false → round.memory ≡ false → round.disk ≡ false → IsStoredInFull new.storing.keeper
   -- each answer has its cause
   pub causes : RoundCauses words queue desk when old new round
+  -- the areas are the same disks
+  pub same_areas : SameAreas old.storing new.storing

@@ -112,13 +112,12 @@ fn some_carrier_moved<W, L>(carriers: &[Carrier<W, L>]) -> bool
     }
 }
 
-impl<T: Tail, L: Link, W: Wire<Link = L>, D: Disk> Crew<T, W, L, D> {
+impl<T: Tail, L: Link, W: Wire<Link = L>> Crew<T, W, L> {
     /// What the turns of the last round came to.
-    pub(crate) fn answer(&self) -> Round
-        ensures { result ≡ round_of (lanings self.now.lanes.items) self.now.carriers.items
-            self.now.storing.stored }
+    pub(crate) fn answer(&self, stored: Stored) -> Round
+        ensures { result ≡ round_of (lanings self.now.lanes.items) self.now.carriers.items stored }
     {
-        let round = with_lanes(self.lanes.as_slice(), Round::of(self.storing.stored));
+        let round = with_lanes(self.lanes.as_slice(), Round::of(stored));
         with_carriers(self.carriers.as_slice(), round)
     }
 

@@ -17,5 +17,5 @@ mod storing;
 
 pub use answer::Round;
 pub use carrier::{Carried, Carrier, MAX_TURNS};
-pub use crew::{Crew, MAX_ROUNDS_WITHOUT};
+pub use crew::{Crew, MAX_ROUNDS_WITHOUT, Pace};
 pub use storing::{Stored, Storing};

@@ -101,7 +101,7 @@ fn run_carrier<L: Link, W: Wire<Link = L>, R: Wait>(
 }
 
 /// Runs the keeper.
-fn run_storing<D: Disk, R: Wait>(rt: &R, shift: Shift<'_>, storing: &mut Storing<D>)
+fn run_storing<D: Disk, R: Wait>(rt: &R, shift: Shift<'_>, storing: &mut Storing<'_, D>)
     requires ready { IsStoringReady shift.outlets.desk.now.id storing.old }
     ensures { StoringHasRun (disk_words D.contents D.images D.moment D.images_since D.faults)
         storing.old storing.new }
@@ -155,7 +155,7 @@ pub(crate) fn run_all<
     shift: Shift<'_>,
     lanes: &mut [Lane<T>],
     carriers: &mut [Carrier<W, L>],
-    storing: &mut Storing<D>,
+    storing: &mut Storing<'_, D>,
 )
     requires lanes_ready { All (IsLaneReady (tail_words T.numbers T.told T.faults)
         shift.outlets.queue.now.id shift.outlets.desk.now.id) (lanings lanes.old) }

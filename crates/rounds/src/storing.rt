@@ -21,7 +21,8 @@ pub struct Stored {
 }
 
 impl Stored {
-    pub(crate) fn begun() -> Stored
+    /// No turn was made yet.
+    pub fn begun() -> Stored
         ensures { result ≡ begun_stored }
     {
         Stored {
@@ -32,28 +33,18 @@ impl Stored {
     }
 }
 
-/// The keeper, and the two areas that it alone writes.
+/// The keeper, and the two areas that it alone writes. It is written out where it is made, and taken apart there: of a call that
+/// made it no caller could tell what the areas come to.
 #[derive(Drop)]
-pub struct Storing<D> {
+pub struct Storing<'a, D> {
     pub keeper: Keeper,
-    pub a: D,
-    pub b: D,
+    pub a: &'a mut D,
+    pub b: &'a mut D,
     /// What the turns of the last round came to.
     pub stored: Stored,
 }
 
-impl<D: Disk> Storing<D> {
-    pub fn new(keeper: Keeper, a: D, b: D) -> Storing<D>
-        ensures { result ≡ record { keeper = keeper; a = a; b = b; stored = begun_stored } }
-    {
-        Storing {
-            keeper,
-            a,
-            b,
-            stored: Stored::begun(),
-        }
-    }
-
+impl<D: Disk> Storing<'_, D> {
     /// One round: at most 256 turns, as long as each keeps something.
     pub fn run<R: Wait>(&mut self, rt: &R, alloc: Global, desk: &SettleBox)
         requires of_this_box { self.old.keeper.pass.desk ≡ desk.now.id }
@@ -85,7 +76,7 @@ impl<D: Disk> Storing<D> {
         ensures { KeepsOne (disk_words D.contents D.images D.moment D.images_since D.faults)
             result self.old self.new }
     {
-        let turn = self.keeper.turn(rt, alloc, desk, &mut self.a, &mut self.b);
+        let turn = self.keeper.turn(rt, alloc, desk, self.a, self.b);
         self.count(turn)
     }
 

@@ -2,6 +2,7 @@ use Rattle.std.proofs.Common.{◌≡◌, ℕ, ◌-◌, ◌^◌, min, List, ◌++
 use Rattle.keeper.specs.Keeping.{Keeping}
 use Rattle.lanes.specs.declared.lane.Lane.{Lane}
 use Rattle.settle_box.specs.Senders.{posts_of}
+use Rattle.rounds.specs.Crewing.{crewing}
 use Rattle.rounds.specs.Crewed.{carriers_passes, lanes_passes, lanings}
 use Rattle.rounds.specs.Meeting.{HaveMet}
 use Rattle.rounds.specs.Passes.{senders}
@@ -11,7 +12,7 @@ use Rattle.rounds.proofs.crew.Crew.meet.Goals as goal
 
 pub returns : goal.returns
 returns g c =
-    let old = c.args.self.now in
+    let old = crewing c.args.self.now c.args.storing.now in
     let queue = c.args.outlets.queue.now.id in
     let desk = c.args.outlets.desk.now.id in
     let got = old.storing.keeper.pass.got in
