@@ -64,3 +64,8 @@ pub record Releases {T : Type 0} (slot : Slot) (old new : Laning T) (harvester :
   pub back : List (Harvester T)
   pub were : old.harvesters ≡ front ++ harvester ∷ back
   pub is : new ≡ record old { harvesters = front ++ back }
+
+-- the last one was let go
+pub record Pops {T : Type 0} (old new : Laning T) (harvester : Harvester T) : Type 0 where
+  pub were : old.harvesters ≡ new.harvesters ++ harvester ∷ []
+  pub others : new ≡ record old { harvesters = new.harvesters }

@@ -1,3 +1,4 @@
+pub mod Done
 pub mod Finding
 pub mod Giving
 pub mod Handing

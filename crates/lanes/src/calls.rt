@@ -1,8 +1,10 @@
 ghost use Rattle.std.specs.Prelude.{◌≡◌, ◌≢◌, ◌⊎◌, ◌<◌, ◌++◌, ◌∷◌, [], All, IfErr, IfNone, IfSome, IsSome, None, OnErr, OnOk, OnSome, Some, length, slice_get};
 ghost use Rattle.std.specs.Bool.{OnFalse, OnTrue};
 ghost use Rattle.std.specs.Borrow.{sem};
+ghost use Rattle.lanes.specs.Done.{IsDone, IsThrough};
 ghost use Rattle.lanes.specs.Finding.{LendsFound, StandsAmong};
-ghost use Rattle.lanes.specs.Laning.{IsOfAnother, Releases, StandsAt, begun_with, laning, with_passes, without_passes};
+ghost use Rattle.lanes.specs.Giving.{notes_in};
+ghost use Rattle.lanes.specs.Laning.{IsOfAnother, Pops, Releases, StandsAt, begun_with, laning, with_passes, without_passes};
 
 use crate::given::Given;
 use crate::lane::Lane;
@@ -71,6 +73,16 @@ impl<T: Tail> Lane<T> {
         Some(self.seats.remove(index).harvester)
     }
 
+    /// Lets the harvester that was admitted last go. `None` exactly where there is none. Takes no memory, and little time.
+    pub fn pop(&mut self) -> Option<Harvester<T>>
+        ensures popped { IfSome result (Pops (laning self.old) (laning self.new)) }
+        ensures none { IfNone result ((laning self.old).harvesters ≡ []) }
+        ensures kept { IfNone result (laning self.new ≡ laning self.old) }
+    {
+        let seat = self.seats.pop()?;
+        Some(seat.harvester)
+    }
+
     // At which place a harvester of this slot stands.
     fn place_of(&self, slot: Slot) -> Option<usize>
         ensures stands { IfSome result (StandsAt slot (laning self.now).harvesters) }
@@ -94,6 +106,40 @@ impl<T: Tail> Lane<T> {
             ((laning self.now).held ≢ Given.Nothing)) }
     {
         self.seats.is_empty() && !self.held.is_something()
+    }
+
+    /// Whether it holds a note that the box refused.
+    pub fn holds_note(&self) -> bool
+        ensures note { OnTrue result (notes_in self.now.held ≢ []) }
+        ensures none { OnFalse result (notes_in self.now.held ≡ []) }
+    {
+        match self.held {
+            Given::Note(_) => true,
+            Given::Parcel(_) | Given::Nothing => false,
+        }
+    }
+
+    /// Whether it holds nothing, and no further turn of its harvesters would find anything: of each the last one found the end
+    /// and no event waits, or the file has changed or its last epoch is over.
+    pub fn is_done(&self) -> bool
+        ensures done { OnTrue result (IsDone (laning self.now)) }
+        ensures work { OnFalse result (¬ (IsDone (laning self.now))) }
+    {
+        !self.held.is_something() && self.are_through()
+    }
+
+    fn are_through(&self) -> bool
+        ensures all { OnTrue result (All IsThrough (laning self.now).harvesters) }
+        ensures some { OnFalse result (¬ (All IsThrough (laning self.now).harvesters)) }
+    {
+        let mut index = self.seats.len();
+        'seats: while index > 0 {
+            index -= 1;
+            if !self.seats[index].is_through() {
+                return false;
+            }
+        }
+        true
     }
 
     /// How many spans its harvesters told in this lane. The count stands still at 2^64 - 1.
@@ -130,9 +176,7 @@ impl<T: Tail> Lane<T> {
         self.put = Some(put);
         self.post = Some(post);
     }
-}
 
-impl<T: Tail + Drop> Lane<T> {
     /// Lets the lane go, and gives its passes back. What it holds is given up.
     pub fn end(self) -> (PutPass, PostPass)
         requires passes { IsSome self.put × IsSome self.post }
@@ -142,12 +186,13 @@ impl<T: Tail + Drop> Lane<T> {
         let Lane {
             put,
             post,
-            seats: _seats,
+            seats,
             held: _held,
             spans: _,
             tally: _,
             next: _,
         } = self;
+        seats.destroy_empty();
         match (put, post) {
             (Some(put), Some(post)) => (put, post),
             _ => unreachable!(),

@@ -1,6 +1,8 @@
 ghost use Rattle.std.specs.Prelude.{◌≡◌};
+ghost use Rattle.std.specs.Bool.{OnFalse, OnTrue};
 ghost use Rattle.harvester.specs.HasTold.{IsChanged};
 ghost use Rattle.wire_base.specs.Ranges.{IsMoment};
+ghost use Rattle.lanes.specs.Done.{IsThrough};
 ghost use Rattle.lanes.specs.Giving.{Gives};
 ghost use Rattle.lanes.specs.Turned.{HasTurned};
 
@@ -60,6 +62,14 @@ impl<T: Tail> Seat<T> {
                 Given::Nothing
             }
         }
+    }
+
+    /// Whether no further turn would find anything: the last one found the end and no event waits, or none is made.
+    pub(crate) fn is_through(&self) -> bool
+        ensures through { OnTrue result (IsThrough self.now.harvester) }
+        ensures work { OnFalse result (¬ (IsThrough self.now.harvester)) }
+    {
+        self.harvester.changed() || self.harvester.idle_since().is_some()
     }
 
     // A file that is to be forgotten is at its end.
