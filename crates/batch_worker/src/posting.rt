@@ -34,7 +34,7 @@ impl<L: Link> Worker<L> {
     }
 
     /// Whether something that was acknowledged is not posted yet.
-    pub(crate) fn owes(&self) -> bool
+    pub fn owes(&self) -> bool
         ensures some { OnTrue result (0 < length (owed_by self.now)) }
         ensures none { OnFalse result ((self.now.refused ≡ None) × (self.now.window.acknowledged ≡ 0)) }
     {
