@@ -29,11 +29,11 @@ put_share : (put : Option Known) (entries : List Entry) → share_in (with_put p
 put_share None entries = refl
 put_share (Some k) entries = refl
 
-take_share : (take : Option Known) (entries : List Entry) → share_in (with_taken take entries) ≡ share_in take
+pub take_share : (take : Option Known) (entries : List Entry) → share_in (with_taken take entries) ≡ share_in take
 take_share None entries = refl
 take_share (Some k) entries = refl
 
-post_share : (post : Option Poster) (notes : List Note) → post_share_in (with_posted post notes) ≡ post_share_in post
+pub post_share : (post : Option Poster) (notes : List Note) → post_share_in (with_posted post notes) ≡ post_share_in post
 post_share None notes = refl
 post_share (Some p) notes = refl
 
@@ -41,11 +41,11 @@ put_of : (queue : TableId) (put : Option Known) (entries : List Entry) → IsOfQ
 put_of queue None entries of = of
 put_of queue (Some k) entries of = of
 
-take_of : (queue : TableId) (take : Option Known) (entries : List Entry) → IsOfQueue queue take → IsOfQueue queue (with_taken take entries)
+pub take_of : (queue : TableId) (take : Option Known) (entries : List Entry) → IsOfQueue queue take → IsOfQueue queue (with_taken take entries)
 take_of queue None entries of = of
 take_of queue (Some k) entries of = of
 
-post_of : (desk : TableId) (post : Option Poster) (notes : List Note) → PostsOf desk post → PostsOf desk (with_posted post notes)
+pub post_of : (desk : TableId) (post : Option Poster) (notes : List Note) → PostsOf desk post → PostsOf desk (with_posted post notes)
 post_of desk None notes of = of
 post_of desk (Some p) notes of = of
 

@@ -8,9 +8,11 @@ pub mod Having
 pub mod Images
 pub mod KeeperSteps
 pub mod Kept
+pub mod LastSteps
 pub mod Moved
 pub mod Parting
 pub mod Placing
 pub mod Ready
 pub mod Slices
 pub mod Sums
+pub mod Tested

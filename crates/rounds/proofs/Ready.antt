@@ -97,7 +97,7 @@ module _ {D : Type 0} (disks : DiskWords D) where
   open_by [] stored a b is disk memory opened = ap (λ (s : StoringState D). s.keeper.store.closed) is ∙ opened
   open_by (t ∷ ts) stored a b run disk memory opened = open_by ts (stored_with t stored) run.0 b run.2 disk memory (open_then t ts stored a run.0 run.1 disk memory opened)
 
-  opened_ran : (a b : Storing D) → StoringHasRun disks a b → b.stored.disk ≡ false → b.stored.memory ≡ false → a.keeper.store.closed ≡ false → b.keeper.store.closed ≡ false
+  pub opened_ran : (a b : Storing D) → StoringHasRun disks a b → b.stored.disk ≡ false → b.stored.memory ≡ false → a.keeper.store.closed ≡ false → b.keeper.store.closed ≡ false
   unfolding StoringHasRun
   opened_ran a b ran disk memory is_open =
       open_by ran.turns begun_stored (storing_state a) (storing_state b) ran.ran (sym (ap (λ (s : Stored). s.disk) ran.stored) ∙ disk) (sym (ap (λ (s : Stored). s.memory) ran.stored) ∙ memory) is_open
@@ -106,7 +106,7 @@ module _ {D : Type 0} (disks : DiskWords D) where
 
 module _ {T : Type 0} (tails : TailWords T) where
   -- whatever its passes are
-  abbrev IsBareReady : Laning T → Type 0
+  abbrev pub IsBareReady : Laning T → Type 0
   IsBareReady lane = IsInRange lane.held × All (IsKnown tails.numbers tails.told) lane.harvesters
 
   module _ (queue_size box_size : ℕ) (when : When) where
@@ -121,15 +121,15 @@ module _ {T : Type 0} (tails : TailWords T) where
     lanes_ran queue desk (x ∷ xs) (y ∷ ys) ran ready =
         (lane_ready queue desk x y ran.0 (ready 0 x (omega arith)), lanes_ran queue desk xs ys ran.1 (λ i d within. ready (suc i) d (omega (arith, within))))
 
-  to_bare : (lanes : List (Laning T)) → AllByRecursion IsBareReady lanes → AllByRecursion IsBareReady (bare_lanes lanes)
+  pub to_bare : (lanes : List (Laning T)) → AllByRecursion IsBareReady lanes → AllByRecursion IsBareReady (bare_lanes lanes)
   to_bare [] ready = tt
   to_bare (l ∷ ls) ready = (ready.0, to_bare ls ready.1)
 
-  from_bare : (lanes : List (Laning T)) → AllByRecursion IsBareReady (bare_lanes lanes) → AllByRecursion IsBareReady lanes
+  pub from_bare : (lanes : List (Laning T)) → AllByRecursion IsBareReady (bare_lanes lanes) → AllByRecursion IsBareReady lanes
   from_bare [] ready = tt
   from_bare (l ∷ ls) ready = (ready.0, from_bare ls ready.1)
 
-  with_passes : (queue desk : TableId) (lanes : List (Laning T)) → AllByRecursion IsBareReady lanes → AreAllOf queue desk (lanes_passes lanes) → All (IsLaneReady tails queue desk) lanes
+  pub with_passes : (queue desk : TableId) (lanes : List (Laning T)) → AllByRecursion IsBareReady lanes → AreAllOf queue desk (lanes_passes lanes) → All (IsLaneReady tails queue desk) lanes
   with_passes queue desk [] ready of i d within = absurd (omega (arith, within))
   with_passes queue desk (l ∷ ls) ready of zero d within = record { passes = of.0; in_range = ready.0.0; known = ready.0.1 }
   with_passes queue desk (l ∷ ls) ready of (suc i) d within = with_passes queue desk ls ready.1 of.1 i d (omega (arith, within))
@@ -140,15 +140,15 @@ abbrev IsCons : {A : Type 0} → List A → Type 0
 IsCons [] = ⊥
 IsCons (x ∷ xs) = Unit {0}
 
-mapped_some : {A B : Type 0} (f : A → B) (xs : List A) → xs ≢ [] → map f xs ≢ []
+pub mapped_some : {A B : Type 0} (f : A → B) (xs : List A) → xs ≢ [] → map f xs ≢ []
 mapped_some f [] some = absurd (some refl)
 mapped_some f (x ∷ xs) some = λ is. absurd (subst IsCons is tt)
 
-some_mapped : {A B : Type 0} (f : A → B) (xs : List A) → map f xs ≢ [] → xs ≢ []
+pub some_mapped : {A B : Type 0} (f : A → B) (xs : List A) → map f xs ≢ [] → xs ≢ []
 some_mapped f xs some = λ is. some (ap (map f) is)
 
 -- two lists that are the same but for what `f` leaves out
-some_as : {A B : Type 0} (f : A → B) (xs ys : List A) → map f ys ≡ map f xs → xs ≢ [] → ys ≢ []
+pub some_as : {A B : Type 0} (f : A → B) (xs ys : List A) → map f ys ≡ map f xs → xs ≢ [] → ys ≢ []
 some_as f xs ys same some = some_mapped f ys (λ is. mapped_some f xs some (sym same ∙ is))
 
 module _ {T W L D : Type 0} (words : Words T W L D) (queue : BoundedQueue) (desk : BoundedBox) (when : When) where

@@ -15,4 +15,6 @@ pub mod Placed
 pub mod RoundKeeps
 pub mod Rounds
 pub mod Running
+pub mod Settled
+pub mod Settling
 pub mod Words

@@ -62,9 +62,13 @@ pub record CanMeet {T W L D : Type 0} (queue desk : TableId) (crew : Crewing T W
   pub have : HaveAllPasses queue desk (lanings crew.lanes.items) crew.carriers.items
   pub pass : crew.storing.keeper.pass.desk ≡ desk
 
+-- how many notes were posted in all; the count stands still at 2^64 - 1
+abbrev pub posted_in : {T W L : Type 0} → Crew T W L → ℕ
+posted_in crew = min (posts_of (senders (lanes_passes (lanings crew.lanes.items)) ++ senders (carriers_passes crew.carriers.items))) (2 ^ 64 - 1)
+
 -- how many notes the box holds as the passes meet: all that were posted but for those that were collected
 abbrev pub boxed_in : {T W L D : Type 0} → Crewing T W L D → ℕ
-boxed_in crew = min (posts_of (senders (lanes_passes (lanings crew.lanes.items)) ++ senders (carriers_passes crew.carriers.items))) (2 ^ 64 - 1) - crew.storing.keeper.collected
+boxed_in crew = posted_in (crew_of crew) - crew.storing.keeper.collected
 
 -- the passes met, and nothing else changed but what is known of the box
 pub record MeetsIn {T W L D : Type 0} (queue desk : TableId) (old new : Crewing T W L D) : Type 0 where
@@ -72,6 +76,7 @@ pub record MeetsIn {T W L D : Type 0} (queue desk : TableId) (old new : Crewing 
   pub storing : new.storing ≡ old.storing
   pub room : new.pace.room ≡ old.pace.room
   pub boxed : new.pace.boxed ≡ boxed_in old
+  pub posted : new.pace.posted ≡ posted_in (crew_of old)
   pub without : new.pace.without ≡ old.pace.without
 
 -- the keeper had its turns, since nothing else had moved

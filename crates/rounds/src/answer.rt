@@ -27,7 +27,7 @@ pub struct Round {
 }
 
 impl Round {
-    fn of(stored: Stored) -> Round
+    pub(crate) fn of(stored: Stored) -> Round
         ensures { result ≡ of_stored stored }
     {
         Round {

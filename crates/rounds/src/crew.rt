@@ -9,12 +9,14 @@ use outside::{Link, Tail, Wire};
 /// How many rounds the keeper goes without turns at most, while others move.
 pub const MAX_ROUNDS_WITHOUT: u32 = 32;
 
-/// What decides when the keeper has turns.
+/// What is known of the box as a round ended, and what decides when the keeper has turns.
 #[derive(Clone, Copy, Debug, PartialEq, Eq)]
 pub struct Pace {
     // How many notes the box can hold, and how many it held as the last round ended.
     pub(crate) room: u32,
     pub(crate) boxed: u64,
+    // How many notes had been posted in all as the last round ended. The count stands still at 2^64 - 1.
+    pub(crate) posted: u64,
     // For how many rounds the keeper has gone without turns.
     pub(crate) without: u32,
 }
@@ -32,7 +34,7 @@ impl<T: Tail, L: Link, W: Wire<Link = L>> Crew<T, W, L> {
         ensures { result ≡ record {
           lanes = lanes;
           carriers = carriers;
-          pace = record { room = room; boxed = 0; without = 0 };
+          pace = record { room = room; boxed = 0; posted = 0; without = 0 };
         } }
     {
         Crew {
@@ -41,6 +43,7 @@ impl<T: Tail, L: Link, W: Wire<Link = L>> Crew<T, W, L> {
             pace: Pace {
                 room,
                 boxed: 0,
+                posted: 0,
                 without: 0,
             },
         }

@@ -3,6 +3,9 @@
 //! Each lane, each worker and the keeper runs in a thread of its own. When they have met again, the
 //! passes of the queue and of the box are joined and compared with what queue and box hold, and are
 //! parted again. So as a round ends it is known where each event is that was told.
+//!
+//! As a run ends, its files are let go, and `settle` is called until `is_settled`: what is still held of
+//! notes is posted and stored. `is_done` tells whether each span that was told is shipped or dropped.
 #![tactic(auto)]
 
 mod answer;
@@ -13,6 +16,8 @@ mod lane_passes;
 mod meeting;
 mod round;
 mod running;
+mod settled;
+mod settling;
 mod storing;
 
 pub use answer::Round;

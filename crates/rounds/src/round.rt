@@ -5,6 +5,7 @@ ghost use Rattle.rounds.specs.Crewing.{crewing};
 ghost use Rattle.rounds.specs.RoundKeeps.{RoundKeeps};
 ghost use Rattle.rounds.specs.Rounds.{AllRan, CanMeet, IsReady, MeetsIn, OthersRan, Rounds, StoresWhereStill};
 ghost use Rattle.rounds.specs.Running.{IsCarrierReady, IsLaneReady, IsStoringReady, StoringHasRun};
+ghost use Rattle.rounds.specs.Settling.{ArePostsCounted};
 ghost use Rattle.rounds.specs.Words.{disk_words, link_words, tail_words, wire_words, words};
 
 use crate::answer::Round;
@@ -44,6 +45,7 @@ impl<T: Tail + Send, L: Link + Send, W: Wire<Link = L> + Send> Crew<T, W, L> {
             (disk_words D.contents D.images D.moment D.images_since D.faults))
             outlets.entry.queue.now outlets.entry.desk.now when
             (crewing self.old storing.old) (crewing self.new storing.new) result }
+        ensures counted { ArePostsCounted self.new }
     {
         let shift = Shift {
             alloc,
@@ -172,7 +174,7 @@ impl<T: Tail + Send, L: Link + Send, W: Wire<Link = L> + Send> Crew<T, W, L> {
     }
 
     // All passes meet, and are parted again.
-    fn meet<D: Disk>(&mut self, outlets: Outlets<'_>, storing: &mut Storing<'_, D>)
+    pub(crate) fn meet<D: Disk>(&mut self, outlets: Outlets<'_>, storing: &mut Storing<'_, D>)
         requires have { CanMeet outlets.queue.now.id outlets.desk.now.id
             (crewing self.old storing.old) }
         ensures { MeetsIn outlets.entry.queue.now.id outlets.entry.desk.now.id
@@ -185,5 +187,6 @@ impl<T: Tail + Send, L: Link + Send, W: Wire<Link = L> + Send> Crew<T, W, L> {
             &mut storing.keeper,
         );
         self.pace.boxed = posted.saturating_sub(storing.keeper.collected());
+        self.pace.posted = posted;
     }
 }

@@ -29,5 +29,6 @@ returns g c =
       storing = ap (λ (k : Keeping). record old.storing { keeper = k }) c.meet-posted.ensures.keeper;
       room = refl;
       boxed = c.saturating_sub-self.ensures ∙ ap (λ (n : ℕ). n - c.collected.result) count ∙ ap (λ (n : ℕ). posted_in old.lanes.items old.carriers.items - n) collected;
+      posted = count;
       without = refl;
     }

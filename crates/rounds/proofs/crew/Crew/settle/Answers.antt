@@ -1,0 +1,9 @@
+use Rattle.rounds.specs.Crewing.{crewing}
+use Rattle.rounds.specs.Words.{disk_words, link_words, tail_words, wire_words, words}
+use Rattle.rounds.proofs.LastSteps.{settling_keeps}
+use Rattle.rounds.proofs.crew.Crew.settle.Goals as goal
+
+pub returns-clause-keeps : goal.returns-clause-keeps
+returns-clause-keeps g c =
+    settling_keeps (words (tail_words g.T.Tail.numbers g.T.Tail.told g.T.Tail.faults) (link_words g.L.Link.told g.L.Link.faults g.L.Link.idles) (wire_words g.W.Wire.outcomes g.W.Wire.open_links g.W.Wire.faults g.W.Wire.idles) (disk_words g.D.Disk.contents g.D.Disk.images g.D.Disk.moment g.D.Disk.images_since g.D.Disk.faults))
+    c.args.outlets.queue.now c.args.outlets.desk.now (crewing c.args.self.now c.args.storing.now) (crewing c.make_settle.new.self c.make_settle.new.storing) c.make_settle.result c.make_settle.ensures c.requires.ready
