@@ -31,7 +31,6 @@ use Rattle.settle_box.specs.Senders.{notes, posted_by, posts_of, sender}
 use Rattle.settle_box.specs.declared.sender.Sender.{Sender}
 use Rattle.ship_core.specs.Orderly.{AreOrderly}
 use Rattle.wire_base.specs.declared.note.Note.{Note}
-use Rattle.wire_base.specs.declared.parcel.Parcel.{Parcel}
 use Rattle.rounds.specs.Books.{Acknowledges, AreBooked, ArePlaced, Heard, Told, told_on}
 use Rattle.rounds.specs.CarrierTurns.{seen_of}
 use Rattle.rounds.specs.Crewed.{bare_lanes, carriers_passes, lane_passes, lanes_passes, lanings}

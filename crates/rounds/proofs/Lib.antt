@@ -9,6 +9,7 @@ pub mod Images
 pub mod KeeperSteps
 pub mod Kept
 pub mod LastSteps
+pub mod Making
 pub mod Moved
 pub mod Parting
 pub mod Placing

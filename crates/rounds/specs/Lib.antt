@@ -7,6 +7,7 @@ pub mod Crewing
 pub mod Due
 pub mod Images
 pub mod KeeperTurns
+pub mod Making
 pub mod Meeting
 pub mod Moved
 pub mod Pairs
