@@ -223,6 +223,10 @@ module _ {W L : Type 0} (wires : WireWords W) where
   from_bare (x ∷ xs) [] stay = absurd stay
   from_bare (x ∷ xs) (y ∷ ys) stay = (stay.0, from_bare xs ys stay.1)
 
+  -- and as the passes met
+  pub faults_met : (olds mids news : List (Carrier W L)) → Pairs (WireFaultsStay wires) olds mids → bare_carriers news ≡ bare_carriers mids → Pairs (WireFaultsStay wires) olds news
+  faults_met olds mids news stay same =
+      from_bare olds news (subst (λ (cs : List (Carrier W L)). Pairs (WireFaultsStay wires) olds cs) (sym same) (to_bare olds mids stay))
+
   pub wires_stay : (links : LinkWords L) (box : ℕ) (now : Moment) (olds mids news : List (Carrier W L)) → Pairs (CarrierHasRun links wires box now) olds mids → bare_carriers news ≡ bare_carriers mids → Pairs (WireFaultsStay wires) olds news
-  wires_stay links box now olds mids news ran same =
-      from_bare olds news (subst (λ (cs : List (Carrier W L)). Pairs (WireFaultsStay wires) olds cs) (sym same) (to_bare olds mids (wires_ran links box now olds mids ran)))
+  wires_stay links box now olds mids news ran same = faults_met olds mids news (wires_ran links box now olds mids ran) same

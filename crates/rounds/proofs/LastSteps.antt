@@ -1,7 +1,7 @@
 -- What settling keeps, from its steps.
 use Rattle.std.specs.Bool.{OnFalse, OnTrue}
 use Rattle.std.specs.List.{AllByRecursion}
-use Rattle.std.proofs.Common.{◌≡◌, ◌⊎◌, ℕ, suc, ◌-◌, ◌^◌, min, All, Bool, true, false, List, [], ◌∷◌, ◌++◌, Option, Some, None, length, inl, inr, refl, sym, ap, subst, ◌∙◌, append-nil, arith}
+use Rattle.std.proofs.Common.{◌≡◌, ◌⊎◌, ℕ, suc, ◌-◌, ◌^◌, ◌≤◌, min, All, Bool, true, false, List, [], ◌∷◌, ◌++◌, Option, Some, None, length, inl, inr, refl, sym, ap, subst, ◌∙◌, append-nil, arith}
 use Rattle.std.proofs.lemmas.List.{length-append}
 use Rattle.atomic_table.specs.Seated.{TableId}
 use Rattle.batch_worker.specs.Held.{owed_by}
@@ -23,7 +23,7 @@ use Rattle.harvester.specs.declared.harvester.Harvester.{Harvester}
 use Rattle.mem_queue.specs.BoundedQueue.{BoundedQueue}
 use Rattle.mem_queue.specs.Known.{Known, known}
 use Rattle.mem_queue.specs.declared.entry.Entry.{Entry}
-use Rattle.outside.specs.Counts.{added_counts}
+use Rattle.outside.specs.Counts.{Rose, added_counts}
 use Rattle.pass_sums.specs.Share.{IsWhole}
 use Rattle.settle_box.specs.BoundedBox.{BoundedBox}
 use Rattle.settle_box.specs.Poster.{Poster, poster}
@@ -33,6 +33,7 @@ use Rattle.ship_core.specs.Orderly.{AreOrderly}
 use Rattle.wire_base.specs.declared.note.Note.{Note}
 use Rattle.rounds.specs.Books.{Acknowledges, AreBooked, ArePlaced, Heard, Told, told_on}
 use Rattle.rounds.specs.CarrierTurns.{seen_of}
+use Rattle.rounds.specs.Causes.{SettlingCauses, WireFaultsStay}
 use Rattle.rounds.specs.Crewed.{bare_lanes, carriers_passes, lane_passes, lanes_passes, lanings}
 use Rattle.rounds.specs.Crewing.{Crewing, crew_of}
 use Rattle.rounds.specs.Images.{AreAtRest, ImagesAreFronts}
@@ -51,6 +52,7 @@ use Rattle.rounds.specs.declared.crew.Crew.{Crew}
 use Rattle.rounds.specs.declared.crew.Pace.{Pace}
 use Rattle.rounds.specs.declared.storing.Stored.{Stored}
 use Rattle.rounds.specs.declared.storing.Storing.{Storing}
+use Rattle.rounds.proofs.Causes.{a_faults_ran, b_faults_ran, faults_met, rose_ran}
 use Rattle.rounds.proofs.Having.{post_of, post_share, some_still, take_of, take_share}
 use Rattle.rounds.proofs.Images.{images_are_fronts, kept_still}
 use Rattle.rounds.proofs.KeeperSteps.{pass_stays}
@@ -199,6 +201,14 @@ module _ {W L : Type 0} (links : LinkWords L) where
           kept = carrier_kept links wires queue desk x y xs ys a others rest.after of.0 k stand.0 rest.kept;
         }
 
+    -- no wire is touched
+    wires_handed : (xs ys : List (Carrier W L)) → Pairs (CarrierHandedOn links box) xs ys → Pairs (WireFaultsStay wires) xs ys
+    wires_handed [] [] handed = tt
+    wires_handed [] (y ∷ ys) handed = absurd handed
+    wires_handed (x ∷ xs) [] handed = absurd handed
+    wires_handed (x ∷ xs) (y ∷ ys) handed =
+        (subst (λ (w : W). wires.faults x.wire ≤ wires.faults w) (sym (ap (λ (c : Carrier W L). c.wire) handed.0.others)) (omega arith), wires_handed xs ys handed.1)
+
     pub record CarriersHave (queue desk : TableId) (xs ys : List (Carrier W L)) : Type 0 where
       pub have : AreAllOf queue desk (carriers_passes ys)
       pub take_shares : shares (carriers_passes ys) ≡ shares (carriers_passes xs)
@@ -340,6 +350,15 @@ module _ {T W L D : Type 0} (words : Words T W L D) (queue : BoundedQueue) (desk
         subst (λ (s : Storing D). AreAtRest words.disks s) (sym settles.meets.storing)
         (kept_still words.disks old.storing mid.storing settles.storing (disk_is disk) (memory_is memory) kept)
 
+    causes : SettlingCauses words old new round
+    causes = record {
+      disk = λ is. subst (λ (s : Storing D). Rose (words.disks.faults old.storing.a.now) (words.disks.faults s.a.now) ⊎ Rose (words.disks.faults old.storing.b.now) (words.disks.faults s.b.now)) (sym settles.meets.storing)
+          (rose_ran words.disks old.storing mid.storing settles.storing (sym (stored_is (λ (s : Stored). s.disk)) ∙ sym (ap (λ (r : Round). r.disk) settles.answer) ∙ is));
+      a_faults = subst (λ (s : Storing D). words.disks.faults old.storing.a.now ≤ words.disks.faults s.a.now) (sym settles.meets.storing) (a_faults_ran words.disks old.storing mid.storing settles.storing);
+      b_faults = subst (λ (s : Storing D). words.disks.faults old.storing.b.now ≤ words.disks.faults s.b.now) (sym settles.meets.storing) (b_faults_ran words.disks old.storing mid.storing settles.storing);
+      wires = faults_met words.wires old.carriers.items mid.carriers.items new.carriers.items (wires_handed words.links words.wires desk.capacity old.carriers.items mid.carriers.items settles.handed.carriers) settles.meets.met.carriers_same;
+    }
+
     pub settling_keeps : SettlingKeeps words queue desk old new round
     settling_keeps = record {
       ready = ready_again;
@@ -352,5 +371,6 @@ module _ {T W L D : Type 0} (words : Words T W L D) (queue : BoundedQueue) (desk
       collects = subst (λ (s : Storing D). Collects old.storing.keeper s.keeper) (sym settles.meets.storing) (collects_ran words.disks old.storing mid.storing settles.storing);
       able = able_again;
       stored = λ stores. subst (λ (s : Storing D). Stores s.keeper.tracked s.keeper.store) (sym settles.meets.storing) (stores_ran words.disks old.storing mid.storing settles.storing stores);
+      causes = causes;
       same_areas = subst (λ (s : Storing D). SameAreas old.storing s) (sym settles.meets.storing) (areas_ran words.disks old.storing mid.storing settles.storing);
     }

@@ -51,3 +51,10 @@ pub record RoundCauses {T W L D : Type 0} (words : Words T W L D) (queue : Bound
   pub a_faults : words.disks.faults old.storing.a.now ≤ words.disks.faults new.storing.a.now
   pub b_faults : words.disks.faults old.storing.b.now ≤ words.disks.faults new.storing.b.now
   pub wires : Pairs (WireFaultsStay words.wires) old.carriers.items new.carriers.items
+
+-- of the last steps of a run, in which no file has a turn
+pub record SettlingCauses {T W L D : Type 0} (words : Words T W L D) (old new : Crewing T W L D) (round : Round) : Type 0 where
+  pub disk : round.disk ≡ true → Rose (words.disks.faults old.storing.a.now) (words.disks.faults new.storing.a.now) ⊎ Rose (words.disks.faults old.storing.b.now) (words.disks.faults new.storing.b.now)
+  pub a_faults : words.disks.faults old.storing.a.now ≤ words.disks.faults new.storing.a.now
+  pub b_faults : words.disks.faults old.storing.b.now ≤ words.disks.faults new.storing.b.now
+  pub wires : Pairs (WireFaultsStay words.wires) old.carriers.items new.carriers.items

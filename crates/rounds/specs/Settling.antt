@@ -18,6 +18,7 @@ use Rattle.lanes.specs.Giving.{IsInRange, notes_in, parcels_in}
 use Rattle.lanes.specs.Laning.{Laning}
 use Rattle.rounds.specs.Answer.{of_stored}
 use Rattle.rounds.specs.Books.{AreBooked, ArePlaced, Heard, Told, told_on}
+use Rattle.rounds.specs.Causes.{SettlingCauses}
 use Rattle.rounds.specs.Crewed.{lanings}
 use Rattle.rounds.specs.Crewing.{Crewing, crew_of}
 use Rattle.rounds.specs.Images.{AreAtRest, ImagesAreFronts}
@@ -109,5 +110,7 @@ pub record SettlingKeeps {T W L D : Type 0} (words : Words T W L D) (queue : Bou
   pub able : IsAble words.tails queue.id desk.id new
   -- what the store has is what was noted up to the last commit
   pub stored : Stores old.storing.keeper.tracked old.storing.keeper.store → Stores new.storing.keeper.tracked new.storing.keeper.store
+  -- each answer has its cause
+  pub causes : SettlingCauses words old new round
   -- the areas are the same disks
   pub same_areas : SameAreas old.storing new.storing
