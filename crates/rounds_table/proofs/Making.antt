@@ -18,13 +18,15 @@ use Rattle.pass_sums.proofs.Weights.{weigh-append}
 use Rattle.settle_box.specs.Poster.{Poster, poster}
 use Rattle.settle_box.specs.Senders.{child_of, split_once}
 use Rattle.rounds.specs.Crewed.{carrier_passes, carriers_passes, lane_passes, lanes_passes, lanings}
+use Rattle.rounds.specs.Crewing.{crewing}
 use Rattle.rounds.specs.Passes.{AreAllOf, AreOf, IsOfBox, IsOfQueue, Passes, post_share_in, post_shares, share_in, shares}
 use Rattle.rounds.specs.Rounds.{IsReady}
-use Rattle.rounds.specs.Running.{IsLaneReady, IsStoringReady}
+use Rattle.rounds.specs.Running.{IsLaneReady}
 use Rattle.rounds.specs.Words.{TailWords}
 use Rattle.rounds.specs.declared.carrier.Carrier.{Carrier}
 use Rattle.rounds.specs.declared.crew.Crew.{Crew}
-use Rattle.rounds_table.specs.Making.{AddsCarrier, AddsLane, CanEnd, HaveAll, HaveParts, IsLaneWith}
+use Rattle.rounds.specs.declared.storing.Storing.{Storing}
+use Rattle.rounds_table.specs.Making.{AddsCarrier, AddsLane, CanEnd, HaveAll, HaveParts, IsCrew, IsLaneWith}
 
 -- ---- what holds where a call went well
 
@@ -228,25 +230,29 @@ can_end_by_passes queue desk carriers of = All-from_recursion CanEnd carriers (e
 
 -- ---- all
 
-pub ready_by_parts : {T W L D : Type 0} (tails : TailWords T) (queue desk : TableId) (puts takes posts : List ℕ) (crew : Crew T W L D) → HaveAll queue desk puts (kept_half posts) (lanes_passes (lanings crew.lanes.items))
-    → HaveAll queue desk takes (cut_half posts) (carriers_passes crew.carriers.items) → All (IsLaneReady tails queue desk) (lanings crew.lanes.items) → IsStoringReady desk crew.storing → IsWhole puts → IsWhole takes → IsWhole posts
-    → IsReady tails queue desk crew
-ready_by_parts tails queue desk puts takes posts crew lanes carriers ready storing all_puts all_takes all_posts = record {
-  able = record {
-    some_lanes = λ is. lanes.some (ap (λ (ls : List _). lanes_passes (lanings ls)) is);
-    some_carriers = λ is. carriers.some (ap (λ (cs : List (Carrier _ _)). carriers_passes cs) is);
-    have = record {
-      lanes_have = lanes.are;
-      carriers_have = carriers.are;
-      puts = whole_worth (shares (lanes_passes (lanings crew.lanes.items))) puts lanes.share all_puts;
-      takes = whole_worth (shares (carriers_passes crew.carriers.items)) takes carriers.share all_takes;
-      posts = whole_worth (post_shares (lanes_passes (lanings crew.lanes.items)) ++ post_shares (carriers_passes crew.carriers.items)) posts
-          (worth_rejoined posts (post_shares (lanes_passes (lanings crew.lanes.items))) (post_shares (carriers_passes crew.carriers.items))
-          (post_shares (lanes_passes (lanings crew.lanes.items)) ++ post_shares (carriers_passes crew.carriers.items)) lanes.post_share carriers.post_share refl)
-          all_posts;
-    };
-    lanes = ready;
-    pass = storing.pass;
+pub crew_by_parts : {T W L : Type 0} (tails : TailWords T) (queue desk : TableId) (puts takes posts : List ℕ) (crew : Crew T W L) → HaveAll queue desk puts (kept_half posts) (lanes_passes (lanings crew.lanes.items))
+    → HaveAll queue desk takes (cut_half posts) (carriers_passes crew.carriers.items) → All (IsLaneReady tails queue desk) (lanings crew.lanes.items) → IsWhole puts → IsWhole takes → IsWhole posts
+    → IsCrew tails queue desk crew
+crew_by_parts tails queue desk puts takes posts crew lanes carriers ready all_puts all_takes all_posts = record {
+  some_lanes = λ is. lanes.some (ap (λ (ls : List _). lanes_passes (lanings ls)) is);
+  some_carriers = λ is. carriers.some (ap (λ (cs : List (Carrier _ _)). carriers_passes cs) is);
+  have = record {
+    lanes_have = lanes.are;
+    carriers_have = carriers.are;
+    puts = whole_worth (shares (lanes_passes (lanings crew.lanes.items))) puts lanes.share all_puts;
+    takes = whole_worth (shares (carriers_passes crew.carriers.items)) takes carriers.share all_takes;
+    posts = whole_worth (post_shares (lanes_passes (lanings crew.lanes.items)) ++ post_shares (carriers_passes crew.carriers.items)) posts
+        (worth_rejoined posts (post_shares (lanes_passes (lanings crew.lanes.items))) (post_shares (carriers_passes crew.carriers.items))
+        (post_shares (lanes_passes (lanings crew.lanes.items)) ++ post_shares (carriers_passes crew.carriers.items)) lanes.post_share carriers.post_share refl)
+        all_posts;
   };
-  is_open = storing.is_open;
+  lanes = ready;
+}
+
+-- a round may follow, with the keeper beside it
+pub ready_with : {T W L D : Type 0} (tails : TailWords T) (queue desk : TableId) (crew : Crew T W L) (storing : Storing D) → IsCrew tails queue desk crew → storing.keeper.pass.desk ≡ desk → storing.keeper.store.closed ≡ false
+    → IsReady tails queue desk (crewing crew storing)
+ready_with tails queue desk crew storing made pass is_open = record {
+  able = record { some_lanes = made.some_lanes; some_carriers = made.some_carriers; have = made.have; lanes = made.lanes; pass = pass };
+  is_open = is_open;
 }

@@ -6,9 +6,13 @@ use Rattle.lanes.specs.Laning.{Laning}
 use Rattle.lanes.specs.Turned.{IsKnown}
 use Rattle.mem_queue.specs.Known.{Known}
 use Rattle.pass_sums.specs.Share.{IsWorth}
+use Rattle.rounds.specs.Crewed.{lanings}
+use Rattle.rounds.specs.Meeting.{HaveAllPasses}
 use Rattle.rounds.specs.Passes.{AreAllOf, Passes, post_shares, shares}
+use Rattle.rounds.specs.Running.{IsLaneReady}
 use Rattle.rounds.specs.Words.{TailWords}
 use Rattle.rounds.specs.declared.carrier.Carrier.{Carrier}
+use Rattle.rounds.specs.declared.crew.Crew.{Crew}
 use Rattle.settle_box.specs.Poster.{Poster}
 
 -- these passes have parts of two, whose rests are these
@@ -54,3 +58,12 @@ pub record AddsCarrier {W L : Type 0} (take : Known) (post : Poster) (old new : 
 pub record CanEnd {W L : Type 0} (carrier : Carrier W L) : Type 0 where
   pub take : IsSome carrier.worker.take
   pub post : IsSome carrier.worker.post
+
+-- ---- all
+
+-- there are lanes and workers, they have all passes, and each lane may be run
+pub record IsCrew {T W L : Type 0} (tails : TailWords T) (queue desk : TableId) (crew : Crew T W L) : Type 0 where
+  pub some_lanes : crew.lanes.items ≢ []
+  pub some_carriers : crew.carriers.items ≢ []
+  pub have : HaveAllPasses queue desk (lanings crew.lanes.items) crew.carriers.items
+  pub lanes : All (IsLaneReady tails queue desk) (lanings crew.lanes.items)

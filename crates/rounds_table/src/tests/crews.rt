@@ -1,9 +1,8 @@
-//! Whole crews: lanes over files, workers over wires, and the keeper over disks, all in memory.
+//! Whole crews: lanes over files and workers over wires, and a keeper over disks, all in memory.
 ghost use Rattle.std.specs.Prelude.{◌≡◌, ◌+◌, ◌<◌, ◌≤◌, false, IfOk, length, OnOk};
 ghost use Rattle.pass_sums.specs.Share.{IsWhole};
-ghost use Rattle.rounds.specs.Rounds.{IsReady};
-ghost use Rattle.rounds.specs.Running.{IsStoringReady};
 ghost use Rattle.rounds.specs.Words.{tail_words};
+ghost use Rattle.rounds_table.specs.Making.{IsCrew};
 ghost use Rattle.wire_base.specs.Ranges.{IsNote};
 
 use crate::tests::carrier_parts::all_carriers;
@@ -15,21 +14,20 @@ use mem_queue::{PutPass, TakePass};
 use outside::Tail;
 use outside_mem::{MemDisk, MemLink, MemWire};
 use registry_store::Store;
-use rounds::{Crew, Storing};
-use settle_box::{CollectPass, PostPass, SettleBox};
+use rounds::Crew;
+use settle_box::{CollectPass, PostPass};
 use std::alloc::Global;
 use std::test::Fail;
 use wire_base::{Epoch, Moment, NoMemory, Note, Slot, Text};
 
-pub type MemCrew<T> = Crew<T, MemWire, MemLink, MemDisk>;
+pub type MemCrew<T> = Crew<T, MemWire, MemLink>;
 
-/// The passes of a queue and of a box.
+/// The passes of a queue and of a box, but for that which collects.
 #[derive(Drop)]
 pub struct Passes {
     pub put: PutPass,
     pub take: TakePass,
     pub post: PostPass,
-    pub collect: CollectPass,
 }
 
 /// The key of the row of a slot's file.
@@ -88,18 +86,21 @@ fn tell_all(alloc: Global, keeper: &mut Keeper) -> Result<(), NoMemory>
 }
 
 /// A keeper over an empty registry, which knows of each file.
-fn storing(alloc: Global, desk: &SettleBox, collect: CollectPass) -> Result<Storing<MemDisk>, Fail>
-    requires { collect.desk ≡ desk.now.id }
-    ensures { IfOk result (λ storing. IsStoringReady desk.now.id storing) }
+pub fn keeper(
+    alloc: Global,
+    collect: CollectPass,
+    a: &mut MemDisk,
+    b: &mut MemDisk,
+) -> Result<Keeper, Fail>
+    ensures pass { IfOk result (λ keeper. keeper.pass ≡ collect) }
+    ensures open { IfOk result (λ keeper. keeper.store.closed ≡ false) }
 {
-    let mut a = MemDisk::new(alloc, b"")?;
-    let mut b = MemDisk::new(alloc, b"")?;
-    let store = Store::open(alloc, &mut a, &mut b)?;
+    let store = Store::open(alloc, a, b)?;
     let Ok(mut keeper) = Keeper::new(alloc, store, collect) else {
         return Err(NoMemory.into());
     };
     tell_all(alloc, &mut keeper)?;
-    Ok(Storing::new(keeper, a, b))
+    Ok(keeper)
 }
 
 /// A lane for the files of each, and a worker for each wire.
@@ -114,22 +115,19 @@ pub fn crew<T: Tail + Drop>(
     requires puts { passes.put.queue ≡ outlets.queue.now.id }
     requires takes { passes.take.queue ≡ outlets.queue.now.id }
     requires posts { passes.post.desk ≡ outlets.desk.now.id }
-    requires collects { passes.collect.desk ≡ outlets.desk.now.id }
     requires all_puts { IsWhole passes.put.share }
     requires all_takes { IsWhole passes.take.share }
     requires all_posts { IsWhole passes.post.share }
-    ensures { IfOk result (λ crew. IsReady (tail_words T.numbers T.told T.faults)
-        outlets.entry.queue.now.id outlets.entry.desk.now.id crew) }
+    ensures { IfOk result (IsCrew (tail_words T.numbers T.told T.faults)
+        outlets.entry.queue.now.id outlets.entry.desk.now.id) }
 {
     let Passes {
         put,
         take,
         mut post,
-        collect,
     } = passes;
     let other_post = outlets.desk.split_post(&mut post);
-    let storing = storing(alloc, outlets.desk, collect)?;
     let lanes = all_lanes(alloc, outlets, put, post, files)?;
     let carriers = all_carriers(alloc, outlets, take, other_post, wires)?;
-    Ok(Crew::new(lanes, carriers, storing, room))
+    Ok(Crew::new(lanes, carriers, room))
 }

@@ -1,9 +1,10 @@
-use crate::tests::crews::{Passes, crew};
+use crate::tests::crews::{Passes, crew, keeper};
 use crate::tests::files::{FILES, LINES, dealt};
-use crate::tests::outcome::{Outcome, finish, rest, stays_still};
+use crate::tests::outcome::{Outcome, finish, settles};
 use lanes::Outlets;
 use mem_queue::EventQueue;
-use outside_mem::{MeetLink, MemTalk, MemWire};
+use outside_mem::{MeetLink, MemDisk, MemTalk, MemWire};
+use rounds::{Stored, Storing};
 use settle_box::SettleBox;
 use std::alloc::Global;
 use std::process::Abort;
@@ -90,17 +91,25 @@ fn run<R: Threads + Wait + Sync + Abort>(
         queue: &queue,
         desk: &desk,
     };
-    let passes = Passes {
-        put,
-        take,
-        post,
-        collect,
+    let (mut a, mut b) = (MemDisk::new(alloc, b"")?, MemDisk::new(alloc, b"")?);
+    let keeper = keeper(alloc, collect, &mut a, &mut b)?;
+    let mut storing = Storing {
+        keeper,
+        a: &mut a,
+        b: &mut b,
+        stored: Stored::begun(),
     };
+    let passes = Passes { put, take, post };
     let files = dealt(alloc, sizes.lanes)?;
     let mut crew = crew(alloc, outlets, passes, files, wires, sizes.places)?;
-    let rests = rest(rt, alloc, outlets, &mut crew, sizes.last)
-        && stays_still(rt, alloc, outlets, &mut crew);
-    let outcome = finish(alloc, crew)?;
+    let rests = settles(rt, alloc, outlets, &mut crew, &mut storing, sizes.last);
+    let Storing {
+        keeper,
+        a: _,
+        b: _,
+        stored: _,
+    } = storing;
+    let outcome = finish(alloc, crew, &keeper, &mut a, &mut b)?;
     assert!(rt; rests);
     check(rt, alloc, &outcome)
 }

@@ -1,6 +1,7 @@
 //! Rounds until all is at rest, and what they came to.
 ghost use Rattle.std.specs.Prelude.{All, IfOk, OnSome};
 ghost use Rattle.std.specs.Bool.{OnTrue};
+ghost use Rattle.rounds.specs.Crewing.{crewing};
 ghost use Rattle.rounds.specs.Rounds.{IsReady};
 ghost use Rattle.rounds.specs.Words.{tail_words};
 ghost use Rattle.rounds_table.specs.Making.{CanEnd};
@@ -13,6 +14,7 @@ use lanes::{Lane, Outlets, When};
 use outside::Tail;
 use outside_mem::MemDisk;
 use registry_store::Store;
+use rounds::Storing;
 use std::alloc::Global;
 use std::sync::Wait;
 use std::test::Fail;
@@ -36,24 +38,25 @@ pub struct Outcome {
 }
 
 /// One round; whether it moved. None where memory or a disk failed.
-pub fn round<T: Tail + Drop + Send, R: Threads + Wait + Sync>(
+fn round<T: Tail + Drop + Send, R: Threads + Wait + Sync>(
     rt: &R,
     alloc: Global,
     outlets: Outlets<'_>,
     crew: &mut MemCrew<T>,
+    storing: &mut Storing<'_, MemDisk>,
     last: bool,
 ) -> Option<bool>
     requires ready { IsReady (tail_words T.numbers T.told T.faults) outlets.queue.now.id
-        outlets.desk.now.id crew.old }
+        outlets.desk.now.id (crewing crew.old storing.old) }
     ensures ready { OnSome result (IsReady (tail_words T.numbers T.told T.faults)
-        outlets.entry.queue.now.id outlets.entry.desk.now.id crew.new) }
+        outlets.entry.queue.now.id outlets.entry.desk.now.id (crewing crew.new storing.new)) }
     ensures can_end { All CanEnd crew.new.carriers.items }
 {
     let when = When {
         now: Moment(1_000),
         last,
     };
-    let round = crew.round(rt, alloc, outlets, when);
+    let round = crew.round(rt, alloc, outlets, when, storing);
     if round.memory || round.disk {
         None
     } else {
@@ -63,23 +66,24 @@ pub fn round<T: Tail + Drop + Send, R: Threads + Wait + Sync>(
 
 /// Rounds until one moves nothing after all was collected; whether one did. Workers that are to meet may miss each other in a
 /// round, which then moves nothing either.
-pub fn rest<T: Tail + Drop + Send, R: Threads + Wait + Sync>(
+fn rest<T: Tail + Drop + Send, R: Threads + Wait + Sync>(
     rt: &R,
     alloc: Global,
     outlets: Outlets<'_>,
     crew: &mut MemCrew<T>,
+    storing: &mut Storing<'_, MemDisk>,
     last: bool,
 ) -> bool
     requires ready { IsReady (tail_words T.numbers T.told T.faults) outlets.queue.now.id
-        outlets.desk.now.id crew.old }
+        outlets.desk.now.id (crewing crew.old storing.old) }
     ensures ready { OnTrue result (IsReady (tail_words T.numbers T.told T.faults)
-        outlets.entry.queue.now.id outlets.entry.desk.now.id crew.new) }
+        outlets.entry.queue.now.id outlets.entry.desk.now.id (crewing crew.new storing.new)) }
     ensures can_end { All CanEnd crew.new.carriers.items }
 {
     'rounds: for _i in 0..MOST_ROUNDS {
-        match round(rt, alloc, outlets, crew, last) {
+        match round(rt, alloc, outlets, crew, storing, last) {
             Some(moved) => {
-                if !moved && crew.storing.keeper.collected() >= LINES {
+                if !moved && storing.keeper.collected() >= LINES {
                     return true;
                 }
             }
@@ -90,20 +94,37 @@ pub fn rest<T: Tail + Drop + Send, R: Threads + Wait + Sync>(
 }
 
 /// Whether further rounds, of which the last may find the ends of files, move nothing.
-pub fn stays_still<T: Tail + Drop + Send, R: Threads + Wait + Sync>(
+fn stays_still<T: Tail + Drop + Send, R: Threads + Wait + Sync>(
     rt: &R,
     alloc: Global,
     outlets: Outlets<'_>,
     crew: &mut MemCrew<T>,
+    storing: &mut Storing<'_, MemDisk>,
 ) -> bool
     requires ready { IsReady (tail_words T.numbers T.told T.faults) outlets.queue.now.id
-        outlets.desk.now.id crew.old }
+        outlets.desk.now.id (crewing crew.old storing.old) }
     ensures can_end { All CanEnd crew.new.carriers.items }
 {
-    match round(rt, alloc, outlets, crew, false) {
-        Some(false) => round(rt, alloc, outlets, crew, true) == Some(false),
+    match round(rt, alloc, outlets, crew, storing, false) {
+        Some(false) => round(rt, alloc, outlets, crew, storing, true) == Some(false),
         _ => false,
     }
+}
+
+/// Rounds until it is at rest, and one of each kind more; whether it rests then.
+pub fn settles<T: Tail + Drop + Send, R: Threads + Wait + Sync>(
+    rt: &R,
+    alloc: Global,
+    outlets: Outlets<'_>,
+    crew: &mut MemCrew<T>,
+    storing: &mut Storing<'_, MemDisk>,
+    last: bool,
+) -> bool
+    requires ready { IsReady (tail_words T.numbers T.told T.faults) outlets.queue.now.id
+        outlets.desk.now.id (crewing crew.old storing.old) }
+    ensures can_end { All CanEnd crew.new.carriers.items }
+{
+    rest(rt, alloc, outlets, crew, storing, last) && stays_still(rt, alloc, outlets, crew, storing)
 }
 
 fn told<T: Tail>(lanes: &[Lane<T>]) -> u64 {
@@ -144,17 +165,22 @@ fn stored(alloc: Global, a: &mut MemDisk, b: &mut MemDisk) -> Result<usize, Fail
     Ok(stored)
 }
 
-pub fn finish<T: Tail + Drop>(alloc: Global, crew: MemCrew<T>) -> Result<Outcome, Fail>
+pub fn finish<T: Tail + Drop>(
+    alloc: Global,
+    crew: MemCrew<T>,
+    keeper: &Keeper,
+    a: &mut MemDisk,
+    b: &mut MemDisk,
+) -> Result<Outcome, Fail>
     requires { All CanEnd crew.carriers.items }
 {
-    let (lanes, carriers, storing) = crew.end();
+    let (lanes, carriers) = crew.end();
     let sent = end_all(alloc, carriers)?;
-    let (mut a, mut b) = (storing.a, storing.b);
     Ok(Outcome {
         told: told(lanes.as_slice()),
-        collected: storing.keeper.collected(),
+        collected: keeper.collected(),
         sent,
-        done: done(&storing.keeper),
-        stored: stored(alloc, &mut a, &mut b)?,
+        done: done(keeper),
+        stored: stored(alloc, a, b)?,
     })
 }
