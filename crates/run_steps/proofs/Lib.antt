@@ -1,0 +1,10 @@
+pub mod Areas
+pub mod Ended
+pub mod Epochs
+pub mod Giving
+pub mod Lanes
+pub mod Members
+pub mod Noting
+pub mod Rounding
+pub mod Settling
+pub mod Turning

@@ -1,0 +1,19 @@
+-- How a run began (this project's profile): its settings, what its one scan listed and at which moment, what folder and clock told
+-- by then, how many outcomes each worker's wire had, and its areas before they were opened.
+use Rattle.std.specs.Prelude.{ℕ, List, Option}
+use Rattle.event_tree.specs.declared.settings.Settings.{Settings}
+use Rattle.outside.specs.Folders.{FolderHistory}
+use Rattle.prospect.specs.declared.listed.Listed.{Listed}
+
+pub record Began (D : Type 0) : Type 0 where
+  pub settings : Settings
+  -- a file's slot is its place in this list
+  pub listed : List Listed
+  pub moment : ℕ
+  -- the folder behind the scan, and the clock before it
+  pub shown : Option FolderHistory
+  pub moments : Option (List ℕ)
+  -- worker by worker
+  pub heard : List ℕ
+  pub a : D
+  pub b : D

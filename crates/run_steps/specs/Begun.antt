@@ -1,0 +1,72 @@
+-- How files are begun in a run that reads them once, by their paths (this project's profile): the one of a slot is the one that was
+-- listed at its place, from its first byte on. Its Begin is the keeper's first note of it, and then comes the moment of its change.
+use Rattle.std.specs.Prelude.{◌≡◌, ℕ, ◌+◌, ◌≤◌, ◌<◌, min, List, [], ◌∷◌, ◌++◌, Contains, map, slice_get, Some, IfSome}
+use Rattle.std.specs.List.{AllByRecursion}
+use Rattle.accounts.specs.Opened.{Opened}
+use Rattle.event_tree.specs.declared.input_rule.IdentityRule.TheVariants.{Path}
+use Rattle.event_tree.specs.declared.settings.Settings.{Settings}
+use Rattle.file_identity.specs.Key.{named_key}
+use Rattle.prospect.specs.declared.listed.Listed.{Listed}
+use Rattle.wire_base.specs.declared.note.Begin.{Begin as Beginning}
+use Rattle.wire_base.specs.declared.note.Note.{Note}
+use Rattle.wire_base.specs.declared.note.Note.TheVariants.{Begin, Seen}
+use Rattle.wire_base.specs.declared.numbers.Moment.{Moment}
+use Rattle.wire_base.specs.declared.numbers.Slot.{Slot}
+use Rattle.wire_base.specs.declared.numbers.TheConstants.{MAX_MOMENT}
+
+-- as what its harvester is opened
+abbrev pub begin_for : Slot → Listed → List ℕ → Beginning
+begin_for slot listed key = record {
+  slot = slot;
+  input = listed.input;
+  key = key;
+  path = listed.path;
+  size = listed.size;
+  epoch = record { 0 = 0 };
+  base = 0;
+}
+
+-- what the keeper is told of it; its change is noted behind all Begins
+abbrev pub begin_note : Beginning → Note
+begin_note begin = Begin begin.slot begin.key begin.path begin.epoch begin.base (record { 0 = 0 })
+
+-- the moment of its change, as the scan listed it
+abbrev pub moment_noted : Listed → Moment
+moment_noted listed = record { 0 = min listed.changed.0 MAX_MOMENT }
+
+-- it was opened as it was listed, by its path
+pub record IsOpenedAsListed (settings : Settings) (listed : List Listed) (opened : Opened) : Type 0 where
+  pub one : Listed
+  pub listed_there : slice_get listed opened.begin.slot.0 ≡ Some one
+  pub keyed : one.key ≡ Some opened.begin.key
+  pub begin_is : opened.begin ≡ begin_for opened.begin.slot one opened.begin.key
+  pub rule_is : slice_get settings.inputs one.input ≡ Some opened.rule
+  pub by_path : opened.rule.file_identity ≡ Path
+
+-- its key is the one of its path
+abbrev pub IsKeyedByPath : Opened → Type 0
+IsKeyedByPath opened = named_key opened.rule.id Path opened.begin.path opened.file.numbers ≡ Some opened.begin.key
+
+-- the slots rise from this one on
+abbrev pub AreSlotsFrom : ℕ → List Opened → Type 0
+AreSlotsFrom least [] = Unit {0}
+AreSlotsFrom least (one ∷ others) = (least ≤ one.begin.slot.0) × AreSlotsFrom (one.begin.slot.0 + 1) others
+
+-- the note tells when one of these was changed
+pub record IsSeenOf (listed : List Listed) (opened : List Opened) (note : Note) : Type 0 where
+  pub file : Opened
+  pub among : Contains opened file
+  pub one : Listed
+  pub listed_there : slice_get listed file.begin.slot.0 ≡ Some one
+  pub is : note ≡ Seen file.begin.slot (moment_noted one)
+
+-- the notes that the run told the keeper itself: a Begin of each, slot by slot, and then when some were changed
+pub record AreBeginNotes (listed : List Listed) (opened : List Opened) (notes : List Note) : Type 0 where
+  pub seen : List Note
+  pub are : notes ≡ map (λ one. begin_note one.begin) opened ++ seen
+  pub seen_are : AllByRecursion (IsSeenOf listed opened) seen
+
+-- the keeper was told when each file was changed that was begun; a moment of 0 need not be told
+abbrev pub AreAllSeen : List Listed → List Note → Type 0
+AreAllSeen listed notes = (begin : Beginning) → Contains notes (begin_note begin) →
+    IfSome (slice_get listed begin.slot.0) (λ one. 0 < (moment_noted one).0 → Contains notes (Seen begin.slot (moment_noted one)))

@@ -1,0 +1,12 @@
+-- The one relation that each step of a run keeps (this project's profile): where a run stands before the step, it stands behind it.
+use Rattle.run_steps.specs.Areas.{BeganAtRest, IsAtRest}
+use Rattle.run_steps.specs.Began.{Began}
+use Rattle.run_steps.specs.RunState.{RunState}
+use Rattle.run_steps.specs.SoFar.{SoFar}
+use Rattle.run_steps.specs.Stands.{Further, Stands}
+use Rattle.rounds.specs.Words.{Words}
+
+-- a word, so that no search takes it apart
+unfoldable pub Onward : {T W L D : Type 0} → Words T W L D → RunState T W L D → RunState T W L D → Type 0
+Onward {T = T} {W = W} {L = L} {D = D} words before after = (start : Began D) (so_far : SoFar) → Stands words start before so_far →
+    (BeganAtRest words.disks start → IsAtRest words.disks before.keeper before.a before.b) → Further words start after

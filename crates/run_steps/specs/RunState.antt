@@ -1,0 +1,36 @@
+-- What the objects of a run are between two of its steps (this project's profile): what folder and clock tell, lanes and workers,
+-- the keeper, and the two areas. While a step writes, the areas are lent to it.
+use Rattle.std.specs.Prelude.{ℕ, List, Option}
+use Rattle.keeper.specs.Keeping.{Keeping}
+use Rattle.outside.specs.Folders.{FolderHistory}
+use Rattle.rounds.specs.declared.crew.Crew.{Crew}
+use Rattle.rounds.specs.declared.storing.Storing.{Storing}
+
+pub data Phase : Type 0 where
+  -- files are begun and turned, and no tail was closed
+  Reading : Phase
+  -- each file was told to its end
+  Finished : Phase
+  -- tails are closed, whatever was told of their files
+  Leaving : Phase
+
+pub record RunState (T W L D : Type 0) : Type 0 where
+  pub shown : Option FolderHistory
+  pub moments : Option (List ℕ)
+  pub crew : Crew T W L
+  pub keeper : Keeping
+  pub a : D
+  pub b : D
+  pub phase : Phase
+
+-- with the keeper where it is lent, and the areas with it
+abbrev pub within : {T W L D : Type 0} → Option FolderHistory → Option (List ℕ) → Crew T W L → Storing D → Phase → RunState T W L D
+within shown moments crew storing phase = record {
+  shown = shown;
+  moments = moments;
+  crew = crew;
+  keeper = storing.keeper;
+  a = storing.a.now;
+  b = storing.b.now;
+  phase = phase;
+}

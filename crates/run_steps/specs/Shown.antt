@@ -1,0 +1,68 @@
+-- What a run does with the folder behind its scan (this project's profile): it opens files and closes them, and lists nothing more.
+-- Each opening is of a file that was begun, or its tail was closed unread.
+use Rattle.std.specs.Prelude.{◌≡◌, ◌⊎◌, ℕ, suc, ◌-◌, ◌≤◌, drop, List, [], ◌∷◌, ◌++◌, Contains, length, map, slice_get, Option, Some, None, IfSome}
+use Rattle.std.specs.List.{AllByRecursion, flat_map}
+use Rattle.accounts.specs.Opened.{Opened as OpenedFile}
+use Rattle.accounts.specs.Turned.{Turned}
+use Rattle.kept_rows.specs.Scans.{AreDistinct, StandInOrder}
+use Rattle.kept_rows.specs.Trace.{closing_in}
+use Rattle.outside.specs.Files.{File}
+use Rattle.outside.specs.Folders.{Closed, Event, FolderHistory, Listed, ListingFailed, NotThere, Opened, OpeningFailed}
+use Rattle.outside.specs.Tails.{TailHistory}
+use Rattle.outside.specs.declared.history.Look.{Look}
+use Rattle.outside.specs.declared.history.Sight.{Sight}
+use Rattle.run_steps.specs.SoFar.{Left, SoFar}
+
+abbrev pub IsNoListing : Event → Type 0
+IsNoListing (Listed root depth shown) = ⊥
+IsNoListing ListingFailed = ⊥
+IsNoListing (Opened path number begun) = Unit {0}
+IsNoListing (NotThere path) = Unit {0}
+IsNoListing (OpeningFailed path) = Unit {0}
+IsNoListing (Closed opening looks faults) = Unit {0}
+
+-- the tail of this opening was closed with these looks
+pub record WasClosedWith (told : FolderHistory) (opening : ℕ) (looks : List Look) : Type 0 where
+  pub faults : ℕ
+  pub closing : closing_in opening (drop (suc opening) told.events) ≡ Some (record { looks = looks; faults = faults })
+
+abbrev pub IsStillOpen : FolderHistory → ℕ → Type 0
+IsStillOpen told opening = closing_in opening (drop (suc opening) told.events) ≡ None
+
+-- it stands in the folder's list, behind the scan
+pub record WasOpenedSince (before after : FolderHistory) (one : OpenedFile) : Type 0 where
+  pub since : length before.events ≤ one.opening
+  pub stands : slice_get after.events one.opening ≡ Some (Opened one.begin.path one.number one.begun)
+  pub file_is : slice_get after.files one.number ≡ Some one.file
+
+abbrev pub openings_of : List OpenedFile → List ℕ
+openings_of files = map (λ one. one.opening) files
+
+-- the slots of the files that harvesters turn
+abbrev pub IsTurnedIn : SoFar → OpenedFile → Type 0
+IsTurnedIn so_far one = Contains (map (λ turned. turned.slot) (flat_map (λ turned. turned) so_far.lanes)) one.begin.slot
+
+pub record HasDone (before after : FolderHistory) (so_far : SoFar) : Type 0 where
+  pub files : after.files ≡ before.files
+  pub more : List Event
+  pub events : after.events ≡ before.events ++ more
+  pub no_listing : AllByRecursion IsNoListing more
+  pub opened : AllByRecursion (WasOpenedSince before after) so_far.opened
+  pub apart : AreDistinct (openings_of so_far.opened)
+  pub serve : (opening : ℕ) (path : List ℕ) (number : ℕ) (begun : Sight) → length before.events ≤ opening →
+      slice_get after.events opening ≡ Some (Opened path number begun) → Contains (openings_of so_far.opened) opening ⊎ WasClosedWith after opening []
+  pub closed : AllByRecursion (λ (one : Left). IfSome one.told (λ tail. WasClosedWith after tail.opening tail.looks)) so_far.left
+  pub still_open : (one : OpenedFile) → Contains so_far.opened one → IsTurnedIn so_far one → IsStillOpen after one.opening
+
+abbrev pub HasShown : Option FolderHistory → Option FolderHistory → SoFar → Type 0
+HasShown None after so_far = after ≡ None
+HasShown (Some before) None so_far = ⊥
+HasShown (Some before) (Some after) so_far = HasDone before after so_far
+
+-- ---- the clock
+
+-- these are the moments that it gave since then, with the last one before, and among them is this one
+pub record HasGiven (before after : Option (List ℕ)) (moment : ℕ) (since : List ℕ) : Type 0 where
+  pub told : IfSome before (λ earlier. (more : List ℕ) × (after ≡ Some (earlier ++ more)) × (since ≡ drop (length earlier - 1) (earlier ++ more)))
+  pub untold : before ≡ None → after ≡ None
+  pub among : StandInOrder (moment ∷ []) since

@@ -1,0 +1,106 @@
+-- What a run keeps from step to step (this project's profile): what it has told of its files, where each event of it is, what the
+-- keeper noted of it, and what the areas may hold. Each step leads from a state for which this stands to another one.
+use Rattle.std.specs.Prelude.{◌≡◌, ◌≢◌, ℕ, ◌^◌, ◌-◌, ◌<◌, min, List, [], ◌∷◌, ◌++◌, Contains, IsSome, count_by, length, map, Option}
+use Rattle.std.specs.List.{AllByRecursion, flat_map}
+use Rattle.accounts.specs.Opened.{Opened}
+use Rattle.accounts.specs.ToldFile.{IsToldFile, IsToldToItsEnd}
+use Rattle.accounts.specs.Turned.{Turned, notes_told, parcels_told, spans_in}
+use Rattle.accounts.specs.Turning.{IsTurnedSo, Pairs}
+use Rattle.event_tree.specs.declared.processor_rule.ProcessorRule.{ProcessorRule}
+use Rattle.harvester.specs.declared.stage.Stage.TheVariants.{Over}
+use Rattle.keeper.specs.Collecting.{is_dropped, is_shipped}
+use Rattle.keeper.specs.Keeping.{Keeping, held_in}
+use Rattle.keeper.specs.Storing.{Stores}
+use Rattle.lanes.specs.Laning.{Laning}
+use Rattle.pass_sums.specs.Weight.{AsOften}
+use Rattle.rounds.specs.Books.{AreBooked, ArePlaced, Heard}
+use Rattle.rounds.specs.Crewed.{lanings}
+use Rattle.rounds.specs.Settled.{spans_told}
+use Rattle.rounds.specs.Words.{TailWords, Words}
+use Rattle.settle_box.specs.Senders.{notes}
+use Rattle.wire_base.specs.declared.note.Note.{Note}
+use Rattle.run_steps.specs.Areas.{BeganAtRest, HaveHeldFronts}
+use Rattle.run_steps.specs.Began.{Began}
+use Rattle.run_steps.specs.Begun.{AreBeginNotes, AreSlotsFrom, IsKeyedByPath, IsOpenedAsListed}
+use Rattle.run_steps.specs.RunState.{Finished, Reading, RunState}
+use Rattle.run_steps.specs.Shown.{HasGiven, HasShown}
+use Rattle.run_steps.specs.SoFar.{Left, SoFar, files_in}
+
+-- ---- the files
+
+-- a lane's harvesters stand for these files, one by one
+abbrev pub AreTurnedIn : {T : Type 0} → TailWords T → List ProcessorRule → List Opened → List ℕ → List Turned → Laning T → Type 0
+AreTurnedIn tails processors opened moments turned lane =
+    Pairs (IsTurnedSo tails.numbers tails.told processors opened moments) turned lane.harvesters
+
+-- its tail tells
+abbrev pub TellIn : {T : Type 0} → TailWords T → Laning T → Type 0
+TellIn tails lane = AllByRecursion (λ harvester. IsSome (tails.told harvester.tail)) lane.harvesters
+
+-- of a file whose tail was closed: one of these was told so
+pub record IsLeftSo (processors : List ProcessorRule) (opened : List Opened) (moments : List ℕ) (one : Left) : Type 0 where
+  pub file : Opened
+  pub among : Contains opened file
+  pub is_told : IsToldFile processors file moments one.turned one.told
+
+-- each file was begun once, and is turned or left
+pub record AreEachOnce (opened : List Opened) (files : List Turned) : Type 0 where
+  pub rise : AreSlotsFrom 0 opened
+  pub are : AsOften (map (λ turned. turned.slot) files) (map (λ one. one.begin.slot) opened)
+
+-- while files are read, no tail was closed, and none is out of epochs
+pub record IsReading {T : Type 0} (lanes : List (Laning T)) (so_far : SoFar) : Type 0 where
+  pub none_left : so_far.left ≡ []
+  pub none_over : AllByRecursion (λ lane. AllByRecursion (λ harvester. harvester.reader.stage ≢ Over) lane.harvesters) lanes
+
+-- ---- what was told of them
+
+-- what lanes gave is what was told of the files, each once
+pub record HaveGiven (so_far : SoFar) : Type 0 where
+  pub parcels : AsOften so_far.told.issued (flat_map parcels_told (files_in so_far))
+  pub notes_are : AsOften so_far.told.noted (flat_map notes_told (files_in so_far))
+
+-- counts of spans and notes, which stand still at 2^64 - 1
+pub record AreCounted {T : Type 0} (lanes : List (Laning T)) (keeper : Keeping) (so_far : SoFar) : Type 0 where
+  pub spans : spans_told lanes < 2 ^ 64 - 1 → spans_in (files_in so_far) ≡ spans_told lanes
+  pub shipped : keeper.shipped ≡ min (count_by is_shipped (notes keeper.pass.got)) (2 ^ 64 - 1)
+  pub dropped : keeper.dropped ≡ min (count_by is_dropped (notes keeper.pass.got)) (2 ^ 64 - 1)
+  pub collected : keeper.collected ≡ min (length keeper.pass.got) (2 ^ 64 - 1)
+
+-- the keeper's notes are those that the run told it and those that it collected, over no opening rows
+pub record AreNoted (keeper : Keeping) (begun collected : List Note) : Type 0 where
+  pub opening : keeper.tracked.opening ≡ []
+  pub are : keeper.tracked.notes ≡ begun ++ collected
+  pub got : notes keeper.pass.got ≡ collected ++ held_in keeper.held
+
+-- ---- all of it
+
+pub record Stands {T W L D : Type 0} (words : Words T W L D) (start : Began D) (state : RunState T W L D) (so_far : SoFar) : Type 0 where
+  pub opened : AllByRecursion (IsOpenedAsListed start.settings start.listed) so_far.opened
+  pub keyed : IsSome start.shown → AllByRecursion IsKeyedByPath so_far.opened
+  pub each_once : AreEachOnce so_far.opened (files_in so_far)
+  pub turned : Pairs (AreTurnedIn words.tails start.settings.processors so_far.opened so_far.moments) so_far.lanes (lanings state.crew.lanes.items)
+  pub left : AllByRecursion (IsLeftSo start.settings.processors so_far.opened so_far.moments) so_far.left
+  pub reading : state.phase ≡ Reading → IsReading (lanings state.crew.lanes.items) so_far
+  pub finished : state.phase ≡ Finished → IsSome start.shown → AllByRecursion (λ turned. IsToldToItsEnd turned.history) (files_in so_far)
+  -- where the folder tells, so do the tails
+  pub tell : IsSome start.shown → AllByRecursion (TellIn words.tails) (lanings state.crew.lanes.items)
+  pub left_tell : IsSome start.shown → AllByRecursion (λ (one : Left). IsSome one.told) so_far.left
+  pub shown : HasShown start.shown state.shown so_far
+  pub given : HasGiven start.moments state.moments start.moment so_far.moments
+  -- each event is in one place
+  pub gave : HaveGiven so_far
+  pub booked : AreBooked words.links words.wires so_far.told (lanings state.crew.lanes.items) state.crew.carriers.items
+  pub heard : map (λ (heard : Heard). heard.start) so_far.told.acknowledged ≡ start.heard
+  pub placed : ArePlaced so_far.told (lanings state.crew.lanes.items) state.crew.carriers.items so_far.queued (notes state.keeper.pass.got) so_far.boxed
+  pub counted : AreCounted (lanings state.crew.lanes.items) state.keeper so_far
+  -- what is noted and stored
+  pub begun : AreBeginNotes start.listed so_far.opened so_far.begun
+  pub noted : AreNoted state.keeper so_far.begun so_far.collected
+  pub stores : Stores state.keeper.tracked state.keeper.store
+  pub areas : BeganAtRest words.disks start → HaveHeldFronts words.disks state.keeper.tracked.notes start.a start.b state.a state.b
+
+-- it stands, whatever was done
+pub record Further {T W L D : Type 0} (words : Words T W L D) (start : Began D) (state : RunState T W L D) : Type 0 where
+  pub so_far : SoFar
+  pub stands : Stands words start state so_far
