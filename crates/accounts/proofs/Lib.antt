@@ -1,10 +1,12 @@
 pub mod Accounting
+pub mod Accounts
 pub mod Apart
 pub mod Backing
 pub mod Beginning
 pub mod Cuts
 pub mod Ends
 pub mod Falls
+pub mod Following
 pub mod Given
 pub mod Ground
 pub mod Histories

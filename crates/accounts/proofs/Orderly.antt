@@ -60,7 +60,7 @@ spans_apart place (first ∷ told) one other adjoin there also =
         let end : first.span.end ≡ other.span.end = ap (λ (e : ToldEvent). e.span.end) y in inr (inr (omega (arith, behind, end)))
     by_case (inr x) (inr y) later = later x y
 
-member_is : {A : Type 0} (P : A → Type 0) (xs : List A) (x : A) → AllByRecursion P xs → Contains xs x → P x
+pub member_is : {A : Type 0} (P : A → Type 0) (xs : List A) (x : A) → AllByRecursion P xs → Contains xs x → P x
 member_is P [] x all there = absurd (none_there x there)
 member_is P (first ∷ xs) x all there = by_case (there_cases first x xs there) (member_is P xs x all.1)
   where

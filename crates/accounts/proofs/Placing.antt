@@ -12,11 +12,11 @@ use Rattle.wire_base.specs.Extent.{Extent}
 use Rattle.wire_base.specs.declared.numbers.Slot.{Slot}
 use Rattle.wire_base.specs.declared.parcel.Parcel.{Parcel}
 use Rattle.accounts.specs.Accounted.{accounted, epoch_accounts, place_by, untold_epochs}
-use Rattle.accounts.specs.Filed.{Filed, IsFiled, account_of, accounts_of}
+use Rattle.accounts.specs.Filed.{Filed, IsFiled, account_of, accounts_of, turned_of}
 use Rattle.accounts.specs.Once.{AreOnce}
 use Rattle.accounts.specs.Opened.{Opened}
 use Rattle.accounts.specs.Same.{same_parcel}
-use Rattle.accounts.specs.Turned.{Turned, parcels_by, parcels_in, parcels_of, parcels_told, tellings_in}
+use Rattle.accounts.specs.Turned.{parcels_by, parcels_in, parcels_of, parcels_told, tellings_in}
 use Rattle.accounts.proofs.Often.{once_apart, once_others}
 use Rattle.accounts.proofs.Same.{tells_parcels}
 
@@ -55,9 +55,6 @@ module _ (placed : Parcel → Option Place) where
       ap (λ (l : List Place). l ++ flat_map places_in_epoch (epoch_accounts opened placed telling.epoch tellings segments)) (of_events opened.begin.slot telling.epoch telling.told)
       ∙ ap (λ (l : List Place). filter_map placed (parcels_in opened.begin.slot telling) ++ l) (of_epochs opened telling.epoch tellings segments (omega (arith, few)))
       ∙ sym (given_both placed (parcels_in opened.begin.slot telling) (flat_map (parcels_in opened.begin.slot) tellings))
-
-  abbrev pub turned_of : List Filed → List Turned
-  turned_of files = map (λ (file : Filed). file.turned) files
 
   -- ---- of all files
 

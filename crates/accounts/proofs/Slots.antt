@@ -55,10 +55,10 @@ module _ (h : History) (file : File) where
   reads_on (telling ∷ past) present (segment ∷ front) last more are is others = (are.0.on, reads_on past present front last more are.1 is others)
 
 -- of a file whose looks all belong to its epochs
-record IsReadSo (h : History) (opened : Opened) (looks : List Look) : Type 0 where
-  few : length (tellings_in h) ≤ length (segments_of opened.begin.base looks)
-  first : AreReadFirst h opened.file (tellings_in h) (segments_of opened.begin.base looks)
-  on : AllByRecursion (λ (segment : Segment). ReadOn (steps_in segment)) (segments_of opened.begin.base looks)
+pub record IsReadSo (h : History) (opened : Opened) (looks : List Look) : Type 0 where
+  pub few : length (tellings_in h) ≤ length (segments_of opened.begin.base looks)
+  pub first : AreReadFirst h opened.file (tellings_in h) (segments_of opened.begin.base looks)
+  pub on : AllByRecursion (λ (segment : Segment). ReadOn (steps_in segment)) (segments_of opened.begin.base looks)
 
 read_whole : (h : History) (opened : Opened) (told : TailHistory) → told.file ≡ opened.file → h.begin ≡ opened.begin → h.before ≡ [] →
     (looked : IsLookedAt opened.file.numbers h told) → looked.beyond ≡ [] → IsReadSo h opened told.looks
@@ -106,7 +106,7 @@ no_other_path : (identity : IdentityRule) (id key path : List ℕ) (file : File)
 no_other_path identity id key path file asked is key_is = ap (λ (i : IdentityRule). given_key id i path file asked) is ∙ key_is
 
 -- wherever the file stands
-read_by_path : (h : History) (opened : Opened) (told : TailHistory) → told.file ≡ opened.file → h.begin ≡ opened.begin → h.before ≡ [] → h.rule ≡ opened.rule →
+pub read_by_path : (h : History) (opened : Opened) (told : TailHistory) → told.file ≡ opened.file → h.begin ≡ opened.begin → h.before ≡ [] → h.rule ≡ opened.rule →
     opened.rule.file_identity ≡ Path → named_key opened.rule.id Path opened.begin.path opened.file.numbers ≡ Some opened.begin.key →
     (looked : IsLookedAt opened.file.numbers h told) → IsReadSo h opened told.looks
 read_by_path h opened told file_is begin none rule_is by_path key_is looked = by_stage h.stage looked.stand_behind

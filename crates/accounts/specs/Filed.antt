@@ -22,6 +22,9 @@ pub record Filed : Type 0 where
 abbrev pub slot_in : Filed → ℕ
 slot_in file = file.opened.begin.slot.0
 
+abbrev pub turned_of : List Filed → List Turned
+turned_of files = map (λ (file : Filed). file.turned) files
+
 abbrev pub account_of : (Parcel → Option Place) → Filed → SlotAccount
 account_of placed file = slot_account file.opened file.changed file.looks placed file.turned.history
 

@@ -1,7 +1,9 @@
 pub mod Accounted
 pub mod Filed
+pub mod FollowedFile
 pub mod Ground
 pub mod Once
+pub mod OneScan
 pub mod Opened
 pub mod Same
 pub mod ToldFile
