@@ -1,6 +1,7 @@
 pub mod Accounting
 pub mod Accounts
 pub mod Apart
+pub mod Backed
 pub mod Backing
 pub mod Beginning
 pub mod Cuts
@@ -9,12 +10,14 @@ pub mod Falls
 pub mod Following
 pub mod Given
 pub mod Ground
+pub mod Grounded
 pub mod Histories
 pub mod Licensed
 pub mod Lists
 pub mod Lives
 pub mod Often
 pub mod Onward
+pub mod Ordered
 pub mod Orderly
 pub mod Placing
 pub mod Same

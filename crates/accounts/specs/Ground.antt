@@ -1,6 +1,7 @@
 -- Whence a parcel and a note come (this project's profile): a parcel is of an event that is shipped, and a note is of an event that a
--- rule dropped, or of an epoch.
+-- rule dropped, of an epoch, or of an event that was acknowledged.
 use Rattle.std.specs.Prelude.{◌≡◌, ◌⊎◌, ℕ, List, Contains}
+use Rattle.batch_worker.specs.Held.{note_of}
 use Rattle.harvester.specs.History.{Telling}
 use Rattle.told_events.specs.Fate.{DroppedBy, ShippedAs, cause_of_fate}
 use Rattle.told_events.specs.Told.{ToldEvent}
@@ -40,3 +41,14 @@ pub record IsNoteOf (files : List Turned) (note : Note) : Type 0 where
   pub telling : Telling
   pub epoch : IsEpochOf files turned telling
   pub is : IsNoteBy turned telling note
+
+-- the settlement of a parcel among these, which were acknowledged
+pub record IsAcknowledgement (files : List Turned) (acknowledged : List Parcel) (note : Note) : Type 0 where
+  pub parcel : Parcel
+  pub among : Contains acknowledged parcel
+  pub of : IsParcelOf files parcel
+  pub is : note ≡ note_of parcel
+
+-- what may be collected
+abbrev pub HasGround : List Turned → List Parcel → Note → Type 0
+HasGround files acknowledged note = IsNoteOf files note ⊎ IsAcknowledgement files acknowledged note

@@ -1,11 +1,13 @@
 pub mod Accounted
 pub mod Filed
+pub mod FirstNotes
 pub mod FollowedFile
 pub mod Ground
 pub mod Once
 pub mod OneScan
 pub mod Opened
 pub mod Same
+pub mod Taken
 pub mod ToldFile
 pub mod Turned
 pub mod Turning
