@@ -23,7 +23,7 @@ use Rattle.wire_base.specs.declared.numbers.Epoch.{Epoch}
 use Rattle.wire_base.specs.declared.numbers.Slot.{Slot}
 use Rattle.wire_base.specs.declared.parcel.Parcel.{Parcel}
 use Rattle.accounts.specs.FirstNotes.{AreFirstNotes, IsBeginOf, IsSeenOf}
-use Rattle.accounts.specs.Filed.{Filed, IsFiled, IsNoted, slot_in, turned_of}
+use Rattle.accounts.specs.Filed.{Filed, IsNoted, slot_in, turned_of}
 use Rattle.accounts.specs.FollowedFile.{AreInSlots}
 use Rattle.accounts.specs.Ground.{HasGround, IsEpochOf, IsNoteBy}
 use Rattle.accounts.specs.Turned.{Turned}
@@ -213,8 +213,12 @@ begins_settle_nothing [] (note ∷ begins) are = absurd are
 begins_settle_nothing (file ∷ files) [] are = absurd are
 begins_settle_nothing (file ∷ files) (note ∷ begins) are = ((λ epoch. ap (span_in epoch) are.0.is), begins_settle_nothing files begins are.1)
 
+-- the file is of the slot with which it was begun
+abbrev pub HasItsSlot : Filed → Type 0
+HasItsSlot file = file.turned.slot ≡ file.opened.begin.slot
+
 module _ (files : List Filed) (apart : AreDistinct (map (λ (turned : Turned). turned.slot.0) (turned_of files))) (epochs : AllByRecursion IsInEpochs (turned_of files))
-    (filed : AllByRecursion IsFiled files) (acknowledged : List Parcel) where
+    (slots_are : AllByRecursion HasItsSlot files) (acknowledged : List Parcel) where
   abbrev Grounded : Note → Type 0
   Grounded = HasGround (turned_of files) acknowledged
 
@@ -222,7 +226,7 @@ module _ (files : List Filed) (apart : AreDistinct (map (λ (turned : Turned). t
   slot_is_begun notes turned slot noted there is =
       let file = of_map (λ (f : Filed). f.turned) files turned there in
       let slots : slot_in file.item ≡ slot =
-      ap (λ (s : Slot). s.0) (sym (member_is IsFiled files file.item filed file.among).slot) ∙ ap (λ (t : Turned). t.slot.0) file.is ∙ is in
+      ap (λ (s : Slot). s.0) (sym (member_is HasItsSlot files file.item slots_are file.among)) ∙ ap (λ (t : Turned). t.slot.0) file.is ∙ is in
       subst (λ (n : ℕ). IsBegun n notes) slots (file_is_begun notes file.item (member_is (IsNoted notes) files file.item noted file.among))
 
   -- settled spans of one epoch are one or apart

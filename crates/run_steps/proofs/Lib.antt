@@ -1,10 +1,14 @@
 pub mod Areas
 pub mod Ended
 pub mod Epochs
+pub mod Filing
 pub mod Giving
+pub mod Grounds
 pub mod Lanes
 pub mod Members
 pub mod Noting
+pub mod Onward
+pub mod Ordering
 pub mod Rounding
 pub mod Settling
 pub mod Turning

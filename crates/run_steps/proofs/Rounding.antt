@@ -21,7 +21,8 @@ use Rattle.outside.specs.Folders.{FolderHistory}
 use Rattle.outside.specs.Times.{GivesMoment}
 use Rattle.pass_sums.specs.Weight.{AsOften, weigh}
 use Rattle.pass_sums.proofs.Weights.{weigh-append}
-use Rattle.rounds.specs.Books.{Heard, Told}
+use Rattle.keeper.specs.Keeping.{held_in}
+use Rattle.rounds.specs.Books.{Heard, Told, flat}
 use Rattle.rounds.specs.Crewed.{bare_lanes, lanings}
 use Rattle.rounds.specs.Crewing.{Crewing, crew_of}
 use Rattle.rounds.specs.Images.{TurnsLeave}
@@ -34,6 +35,7 @@ use Rattle.rounds.specs.Settled.{spans_told}
 use Rattle.rounds.specs.Words.{DiskWords, Words}
 use Rattle.rounds.specs.declared.answer.Round.{Round}
 use Rattle.settle_box.specs.BoundedBox.{BoundedBox}
+use Rattle.settle_box.specs.Senders.{notes}
 use Rattle.ship_core.specs.Orderly.{AreOrderly}
 use Rattle.wire_base.specs.declared.note.Note.{Note}
 use Rattle.wire_base.specs.declared.numbers.Slot.{Slot}
@@ -45,14 +47,16 @@ use Rattle.run_steps.specs.Begun.{IsKeyedByPath, IsOpenedAsListed}
 use Rattle.run_steps.specs.RunState.{Finished, Phase, Reading, RunState}
 use Rattle.run_steps.specs.Shown.{HasDone, HasShown, IsTurnedIn}
 use Rattle.run_steps.specs.SoFar.{Left, SoFar, files_in}
-use Rattle.run_steps.specs.Stands.{AreCounted, AreEachOnce, AreTurnedIn, Further, HaveGiven, IsLeftSo, IsReading, Stands, TellIn}
+use Rattle.run_steps.specs.Stands.{AreCounted, AreEachOnce, AreNoted, AreTurnedIn, Further, HaveGiven, IsLeftSo, IsReading, Stands, TellIn}
 use Rattle.run_steps.proofs.Areas.{areas_by_turns, areas_on}
 use Rattle.run_steps.proofs.Ended.{all_end}
 use Rattle.run_steps.proofs.Epochs.{no_turn_out}
 use Rattle.run_steps.proofs.Giving.{GivenOn, given_on}
+use Rattle.run_steps.proofs.Grounds.{have_ground}
 use Rattle.run_steps.proofs.Lanes.{LanesTellOn, lanes_later, lanes_spans, lanes_tell, pairs_but_passes, same_but_passes, spans_but_passes, spans_of_both}
 use Rattle.run_steps.proofs.Members.{member_is}
 use Rattle.run_steps.proofs.Noting.{collected_on, dropped_on, noted_on, shipped_on}
+use Rattle.run_steps.proofs.Ordering.{all_in_epochs, notes_are_orderly}
 use Rattle.run_steps.proofs.Turning.{Any, IsNotOver, Tells, NotOut, lanes_keep, not_over_on, tell_on}
 
 -- the state with this crew
@@ -263,6 +267,22 @@ module _ {T W L D : Type 0} (words : Words T W L D) (queue : BoundedQueue) (desk
           still_open = λ one among is_turned. is.still_open one among (subst (λ (l : List Slot). Contains l one.begin.slot) slots_same is_turned);
         }
 
+    -- ---- notes
+
+    left : AllByRecursion (IsLeftSo start.settings.processors so_far.opened since) so_far.left
+    left = subst (AllByRecursion (IsLeftSo start.settings.processors so_far.opened since)) (sym reading.none_left) tt
+
+    noted : AreNoted new.storing.keeper so_far.begun (so_far.collected ++ keeps.collects.more)
+    noted = noted_on old.storing.keeper new.storing.keeper keeps.collects so_far.begun so_far.collected stands.noted
+
+    orderly : AreOrderly new.storing.keeper.tracked.notes
+    orderly = subst AreOrderly (sym noted.are)
+        (notes_are_orderly start.listed so_far.opened (files_in after) each_once
+        (all_in_epochs words.tails start.settings start.listed so_far.opened since stands.opened told.after (lanings new.lanes.items) so_far.left turned left)
+        so_far.begun (so_far.collected ++ keeps.collects.more) (flat placed.acknowledged) stands.begun
+        (λ files same. have_ground (lanings new.lanes.items) new.carriers.items placed.queued (notes new.storing.keeper.pass.got) placed.boxed after have_given placed.placed files same
+        (so_far.collected ++ keeps.collects.more) (held_in new.storing.keeper.held) noted.got))
+
     -- ---- all of it
 
     -- the phase behind it, with what it wants
@@ -281,7 +301,7 @@ module _ {T W L D : Type 0} (words : Words T W L D) (queue : BoundedQueue) (desk
 
       module _ (reads : (disk : D) → IfSome (words.disks.contents disk) (words.disks.images disk))
           (counts : (disk : D) (at : ℕ) (image : List ℕ) → at ≤ words.disks.moment disk → words.disks.images disk image → words.disks.images_since disk at image)
-          (orderly : AreOrderly new.storing.keeper.tracked.notes) (at_rest : BeganAtRest words.disks start → IsAtRest words.disks old.storing.keeper old.storing.a.now old.storing.b.now) where
+          (at_rest : BeganAtRest words.disks start → IsAtRest words.disks old.storing.keeper old.storing.a.now old.storing.b.now) where
         areas : BeganAtRest words.disks start →
             HaveHeldFronts words.disks new.storing.keeper.tracked.notes start.a start.b new.storing.a.now new.storing.b.now
         areas began =
@@ -301,7 +321,7 @@ module _ {T W L D : Type 0} (words : Words T W L D) (queue : BoundedQueue) (desk
             keyed = stands.keyed;
             each_once = each_once;
             turned = turned;
-            left = subst (AllByRecursion (IsLeftSo start.settings.processors so_far.opened since)) (sym reading.none_left) tt;
+            left = left;
             reading = λ is. record { none_left = reading.none_left; none_over = none_over (none_out (inl is)) };
             finished = finished;
             tell = tell;
@@ -314,7 +334,7 @@ module _ {T W L D : Type 0} (words : Words T W L D) (queue : BoundedQueue) (desk
             placed = placed.placed;
             counted = counted;
             begun = stands.begun;
-            noted = noted_on old.storing.keeper new.storing.keeper keeps.collects so_far.begun so_far.collected stands.noted;
+            noted = noted;
             stores = keeps.stored stands.stores;
             areas = areas;
           };

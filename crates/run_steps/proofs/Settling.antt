@@ -12,7 +12,8 @@ use Rattle.lanes.specs.Laning.{Laning}
 use Rattle.mem_queue.specs.BoundedQueue.{BoundedQueue}
 use Rattle.outside.specs.Folders.{FolderHistory}
 use Rattle.pass_sums.specs.Weight.{AsOften}
-use Rattle.rounds.specs.Books.{Heard}
+use Rattle.keeper.specs.Keeping.{held_in}
+use Rattle.rounds.specs.Books.{Heard, flat}
 use Rattle.rounds.specs.Crewed.{lanings}
 use Rattle.rounds.specs.Crewing.{Crewing}
 use Rattle.rounds.specs.Images.{TurnsLeave}
@@ -23,6 +24,7 @@ use Rattle.rounds.specs.Settling.{IsPlacedOnceSettled, KeepsFiles, SettlingKeeps
 use Rattle.rounds.specs.Words.{TailWords, Words}
 use Rattle.rounds.specs.declared.answer.Round.{Round}
 use Rattle.settle_box.specs.BoundedBox.{BoundedBox}
+use Rattle.settle_box.specs.Senders.{notes}
 use Rattle.ship_core.specs.Orderly.{AreOrderly}
 use Rattle.wire_base.specs.declared.note.Note.{Note}
 use Rattle.wire_base.specs.declared.parcel.Parcel.{Parcel}
@@ -32,8 +34,10 @@ use Rattle.run_steps.specs.Began.{Began}
 use Rattle.run_steps.specs.RunState.{Phase, Reading}
 use Rattle.run_steps.specs.Shown.{HasShown}
 use Rattle.run_steps.specs.SoFar.{SoFar, files_in}
-use Rattle.run_steps.specs.Stands.{AreTurnedIn, Further, IsReading, Stands, TellIn}
+use Rattle.run_steps.specs.Stands.{AreNoted, AreTurnedIn, Further, HaveGiven, Stands}
 use Rattle.run_steps.proofs.Areas.{areas_by_turns, areas_on}
+use Rattle.run_steps.proofs.Grounds.{have_ground}
+use Rattle.run_steps.proofs.Ordering.{all_in_epochs, notes_are_orderly}
 use Rattle.run_steps.proofs.Noting.{collected_on, dropped_on, noted_on, shipped_on}
 use Rattle.run_steps.proofs.Rounding.{same_starts, state_of}
 
@@ -112,9 +116,29 @@ module _ {T W L D : Type 0} (words : Words T W L D) (queue : BoundedQueue) (desk
     spans_are : spans_told (lanings new.lanes.items) < 2 ^ 64 - 1 → spans_in (files_in after) ≡ spans_told (lanings new.lanes.items)
     spans_are few = let same = spans_kept (lanings old.lanes.items) (lanings new.lanes.items) keeps.lanes in let was = stands.counted.spans (omega (arith, few, same)) in omega (arith, same, was)
 
+    turned : Pairs (AreTurnedIn words.tails start.settings.processors so_far.opened so_far.moments) so_far.lanes (lanings new.lanes.items)
+    turned = turned_kept words.tails start.settings.processors so_far.opened so_far.moments so_far.lanes (lanings old.lanes.items) (lanings new.lanes.items) keeps.lanes stands.turned
+
+    have_given : HaveGiven after
+    have_given = record {
+      parcels = no_more so_far.told.issued (flat_map parcels_told (files_in so_far)) stands.gave.parcels;
+      notes_are = no_more so_far.told.noted (flat_map notes_told (files_in so_far)) stands.gave.notes_are;
+    }
+
+    noted : AreNoted new.storing.keeper so_far.begun (so_far.collected ++ keeps.collects.more)
+    noted = noted_on old.storing.keeper new.storing.keeper keeps.collects so_far.begun so_far.collected stands.noted
+
+    orderly : AreOrderly new.storing.keeper.tracked.notes
+    orderly = subst AreOrderly (sym noted.are)
+        (notes_are_orderly start.listed so_far.opened (files_in after) stands.each_once
+        (all_in_epochs words.tails start.settings start.listed so_far.opened so_far.moments stands.opened so_far.lanes (lanings new.lanes.items) so_far.left turned stands.left)
+        so_far.begun (so_far.collected ++ keeps.collects.more) (flat placed.acknowledged) stands.begun
+        (λ files same. have_ground (lanings new.lanes.items) new.carriers.items placed.queued (notes new.storing.keeper.pass.got) placed.boxed after have_given placed.placed files same
+        (so_far.collected ++ keeps.collects.more) (held_in new.storing.keeper.held) noted.got))
+
     module _ (reads : (disk : D) → IfSome (words.disks.contents disk) (words.disks.images disk))
         (counts : (disk : D) (at : ℕ) (image : List ℕ) → at ≤ words.disks.moment disk → words.disks.images disk image → words.disks.images_since disk at image)
-        (orderly : AreOrderly new.storing.keeper.tracked.notes) (at_rest : BeganAtRest words.disks start → IsAtRest words.disks old.storing.keeper old.storing.a.now old.storing.b.now) where
+        (at_rest : BeganAtRest words.disks start → IsAtRest words.disks old.storing.keeper old.storing.a.now old.storing.b.now) where
       areas : BeganAtRest words.disks start → HaveHeldFronts words.disks new.storing.keeper.tracked.notes start.a start.b new.storing.a.now new.storing.b.now
       areas began =
           let rest = at_rest began in
@@ -132,7 +156,7 @@ module _ {T W L D : Type 0} (words : Words T W L D) (queue : BoundedQueue) (desk
           opened = stands.opened;
           keyed = stands.keyed;
           each_once = stands.each_once;
-          turned = turned_kept words.tails start.settings.processors so_far.opened so_far.moments so_far.lanes (lanings old.lanes.items) (lanings new.lanes.items) keeps.lanes stands.turned;
+          turned = turned;
           left = stands.left;
           reading = λ is. record {
             none_left = (stands.reading is).none_left;
@@ -143,10 +167,7 @@ module _ {T W L D : Type 0} (words : Words T W L D) (queue : BoundedQueue) (desk
           left_tell = stands.left_tell;
           shown = has_shown;
           given = stands.given;
-          gave = record {
-            parcels = no_more so_far.told.issued (flat_map parcels_told (files_in so_far)) stands.gave.parcels;
-            notes_are = no_more so_far.told.noted (flat_map notes_told (files_in so_far)) stands.gave.notes_are;
-          };
+          gave = have_given;
           booked = placed.booked;
           heard = same_starts so_far.told.acknowledged placed.acknowledged placed.acknowledged_more ∙ stands.heard;
           placed = placed.placed;
@@ -157,7 +178,7 @@ module _ {T W L D : Type 0} (words : Words T W L D) (queue : BoundedQueue) (desk
             collected = collected_on old.storing.keeper new.storing.keeper keeps.collects stands.counted.collected;
           };
           begun = stands.begun;
-          noted = noted_on old.storing.keeper new.storing.keeper keeps.collects so_far.begun so_far.collected stands.noted;
+          noted = noted;
           stores = keeps.stored stands.stores;
           areas = areas;
         };

@@ -6,6 +6,7 @@ use Rattle.accounts.specs.Opened.{Opened}
 use Rattle.event_tree.specs.declared.input_rule.IdentityRule.TheVariants.{Path}
 use Rattle.event_tree.specs.declared.settings.Settings.{Settings}
 use Rattle.file_identity.specs.Key.{named_key}
+use Rattle.multiline_core.specs.Rule.{IsGroupRule}
 use Rattle.prospect.specs.declared.listed.Listed.{Listed}
 use Rattle.wire_base.specs.declared.note.Begin.{Begin as Beginning}
 use Rattle.wire_base.specs.declared.note.Note.{Note}
@@ -42,6 +43,7 @@ pub record IsOpenedAsListed (settings : Settings) (listed : List Listed) (opened
   pub begin_is : opened.begin ≡ begin_for opened.begin.slot one opened.begin.key
   pub rule_is : slice_get settings.inputs one.input ≡ Some opened.rule
   pub by_path : opened.rule.file_identity ≡ Path
+  pub in_range : IsGroupRule opened.rule.multiline
 
 -- its key is the one of its path
 abbrev pub IsKeyedByPath : Opened → Type 0
