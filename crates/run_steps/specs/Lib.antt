@@ -1,6 +1,7 @@
 pub mod Areas
 pub mod Began
 pub mod Begun
+pub mod Met
 pub mod Onward
 pub mod RunState
 pub mod Shown

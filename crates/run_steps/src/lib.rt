@@ -1,5 +1,8 @@
-//! The steps of a run over rounds: files begun, turned until nothing more is found, let go, and all that was settled stored.
+//! The steps of a run over rounds: how its registry and its files are opened, what ends it in a round, and how all is let go.
 //!
-//! Each step keeps one relation: what was told of each file, where each event of it is, what the keeper noted, and what
-//! the areas may hold at any moment.
+//! Each step says in full what it changed, and what it left. Nothing here makes a round.
 #![tactic(auto)]
+
+mod met;
+
+pub use met::Met;
