@@ -1,4 +1,5 @@
 pub mod Areas
+pub mod Blank
 pub mod Ended
 pub mod Epochs
 pub mod Filing

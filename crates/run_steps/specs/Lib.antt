@@ -3,6 +3,8 @@ pub mod Began
 pub mod Begun
 pub mod Met
 pub mod Onward
+pub mod Opening
+pub mod OpeningErrors
 pub mod RunState
 pub mod Shown
 pub mod SoFar

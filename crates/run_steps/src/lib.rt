@@ -4,5 +4,9 @@
 #![tactic(auto)]
 
 mod met;
+mod registry;
+mod registry_error;
 
 pub use met::Met;
+pub use registry::open_registry;
+pub use registry_error::RegistryError;
