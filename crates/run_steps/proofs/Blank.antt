@@ -10,8 +10,8 @@ use Rattle.registry_store.specs.Settled.{AreAtRest}
 use Rattle.registry_store.specs.Standing.{IsEmpty, IsOpenedBy, Standing}
 use Rattle.registry_store.specs.declared.store_error.StoreError.{StoreError}
 use Rattle.registry_store.specs.declared.store_error.StoreError.TheVariants.{Bad as StoreBad, DiskFault as StoreDiskFault, Closed, NoMemory as StoreNoMemory}
-use Rattle.run_steps.specs.OpeningErrors.{IsErrorOfStore}
-use Rattle.run_steps.specs.Opening.{IsNotBad, MayHoldNoRow}
+use Rattle.run_steps.specs.RegistryErrors.{IsErrorOfStore}
+use Rattle.run_steps.specs.Registry.{IsNotBad, MayHoldNoRow}
 use Rattle.run_steps.specs.declared.registry_error.RegistryError.{RegistryError}
 
 -- ---- what is chosen

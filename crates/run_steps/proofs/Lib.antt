@@ -7,6 +7,7 @@ pub mod Giving
 pub mod Grounds
 pub mod Lanes
 pub mod Members
+pub mod Moments
 pub mod Noting
 pub mod Onward
 pub mod Ordering

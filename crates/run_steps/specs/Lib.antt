@@ -1,11 +1,15 @@
 pub mod Areas
 pub mod Began
+pub mod BeginFor
 pub mod Begun
 pub mod Met
 pub mod Onward
 pub mod Opening
 pub mod OpeningErrors
+pub mod Registry
+pub mod RegistryErrors
 pub mod RunState
 pub mod Shown
 pub mod SoFar
 pub mod Stands
+pub mod Telling

@@ -4,9 +4,13 @@
 #![tactic(auto)]
 
 mod met;
+mod opening;
 mod registry;
 mod registry_error;
+mod telling;
 
 pub use met::Met;
+pub use opening::{Opening, begin_of};
 pub use registry::open_registry;
 pub use registry_error::RegistryError;
+pub use telling::{tell_begin, tell_moments};

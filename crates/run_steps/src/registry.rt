@@ -7,7 +7,7 @@ ghost use Rattle.registry_store.specs.Committing.{GoesOn};
 ghost use Rattle.registry_store.specs.Settled.{AreAtRest, AreSettled};
 ghost use Rattle.registry_store.specs.Standing.{IsEmpty, chosen_by};
 ghost use Rattle.wire_base.specs.declared.limits.Which.{Which};
-ghost use Rattle.run_steps.specs.Opening.{IsNotBad, IsRefusedAt, IsWritten, MayHoldNoRow, RefusesArea, RefusesOne, RefusesWritten};
+ghost use Rattle.run_steps.specs.Registry.{IsNotBad, IsRefusedAt, IsWritten, MayHoldNoRow, RefusesArea, RefusesOne, RefusesWritten};
 
 use crate::registry_error::RegistryError;
 use outside::Disk;

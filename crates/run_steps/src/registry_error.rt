@@ -15,7 +15,7 @@ pub enum RegistryError {
 }
 
 impl From<StoreError> for RegistryError {
-    ghost use Rattle.run_steps.specs.OpeningErrors.{IsErrorOfStore};
+    ghost use Rattle.run_steps.specs.RegistryErrors.{IsErrorOfStore};
 
     ghost from_gives = { IsErrorOfStore };
 

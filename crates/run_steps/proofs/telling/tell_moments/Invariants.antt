@@ -1,0 +1,12 @@
+use Rattle.std.proofs.Common.{ℕ, ◌-◌, ◌≤◌, length, take}
+use Rattle.run_steps.specs.Telling.{TellMoments}
+use Rattle.run_steps.proofs.telling.tell_moments.Given as goal
+
+abbrev pub invariant-files : goal.invariant-files
+invariant-files l = record {
+  within : l.slot ≤ length l.listed;
+  told : TellMoments 0 (take l.slot l.listed) l.fn.keeper l.keeper;
+}
+
+abbrev pub decreases-files : goal.decreases-files
+decreases-files l = length l.listed - l.slot

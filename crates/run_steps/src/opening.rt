@@ -1,0 +1,39 @@
+ghost use Rattle.std.specs.Prelude.{IfOk};
+ghost use Rattle.prospect.specs.ListedFiles.{IsListedInRange};
+ghost use Rattle.wire_base.specs.Ranges.{IsBegin};
+ghost use Rattle.run_steps.specs.BeginFor.{IsBeginFor};
+
+use prospect::Listed;
+use std::alloc::Global;
+use wire_base::{Begin, Epoch, Moment, NoMemory, Slot};
+
+/// A listed file that is to be opened.
+#[derive(Clone, Copy)]
+pub struct Opening<'a> {
+    /// Its place in the list.
+    pub slot: Slot,
+    pub listed: &'a Listed,
+    /// The moment of the scan.
+    pub now: Moment,
+}
+
+/// How the file begins: in its first epoch, from its first byte on. `Err` is want of memory, or a key that the listing did not
+/// tell.
+pub fn begin_of(alloc: Global, opening: Opening<'_>) -> Result<Begin, NoMemory>
+    ensures begin { IfOk result (IsBeginFor opening.entry.slot opening.entry.listed.now) }
+    ensures in_range { IsListedInRange opening.entry.listed.now → IfOk result IsBegin }
+{
+    let listed = opening.listed;
+    let Some(key) = &listed.key else {
+        return Err(NoMemory);
+    };
+    Ok(Begin {
+        slot: opening.slot,
+        input: listed.input,
+        key: key.copy(alloc)?,
+        path: listed.path.copy(alloc)?,
+        size: listed.size,
+        epoch: Epoch(0),
+        base: 0,
+    })
+}

@@ -1,0 +1,88 @@
+ghost use Rattle.std.specs.Prelude.{◌≡◌, ◌∷◌, ◌+◌, ◌<◌, ◌≤◌, [], OnErr, OnOk, length};
+ghost use Rattle.std.specs.Bool.{OnFalse, OnTrue};
+ghost use Rattle.keeper.specs.FewKeys.{HasRoomFor};
+ghost use Rattle.prospect.specs.ListedFiles.{IsListedInRange};
+ghost use Rattle.wire_base.specs.Ranges.{IsNote};
+ghost use Rattle.run_steps.specs.Telling.{IsFollowed, IsNotFollowed, TellMoments, TellSomeMoments, TellsBegin, TellsMoment, TellsNotes};
+
+use crate::opening::{Opening, begin_of};
+use keeper::{Keeper, few_keys_by_length};
+use prospect::Listed;
+use std::alloc::Global;
+use wire_base::{MAX_MOMENT, Moment, NoMemory, Note, Slot};
+
+/// Tells the keeper how the file begins, with 0 for its moment of change. `Err` is want of memory, and leaves the keeper as it
+/// was; so is a file whose key the listing did not tell.
+pub fn tell_begin(alloc: Global, opening: Opening<'_>, keeper: &mut Keeper) -> Result<(), NoMemory>
+    requires in_range { IsListedInRange opening.listed.now }
+    requires few { length keeper.old.store.rows + length keeper.old.tracked.notes < 65_536 }
+    ensures told { OnOk result
+        (TellsBegin opening.entry.slot opening.entry.listed.now keeper.old keeper.new) }
+    ensures kept { OnErr result (keeper.new ≡ keeper.old) }
+{
+    few_keys_by_length();
+    let begin = begin_of(alloc, opening)?;
+    tell(
+        alloc,
+        Note::Begin {
+            slot: begin.slot,
+            key: begin.key,
+            path: begin.path,
+            epoch: begin.epoch,
+            base: begin.base,
+            changed: Moment(0),
+        },
+        keeper,
+    )
+}
+
+fn tell(alloc: Global, note: Note, keeper: &mut Keeper) -> Result<(), NoMemory>
+    requires range { IsNote note }
+    requires few { HasRoomFor keeper.old.store.rows keeper.old.tracked note }
+    ensures told { OnOk result (TellsNotes (note ∷ []) keeper.old keeper.new) }
+    ensures kept { OnErr result (keeper.new ≡ keeper.old) }
+{
+    match keeper.tell(alloc, note) {
+        Ok(()) => Ok(()),
+        Err(_) => Err(NoMemory),
+    }
+}
+
+/// Tells the keeper when each file that is followed was changed, as the scan listed it, where that is later than the 0 of its
+/// begin. The slots are the places in the list. `Err` is want of memory, behind some of them.
+pub fn tell_moments(alloc: Global, listed: &[Listed], keeper: &mut Keeper) -> Result<(), NoMemory>
+    requires few { length listed.now ≤ 65_536 }
+    ensures told { OnOk result (TellMoments 0 listed.now keeper.old keeper.new) }
+    ensures some_told { OnErr result (TellSomeMoments listed.now keeper.old keeper.new) }
+{
+    let mut slot = 0;
+    'files: while slot < listed.len() {
+        tell_moment(alloc, Slot(slot as u32), listed[slot].changed, keeper)?;
+        slot += 1;
+    }
+    Ok(())
+}
+
+fn tell_moment(
+    alloc: Global,
+    slot: Slot,
+    changed: Moment,
+    keeper: &mut Keeper,
+) -> Result<(), NoMemory>
+    ensures told { OnOk result (TellsMoment slot changed keeper.old keeper.new) }
+    ensures kept { OnErr result (keeper.new ≡ keeper.old) }
+{
+    if changed.0 == 0 || !is_followed(slot, keeper) {
+        return Ok(());
+    }
+    let changed = Moment(changed.0.min(MAX_MOMENT));
+    tell(alloc, Note::Seen { slot, changed }, keeper)
+}
+
+// Whether the slot has a Begin, and its row is not gone.
+fn is_followed(slot: Slot, keeper: &Keeper) -> bool
+    ensures followed { OnTrue result (IsFollowed slot.0 keeper.now.tracked) }
+    ensures not_followed { OnFalse result (IsNotFollowed slot.0 keeper.now.tracked) }
+{
+    keeper.offset(slot).is_some()
+}
