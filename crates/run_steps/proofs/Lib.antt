@@ -1,4 +1,6 @@
 pub mod Areas
+pub mod Attempts
+pub mod Causing
 pub mod Blank
 pub mod Ended
 pub mod Epochs
@@ -7,6 +9,7 @@ pub mod Giving
 pub mod Grounds
 pub mod Lanes
 pub mod Members
+pub mod MetBy
 pub mod Moments
 pub mod Noting
 pub mod Onward

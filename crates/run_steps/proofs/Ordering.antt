@@ -33,7 +33,7 @@ use Rattle.wire_base.specs.declared.parcel.Parcel.{Parcel}
 use Rattle.event_tree.specs.declared.processor_rule.ProcessorRule.{ProcessorRule}
 use Rattle.event_tree.specs.declared.settings.Settings.{Settings}
 use Rattle.prospect.specs.declared.listed.Listed.{Listed}
-use Rattle.run_steps.specs.Begun.{AreBeginNotes, AreSlotsFrom, IsOpenedAsListed, IsSeenOf, begin_note, moment_noted}
+use Rattle.run_steps.specs.Begun.{AreBeginNotes, AreSlotsFrom, IsOpenedAsListed, IsSeenOf, noted_begin, moment_noted}
 use Rattle.run_steps.specs.SoFar.{Left}
 use Rattle.run_steps.specs.Stands.{AreEachOnce, AreTurnedIn, IsLeftSo}
 use Rattle.run_steps.proofs.Filing.{Arranged, arranged}
@@ -104,7 +104,7 @@ module _ (looks : Opened → List Look) (changed : Opened → ℕ) where
   -- ---- the first notes
 
   begins_are : (opened : List Opened) (turned : List Turned) → slots_of turned ≡ slots_in opened →
-      Pairs IsBeginOf (zipped looks changed opened turned) (map (λ (one : Opened). begin_note one.begin) opened)
+      Pairs IsBeginOf (zipped looks changed opened turned) (map (λ (one : Opened). noted_begin one.begin) opened)
   unfolding zipped
   begins_are [] turned same = tt
   begins_are (one ∷ opened) [] same = absurd cc
@@ -131,7 +131,7 @@ module _ (looks : Opened → List Look) (changed : Opened → ℕ) where
 
     pub are_first : (notes : List Note) → AreBeginNotes listed opened notes → AreFirstNotes (zipped looks changed opened turned) notes
     are_first notes are = record {
-      begins = map (λ (one : Opened). begin_note one.begin) opened;
+      begins = map (λ (one : Opened). noted_begin one.begin) opened;
       seens = are.seen;
       notes_are = are.are;
       each_begin = begins_are opened turned same;

@@ -12,24 +12,12 @@ use Rattle.wire_base.specs.declared.note.Begin.{Begin as Beginning}
 use Rattle.wire_base.specs.declared.note.Note.{Note}
 use Rattle.wire_base.specs.declared.note.Note.TheVariants.{Begin, Seen}
 use Rattle.wire_base.specs.declared.numbers.Moment.{Moment}
-use Rattle.wire_base.specs.declared.numbers.Slot.{Slot}
 use Rattle.wire_base.specs.declared.numbers.TheConstants.{MAX_MOMENT}
-
--- as what its harvester is opened
-abbrev pub begin_for : Slot → Listed → List ℕ → Beginning
-begin_for slot listed key = record {
-  slot = slot;
-  input = listed.input;
-  key = key;
-  path = listed.path;
-  size = listed.size;
-  epoch = record { 0 = 0 };
-  base = 0;
-}
+use Rattle.run_steps.specs.BeginFor.{begin_for}
 
 -- what the keeper is told of it; its change is noted behind all Begins
-abbrev pub begin_note : Beginning → Note
-begin_note begin = Begin begin.slot begin.key begin.path begin.epoch begin.base (record { 0 = 0 })
+abbrev pub noted_begin : Beginning → Note
+noted_begin begin = Begin begin.slot begin.key begin.path begin.epoch begin.base (record { 0 = 0 })
 
 -- the moment of its change, as the scan listed it
 abbrev pub moment_noted : Listed → Moment
@@ -65,10 +53,10 @@ pub record IsSeenOf (listed : List Listed) (opened : List Opened) (note : Note) 
 -- the notes that the run told the keeper itself: a Begin of each, slot by slot, and then when some were changed
 pub record AreBeginNotes (listed : List Listed) (opened : List Opened) (notes : List Note) : Type 0 where
   pub seen : List Note
-  pub are : notes ≡ map (λ one. begin_note one.begin) opened ++ seen
+  pub are : notes ≡ map (λ one. noted_begin one.begin) opened ++ seen
   pub seen_are : AllByRecursion (IsSeenOf listed opened) seen
 
 -- the keeper was told when each file was changed that was begun; a moment of 0 need not be told
 abbrev pub AreAllSeen : List Listed → List Note → Type 0
-AreAllSeen listed notes = (begin : Beginning) → Contains notes (begin_note begin) →
+AreAllSeen listed notes = (begin : Beginning) → Contains notes (noted_begin begin) →
     IfSome (slice_get listed begin.slot.0) (λ one. 0 < (moment_noted one).0 → Contains notes (Seen begin.slot (moment_noted one)))

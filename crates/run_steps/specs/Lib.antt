@@ -3,9 +3,9 @@ pub mod Began
 pub mod BeginFor
 pub mod Begun
 pub mod Met
+pub mod MetBy
+pub mod MetIn
 pub mod Onward
-pub mod Opening
-pub mod OpeningErrors
 pub mod Registry
 pub mod RegistryErrors
 pub mod RunState

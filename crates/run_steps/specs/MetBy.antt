@@ -1,0 +1,66 @@
+-- By what a run met what ends it (this project's profile): each of its causes shows in the crew, the keeper and the areas as they
+-- are then.
+use Rattle.std.specs.Prelude.{◌≡◌, ◌⊎◌, ◌<◌, ℕ, Option, Some, None, List}
+use Rattle.harvester.specs.HasTold.{begin_of}
+use Rattle.harvester.specs.declared.harvester.Harvester.{Harvester}
+use Rattle.harvester.specs.declared.stage.Stage.TheVariants.{Over}
+use Rattle.lanes.specs.Laning.{Laning}
+use Rattle.outside.specs.Counts.{Rose}
+use Rattle.rounds.specs.Crewed.{lanings}
+use Rattle.rounds.specs.Crewing.{Crewing, crew_of}
+use Rattle.rounds.specs.Pairs.{SomeOf}
+use Rattle.rounds.specs.Settled.{IsDoneIn}
+use Rattle.rounds.specs.Words.{DiskWords, TailWords}
+use Rattle.wire_base.specs.declared.numbers.Slot.{Slot}
+use Rattle.run_steps.specs.Met.{AreLeft}
+use Rattle.run_steps.specs.MetIn.{HasFailed}
+use Rattle.run_steps.specs.RunState.{Finished, Leaving, Phase, Reading}
+use Rattle.run_steps.specs.declared.met.Met.{Met}
+use Rattle.run_steps.specs.declared.met.Met.TheVariants.{DiskFault, Done, Epochs, FolderFault, NoMemory, Stopped, Unreachable}
+
+abbrev pub SomeHarvester : {T : Type 0} → (Harvester T → Type 0) → List (Laning T) → Type 0
+SomeHarvester P lanes = SomeOf (λ lane. SomeOf P lane.harvesters) lanes
+
+-- its tail failed
+abbrev pub HasFaults : {T : Type 0} → TailWords T → Harvester T → Type 0
+HasFaults tails harvester = 0 < tails.faults harvester.tail
+
+-- its last epoch is over
+abbrev pub IsOverOf : {T : Type 0} → Slot → Harvester T → Type 0
+IsOverOf slot harvester = ((begin_of harvester).slot ≡ slot) × (harvester.reader.stage ≡ Over)
+
+-- the areas as they were, and all as it is now
+pub record Since (T W L D : Type 0) : Type 0 where
+  pub a : D
+  pub b : D
+  pub now : Crewing T W L D
+
+module _ {T W L D : Type 0} (tails : TailWords T) (disks : DiskWords D) (attempts : ℕ) where
+  abbrev pub IsMetBy : Since T W L D → Met → Type 0
+  IsMetBy since Done = IsDoneIn (crew_of since.now) since.now.storing.keeper
+  IsMetBy since Stopped = ⊥
+  IsMetBy since NoMemory = Unit {0}
+  IsMetBy since DiskFault =
+      Rose (disks.faults since.a) (disks.faults since.now.storing.a.now) ⊎ Rose (disks.faults since.b) (disks.faults since.now.storing.b.now)
+  IsMetBy since FolderFault = SomeHarvester (HasFaults tails) (lanings since.now.lanes.items)
+  IsMetBy since (Unreachable worker) = HasFailed attempts since.now.carriers.items worker
+  IsMetBy since (Epochs slot) = SomeHarvester (IsOverOf slot) (lanings since.now.lanes.items)
+
+-- another round may follow, or the last steps
+abbrev pub GoesOn : Option Met → Type 0
+GoesOn None = Unit {0}
+GoesOn (Some met) = AreLeft met
+
+-- the phase of a run behind it
+abbrev pub phase_met : Met → Phase
+phase_met Done = Finished
+phase_met Stopped = Reading
+phase_met NoMemory = Leaving
+phase_met DiskFault = Leaving
+phase_met FolderFault = Leaving
+phase_met (Unreachable worker) = Leaving
+phase_met (Epochs slot) = Leaving
+
+abbrev pub phase_of : Option Met → Phase
+phase_of None = Reading
+phase_of (Some met) = phase_met met

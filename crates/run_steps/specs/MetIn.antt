@@ -1,0 +1,49 @@
+-- What ends the run in a round (this project's profile): where a round met several causes, the first in this order.
+use Rattle.std.specs.Prelude.{◌≡◌, ℕ, ◌<◌, ◌≤◌, Bool, true, false, List, All, take, slice_get, Option, Some, None}
+use Rattle.keeper.specs.Keeping.{Keeping}
+use Rattle.rounds.specs.Settled.{IsDoneIn}
+use Rattle.rounds.specs.declared.answer.Round.{Round}
+use Rattle.rounds.specs.declared.carrier.Carrier.{Carrier}
+use Rattle.rounds.specs.declared.crew.Crew.{Crew}
+use Rattle.run_steps.specs.declared.met.Met.{Met}
+use Rattle.run_steps.specs.declared.met.Met.TheVariants.{Done, Stopped, NoMemory, DiskFault, FolderFault, Unreachable, Epochs}
+
+-- the worker failed less often in a row than it may
+abbrev pub HasTriesLeft : {W L : Type 0} → ℕ → Carrier W L → Type 0
+HasTriesLeft attempts one = one.worker.failures < attempts
+
+-- the worker of this number failed as often in a row as it may, and none before it
+pub record HasFailed {W L : Type 0} (attempts : ℕ) (carriers : List (Carrier W L)) (number : ℕ) : Type 0 where
+  pub one : Carrier W L
+  pub is : slice_get carriers number ≡ Some one
+  pub failed : attempts ≤ one.worker.failures
+  pub first : All (HasTriesLeft attempts) (take number carriers)
+
+abbrev pub NoneFailed : {W L : Type 0} → ℕ → List (Carrier W L) → Type 0
+NoneFailed attempts carriers = All (HasTriesLeft attempts) carriers
+
+-- the round found memory, and no disk failed
+pub record WasStoring (round : Round) : Type 0 where
+  pub memory : round.memory ≡ false
+  pub disk : round.disk ≡ false
+
+-- and each turn could read, in an epoch that is not the last
+pub record WasReading (round : Round) : Type 0 where
+  pub storing : WasStoring round
+  pub no_faults : round.tail_faults ≡ 0
+  pub no_epochs : round.epochs ≡ None
+
+-- and each worker may go on
+pub record WasSending {T W L : Type 0} (attempts : ℕ) (crew : Crew T W L) (round : Round) : Type 0 where
+  pub reading : WasReading round
+  pub none_failed : NoneFailed attempts crew.carriers.items
+
+abbrev pub IsMetIn : {T W L : Type 0} → ℕ → Crew T W L → Keeping → Round → Option Met → Type 0
+IsMetIn attempts crew keeper round (Some NoMemory) = round.memory ≡ true
+IsMetIn attempts crew keeper round (Some DiskFault) = (round.memory ≡ false) × (round.disk ≡ true)
+IsMetIn attempts crew keeper round (Some FolderFault) = WasStoring round × (0 < round.tail_faults)
+IsMetIn attempts crew keeper round (Some (Epochs slot)) = WasStoring round × (round.tail_faults ≡ 0) × (round.epochs ≡ Some slot)
+IsMetIn attempts crew keeper round (Some (Unreachable worker)) = WasReading round × HasFailed attempts crew.carriers.items worker
+IsMetIn attempts crew keeper round (Some Done) = WasSending attempts crew round × (round.moved ≡ false) × IsDoneIn crew keeper
+IsMetIn attempts crew keeper round (Some Stopped) = ⊥
+IsMetIn attempts crew keeper round None = WasSending attempts crew round × (round.moved ≡ false → ¬ (IsDoneIn crew keeper))
