@@ -6,3 +6,5 @@ pub mod Naming
 pub mod Numbering
 pub mod Showing
 pub mod Telling
+pub mod Unfinished
+mod Worked

@@ -105,7 +105,7 @@ lists_one inputs glob root depth told states present entries after faults old ne
 
 -- ---- only listings
 
-pub are_listings : (listings : List Listing) → AllByRecursion IsListing (map event_of listings)
+are_listings : (listings : List Listing) → AllByRecursion IsListing (map event_of listings)
 are_listings [] = tt
 are_listings (listing ∷ listings) = (tt, are_listings listings)
 

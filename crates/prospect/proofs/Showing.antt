@@ -17,9 +17,8 @@ use Rattle.prospect.specs.declared.scan_input.ScanInput.{ScanInput}
 use Rattle.prospect.specs.Entries.{Adds, ByPath, IsOne, Lists, ShowEntries}
 use Rattle.prospect.specs.ListedFiles.{shown_in}
 use Rattle.prospect.specs.Readings.{globs_read}
-use Rattle.prospect.specs.Scan.{event_of, Listing, OnlyListed, with_events}
+use Rattle.prospect.specs.Scan.{event_of, Listing, with_events}
 use Rattle.prospect.proofs.Adding.{contains_none, contains_one, only_one}
-use Rattle.prospect.proofs.Listing.{are_listings}
 
 -- ---- what was added
 
@@ -159,14 +158,6 @@ lists_one glob root depth told states present entries after faults old new root_
   in_range = listable;
   added = added;
   shown = shows_one glob root depth told states present entries after faults root_is depth_is lists;
-}
-
-pub only_shown : (globs : List (List ℕ)) (told after : Option FolderHistory) (old new : ByPath) → Lists globs told old new after → IfSome told (λ history. OnlyListed history after)
-only_shown globs None after old new lists = tt
-only_shown globs (Some told) after old new lists = record {
-  more = map event_of lists.shown.listings;
-  listings = are_listings lists.shown.listings;
-  kept = lists.shown.listed.kept;
 }
 
 -- the next glob was listed

@@ -37,10 +37,11 @@ use Rattle.prospect.specs.ListedFiles.{AreOfShown, EndsAs, FindsOneMore, HasFile
 use Rattle.prospect.specs.Members.{globs_of, HaveShortIds, IsCovered}
 use Rattle.prospect.specs.Readings.{Reading, globs_read, reading, reading_of, readings_from}
 use Rattle.prospect.specs.Scan.{AreListed, TellsPath}
+use Rattle.prospect.specs.Unfinished.{ListsSome}
 use Rattle.prospect.proofs.Adding.{contains_none}
 use Rattle.prospect.proofs.Covering.{covered_append, entry_by}
 use Rattle.prospect.proofs.Naming.{any_later, contains_later}
-use Rattle.prospect.proofs.Showing.{only_shown}
+use Rattle.prospect.proofs.Unfinished.{all_listed}
 
 -- ---- lists, one element after the other
 
@@ -276,7 +277,7 @@ globs_from : (number : ℕ) (inputs : List InputRule) → flat_map (λ read. rea
 globs_from number [] = refl
 globs_from number (input ∷ inputs) = ap (λ (l : List (List ℕ)). input.paths ++ l) (globs_from (suc number) inputs)
 
-globs_are : (inputs : List InputRule) (reads : List ScanInput) → map reading_of reads ≡ readings_from 0 inputs → globs_read reads ≡ globs_of inputs
+pub globs_are : (inputs : List InputRule) (reads : List ScanInput) → map reading_of reads ≡ readings_from 0 inputs → globs_read reads ≡ globs_of inputs
 globs_are inputs reads numbered =
     sym (flat_map-map (λ (read : Reading). read.globs) reading_of reads)
     ∙ ap (λ (l : List Reading). flat_map (λ read. read.globs) l) numbered
@@ -390,6 +391,16 @@ module _ (inputs : List InputRule) (reads : List ScanInput) (told after : Option
   pub in_order : (files : List Listed) → AreCovered (pairs_of (map reading_of reads) (map entry_by found.entries)) files → IsStrictlySortedBy place_order (map place_of files)
   in_order files covered = files_in_order pairs files (covered_pairs files covered) sorted
 
+  input_of : (pair : Pair) → IsKnown inputs lists.entries pair → IsFileOf pair → (file_of pair).input < length inputs
+  input_of pair is file =
+      subst (λ (r : Reading). r.number < length inputs) (sym (own_reading inputs pair.reading is.reads))
+      (slice_get_within inputs is.reads.place is.reads.rule is.reads.rule_is)
+
+  pub of_inputs : (files : List Listed) → AreCovered (pairs_of (map reading_of reads) (map entry_by found.entries)) files → All (λ one. one.input < length inputs) files
+  of_inputs files covered =
+      All-from_recursion (λ (one : Listed). one.input < length inputs) files
+      (covered_all (λ (one : Listed). one.input < length inputs) (IsKnown inputs lists.entries) (λ pair is file. input_of pair is file) pairs files (covered_pairs files covered) known)
+
   more_in_pairs : (path : List ℕ) → IsOneMore (pairs_of (map reading_of reads) (map entry_by found.entries)) [] path → IsOneMore pairs [] path
   more_in_pairs path one = subst (λ (l : List Reading). IsOneMore (pairs_of l (map entry_by found.entries)) [] path) numbered one
 
@@ -495,7 +506,9 @@ module _ (inputs : List InputRule) (reads : List ScanInput) (told after : Option
 
   pub refused : (error : ScanError) → StopsAt (pairs_of (map reading_of reads) (map entry_by found.entries)) [] error → IfSome told (λ history. EndsAs inputs history error after)
   refused Failed stops = absurd stops
-  refused NoMemory stops = only_shown (globs_read reads) told after none found lists
+  refused NoMemory stops =
+      subst (λ (globs : List (List ℕ)). IfSome told (λ history. ListsSome globs history after)) (globs_are inputs reads numbered)
+      (all_listed (globs_read reads) told after none found lists)
   refused (TooMany path) stops = by_told told lists.shown
     where
       by_told : (o : Option FolderHistory) → IfSome o (λ history. ShowEntries (globs_read reads) lists.entries history after) → IfSome o (λ history. EndsAs inputs history (TooMany path) after)

@@ -6,3 +6,4 @@ pub mod ListedFiles
 pub mod Members
 pub mod Readings
 pub mod Scan
+pub mod Unfinished

@@ -17,7 +17,8 @@ use Rattle.prospect.specs.declared.listings.TheConstants.{MAX_FILES}
 use Rattle.prospect.specs.declared.scan_error.ScanError.{ScanError}
 use Rattle.prospect.specs.declared.scan_error.ScanError.TheVariants.{Failed, NoMemory, TooMany}
 use Rattle.prospect.specs.Members.{IsCovered, globs_of}
-use Rattle.prospect.specs.Scan.{AreListed, Listing, OnlyListed}
+use Rattle.prospect.specs.Scan.{AreListed, Listing}
+use Rattle.prospect.specs.Unfinished.{ListsSome}
 
 -- what the listings showed, one behind the other
 abbrev pub shown_in : List Listing → List Shown
@@ -86,8 +87,8 @@ pub record FindsOneMore (inputs : List InputRule) (told : FolderHistory) (path :
 
 -- what was done where a scan tells no file
 abbrev pub EndsAs : List InputRule → FolderHistory → ScanError → Option FolderHistory → Type 0
-EndsAs inputs told Failed after = OnlyListed told after
-EndsAs inputs told NoMemory after = OnlyListed told after
+EndsAs inputs told Failed after = ListsSome (globs_of inputs) told after
+EndsAs inputs told NoMemory after = ListsSome (globs_of inputs) told after
 EndsAs inputs told (TooMany path) after = FindsOneMore inputs told path after
 
 -- a file within the ranges of a begin

@@ -1,11 +1,12 @@
-ghost use Rattle.std.specs.Prelude.{◌≡◌, ◌≤◌, ◌∷◌, [], length, map, All, IfOk, IfErr, IfSome, IsErrOf, OnOk, OnErr};
+ghost use Rattle.std.specs.Prelude.{◌≡◌, ◌<◌, ◌≤◌, ◌∷◌, [], length, map, All, IfOk, IfErr, IfSome, IsErrOf, OnOk, OnErr};
 ghost use Rattle.std.specs.List.Sorted.{IsStrictlySortedBy};
 ghost use Rattle.outside.specs.Counts.{Rose};
 ghost use Rattle.prospect.specs.Entries.{Lists};
 ghost use Rattle.prospect.specs.ListedFiles.{EndsAs, IsListedInRange, ScansFiles, place_of, place_order};
 ghost use Rattle.prospect.specs.Members.{HaveGlobs, HaveShortIds};
 ghost use Rattle.prospect.specs.Readings.{globs_read};
-ghost use Rattle.prospect.specs.Scan.{OnlyListed, TellsPath};
+ghost use Rattle.prospect.specs.Scan.{TellsPath};
+ghost use Rattle.prospect.specs.Unfinished.{ListsSome};
 
 use crate::by_path::list_entries;
 use crate::entries::{Entries, add_entries};
@@ -36,6 +37,8 @@ pub fn list_files<F: Folder>(
     ensures few { IfOk result (λ listed. length listed.items ≤ MAX_FILES) }
     ensures in_order { IfOk result
         (λ listed. IsStrictlySortedBy place_order (map place_of listed.items)) }
+    ensures of_inputs { IfOk result
+        (λ listed. All (λ one. one.input < length inputs.now) listed.items) }
     ensures in_range { IfOk result
         (λ listed. HaveShortIds inputs.now → All IsListedInRange listed.items) }
     ensures path_in_range { IfErr result TellsPath }
@@ -64,8 +67,8 @@ fn list_inputs<F: Folder>(
     ensures listed { OnOk result
         (Lists (globs_read inputs.now) (F.told folder.old)
         entries.old entries.new (F.told folder.new)) }
-    ensures only_listed { OnErr result
-        (IfSome (F.told folder.old) (λ told. OnlyListed told (F.told folder.new))) }
+    ensures lists_some { OnErr result (IfSome (F.told folder.old)
+        (λ told. ListsSome (globs_read inputs.now) told (F.told folder.new))) }
     ensures failed_only_where_faults_rose { IsErrOf result FolderError.Failed
         → Rose (F.faults folder.old) (F.faults folder.new) }
     ensures open_tails_kept { F.open_tails folder.new ≡ F.open_tails folder.old }
@@ -86,8 +89,8 @@ fn list_globs<F: Folder>(
 ) -> Result<(), FolderError>
     ensures listed { OnOk result
         (Lists globs.now (F.told folder.old) entries.old entries.new (F.told folder.new)) }
-    ensures only_listed { OnErr result
-        (IfSome (F.told folder.old) (λ told. OnlyListed told (F.told folder.new))) }
+    ensures lists_some { OnErr result (IfSome (F.told folder.old)
+        (λ told. ListsSome globs.now told (F.told folder.new))) }
     ensures failed_only_where_faults_rose { IsErrOf result FolderError.Failed
         → Rose (F.faults folder.old) (F.faults folder.new) }
     ensures open_tails_kept { F.open_tails folder.new ≡ F.open_tails folder.old }
@@ -107,8 +110,8 @@ fn list_glob<F: Folder>(
 ) -> Result<(), FolderError>
     ensures listed { OnOk result
         (Lists (glob.now ∷ []) (F.told folder.old) entries.old entries.new (F.told folder.new)) }
-    ensures only_listed { OnErr result
-        (IfSome (F.told folder.old) (λ told. OnlyListed told (F.told folder.new))) }
+    ensures lists_some { OnErr result (IfSome (F.told folder.old)
+        (λ told. ListsSome (glob.now ∷ []) told (F.told folder.new))) }
     ensures failed_only_where_faults_rose { IsErrOf result FolderError.Failed
         → Rose (F.faults folder.old) (F.faults folder.new) }
     ensures open_tails_kept { F.open_tails folder.new ≡ F.open_tails folder.old }

@@ -1,6 +1,7 @@
 use Rattle.std.proofs.Common.{refl, ◌∙◌, arith}
-use Rattle.prospect.proofs.Listing.{on_err, then_only_listed}
-use Rattle.prospect.proofs.Showing.{lists_next, lists_nothing, only_shown}
+use Rattle.prospect.proofs.Listing.{on_err}
+use Rattle.prospect.proofs.Showing.{lists_next, lists_nothing}
+use Rattle.prospect.proofs.Unfinished.{ends_at_glob}
 use Rattle.prospect.proofs.files.list_globs.Goals as goal
 
 pub loop-glob-init : goal.loop-glob-init
@@ -13,6 +14,6 @@ loop-glob-preserved g c = record {
   faults = omega (arith, c.loop-glob.invariant.faults, c.in_ok-list_glob.ensures.faults_never_fall);
 }
 
-pub returns-in_err-list_glob-clause-only_listed : goal.returns-in_err-list_glob-clause-only_listed
-returns-in_err-list_glob-clause-only_listed g c =
-    on_err _ _ (then_only_listed _ _ _ (only_shown _ _ _ _ _ c.loop-glob.invariant.lists) c.in_err-list_glob.ensures.only_listed)
+pub returns-in_err-list_glob-clause-lists_some : goal.returns-in_err-list_glob-clause-lists_some
+returns-in_err-list_glob-clause-lists_some g c =
+    on_err _ _ (ends_at_glob _ _ c.glob-item.result _ _ _ _ _ c.loop-glob-test.true c.glob-item.is c.loop-glob.invariant.lists c.in_err-list_glob.ensures.lists_some)

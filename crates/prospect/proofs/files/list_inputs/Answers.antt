@@ -1,6 +1,7 @@
 use Rattle.std.proofs.Common.{refl, ◌∙◌, arith}
-use Rattle.prospect.proofs.Listing.{on_err, then_only_listed}
-use Rattle.prospect.proofs.Showing.{lists_next_input, lists_nothing, only_shown}
+use Rattle.prospect.proofs.Listing.{on_err}
+use Rattle.prospect.proofs.Showing.{lists_next_input, lists_nothing}
+use Rattle.prospect.proofs.Unfinished.{ends_at_input}
 use Rattle.prospect.proofs.files.list_inputs.Goals as goal
 
 pub loop-input-init : goal.loop-input-init
@@ -13,6 +14,6 @@ loop-input-preserved g c = record {
   faults = omega (arith, c.loop-input.invariant.faults, c.in_ok-list_globs.ensures.faults_never_fall);
 }
 
-pub returns-in_err-list_globs-clause-only_listed : goal.returns-in_err-list_globs-clause-only_listed
-returns-in_err-list_globs-clause-only_listed g c =
-    on_err _ _ (then_only_listed _ _ _ (only_shown _ _ _ _ _ c.loop-input.invariant.lists) c.in_err-list_globs.ensures.only_listed)
+pub returns-in_err-list_globs-clause-lists_some : goal.returns-in_err-list_globs-clause-lists_some
+returns-in_err-list_globs-clause-lists_some g c =
+    on_err _ _ (ends_at_input _ _ c.input-item.result _ _ _ _ _ c.loop-input-test.true c.input-item.is c.loop-input.invariant.lists (rw c.deref.ensures.value at c.in_err-list_globs.ensures.lists_some))
