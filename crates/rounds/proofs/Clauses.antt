@@ -1,5 +1,5 @@
 -- What a round's clauses say, from the turns that it was made of.
-use Rattle.std.proofs.Common.{◌≡◌, ◌⊎◌, ⊎_elim, ◌≤◌, Bool, true, false, ◌||◌, inl, inr, refl, sym, ap, subst, ◌∙◌, arith}
+use Rattle.std.proofs.Common.{◌≡◌, ◌⊎◌, ⊎_elim, ◌≤◌, Bool, true, false, ◌||◌, Some, inl, inr, refl, sym, ap, subst, ◌∙◌, arith}
 use Rattle.keeper.specs.Collecting.{Collects}
 use Rattle.keeper.specs.Storing.{IsStoredInFull, Stores}
 use Rattle.lanes.specs.declared.run.When.{When}
@@ -8,9 +8,10 @@ use Rattle.outside.specs.Counts.{Rose}
 use Rattle.settle_box.specs.BoundedBox.{BoundedBox}
 use Rattle.settle_box.specs.Senders.{notes}
 use Rattle.ship_core.specs.Orderly.{AreOrderly}
+use Rattle.wire_base.specs.declared.numbers.Slot.{Slot}
 use Rattle.rounds.specs.Answer.{have_others_moved, round_of, some_carrier_moved, some_lane_moved}
 use Rattle.rounds.specs.Books.{AreBooked, ArePlaced, Told, told_on}
-use Rattle.rounds.specs.Causes.{LanesHad, RoundCauses}
+use Rattle.rounds.specs.Causes.{AnswersSteps, LanesHad, RoundCauses}
 use Rattle.rounds.specs.Crewed.{lanings}
 use Rattle.rounds.specs.Images.{AreAtRest, ImagesAreFronts}
 use Rattle.rounds.specs.KeeperTurns.{SameAreas, begun_stored}
@@ -19,6 +20,7 @@ use Rattle.rounds.specs.Placed.{IsPlacedAfter}
 use Rattle.rounds.specs.RoundKeeps.{RoundKeeps}
 use Rattle.rounds.specs.Rounds.{IsReady, KeeperHad, KeeperRested, Rounds}
 use Rattle.rounds.specs.Running.{StoringHasRun}
+use Rattle.rounds.specs.Staying.{AreAsMany, HaveSlot, begins_of}
 use Rattle.rounds.specs.Words.{Words}
 use Rattle.rounds.specs.declared.answer.Round.{Round}
 use Rattle.rounds.specs.Crewing.{Crewing}
@@ -28,8 +30,10 @@ use Rattle.rounds.proofs.KeeperSteps.{areas_by}
 use Rattle.rounds.proofs.Images.{images_are_fronts, kept_still, rested_images, rested_kept}
 use Rattle.rounds.proofs.Moved.{answer_moved, bare_answer, carriers_moved, carriers_still, lanes_moved, lanes_still, storing_moved, storing_still}
 use Rattle.rounds.proofs.Placing.{booked_met, carriers_stepped, lanes_stepped, placed_met}
-use Rattle.rounds.proofs.Kept.{collects_ran, collects_same, in_full_where_still, stores_ran}
+use Rattle.rounds.proofs.Kept.{collects_ran, collects_same, in_full_by, stores_ran}
 use Rattle.rounds.proofs.Ready.{able_still, ready_still, stored_disk, stored_memory}
+use Rattle.rounds.proofs.Slices.{paired_many}
+use Rattle.rounds.proofs.Staying.{begins_met, begins_ran, crew_as_many, slot_in_lanes}
 use Rattle.rounds.proofs.Sums.{booked_on}
 
 -- ---- truth
@@ -165,7 +169,7 @@ module _ {T W L D : Type 0} (words : Words T W L D) (queue : BoundedQueue) (desk
       let disk_is = sym (stored_disk (lanings new.lanes.items) new.carriers.items new.storing.stored) ∙ sym (ap (λ (r : Round). r.disk) rounds.answer) ∙ disk in
       let were = were_still old new round rounds moved in
       subst (λ (s : Storing D). IsStoredInFull s.keeper) (sym were.met.storing)
-      (in_full_where_still words.disks old.storing were.mid.storing were.storing (ap (λ (s : Storing D). s.stored.disk) (sym were.met.storing) ∙ disk_is) (ap (λ (s : Storing D). s.stored.memory) (sym were.met.storing) ∙ memory_is))
+      (in_full_by words.disks old.storing were.mid.storing were.storing.ran (ap (λ (s : Storing D). s.stored.disk) (sym were.met.storing) ∙ disk_is) (ap (λ (s : Storing D). s.stored.memory) (sym were.met.storing) ∙ memory_is))
 
   -- ---- causes
 
@@ -188,6 +192,14 @@ module _ {T W L D : Type 0} (words : Words T W L D) (queue : BoundedQueue) (desk
       let stepped = lanes_stepped words.tails queue.capacity desk.capacity when queue.id desk.id (lanings old.lanes.items) (lanings mid.lanes.items) rounds.ran.others.lanes ready.able.have.lanes_have in
       record { steps = stepped.steps; lanes = lanings mid.lanes.items; steps_are = stepped.are; lanes_are = rounds.meets.met.lanes_same }
 
+  answers_by : (old new : Crewing T W L D) (round : Round) → Rounds words queue desk when old new round → (had : LanesHad words.tails queue desk when old new) → AnswersSteps round had.steps
+  answers_by old new round rounds had =
+      answers_steps words.tails queue.capacity desk.capacity when had.steps (lanings old.lanes.items) had.lanes (lanings new.lanes.items) new.carriers.items new.storing.stored round had.steps_are had.lanes_are rounds.answer
+
+  of_crew : (old new : Crewing T W L D) (round : Round) → Rounds words queue desk when old new round → (had : LanesHad words.tails queue desk when old new) → (slot : Slot) → round.epochs ≡ Some slot → HaveSlot slot (lanings old.lanes.items)
+  of_crew old new round rounds had slot is =
+      slot_in_lanes words.tails queue.capacity desk.capacity when slot had.steps (lanings old.lanes.items) had.lanes had.steps_are ((answers_by old new round rounds had).epochs slot is)
+
   pub causes : (old new : Crewing T W L D) (round : Round) → Rounds words queue desk when old new round → IsReady words.tails queue.id desk.id old → RoundCauses words queue desk when old new round
   causes old new round rounds ready =
       let mid = rounds.mid in
@@ -197,7 +209,8 @@ module _ {T W L D : Type 0} (words : Words T W L D) (queue : BoundedQueue) (desk
             (keeper_causes old mid _ rounds.ran.keeper
             (ap (λ (s : Storing D). s.stored.disk) (sym same) ∙ sym (stored_disk (lanings new.lanes.items) new.carriers.items new.storing.stored) ∙ sym (ap (λ (r : Round). r.disk) rounds.answer) ∙ is));
         had = lanes_had old new round rounds ready;
-        files = λ had. answers_steps words.tails queue.capacity desk.capacity when had.steps (lanings old.lanes.items) had.lanes (lanings new.lanes.items) new.carriers.items new.storing.stored round had.steps_are had.lanes_are rounds.answer;
+        files = λ had. answers_by old new round rounds had;
+        of_crew = λ slot is. of_crew old new round rounds (lanes_had old new round rounds ready) slot is;
         a_faults = subst (λ (s : Storing D). words.disks.faults old.storing.a.now ≤ words.disks.faults s.a.now) (sym same) (a_faults_then old mid _ rounds.ran.keeper);
         b_faults = subst (λ (s : Storing D). words.disks.faults old.storing.b.now ≤ words.disks.faults s.b.now) (sym same) (b_faults_then old mid _ rounds.ran.keeper);
         wires = wires_stay words.wires words.links desk.capacity when.now old.carriers.items mid.carriers.items new.carriers.items rounds.ran.others.carriers rounds.meets.met.carriers_same;
@@ -212,6 +225,22 @@ module _ {T W L D : Type 0} (words : Words T W L D) (queue : BoundedQueue) (desk
 
   pub same_areas : (old new : Crewing T W L D) (round : Round) → Rounds words queue desk when old new round → SameAreas old.storing new.storing
   same_areas old new round rounds = subst (λ (s : Storing D). SameAreas old.storing s) (sym rounds.meets.storing) (areas_then old rounds.mid _ rounds.ran.keeper)
+
+  -- ---- what stays of the crew
+
+  pub as_many : (old new : Crewing T W L D) (round : Round) → Rounds words queue desk when old new round → AreAsMany old new
+  as_many old new round rounds =
+      let mid = rounds.mid in
+      crew_as_many old mid new
+      (paired_many _ (lanings old.lanes.items) (lanings mid.lanes.items) rounds.ran.others.lanes)
+      (paired_many _ old.carriers.items mid.carriers.items rounds.ran.others.carriers)
+      rounds.meets.met.lanes_same rounds.meets.met.carriers_same
+
+  pub slots : (old new : Crewing T W L D) (round : Round) → Rounds words queue desk when old new round → begins_of (lanings new.lanes.items) ≡ begins_of (lanings old.lanes.items)
+  slots old new round rounds =
+      let mid = rounds.mid in
+      begins_met (lanings mid.lanes.items) (lanings new.lanes.items) rounds.meets.met.lanes_same
+      ∙ begins_ran words.tails queue.capacity desk.capacity when (lanings old.lanes.items) (lanings mid.lanes.items) rounds.ran.others.lanes
 
   -- ---- all of them
 
@@ -228,5 +257,7 @@ module _ {T W L D : Type 0} (words : Words T W L D) (queue : BoundedQueue) (desk
     stored = λ stores. subst (λ (s : Storing D). Stores s.keeper.tracked s.keeper.store) (sym rounds.meets.storing) (stores_then old rounds.mid _ rounds.ran.keeper stores);
     in_full = λ moved memory disk. in_full old new round rounds moved memory disk;
     causes = causes old new round rounds ready;
+    as_many = as_many old new round rounds;
+    slots = slots old new round rounds;
     same_areas = same_areas old new round rounds;
   }

@@ -1,5 +1,5 @@
--- What the keeper's turns of a round keep: what was collected, what is stored, and that all is stored where none kept anything.
-use Rattle.std.specs.List.{AllByRecursion}
+-- What the keeper's turns of a round keep: what was collected, what is stored, and that all is stored where memory was found and
+-- the disk went well.
 use Rattle.std.proofs.Common.{◌≡◌, ◌<◌, Bool, true, false, List, [], ◌∷◌, length, sym, ap, subst, ◌∙◌, arith}
 use Rattle.keeper.specs.Collecting.{Collects}
 use Rattle.keeper.specs.Keeping.{Keeping}
@@ -7,8 +7,7 @@ use Rattle.keeper.specs.Storing.{IsStoredInFull, Stores}
 use Rattle.keeper.specs.declared.turn.KeeperTurn.{KeeperTurn}
 use Rattle.keeper.specs.declared.turn.KeeperTurn.TheVariants.{Kept, Empty, DiskFault, NoMemory}
 use Rattle.keeper.proofs.InARow.{collects_more, collects_none}
-use Rattle.rounds.specs.KeeperTurns.{AllButLastKept, IsKeeping, KeeperRun, KeeperTurned, StoringState, begun_stored, stored_of, stored_with, storing_state}
-use Rattle.rounds.specs.Moved.{StoringWasStill}
+use Rattle.rounds.specs.KeeperTurns.{KeeperRan, KeeperRun, KeeperTurned, StoringState, begun_stored, stored_of, stored_with, storing_state}
 use Rattle.rounds.specs.Running.{StoringHasRun}
 use Rattle.rounds.specs.Words.{DiskWords}
 use Rattle.rounds.specs.declared.storing.Stored.{Stored}
@@ -45,22 +44,25 @@ module _ {D : Type 0} (disks : DiskWords D) where
   unfolding StoringHasRun IsStored
   stores_ran old new ran stores = stores_by ran.turns (storing_state old) (storing_state new) ran.ran stores
 
-  -- ---- where no turn kept anything, it found nothing to store
+  -- ---- after turns that found memory, and whose disk went well, nothing is left to store
 
-  full_by : (turn : KeeperTurn) (stored : Stored) (old new : StoringState D) → KeeperTurned disks turn old new → ¬ (IsKeeping turn) → (stored_with turn stored).disk ≡ false → (stored_with turn stored).memory ≡ false → IsStoredInFull new.keeper
-  full_by (Kept count) stored old new turned still disk memory = absurd (still tt)
-  full_by Empty stored old new turned still disk memory = subst IsStoredInFull (sym turned.kept_where_empty) turned.nothing_to_store
-  full_by DiskFault stored old new turned still disk memory = apart disk
-  full_by NoMemory stored old new turned still disk memory = apart memory
+  full_after : (turn : KeeperTurn) (stored : Stored) (old new : StoringState D) → KeeperTurned disks turn old new → (stored_with turn stored).disk ≡ false → (stored_with turn stored).memory ≡ false → IsStoredInFull new.keeper
+  full_after (Kept count) stored old new turned disk memory = turned.stored_in_full
+  full_after Empty stored old new turned disk memory = subst IsStoredInFull (sym turned.kept_where_empty) turned.nothing_to_store
+  full_after DiskFault stored old new turned disk memory = apart disk
+  full_after NoMemory stored old new turned disk memory = apart memory
 
-  full_run : (turns : List KeeperTurn) (stored : Stored) (old new : StoringState D) → KeeperRun disks turns old new → 0 < length turns → AllButLastKept turns → AllByRecursion (λ (t : KeeperTurn). ¬ (IsKeeping t)) turns
-      → (stored_of stored turns).disk ≡ false → (stored_of stored turns).memory ≡ false → IsStoredInFull new.keeper
-  full_run [] stored old new is some kept still disk memory = absurd (omega (arith, some))
-  full_run (t ∷ []) stored old new run some kept still disk memory =
-      subst (λ (s : StoringState D). IsStoredInFull s.keeper) (sym run.2) (full_by t stored old run.0 run.1 still.0 disk memory)
-  full_run (t ∷ u ∷ us) stored old new run some kept still disk memory = absurd (still.0 kept.0)
+  full_run : (turns : List KeeperTurn) (stored : Stored) (old new : StoringState D) → KeeperRun disks turns old new → 0 < length turns → (stored_of stored turns).disk ≡ false → (stored_of stored turns).memory ≡ false → IsStoredInFull new.keeper
+  full_run [] stored old new is some disk memory = absurd (omega (arith, some))
+  full_run (t ∷ []) stored old new run some disk memory =
+      subst (λ (s : StoringState D). IsStoredInFull s.keeper) (sym run.2) (full_after t stored old run.0 run.1 disk memory)
+  full_run (t ∷ u ∷ us) stored old new run some disk memory = full_run (u ∷ us) (stored_with t stored) run.0 new run.2 (omega arith) disk memory
 
-  pub in_full_where_still : (old new : Storing D) → StoringWasStill disks old new → new.stored.disk ≡ false → new.stored.memory ≡ false → IsStoredInFull new.keeper
-  in_full_where_still old new was disk memory =
-      full_run was.ran.turns begun_stored (storing_state old) (storing_state new) was.ran.ran was.ran.some was.ran.kept was.each
-      (sym (ap (λ (s : Stored). s.disk) was.ran.stored) ∙ disk) (sym (ap (λ (s : Stored). s.memory) was.ran.stored) ∙ memory)
+  pub in_full_by : (old new : Storing D) → KeeperRan disks old new → new.stored.disk ≡ false → new.stored.memory ≡ false → IsStoredInFull new.keeper
+  in_full_by old new ran disk memory =
+      full_run ran.turns begun_stored (storing_state old) (storing_state new) ran.ran ran.some
+      (sym (ap (λ (s : Stored). s.disk) ran.stored) ∙ disk) (sym (ap (λ (s : Stored). s.memory) ran.stored) ∙ memory)
+
+  pub in_full_ran : (old new : Storing D) → StoringHasRun disks old new → new.stored.disk ≡ false → new.stored.memory ≡ false → IsStoredInFull new.keeper
+  unfolding StoringHasRun
+  in_full_ran old new ran disk memory = in_full_by old new ran disk memory

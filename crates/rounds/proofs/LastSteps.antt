@@ -11,7 +11,7 @@ use Rattle.batch_worker.specs.Standing.{StandsFor}
 use Rattle.batch_worker.specs.Steps.{FoundFull, PostsOf}
 use Rattle.keeper.specs.Collecting.{Collects}
 use Rattle.keeper.specs.Keeping.{Keeping}
-use Rattle.keeper.specs.Storing.{Stores}
+use Rattle.keeper.specs.Storing.{IsStoredInFull, Stores}
 use Rattle.lanes.specs.Giving.{IsInRange, notes_in, parcels_in}
 use Rattle.lanes.specs.Handing.{after_posting, posting, with_put}
 use Rattle.lanes.specs.Keeping.{LaneKeeps}
@@ -56,9 +56,11 @@ use Rattle.rounds.proofs.Causes.{a_faults_ran, b_faults_ran, faults_met, rose_ra
 use Rattle.rounds.proofs.Having.{post_of, post_share, some_still, take_of, take_share}
 use Rattle.rounds.proofs.Images.{images_are_fronts, kept_still}
 use Rattle.rounds.proofs.KeeperSteps.{pass_stays}
-use Rattle.rounds.proofs.Kept.{collects_ran, stores_ran}
+use Rattle.rounds.proofs.Kept.{collects_ran, in_full_ran, stores_ran}
 use Rattle.rounds.proofs.Placing.{booked_met, placed_met}
 use Rattle.rounds.proofs.Ready.{IsBareReady, from_bare, mapped_some, opened_ran, some_as, some_mapped, to_bare, with_passes}
+use Rattle.rounds.proofs.Slices.{paired_many}
+use Rattle.rounds.proofs.Staying.{begins_settled, crew_as_many}
 use Rattle.rounds.proofs.Sums.{CarrierKeeps, CarriersKept, LanesKept, booked_on, carrier_kept, heard_more, lane_kept, none_carried, none_kept}
 
 none_put : (put : Option Known) → put ≡ with_put put []
@@ -359,11 +361,14 @@ module _ {T W L D : Type 0} (words : Words T W L D) (queue : BoundedQueue) (desk
       wires = faults_met words.wires old.carriers.items mid.carriers.items new.carriers.items (wires_handed words.links words.wires desk.capacity old.carriers.items mid.carriers.items settles.handed.carriers) settles.meets.met.carriers_same;
     }
 
+    files : Pairs KeepsFiles (lanings old.lanes.items) (lanings new.lanes.items)
+    files = from_bare_files words.tails desk.capacity (lanings old.lanes.items) (lanings new.lanes.items)
+        (subst (λ (ls : List (Laning T)). Pairs KeepsFiles (lanings old.lanes.items) ls) (sym settles.meets.met.lanes_same) lanes_are.files)
+
     pub settling_keeps : SettlingKeeps words queue desk old new round
     settling_keeps = record {
       ready = ready_again;
-      lanes = from_bare_files words.tails desk.capacity (lanings old.lanes.items) (lanings new.lanes.items)
-          (subst (λ (ls : List (Laning T)). Pairs KeepsFiles (lanings old.lanes.items) ls) (sym settles.meets.met.lanes_same) lanes_are.files);
+      lanes = files;
       placed = placed_once;
       counted = posts_counted queue.id desk.id mid new settles.meets;
       images = images_are;
@@ -371,6 +376,12 @@ module _ {T W L D : Type 0} (words : Words T W L D) (queue : BoundedQueue) (desk
       collects = subst (λ (s : Storing D). Collects old.storing.keeper s.keeper) (sym settles.meets.storing) (collects_ran words.disks old.storing mid.storing settles.storing);
       able = able_again;
       stored = λ stores. subst (λ (s : Storing D). Stores s.keeper.tracked s.keeper.store) (sym settles.meets.storing) (stores_ran words.disks old.storing mid.storing settles.storing stores);
+      in_full = λ memory disk. subst (λ (s : Storing D). IsStoredInFull s.keeper) (sym settles.meets.storing) (in_full_ran words.disks old.storing mid.storing settles.storing (disk_is disk) (memory_is memory));
       causes = causes;
+      as_many = crew_as_many old mid new
+          (paired_many _ (lanings old.lanes.items) (lanings mid.lanes.items) settles.handed.lanes)
+          (paired_many _ old.carriers.items mid.carriers.items settles.handed.carriers)
+          settles.meets.met.lanes_same settles.meets.met.carriers_same;
+      slots = begins_settled (lanings old.lanes.items) (lanings new.lanes.items) files;
       same_areas = subst (λ (s : Storing D). SameAreas old.storing s) (sym settles.meets.storing) (areas_ran words.disks old.storing mid.storing settles.storing);
     }

@@ -15,5 +15,6 @@ pub mod Parting
 pub mod Placing
 pub mod Ready
 pub mod Slices
+pub mod Staying
 pub mod Sums
 pub mod Tested

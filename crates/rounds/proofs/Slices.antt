@@ -11,10 +11,10 @@ use Rattle.rounds.specs.Meeting.{HaveMet}
 use Rattle.rounds.specs.Pairs.{Pairs}
 use Rattle.rounds.specs.declared.carrier.Carrier.{Carrier}
 
-as_many : {A B : Type 0} (f : A → B) (xs ys : List A) → map f xs ≡ map f ys → length xs ≡ length ys
+pub as_many : {A B : Type 0} (f : A → B) (xs ys : List A) → map f xs ≡ map f ys → length xs ≡ length ys
 as_many f xs ys same = sym (length-map xs f) ∙ ap length same ∙ length-map ys f
 
-paired_many : {A B : Type 0} (R : A → B → Type 0) (xs : List A) (ys : List B) → Pairs R xs ys → length ys ≡ length xs
+pub paired_many : {A B : Type 0} (R : A → B → Type 0) (xs : List A) (ys : List B) → Pairs R xs ys → length ys ≡ length xs
 paired_many R [] [] pairs = refl
 paired_many R [] (y ∷ ys) pairs = absurd pairs
 paired_many R (x ∷ xs) [] pairs = absurd pairs

@@ -12,6 +12,7 @@ use Rattle.wire_base.specs.declared.numbers.Slot.{Slot}
 use Rattle.rounds.specs.Crewed.{bare_lanes, lanings}
 use Rattle.rounds.specs.Pairs.{Pairs, SomeOf}
 use Rattle.rounds.specs.Placed.{AreStepsOf}
+use Rattle.rounds.specs.Staying.{HaveSlot}
 use Rattle.rounds.specs.Words.{TailWords, WireWords, Words}
 use Rattle.rounds.specs.declared.answer.Round.{Round}
 use Rattle.rounds.specs.declared.carrier.Carrier.{Carrier}
@@ -47,6 +48,8 @@ pub record RoundCauses {T W L D : Type 0} (words : Words T W L D) (queue : Bound
   -- the lanes had turns, and whichever lead to what they are, the answer is by these
   pub had : LanesHad words.tails queue desk when old new
   pub files : (had : LanesHad words.tails queue desk when old new) → AnswersSteps round had.steps
+  -- a slot whose last epoch was over is that of a harvester
+  pub of_crew : (slot : Slot) → round.epochs ≡ Some slot → HaveSlot slot (lanings old.lanes.items)
   -- no count of faults falls
   pub a_faults : words.disks.faults old.storing.a.now ≤ words.disks.faults new.storing.a.now
   pub b_faults : words.disks.faults old.storing.b.now ≤ words.disks.faults new.storing.b.now

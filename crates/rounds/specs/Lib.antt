@@ -18,4 +18,5 @@ pub mod Rounds
 pub mod Running
 pub mod Settled
 pub mod Settling
+pub mod Staying
 pub mod Words

@@ -15,6 +15,7 @@ use Rattle.rounds.specs.KeeperTurns.{SameAreas}
 use Rattle.rounds.specs.Moved.{HaveMoved, WereStill}
 use Rattle.rounds.specs.Placed.{IsPlacedAfter}
 use Rattle.rounds.specs.Rounds.{IsAble, IsReady}
+use Rattle.rounds.specs.Staying.{AreAsMany, begins_of}
 use Rattle.rounds.specs.Words.{Words}
 use Rattle.rounds.specs.declared.answer.Round.{Round}
 
@@ -39,5 +40,9 @@ pub record RoundKeeps {T W L D : Type 0} (words : Words T W L D) (queue : Bounde
   pub in_full : round.moved ≡ false → round.memory ≡ false → round.disk ≡ false → IsStoredInFull new.storing.keeper
   -- each answer has its cause
   pub causes : RoundCauses words queue desk when old new round
+  -- as many lanes and workers
+  pub as_many : AreAsMany old new
+  -- each lane has its harvesters still, of the same slots
+  pub slots : begins_of (lanings new.lanes.items) ≡ begins_of (lanings old.lanes.items)
   -- the areas are the same disks
   pub same_areas : SameAreas old.storing new.storing

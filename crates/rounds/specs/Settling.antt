@@ -13,7 +13,7 @@ use Rattle.ship_core.specs.Orderly.{AreOrderly}
 use Rattle.wire_base.specs.declared.note.Note.{Note}
 use Rattle.wire_base.specs.declared.parcel.Parcel.{Parcel}
 use Rattle.keeper.specs.Collecting.{Collects}
-use Rattle.keeper.specs.Storing.{Stores}
+use Rattle.keeper.specs.Storing.{IsStoredInFull, Stores}
 use Rattle.lanes.specs.Giving.{IsInRange, notes_in, parcels_in}
 use Rattle.lanes.specs.Laning.{Laning}
 use Rattle.rounds.specs.Answer.{of_stored}
@@ -27,6 +27,7 @@ use Rattle.rounds.specs.Pairs.{Pairs}
 use Rattle.rounds.specs.Placed.{GoesOn}
 use Rattle.rounds.specs.Rounds.{IsAble, IsReady, MeetsIn, posted_in}
 use Rattle.rounds.specs.Running.{StoringHasRun}
+use Rattle.rounds.specs.Staying.{AreAsMany, begins_of}
 use Rattle.rounds.specs.Words.{LinkWords, Words}
 use Rattle.rounds.specs.declared.answer.Round.{Round}
 use Rattle.rounds.specs.declared.carrier.Carrier.{Carrier}
@@ -110,7 +111,13 @@ pub record SettlingKeeps {T W L D : Type 0} (words : Words T W L D) (queue : Bou
   pub able : IsAble words.tails queue.id desk.id new
   -- what the store has is what was noted up to the last commit
   pub stored : Stores old.storing.keeper.tracked old.storing.keeper.store → Stores new.storing.keeper.tracked new.storing.keeper.store
+  -- and nothing is left to store
+  pub in_full : round.memory ≡ false → round.disk ≡ false → IsStoredInFull new.storing.keeper
   -- each answer has its cause
   pub causes : SettlingCauses words old new round
+  -- as many lanes and workers
+  pub as_many : AreAsMany old new
+  -- each lane has its harvesters still, of the same slots
+  pub slots : begins_of (lanings new.lanes.items) ≡ begins_of (lanings old.lanes.items)
   -- the areas are the same disks
   pub same_areas : SameAreas old.storing new.storing
