@@ -1,5 +1,5 @@
 -- What a round met, by what shows of it.
-use Rattle.std.proofs.Common.{◌≡◌, ◌≢◌, ◌⊎◌, inl, inr, ⊎_elim, ℕ, ◌≤◌, ◌<◌, ◌^◌, ◌-◌, All, true, false, List, [], ◌∷◌, Option, Some, None, refl, sym, ap, subst, ◌∙◌, arith}
+use Rattle.std.proofs.Common.{◌≡◌, ◌≢◌, ◌⊎◌, inl, inr, ⊎_elim, ℕ, ◌≤◌, ◌<◌, ◌^◌, ◌-◌, All, true, false, List, [], ◌∷◌, Option, Some, None, IfSome, refl, sym, ap, subst, ◌∙◌, arith}
 use Rattle.std.proofs.lemmas.List.Elements.{recursion_from_All}
 use Rattle.std.specs.List.{AllByRecursion}
 use Rattle.lanes.specs.Done.{IsDone}
@@ -66,6 +66,10 @@ module _ {T W L D : Type 0} (words : Words T W L D) (queue : BoundedQueue) (desk
       round_shows words.tails queue.capacity desk.capacity when (WasOver slot) (IsOverOf slot) (over_shows words.tails.numbers words.tails.told words.tails.faults slot)
       had.steps (lanings old.lanes.items) had.lanes (lanings new.lanes.items) had.steps_are had.lanes_are known
       ((keeps.causes.files had).epochs slot is.2)
+
+  pub each_met : (result : Option Met) → IsMetIn attempts (crew_of new) new.storing.keeper round result → IfSome result (IsMetBy words.tails words.disks attempts since)
+  each_met None is = tt
+  each_met (Some met) is = round_met met is
 
   -- ---- whether the run goes on
 

@@ -5,6 +5,7 @@
 
 mod context;
 mod follow;
+mod laws;
 mod met;
 mod opening;
 mod reading;

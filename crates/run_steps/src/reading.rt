@@ -1,9 +1,11 @@
 ghost use Rattle.std.specs.Prelude.{◌≡◌, ◌≢◌, ◌^◌, ◌-◌, ◌≤◌, IfSome, Option, Some, length};
 ghost use Rattle.outside.specs.Counts.{Rose};
 ghost use Rattle.outside.specs.Folders.{FolderHistory};
+ghost use Rattle.rounds.specs.Crewed.{lanings};
 ghost use Rattle.rounds.specs.Crewing.{crewing};
 ghost use Rattle.rounds.specs.KeeperTurns.{SameAreas};
 ghost use Rattle.rounds.specs.Rounds.{IsAble, IsReady};
+ghost use Rattle.rounds.specs.Staying.{AreAsMany, begins_of};
 ghost use Rattle.rounds.specs.Words.{disk_words, link_words, tail_words, wire_words, words};
 ghost use Rattle.run_steps.specs.Areas.{IsAtRest};
 ghost use Rattle.run_steps.specs.Met.{AreLeft};
@@ -14,6 +16,7 @@ ghost use Rattle.run_steps.specs.declared.met.Met.TheVariants.{Stopped};
 
 use crate::context::Context;
 use crate::follow::{met_in, pause_where_still};
+use crate::laws::disk_images_are_counted;
 use crate::met::Met;
 use lanes::When;
 use outside::{Bell, Clock, Disk, Link, Tail, Wire};
@@ -71,11 +74,14 @@ pub fn make_round<
         context.entry.settings.now.output.attempts
         (record { a = storing.old.a.now; b = storing.old.b.now;
         now = crewing crew.new storing.new })) }
-    ensures as_many { length crew.new.carriers.items ≡ length crew.old.carriers.items }
+    ensures as_many { AreAsMany (crewing crew.old storing.old) (crewing crew.new storing.new) }
+    ensures slots { begins_of (lanings crew.new.lanes.items)
+        ≡ begins_of (lanings crew.old.lanes.items) }
     ensures a_faults_never_fall { D.faults storing.old.a.now ≤ D.faults storing.new.a.now }
     ensures b_faults_never_fall { D.faults storing.old.b.now ≤ D.faults storing.new.b.now }
     ensures same_areas { SameAreas storing.old storing.new }
 {
+    disk_images_are_counted::<D>();
     let now = clock.now();
     let when = When { now, last: true };
     let round = crew.round(rt, context.alloc, context.outlets, when, storing);
@@ -132,7 +138,9 @@ pub fn follow_all<
         now = crewing crew.new storing.new }) result }
     ensures stopped { result ≡ Stopped →
         Rose (B.rings signals.old.bell.now) (B.rings signals.new.bell.now) }
-    ensures as_many { length crew.new.carriers.items ≡ length crew.old.carriers.items }
+    ensures as_many { AreAsMany (crewing crew.old storing.old) (crewing crew.new storing.new) }
+    ensures slots { begins_of (lanings crew.new.lanes.items)
+        ≡ begins_of (lanings crew.old.lanes.items) }
     ensures a_faults_never_fall { D.faults storing.old.a.now ≤ D.faults storing.new.a.now }
     ensures b_faults_never_fall { D.faults storing.old.b.now ≤ D.faults storing.new.b.now }
     ensures rings_never_fall { B.rings signals.old.bell.now ≤ B.rings signals.new.bell.now }

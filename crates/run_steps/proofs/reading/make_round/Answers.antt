@@ -1,34 +1,63 @@
-use Rattle.std.proofs.Common.{rules, ◌≡◌, ◌≢◌, ◌^◌, ◌-◌, ◌≤◌, IfSome, Option, Some, length, ℕ, ◌+◌, ◌*◌, ◌<◌, ◌/◌, ◌%◌, Bool, true, false, nat_eq, nat_lt, List, [], ◌∷◌, ◌++◌, slice_index_or, slice_set, bit_and, bit_or, Fits, w8, w32, w64, Bor, MutBor}
-use Rattle.outside.specs.Counts.{Rose}
+use Rattle.std.proofs.Common.{ℕ, true, List, Option, refl, sym, subst, arith}
 use Rattle.outside.specs.Folders.{FolderHistory}
+use Rattle.outside.specs.Times.{GivesMoment}
 use Rattle.rounds.specs.Crewing.{crewing}
-use Rattle.rounds.specs.KeeperTurns.{SameAreas}
-use Rattle.rounds.specs.Rounds.{IsAble, IsReady}
 use Rattle.rounds.specs.Words.{disk_words, link_words, tail_words, wire_words, words}
 use Rattle.run_steps.specs.Areas.{IsAtRest}
-use Rattle.run_steps.specs.Met.{AreLeft}
-use Rattle.run_steps.specs.MetBy.{GoesOn, IsMetBy, phase_met, phase_of}
-use Rattle.run_steps.specs.Onward.{Onward}
-use Rattle.run_steps.specs.RunState.{Reading}
-use Rattle.run_steps.specs.declared.met.Met.TheVariants.{Stopped}
+use Rattle.run_steps.specs.MetBy.{GoesOn, IsMetBy, phase_of}
+use Rattle.run_steps.specs.MetIn.{IsMetIn}
+use Rattle.run_steps.specs.declared.met.Met.{Met}
+use Rattle.run_steps.proofs.MetBy.{all_done, each_met, none_out, stored_well}
+use Rattle.run_steps.proofs.Onward.{round_onward}
 use Rattle.run_steps.proofs.reading.make_round.Goals as goal
 
--- src/reading.rt:83:9
 pub met_in-met-requires : goal.met_in-met-requires
-met_in-met-requires g c = ?
+met_in-met-requires g c = record { few = let many = c.round-round.ensures.keeps.as_many.carriers in let few = c.requires.few in omega (arith, many, few) }
 
--- src/reading.rt:33:1
 pub returns-clause-onward : goal.returns-clause-onward
-returns-clause-onward g c = ?
+returns-clause-onward g c shown =
+    let all = words (tail_words g.T.Tail.numbers g.T.Tail.told g.T.Tail.faults) (link_words g.L.Link.told g.L.Link.faults g.L.Link.idles)
+        (wire_words g.W.Wire.outcomes g.W.Wire.open_links g.W.Wire.faults g.W.Wire.idles)
+        (disk_words g.D.Disk.contents g.D.Disk.images g.D.Disk.moment g.D.Disk.images_since g.D.Disk.faults) in
+    let old = crewing c.args.crew.now c.args.storing.now in
+    let new = crewing c.round-round.new.self c.round-round.new.storing in
+    let given : GivesMoment (g.K.Clock.moments c.args.clock.now) c.now-now.result.0 (g.K.Clock.moments c.pause_where_still.new.clock) =
+        subst (λ (o : Option (List ℕ)). GivesMoment (g.K.Clock.moments c.args.clock.now) c.now-now.result.0 o) (sym c.pause_where_still.ensures.moments_kept) c.now-now.ensures.told in
+    round_onward all c.disk_images_are_counted.ensures.reads c.disk_images_are_counted.ensures.counts c.args.context.outlets.queue.now c.args.context.outlets.desk.now
+    c.args.crew.now c.round-round.new.self c.args.storing.now c.round-round.new.storing c.round-round.result shown
+    (record { now = c.now-now.result; last = true }) refl (g.K.Clock.moments c.args.clock.now) (g.K.Clock.moments c.pause_where_still.new.clock) (phase_of c.met_in-met.result) given
+    c.round-round.ensures.rounds c.round-round.ensures.keeps
+    (none_out all c.args.context.outlets.queue.now c.args.context.outlets.desk.now (record { now = c.now-now.result; last = true }) old new c.round-round.result c.requires.ready
+    c.round-round.ensures.keeps c.args.context.settings.now.output.attempts c.met_in-met.result c.met_in-met.ensures)
+    (all_done all c.args.context.outlets.queue.now c.args.context.outlets.desk.now (record { now = c.now-now.result; last = true }) old new c.round-round.result c.requires.ready
+    c.round-round.ensures.keeps c.args.context.settings.now.output.attempts c.met_in-met.result c.met_in-met.ensures)
 
--- src/reading.rt:33:1
 pub returns-clause-at_rest : goal.returns-clause-at_rest
-returns-clause-at_rest g c = ?
+returns-clause-at_rest g c goes rest =
+    let all = words (tail_words g.T.Tail.numbers g.T.Tail.told g.T.Tail.faults) (link_words g.L.Link.told g.L.Link.faults g.L.Link.idles)
+        (wire_words g.W.Wire.outcomes g.W.Wire.open_links g.W.Wire.faults g.W.Wire.idles)
+        (disk_words g.D.Disk.contents g.D.Disk.images g.D.Disk.moment g.D.Disk.images_since g.D.Disk.faults) in
+    let well = stored_well all c.args.context.outlets.queue.now c.args.context.outlets.desk.now (record { now = c.now-now.result; last = true }) (crewing c.args.crew.now c.args.storing.now)
+        (crewing c.round-round.new.self c.round-round.new.storing) c.round-round.result c.requires.ready c.round-round.ensures.keeps c.args.context.settings.now.output.attempts
+        c.met_in-met.result c.met_in-met.ensures goes in
+    let after = c.round-round.ensures.keeps.at_rest well.0 well.1 (record { settled = rest.settled; committed = rest.committed }) in
+    record { settled = after.settled; committed = after.committed }
 
--- src/reading.rt:33:1
+pub returns-clause-ready : goal.returns-clause-ready
+returns-clause-ready g c goes =
+    let all = words (tail_words g.T.Tail.numbers g.T.Tail.told g.T.Tail.faults) (link_words g.L.Link.told g.L.Link.faults g.L.Link.idles)
+        (wire_words g.W.Wire.outcomes g.W.Wire.open_links g.W.Wire.faults g.W.Wire.idles)
+        (disk_words g.D.Disk.contents g.D.Disk.images g.D.Disk.moment g.D.Disk.images_since g.D.Disk.faults) in
+    let well = stored_well all c.args.context.outlets.queue.now c.args.context.outlets.desk.now (record { now = c.now-now.result; last = true }) (crewing c.args.crew.now c.args.storing.now)
+        (crewing c.round-round.new.self c.round-round.new.storing) c.round-round.result c.requires.ready c.round-round.ensures.keeps c.args.context.settings.now.output.attempts
+        c.met_in-met.result c.met_in-met.ensures goes in
+    c.round-round.ensures.keeps.ready well.0 well.1
+
 pub returns-clause-met : goal.returns-clause-met
-returns-clause-met g c = ?
-
--- src/reading.rt:33:1
-pub returns-clause-as_many : goal.returns-clause-as_many
-returns-clause-as_many g c = ?
+returns-clause-met g c =
+    let all = words (tail_words g.T.Tail.numbers g.T.Tail.told g.T.Tail.faults) (link_words g.L.Link.told g.L.Link.faults g.L.Link.idles)
+        (wire_words g.W.Wire.outcomes g.W.Wire.open_links g.W.Wire.faults g.W.Wire.idles)
+        (disk_words g.D.Disk.contents g.D.Disk.images g.D.Disk.moment g.D.Disk.images_since g.D.Disk.faults) in
+    each_met all c.args.context.outlets.queue.now c.args.context.outlets.desk.now (record { now = c.now-now.result; last = true }) (crewing c.args.crew.now c.args.storing.now)
+    (crewing c.round-round.new.self c.round-round.new.storing) c.round-round.result c.requires.ready c.round-round.ensures.keeps c.args.context.settings.now.output.attempts
+    c.met_in-met.result c.met_in-met.ensures

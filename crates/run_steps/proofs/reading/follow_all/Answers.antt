@@ -1,0 +1,64 @@
+use Rattle.std.proofs.Common.{◌≡◌, ◌≤◌, ℕ, Option, refl, ◌∙◌, arith}
+use Rattle.outside.specs.Folders.{FolderHistory}
+use Rattle.rounds.specs.Words.{Words, disk_words, link_words, tail_words, wire_words, words}
+use Rattle.run_steps.specs.RunState.{Reading, within}
+use Rattle.run_steps.proofs.Onward.{onward_by_nothing, onward_by_two}
+use Rattle.run_steps.proofs.reading.follow_all.Goals as goal
+use Rattle.run_steps.specs.MetBy.{phase_met}
+
+pub loop-init : goal.loop-init
+loop-init g c =
+    let all = words (tail_words g.T.Tail.numbers g.T.Tail.told g.T.Tail.faults) (link_words g.L.Link.told g.L.Link.faults g.L.Link.idles)
+        (wire_words g.W.Wire.outcomes g.W.Wire.open_links g.W.Wire.faults g.W.Wire.idles)
+        (disk_words g.D.Disk.contents g.D.Disk.images g.D.Disk.moment g.D.Disk.images_since g.D.Disk.faults) in
+    record {
+      goes_on = tt;
+      ends = tt;
+      ready = c.requires.ready;
+      onward = λ shown. onward_by_nothing all (within shown (g.K.Clock.moments c.args.signals.now.clock.now) c.args.crew.now c.args.storing.now Reading);
+      at_rest = λ rest. rest;
+      as_many = record { lanes = refl; carriers = refl };
+      slots = refl;
+      a_faults = omega arith;
+      b_faults = omega arith;
+      rings = omega arith;
+      same_areas = record { a = refl; b = refl };
+      same_clock = refl;
+      same_bell = refl;
+    }
+
+pub returns-in-Some-make_round-clause-onward : goal.returns-in-Some-make_round-clause-onward
+returns-in-Some-make_round-clause-onward g c shown =
+    let all = words (tail_words g.T.Tail.numbers g.T.Tail.told g.T.Tail.faults) (link_words g.L.Link.told g.L.Link.faults g.L.Link.idles)
+        (wire_words g.W.Wire.outcomes g.W.Wire.open_links g.W.Wire.faults g.W.Wire.idles)
+        (disk_words g.D.Disk.contents g.D.Disk.images g.D.Disk.moment g.D.Disk.images_since g.D.Disk.faults) in
+    onward_by_two all (within shown (g.K.Clock.moments c.args.signals.now.clock.now) c.args.crew.now c.args.storing.now Reading)
+    (within shown (g.K.Clock.moments c.loop.signals.clock.now) c.loop.crew c.loop.storing Reading)
+    (within shown (g.K.Clock.moments c.make_round.new.clock) c.make_round.new.crew c.make_round.new.storing (phase_met c.in-Some-make_round.met))
+    c.loop.invariant.at_rest (c.loop.invariant.onward shown) (c.in-Some-make_round.ensures.onward shown)
+
+pub loop-preserved : goal.loop-preserved
+loop-preserved g c =
+    let all = words (tail_words g.T.Tail.numbers g.T.Tail.told g.T.Tail.faults) (link_words g.L.Link.told g.L.Link.faults g.L.Link.idles)
+        (wire_words g.W.Wire.outcomes g.W.Wire.open_links g.W.Wire.faults g.W.Wire.idles)
+        (disk_words g.D.Disk.contents g.D.Disk.images g.D.Disk.moment g.D.Disk.images_since g.D.Disk.faults) in
+    let kept = c.loop.invariant in
+    let made = c.in_default.ensures in
+    record {
+      goes_on = tt;
+      ends = tt;
+      ready = made.ready tt;
+      onward = λ shown. onward_by_two all (within shown (g.K.Clock.moments c.args.signals.now.clock.now) c.args.crew.now c.args.storing.now Reading)
+          (within shown (g.K.Clock.moments c.loop.signals.clock.now) c.loop.crew c.loop.storing Reading)
+          (within shown (g.K.Clock.moments c.make_round.new.clock) c.make_round.new.crew c.make_round.new.storing Reading)
+          kept.at_rest (kept.onward shown) (made.onward shown);
+      at_rest = λ rest. made.at_rest tt (kept.at_rest rest);
+      as_many = record { lanes = made.as_many.lanes ∙ kept.as_many.lanes; carriers = made.as_many.carriers ∙ kept.as_many.carriers };
+      slots = made.slots ∙ kept.slots;
+      a_faults = let more = made.a_faults_never_fall in let were = kept.a_faults in omega (arith, more, were);
+      b_faults = let more = made.b_faults_never_fall in let were = kept.b_faults in omega (arith, more, were);
+      rings = let more = c.asked.ensures.rings_never_fall in let were = kept.rings in omega (arith, more, were);
+      same_areas = record { a = made.same_areas.a ∙ kept.same_areas.a; b = made.same_areas.b ∙ kept.same_areas.b };
+      same_clock = kept.same_clock;
+      same_bell = kept.same_bell;
+    }
