@@ -1,12 +1,11 @@
 -- The notes of a run are backed by the account of its files, and each of them may follow those before it.
-use Rattle.std.proofs.Common.{◌≡◌, inl, inr, ℕ, ◌==◌, List, [], ◌∷◌, ◌++◌, Contains, IsSome, map, Option, Some, refl, sym, ap, subst, ◌∙◌}
+use Rattle.std.proofs.Common.{◌≡◌, inl, inr, ℕ, ◌==◌, List, [], ◌∷◌, ◌++◌, Contains, IsSome, map, Option, refl, sym, ap, subst, ◌∙◌}
 use Rattle.std.specs.List.{AllByRecursion, filter_map}
 use Rattle.std.proofs.lemmas.Bool.{eq-eqb}
 use Rattle.std.proofs.lemmas.List.Elements.{Contains-append_left}
 use Rattle.harvester.specs.History.{Telling}
 use Rattle.kept_rows.proofs.Showing.{both}
 use Rattle.kept_rows.specs.Account.{Place}
-use Rattle.kept_rows.specs.Acknowledged.{IsAcknowledgedAt}
 use Rattle.kept_rows.specs.Backed.{AreBacked, Backs}
 use Rattle.kept_rows.specs.Scans.{AreDistinct}
 use Rattle.kept_rows.specs.Trace.{WireTold}
@@ -21,6 +20,7 @@ use Rattle.wire_base.specs.declared.numbers.Slot.{Slot}
 use Rattle.wire_base.specs.declared.parcel.Parcel.{Parcel}
 use Rattle.accounts.specs.FirstNotes.{AreFirstNotes, IsBeginOf, IsSeenOf}
 use Rattle.accounts.specs.Filed.{Filed, IsFiled, IsNoted, accounts_of, slot_in, turned_of}
+use Rattle.accounts.specs.Places.{IsPlacedWell}
 use Rattle.accounts.specs.Ground.{HasGround, IsAcknowledgement, IsNoteBy, IsNoteOf}
 use Rattle.accounts.specs.Turned.{Turned, tellings_in}
 use Rattle.accounts.specs.Turning.{Pairs}
@@ -29,12 +29,6 @@ use Rattle.accounts.proofs.Grounded.{of_map}
 use Rattle.accounts.proofs.Orderly.{member_is}
 
 -- ---- backed
-
--- what is acknowledged stands where it is placed
-pub record IsPlacedWell (placed : Parcel → Option Place) (wires : List WireTold) (parcel : Parcel) : Type 0 where
-  pub place : Place
-  pub is : placed parcel ≡ Some place
-  pub stands : IsAcknowledgedAt wires parcel.payload place
 
 module _ (placed : Parcel → Option Place) (wires : List WireTold) (files : List Filed) (apart : AreDistinct (map slot_in files)) (filed : AllByRecursion IsFiled files) where
   begins_are_backed : (some : List Filed) (begins : List Note) → ((file : Filed) → Contains some file → Contains files file) → Pairs IsBeginOf some begins →

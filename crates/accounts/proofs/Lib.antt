@@ -19,6 +19,7 @@ pub mod Often
 pub mod Onward
 pub mod Ordered
 pub mod Orderly
+pub mod Places
 pub mod Placing
 pub mod Same
 pub mod Singles

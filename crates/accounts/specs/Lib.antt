@@ -6,6 +6,7 @@ pub mod Ground
 pub mod Once
 pub mod OneScan
 pub mod Opened
+pub mod Places
 pub mod Same
 pub mod Taken
 pub mod ToldFile

@@ -1,0 +1,337 @@
+-- Each parcel that the talks of workers' wires acknowledged has a place, and one place has one parcel.
+use Rattle.std.proofs.Common.{◌≡◌, ◌⊎◌, inl, inr, ℕ, zero, suc, ◌+◌, Bool, true, false, List, [], ◌∷◌, ◌++◌, Contains, map, Option, None, Some, refl, sym, ap, subst, ◌∙◌, arith, if◌then◌else◌}
+use Rattle.std.specs.Prelude.{slice_get}
+use Rattle.std.specs.List.{AllByRecursion, flat_map}
+use Rattle.batch_worker.specs.Acknowledged.{AcknowledgeInAll}
+use Rattle.kept_rows.proofs.Acknowledging.{got_in_front}
+use Rattle.kept_rows.proofs.Showing.{both}
+use Rattle.kept_rows.specs.Account.{Place}
+use Rattle.kept_rows.specs.Acknowledged.{IsAcknowledgedAt, open_talks, talk_of}
+use Rattle.kept_rows.specs.Trace.{WireTold}
+use Rattle.lumber_client.specs.Exchange.{payloads_of}
+use Rattle.lumber_frame.specs.Acknowledged.{Acknowledges}
+use Rattle.outside.specs.Wires.{Finished, Outcome, Refused}
+use Rattle.ship_core.proofs.Members.{first_there, later_there, none_there, there_cases}
+use Rattle.wire_base.specs.declared.parcel.Parcel.{Parcel}
+use Rattle.wire_base.specs.declared.talk.Piece.{Piece}
+use Rattle.accounts.specs.Places.{AreOfWorkers, ArePlaces, IsPlacedWell, Standing, place_among, standings_at, standings_in, standings_of}
+use Rattle.accounts.specs.Same.{same_parcel}
+use Rattle.accounts.specs.Taken.{Taken, acknowledged_in}
+use Rattle.accounts.specs.Turning.{Pairs}
+use Rattle.accounts.proofs.Grounded.{of_map}
+use Rattle.accounts.proofs.Orderly.{member_is}
+use Rattle.accounts.proofs.Same.{tells_parcels}
+
+-- ---- the parts of what was acknowledged, one for each connection
+
+abbrev pub flat : {A : Type 0} → List (List A) → List A
+flat parts = flat_map (λ part. part) parts
+
+-- a connection that was refused acknowledges none
+abbrev AreParts : List Outcome → List (List Parcel) → Type 0
+AreParts [] [] = Unit {0}
+AreParts [] (part ∷ parts) = ⊥
+AreParts (outcome ∷ outcomes) [] = ⊥
+AreParts (Refused ∷ outcomes) (part ∷ parts) = (part ≡ []) × AreParts outcomes parts
+AreParts (Finished talk faults idles ∷ outcomes) (part ∷ parts) = Acknowledges talk.pieces (payloads_of part) × AreParts outcomes parts
+
+-- where a mapped list is cut, the list is
+record IsCut {A B : Type 0} (f : A → B) (xs : List A) (first rest : List B) : Type 0 where
+  front : List A
+  behind : List A
+  are : xs ≡ front ++ behind
+  first_is : map f front ≡ first
+  rest_is : map f behind ≡ rest
+
+cut_mapped : {A B : Type 0} (f : A → B) (xs : List A) (first rest : List B) → map f xs ≡ first ++ rest → IsCut f xs first rest
+cut_mapped f xs [] rest e = record { front = []; behind = xs; are = refl; first_is = refl; rest_is = e }
+cut_mapped f [] (y ∷ first) rest e = absurd cc
+cut_mapped f (x ∷ xs) (y ∷ first) rest e =
+    let q : f x ∷ map f xs ≡ y ∷ (first ++ rest) = e in
+    let same : f x ≡ y = cc in
+    let later : map f xs ≡ first ++ rest = cc in
+    let cut = cut_mapped f xs first rest later in
+    record {
+      front = x ∷ cut.front;
+      behind = cut.behind;
+      are = ap (λ l. x ∷ l) cut.are;
+      first_is = λ k. same k ∷ cut.first_is k;
+      rest_is = cut.rest_is;
+    }
+
+record HasParts (outcomes : List Outcome) (parcels : List Parcel) : Type 0 where
+  parts : List (List Parcel)
+  are : AreParts outcomes parts
+  together : flat parts ≡ parcels
+
+parts_of : (outcomes : List Outcome) (parcels : List Parcel) → AcknowledgeInAll outcomes (payloads_of parcels) → HasParts outcomes parcels
+parts_of [] [] are = record { parts = []; are = tt; together = refl }
+parts_of [] (parcel ∷ parcels) are = absurd cc
+parts_of (Refused ∷ outcomes) parcels are =
+    let others = parts_of outcomes parcels are in record { parts = [] ∷ others.parts; are = (refl, others.are); together = others.together }
+parts_of (Finished talk faults idles ∷ outcomes) parcels are =
+    let cut = cut_mapped (λ (parcel : Parcel). parcel.payload) parcels are.first are.rest are.are in
+    let others = parts_of outcomes cut.behind (subst (AcknowledgeInAll outcomes) (sym cut.rest_is) are.others) in
+    record {
+      parts = cut.front ∷ others.parts;
+      are = (subst (Acknowledges talk.pieces) (sym cut.first_is) are.acknowledges, others.are);
+      together = ap (λ (l : List Parcel). cut.front ++ l) others.together ∙ sym cut.are;
+    }
+
+-- of all wires
+record HaveParts (workers : List Taken) (wires : List WireTold) : Type 0 where
+  all : List (List (List Parcel))
+  are : Pairs (λ parts (wire : WireTold). AreParts wire.outcomes parts) all wires
+  together : flat_map flat all ≡ acknowledged_in workers
+
+all_parts : (workers : List Taken) (wires : List WireTold) → AreOfWorkers workers wires → HaveParts workers wires
+all_parts [] [] of = record { all = []; are = tt; together = refl }
+all_parts [] (wire ∷ wires) of = absurd of
+all_parts (taken ∷ workers) [] of = absurd of
+all_parts (taken ∷ workers) (wire ∷ wires) of =
+    let first = parts_of wire.outcomes taken.acknowledged of.0.talks.acknowledges in
+    let others = all_parts workers wires of.1 in
+    record {
+      all = first.parts ∷ others.all;
+      are = (first.are, others.are);
+      together = ap (λ (l : List Parcel). l ++ flat_map flat others.all) first.together ∙ ap (λ (l : List Parcel). taken.acknowledged ++ l) others.together;
+    }
+
+-- ---- each stands at its place
+
+record IsLocated (all : List (List (List Parcel))) (one : Standing) : Type 0 where
+  parts : List (List Parcel)
+  wire : slice_get all one.place.wire ≡ Some parts
+  part : List Parcel
+  connection : slice_get parts one.place.connection ≡ Some part
+  number : slice_get part one.place.number ≡ Some one.parcel
+
+abbrev standing : ℕ → ℕ → ℕ → Parcel → Standing
+standing wire connection number parcel = record { parcel = parcel; place = record { wire = wire; connection = connection; number = number } }
+
+none_more : (n : ℕ) → n + 0 ≡ n
+none_more n = omega arith
+
+one_more : (n k : ℕ) → n + suc k ≡ n + 1 + k
+one_more n k = omega arith
+
+behind_none : (k : ℕ) → 0 + k ≡ k
+behind_none k = omega arith
+
+module _ (P : Standing → Type 0) where
+  at_each : (wire connection number : ℕ) (parcels : List Parcel) → ((k : ℕ) (parcel : Parcel) → slice_get parcels k ≡ Some parcel → P (standing wire connection (number + k) parcel)) →
+      AllByRecursion P (standings_at wire connection number parcels)
+  at_each wire connection number [] each = tt
+  at_each wire connection number (first ∷ parcels) each = (
+    subst (λ (n : ℕ). P (standing wire connection n first)) (none_more number) (each 0 first refl),
+    at_each wire connection (number + 1) parcels (λ k parcel at. subst (λ (n : ℕ). P (standing wire connection n parcel)) (one_more number k) (each (suc k) parcel at)),
+  )
+
+  of_each : (wire connection : ℕ) (parts : List (List Parcel)) →
+      ((c : ℕ) (part : List Parcel) → slice_get parts c ≡ Some part → (k : ℕ) (parcel : Parcel) → slice_get part k ≡ Some parcel → P (standing wire (connection + c) k parcel)) →
+      AllByRecursion P (standings_of wire connection parts)
+  of_each wire connection [] each = tt
+  of_each wire connection (first ∷ parts) each =
+      both P (standings_at wire connection 0 first) (standings_of wire (connection + 1) parts)
+      (at_each wire connection 0 first (λ k parcel at.
+      subst (λ (n : ℕ). P (standing wire connection n parcel)) (sym (behind_none k))
+      (subst (λ (n : ℕ). P (standing wire n k parcel)) (none_more connection) (each 0 first refl k parcel at))))
+      (of_each wire (connection + 1) parts (λ c part there k parcel at.
+      subst (λ (n : ℕ). P (standing wire n k parcel)) (one_more connection c) (each (suc c) part there k parcel at)))
+
+  in_each : (wire : ℕ) (all : List (List (List Parcel))) →
+      ((w : ℕ) (parts : List (List Parcel)) → slice_get all w ≡ Some parts → (c : ℕ) (part : List Parcel) → slice_get parts c ≡ Some part →
+      (k : ℕ) (parcel : Parcel) → slice_get part k ≡ Some parcel → P (standing (wire + w) c k parcel)) → AllByRecursion P (standings_in wire all)
+  in_each wire [] each = tt
+  in_each wire (first ∷ all) each =
+      both P (standings_of wire 0 first) (standings_in (wire + 1) all)
+      (of_each wire 0 first (λ c part there k parcel at.
+      subst (λ (n : ℕ). P (standing wire n k parcel)) (sym (behind_none c))
+      (subst (λ (n : ℕ). P (standing n c k parcel)) (none_more wire) (each 0 first refl c part there k parcel at))))
+      (in_each (wire + 1) all (λ w parts here c part there k parcel at.
+      subst (λ (n : ℕ). P (standing n c k parcel)) (one_more wire w) (each (suc w) parts here c part there k parcel at)))
+
+all_located : (all : List (List (List Parcel))) → AllByRecursion (IsLocated all) (standings_in 0 all)
+all_located all =
+    in_each (IsLocated all) 0 all
+    (λ w parts here c part there k parcel at.
+    subst (λ (n : ℕ). IsLocated all (standing n c k parcel)) (sym (behind_none w))
+    (record { parts = parts; wire = here; part = part; connection = there; number = at }))
+
+same_some : {A : Type 0} (o : Option A) (x y : A) → o ≡ Some x → o ≡ Some y → x ≡ y
+same_some o x y is and = let q : Some x ≡ Some y = sym is ∙ and in cc
+
+-- one place has one parcel
+one_parcel : (all : List (List (List Parcel))) (one other : Standing) → IsLocated all one → IsLocated all other → one.place ≡ other.place → one.parcel ≡ other.parcel
+one_parcel all one other is and same =
+    let parts = same_some (slice_get all other.place.wire) is.parts and.parts (ap (λ (p : Place). slice_get all p.wire) (sym same) ∙ is.wire) and.wire in
+    let part = same_some (slice_get and.parts other.place.connection) is.part and.part
+    (ap (λ (p : Place). slice_get and.parts p.connection) (sym same) ∙ ap (λ (l : List (List Parcel)). slice_get l one.place.connection) (sym parts) ∙ is.connection) and.connection in
+    same_some (slice_get and.part other.place.number) one.parcel other.parcel
+    (ap (λ (p : Place). slice_get and.part p.number) (sym same) ∙ ap (λ (l : List Parcel). slice_get l one.place.number) (sym part) ∙ is.number) and.number
+
+-- ---- what stands among them
+
+record IsAmong (standings : List Standing) (parcel : Parcel) (place : Place) : Type 0 where
+  one : Standing
+  among : Contains standings one
+  parcel_is : one.parcel ≡ parcel
+  place_is : one.place ≡ place
+
+among : (standings : List Standing) (parcel : Parcel) (place : Place) → place_among standings parcel ≡ Some place → IsAmong standings parcel place
+among [] parcel place is = absurd cc
+among (first ∷ standings) parcel place is = by_case (same_parcel first.parcel parcel) refl is (among standings parcel place)
+  where
+    by_case : (b : Bool) → same_parcel first.parcel parcel ≡ b → (if b then Some first.place else place_among standings parcel) ≡ Some place →
+        (place_among standings parcel ≡ Some place → IsAmong standings parcel place) → IsAmong (first ∷ standings) parcel place
+    by_case true same q others =
+        let there : first.place ≡ place = cc in
+        record { one = first; among = first_there first standings; parcel_is = tells_parcels.tells first.parcel parcel same; place_is = there }
+    by_case false other q others =
+        let later = others q in
+        record { one = later.one; among = later_there first later.one standings later.among; parcel_is = later.parcel_is; place_is = later.place_is }
+
+record HasPlace (o : Option Place) : Type 0 where
+  place : Place
+  is : o ≡ Some place
+
+has_place : (standings : List Standing) (one : Standing) → Contains standings one → HasPlace (place_among standings one.parcel)
+has_place [] one there = absurd (none_there one there)
+has_place (first ∷ standings) one there = by_case (same_parcel first.parcel one.parcel) refl (there_cases first one standings there) (has_place standings one)
+  where
+    by_case : (b : Bool) → same_parcel first.parcel one.parcel ≡ b → (first ≡ one) ⊎ Contains standings one → (Contains standings one → HasPlace (place_among standings one.parcel)) →
+        HasPlace (if b then Some first.place else place_among standings one.parcel)
+    by_case true same cases others = record { place = first.place; is = refl }
+    by_case false other (inl here) others =
+        absurd (let no : true ≡ false = sym (tells_parcels.itself one.parcel) ∙ ap (λ (s : Standing). same_parcel s.parcel one.parcel) (sym here) ∙ other in cc)
+    by_case false other (inr later) others = others later
+
+-- ---- all parcels are there
+
+abbrev parcels_in : List Standing → List Parcel
+parcels_in standings = map (λ (one : Standing). one.parcel) standings
+
+map_both : (xs ys : List Standing) → parcels_in (xs ++ ys) ≡ parcels_in xs ++ parcels_in ys
+map_both [] ys = refl
+map_both (x ∷ xs) ys = ap (λ (l : List Parcel). x.parcel ∷ l) (map_both xs ys)
+
+at_parcels : (wire connection number : ℕ) (parcels : List Parcel) → parcels_in (standings_at wire connection number parcels) ≡ parcels
+at_parcels wire connection number [] = refl
+at_parcels wire connection number (parcel ∷ parcels) = ap (λ (l : List Parcel). parcel ∷ l) (at_parcels wire connection (number + 1) parcels)
+
+of_parcels : (wire connection : ℕ) (parts : List (List Parcel)) → parcels_in (standings_of wire connection parts) ≡ flat parts
+of_parcels wire connection [] = refl
+of_parcels wire connection (part ∷ parts) =
+    map_both (standings_at wire connection 0 part) (standings_of wire (connection + 1) parts)
+    ∙ ap (λ (l : List Parcel). l ++ parcels_in (standings_of wire (connection + 1) parts)) (at_parcels wire connection 0 part)
+    ∙ ap (λ (l : List Parcel). part ++ l) (of_parcels wire (connection + 1) parts)
+
+all_parcels : (wire : ℕ) (all : List (List (List Parcel))) → parcels_in (standings_in wire all) ≡ flat_map flat all
+all_parcels wire [] = refl
+all_parcels wire (parts ∷ all) =
+    map_both (standings_of wire 0 parts) (standings_in (wire + 1) all)
+    ∙ ap (λ (l : List Parcel). l ++ parcels_in (standings_in (wire + 1) all)) (of_parcels wire 0 parts)
+    ∙ ap (λ (l : List Parcel). flat parts ++ l) (all_parcels (wire + 1) all)
+
+-- ---- acknowledged there
+
+got_mapped : {A B : Type 0} (f : A → B) (xs : List A) (k : ℕ) (x : A) → slice_get xs k ≡ Some x → slice_get (map f xs) k ≡ Some (f x)
+got_mapped f [] k x at = absurd cc
+got_mapped f (first ∷ xs) zero x at = let same : first ≡ x = cc in ap (λ y. Some (f y)) same
+got_mapped f (first ∷ xs) (suc k) x at = got_mapped f xs k x at
+
+record HasTalk (outcomes : List Outcome) (connection : ℕ) (part : List Parcel) : Type 0 where
+  talk : List Piece
+  talk_is : slice_get (map talk_of outcomes) connection ≡ Some (Some talk)
+  acknowledges : Acknowledges talk (payloads_of part)
+
+has_talk : (outcomes : List Outcome) (parts : List (List Parcel)) (connection : ℕ) (part : List Parcel) (number : ℕ) (parcel : Parcel) → AreParts outcomes parts →
+    slice_get parts connection ≡ Some part → slice_get part number ≡ Some parcel → HasTalk outcomes connection part
+has_talk [] [] connection part number parcel are there at = absurd cc
+has_talk [] (first ∷ parts) connection part number parcel are there at = absurd are
+has_talk (outcome ∷ outcomes) [] connection part number parcel are there at = absurd cc
+has_talk (Refused ∷ outcomes) (first ∷ parts) zero part number parcel are there at =
+    let here : first ≡ part = cc in
+    absurd (let q : None ≡ Some parcel = ap (λ (l : List Parcel). slice_get l number) (sym are.0 ∙ here) ∙ at in cc)
+has_talk (Refused ∷ outcomes) (first ∷ parts) (suc connection) part number parcel are there at =
+    let later = has_talk outcomes parts connection part number parcel are.1 there at in
+    record { talk = later.talk; talk_is = later.talk_is; acknowledges = later.acknowledges }
+has_talk (Finished talk faults idles ∷ outcomes) (first ∷ parts) zero part number parcel are there at =
+    let here : first ≡ part = cc in
+    record { talk = talk.pieces; talk_is = refl; acknowledges = subst (λ (l : List Parcel). Acknowledges talk.pieces (payloads_of l)) here are.0 }
+has_talk (Finished talk faults idles ∷ outcomes) (first ∷ parts) (suc connection) part number parcel are there at =
+    let later = has_talk outcomes parts connection part number parcel are.1 there at in
+    record { talk = later.talk; talk_is = later.talk_is; acknowledges = later.acknowledges }
+
+record HasWire (wires : List WireTold) (number : ℕ) (parts : List (List Parcel)) : Type 0 where
+  wire : WireTold
+  wire_is : slice_get wires number ≡ Some wire
+  are : AreParts wire.outcomes parts
+
+has_wire : (all : List (List (List Parcel))) (wires : List WireTold) (number : ℕ) (parts : List (List Parcel)) →
+    Pairs (λ parts (wire : WireTold). AreParts wire.outcomes parts) all wires → slice_get all number ≡ Some parts → HasWire wires number parts
+has_wire [] [] number parts are at = absurd cc
+has_wire [] (wire ∷ wires) number parts are at = absurd are
+has_wire (first ∷ all) [] number parts are at = absurd are
+has_wire (first ∷ all) (wire ∷ wires) zero parts are at =
+    let here : first ≡ parts = cc in
+    record { wire = wire; wire_is = refl; are = subst (AreParts wire.outcomes) here are.0 }
+has_wire (first ∷ all) (wire ∷ wires) (suc number) parts are at =
+    let later = has_wire all wires number parts are.1 at in
+    record { wire = later.wire; wire_is = later.wire_is; are = later.are }
+
+acknowledged_there : (wires : List WireTold) (all : List (List (List Parcel))) (one : Standing) → Pairs (λ parts (wire : WireTold). AreParts wire.outcomes parts) all wires →
+    IsLocated all one → IsAcknowledgedAt wires one.parcel.payload one.place
+acknowledged_there wires all one are is =
+    let wire = has_wire all wires one.place.wire is.parts are is.wire in
+    let talk = has_talk wire.wire.outcomes is.parts one.place.connection is.part one.place.number one.parcel wire.are is.connection is.number in
+    record {
+      wire = wire.wire;
+      wire_is = wire.wire_is;
+      talk = talk.talk;
+      talk_is = got_in_front (map talk_of wire.wire.outcomes) (open_talks wire.wire.open_talk) one.place.connection (Some talk.talk) talk.talk_is;
+      acknowledged = payloads_of is.part;
+      acknowledges = talk.acknowledges;
+      stands = got_mapped (λ (parcel : Parcel). parcel.payload) is.part one.place.number one.parcel is.number;
+    }
+
+-- ---- together
+
+pub record HavePlaces (workers : List Taken) (wires : List WireTold) : Type 0 where
+  pub placed : Parcel → Option Place
+  pub are : ArePlaces placed workers wires
+
+module _ (workers : List Taken) (wires : List WireTold) (of : AreOfWorkers workers wires) where
+  parts : HaveParts workers wires
+  parts = all_parts workers wires of
+
+  abbrev standings : List Standing
+  standings = standings_in 0 parts.all
+
+  one_each : (parcel other : Parcel) (place : Place) → place_among standings parcel ≡ Some place → place_among standings other ≡ Some place → parcel ≡ other
+  one_each parcel other place is and =
+      let one = among standings parcel place is in
+      let two = among standings other place and in
+      let located = all_located parts.all in
+      sym one.parcel_is
+      ∙ one_parcel parts.all one.one two.one (member_is (IsLocated parts.all) standings one.one located one.among) (member_is (IsLocated parts.all) standings two.one located two.among)
+      (one.place_is ∙ sym two.place_is)
+      ∙ two.parcel_is
+
+  well : (parcel : Parcel) → Contains (acknowledged_in workers) parcel → IsPlacedWell (place_among standings) wires parcel
+  well parcel there =
+      let mapped = of_map (λ (one : Standing). one.parcel) standings parcel
+      (subst (λ (l : List Parcel). Contains l parcel) (sym (all_parcels 0 parts.all ∙ parts.together)) there) in
+      let has = has_place standings mapped.item mapped.among in
+      let is : place_among standings parcel ≡ Some has.place = ap (place_among standings) (sym mapped.is) ∙ has.is in
+      let one = among standings parcel has.place is in
+      let located = member_is (IsLocated parts.all) standings one.one (all_located parts.all) one.among in
+      record {
+        place = has.place;
+        is = is;
+        stands = subst (λ (p : Parcel). IsAcknowledgedAt wires p.payload has.place) one.parcel_is
+            (subst (IsAcknowledgedAt wires one.one.parcel.payload) one.place_is (acknowledged_there wires parts.all one.one parts.are located));
+      }
+
+  pub have_places : HavePlaces workers wires
+  have_places = record { placed = place_among standings; are = record { one_each = one_each; well = well } }
