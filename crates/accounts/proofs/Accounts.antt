@@ -1,5 +1,5 @@
 -- The account that is made of the files of a run is one of the run, where identities are kept and truncations are seen.
-use Rattle.std.proofs.Common.{◌≡◌, ◌⊎◌, inl, inr, ℕ, ◌+◌, ◌<◌, ◌≤◌, nat_le, Bool, true, false, List, [], ◌∷◌, Contains, map, Option, Some, None, refl, sym, ap, subst, ◌∙◌, append-nil, arith, if◌then◌else◌}
+use Rattle.std.proofs.Common.{◌≡◌, ◌⊎◌, inl, inr, ℕ, ◌+◌, ◌<◌, ◌≤◌, nat_le, Bool, true, false, List, [], ◌∷◌, Contains, map, Option, Some, None, refl, sym, ap, subst, append-nil, arith, if◌then◌else◌}
 use Rattle.std.specs.List.{AllByRecursion, flat_map}
 use Rattle.std.proofs.lemmas.Bool.{cases_order, leb-true}
 use Rattle.file_looks.specs.Segment.{segments_of}
@@ -9,23 +9,23 @@ use Rattle.kept_rows.specs.Epochs.{WasListedWith}
 use Rattle.kept_rows.specs.Followed.{Start, start_by}
 use Rattle.kept_rows.specs.Premises.{KeepsIdentity, Premises, SeesTruncationsOf}
 use Rattle.kept_rows.specs.Run.{Run, Scan}
-use Rattle.kept_rows.specs.Scans.{AreDistinct, IsFirstPath, moment_in}
+use Rattle.kept_rows.specs.Scans.{IsFirstPath, moment_in}
 use Rattle.kept_rows.specs.Telling.{IsAccount, IsNotedMoment, IsSlotAccount, opening_moment}
-use Rattle.ship_core.proofs.Members.{first_there, none_there, there_cases}
+use Rattle.ship_core.proofs.Members.{first_there}
 use Rattle.ship_core.specs.Rows.{find}
-use Rattle.wire_base.specs.declared.numbers.Slot.{Slot}
 use Rattle.wire_base.specs.declared.parcel.Parcel.{Parcel}
 use Rattle.wire_base.specs.declared.row.Row.{Row}
 use Rattle.accounts.specs.Accounted.{IsFileOf}
-use Rattle.accounts.specs.Filed.{Filed, IsFiled, account_of, accounts_of, slot_in, turned_of}
-use Rattle.accounts.specs.FollowedFile.{AreFollowedFiles, AreInSlots, IsFollowedFile, IsMomentOf, tail_of}
+use Rattle.accounts.specs.Filed.{Filed, HasItsSlot, IsFiled, account_of, accounts_of, turned_of}
+use Rattle.accounts.specs.FollowedFile.{AreFollowedFiles, IsFollowedFile, IsMomentOf, tail_of}
 use Rattle.accounts.specs.Once.{AreOnce}
 use Rattle.accounts.specs.OneScan.{IsByOneScan}
 use Rattle.accounts.specs.Same.{same_parcel}
-use Rattle.accounts.specs.Turned.{Turned, parcels_told}
+use Rattle.accounts.specs.Turned.{parcels_told}
 use Rattle.accounts.proofs.Apart.{IsInEpochs, parcels_are_once}
 use Rattle.accounts.proofs.Ends.{is_filed, is_in_epochs}
 use Rattle.accounts.proofs.Following.{are_followed, by_path, first_path, followings_of, has_key, shows_file}
+use Rattle.accounts.proofs.Ordered.{turned_apart}
 use Rattle.accounts.proofs.Placing.{places_apart}
 use Rattle.accounts.proofs.Slots.{is_slot_account, listed_is_opened, still_has_path}
 
@@ -43,23 +43,6 @@ begins_within (Some row) size = by_case (nat_le row.offset size) refl
     by_case true e = leb-true row.offset size e
     by_case false e = omega arith
 
--- ---- slots apart
-
-slot_later : (least : ℕ) (files : List Filed) (slot : ℕ) → AreInSlots least files → Contains (map slot_in files) slot → least ≤ slot
-slot_later least [] slot slots there = absurd (none_there slot there)
-slot_later least (file ∷ files) slot slots there = by_case (there_cases (slot_in file) slot (map slot_in files) there) (slot_later (slot_in file + 1) files slot slots.1)
-  where
-    by_case : (slot_in file ≡ slot) ⊎ Contains (map slot_in files) slot → (Contains (map slot_in files) slot → slot_in file + 1 ≤ slot) → least ≤ slot
-    by_case (inl same) later = let first = slots.0 in omega (arith, first, same)
-    by_case (inr behind) later = let first = slots.0 in let more = later behind in omega (arith, first, more)
-
-pub slots_apart : (least : ℕ) (files : List Filed) → AreInSlots least files → AreDistinct (map slot_in files)
-slots_apart least [] slots = tt
-slots_apart least (file ∷ files) slots = (
-  λ there. let more = slot_later (slot_in file + 1) files (slot_in file) slots.1 there in omega (arith, more),
-  slots_apart (slot_in file + 1) files slots.1,
-)
-
 -- ---- of the files
 
 module _ (run : Run) (scan : Scan) where
@@ -75,16 +58,14 @@ module _ (run : Run) (scan : Scan) where
   are_in_epochs (file ∷ files) each =
       (is_in_epochs run.settings.processors file.opened run.trace.moments file.turned each.0.in_range (Some (tail_of file)) each.0.told, are_in_epochs files each.1)
 
-  pub turned_slots : (files : List Filed) → AllByRecursion (IsFollowedFile run scan) files → map (λ (turned : Turned). turned.slot.0) (turned_of files) ≡ map slot_in files
-  turned_slots [] each = refl
-  turned_slots (file ∷ files) each =
-      ap (λ (s : Slot). s.0 ∷ map (λ (turned : Turned). turned.slot.0) (turned_of files)) each.0.told.slot
-      ∙ ap (λ (l : List ℕ). slot_in file ∷ l) (turned_slots files each.1)
+  pub have_slots : (files : List Filed) → AllByRecursion (IsFollowedFile run scan) files → AllByRecursion HasItsSlot files
+  have_slots [] each = tt
+  have_slots (file ∷ files) each = (each.0.told.slot, have_slots files each.1)
 
   -- no parcel was told twice
   pub told_once : (files : List Filed) → AreFollowedFiles run scan files → AreOnce same_parcel (flat_map parcels_told (turned_of files))
   told_once files are =
-      parcels_are_once (turned_of files) (subst AreDistinct (sym (turned_slots files are.each)) (slots_apart 0 files are.slots)) (are_in_epochs files are.each)
+      parcels_are_once (turned_of files) (turned_apart files are.slots (have_slots files are.each)) (are_in_epochs files are.each)
 
   -- ---- a file's account
 

@@ -81,7 +81,7 @@ told_spans_adjoin rules telling in_range tells =
     spans_adjoin rules.lines rules.events (λ place. Contains telling.licences place) (shortest telling) telling.start (spans_of telling.told) in_range
     (tells (shortest telling) (shortest_has telling)).partition
 
-abbrev starts_of : List ToldEvent → List ℕ
+abbrev pub starts_of : List ToldEvent → List ℕ
 starts_of told = map (λ (one : ToldEvent). one.span.start) told
 
 starts_later : (place : ℕ) (told : List ToldEvent) (start : ℕ) → Adjoin place (spans_of told) → Contains (starts_of told) start → place ≤ start
@@ -92,7 +92,7 @@ starts_later place (one ∷ told) start adjoin there = by_case (there_cases one.
     by_case (inl here) later = let first = adjoin.0 in omega (arith, first, here)
     by_case (inr behind) later = let end = later behind in let some = adjoin.1 in omega (arith, end, some)
 
-starts_apart : (place : ℕ) (told : List ToldEvent) → Adjoin place (spans_of told) → AreDistinct (starts_of told)
+pub starts_apart : (place : ℕ) (told : List ToldEvent) → Adjoin place (spans_of told) → AreDistinct (starts_of told)
 starts_apart place [] adjoin = tt
 starts_apart place (one ∷ told) adjoin = (
   λ there. let first = adjoin.0 in let some = adjoin.1 in let later = starts_later one.span.end told one.span.start adjoin.2 there in omega (arith, first, some, later),

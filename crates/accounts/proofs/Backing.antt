@@ -55,9 +55,9 @@ module _ (placed : Parcel → Option Place) where
           (ne_eqb (slot_in first) (slot_in file) (λ same. apart.0 (subst (λ (n : ℕ). Contains (map slot_in files) n) (sym same) (mapped_there slot_in files file later))))
           ∙ further later
 
-  record HasEpoch (opened : Opened) (telling : Telling) (found : Option EpochAccount) : Type 0 where
-    segment : Segment
-    is : found ≡ Some (epoch_account opened placed telling segment)
+  pub record HasEpoch (opened : Opened) (telling : Telling) (found : Option EpochAccount) : Type 0 where
+    pub segment : Segment
+    pub is : found ≡ Some (epoch_account opened placed telling segment)
 
   epoch_found : (opened : Opened) (number : ℕ) (tellings : List Telling) (segments : List Segment) (telling : Telling) → Contains tellings telling → AreDistinct (numbers_of tellings) →
       length tellings ≤ length segments → HasEpoch opened telling (epoch_at telling.epoch (epoch_accounts opened placed number tellings segments))
@@ -93,7 +93,7 @@ module _ (placed : Parcel → Option Place) where
     slot_is : file.turned.slot.0 ≡ slot_in file
     slot_is = ap (λ (s : Slot). s.0) filed.slot
 
-    epoch_in : (telling : Telling) → Contains (tellings_in file.turned.history) telling → HasEpoch file.opened telling (epoch_of account file.turned.slot.0 telling.epoch)
+    pub epoch_in : (telling : Telling) → Contains (tellings_in file.turned.history) telling → HasEpoch file.opened telling (epoch_of account file.turned.slot.0 telling.epoch)
     epoch_in telling there =
         let numbers = epochs_apart file.opened.begin.epoch.0 file.opened.begin.base (tellings_in file.turned.history) filed.epochs in
         let found = epoch_found file.opened file.opened.begin.epoch.0 (tellings_in file.turned.history) (segments_of file.opened.begin.base file.looks) telling there numbers filed.few in

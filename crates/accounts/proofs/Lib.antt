@@ -1,5 +1,6 @@
 pub mod Accounting
 pub mod Accounts
+pub mod AccountingFor
 pub mod Apart
 pub mod Backed
 pub mod Backing
@@ -12,6 +13,7 @@ pub mod Given
 pub mod Ground
 pub mod Grounded
 pub mod Histories
+pub mod Keeping
 pub mod Licensed
 pub mod Lists
 pub mod Lives
@@ -22,6 +24,7 @@ pub mod Orderly
 pub mod Places
 pub mod Placing
 pub mod Same
+pub mod Sending
 pub mod Singles
 pub mod Slots
 pub mod Telling

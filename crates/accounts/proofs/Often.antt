@@ -64,6 +64,12 @@ module _ {A : Type 0} (same : A → A → Bool) (is : TellsSame same) where
       let all : count_of same one (front ++ behind) ≡ count_of same one front + count_of same one behind = weigh-append h front behind in
       omega (arith, counts, all, once one)
 
+  pub once_front : (front behind : List A) → AreOnce same (front ++ behind) → AreOnce same front
+  once_front front behind once one = omega (arith, weigh-append (λ (other : A). one_where (same other one)) front behind, once one)
+
+  pub once_behind : (front behind : List A) → AreOnce same (front ++ behind) → AreOnce same behind
+  once_behind front behind once one = omega (arith, weigh-append (λ (other : A). one_where (same other one)) front behind, once one)
+
   pub once_often : (xs ys : List A) → AsOften xs ys → AreOnce same xs → AreOnce same ys
   once_often xs ys often once one =
       let counts : count_of same one xs ≡ count_of same one ys = often (λ other. one_where (same other one)) in

@@ -7,7 +7,7 @@ use Rattle.std.proofs.lemmas.List.Elements.{All-from_recursion, Contains-append_
 use Rattle.harvester.specs.History.{Telling}
 use Rattle.kept_rows.proofs.Showing.{both}
 use Rattle.kept_rows.specs.Scans.{AreDistinct}
-use Rattle.ship_core.proofs.Members.{first_there, there_given, there_passed}
+use Rattle.ship_core.proofs.Members.{first_there, none_there, there_cases, there_given, there_passed}
 use Rattle.ship_core.specs.CoveredEnd.{AreEqualOrApart}
 use Rattle.ship_core.specs.Orderly.{AreOrderly, IsBegun, MayFollow}
 use Rattle.ship_core.specs.RowOver.{notes_of, slot_of, span_in, spans_in}
@@ -23,7 +23,7 @@ use Rattle.wire_base.specs.declared.numbers.Epoch.{Epoch}
 use Rattle.wire_base.specs.declared.numbers.Slot.{Slot}
 use Rattle.wire_base.specs.declared.parcel.Parcel.{Parcel}
 use Rattle.accounts.specs.FirstNotes.{AreFirstNotes, IsBeginOf, IsSeenOf}
-use Rattle.accounts.specs.Filed.{Filed, IsNoted, slot_in, turned_of}
+use Rattle.accounts.specs.Filed.{Filed, HasItsSlot, IsNoted, slot_in, turned_of}
 use Rattle.accounts.specs.FollowedFile.{AreInSlots}
 use Rattle.accounts.specs.Ground.{HasGround, IsEpochOf, IsNoteBy}
 use Rattle.accounts.specs.Turned.{Turned}
@@ -213,12 +213,8 @@ begins_settle_nothing [] (note ∷ begins) are = absurd are
 begins_settle_nothing (file ∷ files) [] are = absurd are
 begins_settle_nothing (file ∷ files) (note ∷ begins) are = ((λ epoch. ap (span_in epoch) are.0.is), begins_settle_nothing files begins are.1)
 
--- the file is of the slot with which it was begun
-abbrev pub HasItsSlot : Filed → Type 0
-HasItsSlot file = file.turned.slot ≡ file.opened.begin.slot
-
 module _ (files : List Filed) (apart : AreDistinct (map (λ (turned : Turned). turned.slot.0) (turned_of files))) (epochs : AllByRecursion IsInEpochs (turned_of files))
-    (slots_are : AllByRecursion HasItsSlot files) (acknowledged : List Parcel) where
+    (own : AllByRecursion HasItsSlot files) (acknowledged : List Parcel) where
   abbrev Grounded : Note → Type 0
   Grounded = HasGround (turned_of files) acknowledged
 
@@ -226,7 +222,7 @@ module _ (files : List Filed) (apart : AreDistinct (map (λ (turned : Turned). t
   slot_is_begun notes turned slot noted there is =
       let file = of_map (λ (f : Filed). f.turned) files turned there in
       let slots : slot_in file.item ≡ slot =
-      ap (λ (s : Slot). s.0) (sym (member_is HasItsSlot files file.item slots_are file.among)) ∙ ap (λ (t : Turned). t.slot.0) file.is ∙ is in
+      ap (λ (s : Slot). s.0) (sym (member_is HasItsSlot files file.item own file.among)) ∙ ap (λ (t : Turned). t.slot.0) file.is ∙ is in
       subst (λ (n : ℕ). IsBegun n notes) slots (file_is_begun notes file.item (member_is (IsNoted notes) files file.item noted file.among))
 
   -- settled spans of one epoch are one or apart
@@ -290,8 +286,8 @@ module _ (files : List Filed) (apart : AreDistinct (map (λ (turned : Turned). t
 
   -- ---- together
 
-  pub are_orderly : (begun collected : List Note) → AreInSlots 0 files → AreFirstNotes files begun → AllByRecursion Grounded collected → AreOrderly (begun ++ collected)
-  are_orderly begun collected slots are ground = orderly_on begun collected first each
+  each_is_orderly : (begun collected : List Note) → AreInSlots 0 files → AreFirstNotes files begun → AllByRecursion Grounded collected → AreOrderly (begun ++ collected)
+  each_is_orderly begun collected slots are ground = orderly_on begun collected first each
     where
       begins : AreOrderly are.begins
       begins = begins_orderly [] 0 files are.begins none_orderly tt slots are.each_begin
@@ -318,3 +314,35 @@ module _ (files : List Filed) (apart : AreDistinct (map (λ (turned : Turned). t
           let all = subst (AllByRecursion Grounded) parts ground in
           may_follow begun noted none before note (all_front Grounded before (note ∷ behind) all)
           (member_is Grounded (before ++ note ∷ behind) note all (Contains-append_right before (note ∷ behind) note (first_there note behind)))
+
+-- ---- slots
+
+slot_later : (least : ℕ) (files : List Filed) (slot : ℕ) → AreInSlots least files → Contains (map slot_in files) slot → least ≤ slot
+slot_later least [] slot slots there = absurd (none_there slot there)
+slot_later least (file ∷ files) slot slots there = by_case (there_cases (slot_in file) slot (map slot_in files) there) (slot_later (slot_in file + 1) files slot slots.1)
+  where
+    by_case : (slot_in file ≡ slot) ⊎ Contains (map slot_in files) slot → (Contains (map slot_in files) slot → slot_in file + 1 ≤ slot) → least ≤ slot
+    by_case (inl same) later = let first = slots.0 in omega (arith, first, same)
+    by_case (inr behind) later = let first = slots.0 in let more = later behind in omega (arith, first, more)
+
+pub slots_apart : (least : ℕ) (files : List Filed) → AreInSlots least files → AreDistinct (map slot_in files)
+slots_apart least [] slots = tt
+slots_apart least (file ∷ files) slots = (
+  λ there. let more = slot_later (slot_in file + 1) files (slot_in file) slots.1 there in omega (arith, more),
+  slots_apart (slot_in file + 1) files slots.1,
+)
+
+turned_slots : (files : List Filed) → AllByRecursion HasItsSlot files → map (λ (turned : Turned). turned.slot.0) (turned_of files) ≡ map slot_in files
+turned_slots [] own = refl
+turned_slots (file ∷ files) own =
+    ap (λ (s : Slot). s.0 ∷ map (λ (turned : Turned). turned.slot.0) (turned_of files)) own.0 ∙ ap (λ (l : List ℕ). slot_in file ∷ l) (turned_slots files own.1)
+
+pub turned_apart : (files : List Filed) → AreInSlots 0 files → AllByRecursion HasItsSlot files → AreDistinct (map (λ (turned : Turned). turned.slot.0) (turned_of files))
+turned_apart files slots own = subst AreDistinct (sym (turned_slots files own)) (slots_apart 0 files slots)
+
+-- ---- the notes of a run, also as it goes on; nothing is asked of tails
+
+pub are_orderly : (files : List Filed) (acknowledged : List Parcel) (first collected : List Note) → AreInSlots 0 files → AllByRecursion HasItsSlot files →
+    AllByRecursion IsInEpochs (turned_of files) → AreFirstNotes files first → AllByRecursion (HasGround (turned_of files) acknowledged) collected → AreOrderly (first ++ collected)
+are_orderly files acknowledged first collected slots own epochs are ground =
+    each_is_orderly files (turned_apart files slots own) epochs own acknowledged first collected slots are ground

@@ -31,6 +31,10 @@ account_of placed file = slot_account file.opened file.changed file.looks placed
 abbrev pub accounts_of : (Parcel → Option Place) → List Filed → List SlotAccount
 accounts_of placed files = map (account_of placed) files
 
+-- what was told of it was told of its slot
+abbrev pub HasItsSlot : Filed → Type 0
+HasItsSlot file = file.turned.slot ≡ file.opened.begin.slot
+
 -- each of its epochs was read by a segment of its looks
 pub record IsFiled (file : Filed) : Type 0 where
   pub slot : file.turned.slot ≡ file.opened.begin.slot

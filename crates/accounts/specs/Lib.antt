@@ -1,4 +1,5 @@
 pub mod Accounted
+pub mod AccountedFor
 pub mod Filed
 pub mod FirstNotes
 pub mod FollowedFile
@@ -7,6 +8,7 @@ pub mod Once
 pub mod OneScan
 pub mod Opened
 pub mod Places
+pub mod RunTold
 pub mod Same
 pub mod Taken
 pub mod ToldFile

@@ -1,0 +1,30 @@
+-- A run that an account accounts for (this project's profile): its files are followed so, the account is one of the run where files
+-- keep their identities and truncations are seen, only told events were sent, and rows over its notes are kept. Of these the notes
+-- are those of its keeper.
+use Rattle.std.specs.Prelude.{List, map}
+use Rattle.std.specs.List.{AllByRecursion}
+use Rattle.kept_rows.specs.Account.{Following, SlotAccount}
+use Rattle.kept_rows.specs.Backed.{AreRowsOverFronts}
+use Rattle.kept_rows.specs.Followed.{AreFollowed}
+use Rattle.kept_rows.specs.Kept.{IsKept, IsKeptInImage}
+use Rattle.kept_rows.specs.Premises.{Premises}
+use Rattle.kept_rows.specs.Run.{Run}
+use Rattle.kept_rows.specs.Sent.{SendOnlyTold}
+use Rattle.kept_rows.specs.Telling.{IsAccount}
+use Rattle.ship_core.specs.Orderly.{AreOrderly}
+use Rattle.ship_core.specs.RowsOver.{AreRowsOver}
+use Rattle.wire_base.specs.declared.note.Note.{Note}
+use Rattle.wire_base.specs.declared.row.Row.{Row}
+
+abbrev pub followings_in : List SlotAccount → List Following
+followings_in account = map (λ (one : SlotAccount). one.following) account
+
+pub record AccountsFor (run : Run) (account : List SlotAccount) (notes : List Note) : Type 0 where
+  pub followed : AreFollowed run (followings_in account)
+  pub is : Premises run (followings_in account) → IsAccount run account
+  pub sent : SendOnlyTold account run.trace.wires
+  pub orderly : AreOrderly notes
+  -- rows over all the notes, with which a run ends
+  pub ends : (rows : List Row) → AreRowsOver run.opening notes rows → AllByRecursion (IsKept account run.opening run.trace.wires) rows
+  -- rows over some first of them, key by key, which an image may hold
+  pub images : (rows : List Row) → AreRowsOverFronts run.opening notes rows → AllByRecursion (IsKeptInImage account run.opening run.trace.wires) rows
