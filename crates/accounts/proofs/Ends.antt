@@ -91,7 +91,7 @@ starts_at_none : (number : ℕ) (tellings : List Telling) → AreNumberedFrom nu
 starts_at_none number [] are = tt
 starts_at_none number (telling ∷ tellings) are = (are.1, starts_at_none (number + 1) tellings are.2)
 
-start_is_none : (epoch base : ℕ) (tellings : List Telling) → base ≡ 0 → AreEpochsFrom epoch base tellings → AllByRecursion (λ (telling : Telling). telling.start ≡ 0) tellings
+pub start_is_none : (epoch base : ℕ) (tellings : List Telling) → base ≡ 0 → AreEpochsFrom epoch base tellings → AllByRecursion (λ (telling : Telling). telling.start ≡ 0) tellings
 start_is_none epoch base [] none are = absurd are
 start_is_none epoch base (first ∷ later) none are = (are.1 ∙ none, starts_at_none epoch later are.2)
 

@@ -149,7 +149,7 @@ module _ (run : Run) (scan : Scan) (by : IsByOneScan run scan) where
   -- ---- all files
 
   -- the same key is that of one path and one input
-  same_name : (file other : Filed) → IsFollowedFile run scan file → IsFollowedFile run scan other → file.opened.begin.key ≡ other.opened.begin.key → name_in file ≡ name_in other
+  pub same_name : (file other : Filed) → IsFollowedFile run scan file → IsFollowedFile run scan other → file.opened.begin.key ≡ other.opened.begin.key → name_in file ≡ name_in other
   same_name file other is and same =
       let one = by_path file is in
       let two = by_path other and in

@@ -6,6 +6,7 @@ pub mod Backed
 pub mod Backing
 pub mod Beginning
 pub mod Cuts
+pub mod Draining
 pub mod Ends
 pub mod Falls
 pub mod Following
@@ -14,6 +15,8 @@ pub mod Ground
 pub mod Grounded
 pub mod Histories
 pub mod Keeping
+pub mod LastEpoch
+pub mod LastNotes
 pub mod Licensed
 pub mod Lists
 pub mod Lives

@@ -128,15 +128,24 @@ seens_orderly files front seens is noted are = orderly_on front seens is each
 
 -- ---- what was collected
 
-record IsSettledEvent (files : List Turned) (slot epoch : ℕ) (span : Extent) : Type 0 where
-  turned : Turned
-  telling : Telling
-  of : IsEpochOf files turned telling
-  event : ToldEvent
-  told : Contains telling.told event
-  slot_is : turned.slot.0 ≡ slot
-  epoch_is : telling.epoch ≡ epoch
-  span_is : event.span ≡ span
+-- it announces or settles
+abbrev pub IsCollectable : Note → Type 0
+IsCollectable (Begin slot key path epoch base changed) = ⊥
+IsCollectable (Announce slot epoch) = Unit {0}
+IsCollectable (Settle slot epoch span cause) = Unit {0}
+IsCollectable (Rename slot scan path) = ⊥
+IsCollectable (Seen slot changed) = ⊥
+IsCollectable (Forget slot epoch end) = ⊥
+
+pub record IsSettledEvent (files : List Turned) (slot epoch : ℕ) (span : Extent) : Type 0 where
+  pub turned : Turned
+  pub telling : Telling
+  pub of : IsEpochOf files turned telling
+  pub event : ToldEvent
+  pub told : Contains telling.told event
+  pub slot_is : turned.slot.0 ≡ slot
+  pub epoch_is : telling.epoch ≡ epoch
+  pub span_is : event.span ≡ span
 
 module _ (files : List Turned) (acknowledged : List Parcel) where
   settled_event : (slot : Slot) (epoch : Epoch) (span : Extent) (cause : Cause) → HasGround files acknowledged (Settle slot epoch span cause) → IsSettledEvent files slot.0 epoch.0 span
@@ -187,15 +196,7 @@ module _ (files : List Turned) (acknowledged : List Parcel) where
       by_kind (inr settled) = absurd (let q : Announce slot epoch ≡ Settle told.turned.slot (record { 0 = told.telling.epoch }) settled.event.span (cause_of_fate (DroppedBy settled.rule)) = settled.is in cc)
   announced_slot slot epoch (inr settled) = absurd (let q : Announce slot epoch ≡ Settle settled.parcel.slot settled.parcel.epoch settled.parcel.span Acked = settled.is in cc)
 
-  abbrev IsCollectable : Note → Type 0
-  IsCollectable (Begin slot key path epoch base changed) = ⊥
-  IsCollectable (Announce slot epoch) = Unit {0}
-  IsCollectable (Settle slot epoch span cause) = Unit {0}
-  IsCollectable (Rename slot scan path) = ⊥
-  IsCollectable (Seen slot changed) = ⊥
-  IsCollectable (Forget slot epoch end) = ⊥
-
-  is_collectable : (note : Note) → HasGround files acknowledged note → IsCollectable note
+  pub is_collectable : (note : Note) → HasGround files acknowledged note → IsCollectable note
   is_collectable note (inl told) = by_kind told.is
     where
       by_kind : IsNoteBy told.turned told.telling note → IsCollectable note
@@ -204,7 +205,7 @@ module _ (files : List Turned) (acknowledged : List Parcel) where
   is_collectable note (inr settled) = subst IsCollectable (sym settled.is) tt
 
 -- a settlement is none of those with which files are begun
-abbrev SettlesNothing : Note → Type 0
+abbrev pub SettlesNothing : Note → Type 0
 SettlesNothing note = (epoch : ℕ) → span_in epoch note ≡ None
 
 begins_settle_nothing : (files : List Filed) (begins : List Note) → Pairs IsBeginOf files begins → AllByRecursion SettlesNothing begins
@@ -213,9 +214,18 @@ begins_settle_nothing [] (note ∷ begins) are = absurd are
 begins_settle_nothing (file ∷ files) [] are = absurd are
 begins_settle_nothing (file ∷ files) (note ∷ begins) are = ((λ epoch. ap (span_in epoch) are.0.is), begins_settle_nothing files begins are.1)
 
+seens_settle_nothing : (files : List Filed) (seens : List Note) → AllByRecursion (IsSeenOf files) seens → AllByRecursion SettlesNothing seens
+seens_settle_nothing files [] all = tt
+seens_settle_nothing files (note ∷ seens) all = ((λ epoch. ap (span_in epoch) all.0.is), seens_settle_nothing files seens all.1)
+
+pub first_notes_settle_nothing : (files : List Filed) (first : List Note) → AreFirstNotes files first → AllByRecursion SettlesNothing first
+first_notes_settle_nothing files first are =
+    subst (AllByRecursion SettlesNothing) (sym are.notes_are)
+    (both SettlesNothing are.begins are.seens (begins_settle_nothing files are.begins are.each_begin) (seens_settle_nothing files are.seens are.each_seen))
+
 module _ (files : List Filed) (apart : AreDistinct (map (λ (turned : Turned). turned.slot.0) (turned_of files))) (epochs : AllByRecursion IsInEpochs (turned_of files))
     (own : AllByRecursion HasItsSlot files) (acknowledged : List Parcel) where
-  abbrev Grounded : Note → Type 0
+  abbrev pub Grounded : Note → Type 0
   Grounded = HasGround (turned_of files) acknowledged
 
   slot_is_begun : (notes : List Note) (turned : Turned) (slot : ℕ) → AllByRecursion (IsNoted notes) files → Contains (turned_of files) turned → turned.slot.0 ≡ slot → IsBegun slot notes
@@ -232,7 +242,7 @@ module _ (files : List Filed) (apart : AreDistinct (map (λ (turned : Turned). t
       (events_apart (turned_of files) apart epochs one.turned two.turned one.telling two.telling one.event two.event one.of two.of one.told two.told
       (one.slot_is ∙ sym two.slot_is) (one.epoch_is ∙ sym two.epoch_is)))
 
-  settled_span : (slot epoch : ℕ) (other : Extent) (note : Note) → Grounded note → slot_of note ≡ slot → span_in epoch note ≡ Some other → IsSettledEvent (turned_of files) slot epoch other
+  pub settled_span : (slot epoch : ℕ) (other : Extent) (note : Note) → Grounded note → slot_of note ≡ slot → span_in epoch note ≡ Some other → IsSettledEvent (turned_of files) slot epoch other
   settled_span slot epoch other (Settle of named span cause) ground slots spans = by_epoch (named.0 == epoch) refl spans
     where
       by_epoch : (b : Bool) → (named.0 == epoch) ≡ b → (if b then Some span else None) ≡ Some other → IsSettledEvent (turned_of files) slot epoch other
@@ -300,19 +310,10 @@ module _ (files : List Filed) (apart : AreDistinct (map (λ (turned : Turned). t
       noted : AllByRecursion (IsNoted begun) files
       noted = subst (λ (l : List Note). AllByRecursion (IsNoted l) files) (append-nil begun) (are_noted files begun [] are)
 
-      seens_settle_nothing : (seens : List Note) → AllByRecursion (IsSeenOf files) seens → AllByRecursion SettlesNothing seens
-      seens_settle_nothing [] all = tt
-      seens_settle_nothing (note ∷ seens) all = ((λ epoch. ap (span_in epoch) all.0.is), seens_settle_nothing seens all.1)
-
-      none : AllByRecursion SettlesNothing begun
-      none =
-          subst (AllByRecursion SettlesNothing) (sym are.notes_are)
-          (both SettlesNothing are.begins are.seens (begins_settle_nothing files are.begins are.each_begin) (seens_settle_nothing are.seens are.each_seen))
-
       each : (before : List Note) (note : Note) (behind : List Note) → collected ≡ before ++ note ∷ behind → MayFollow (begun ++ before) note
       each before note behind parts =
           let all = subst (AllByRecursion Grounded) parts ground in
-          may_follow begun noted none before note (all_front Grounded before (note ∷ behind) all)
+          may_follow begun noted (first_notes_settle_nothing files begun are) before note (all_front Grounded before (note ∷ behind) all)
           (member_is Grounded (before ++ note ∷ behind) note all (Contains-append_right before (note ∷ behind) note (first_there note behind)))
 
 -- ---- slots

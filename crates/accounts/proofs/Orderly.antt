@@ -25,7 +25,7 @@ use Rattle.accounts.proofs.Backing.{mapped_there}
 -- ---- apart
 
 -- an item is known by what is distinct
-pub same_item : {A : Type 0} (f : A → ℕ) (xs : List A) (x y : A) → AreDistinct (map f xs) → Contains xs x → Contains xs y → f x ≡ f y → x ≡ y
+pub same_item : {A B : Type 0} (f : A → B) (xs : List A) (x y : A) → AreDistinct (map f xs) → Contains xs x → Contains xs y → f x ≡ f y → x ≡ y
 same_item f [] x y apart there other same = absurd (none_there x there)
 same_item f (first ∷ xs) x y apart there other same = by_case (there_cases first x xs there) (there_cases first y xs other) (λ one two. same_item f xs x y apart.1 one two same)
   where

@@ -1,0 +1,81 @@
+-- What is known besides of a run that ends as done (this project's profile): its scan was whole, each covered entry was followed or
+-- nothing was there any more, each file is told to its end, and all that was told is settled and collected.
+use Rattle.std.specs.Prelude.{◌≡◌, ◌⊎◌, ℕ, List, ◌++◌, Contains, length, slice_get, Some}
+use Rattle.std.specs.List.{AllByRecursion, flat_map}
+use Rattle.batch_worker.specs.Held.{notes_of}
+use Rattle.event_tree.specs.declared.input_rule.InputRule.{InputRule}
+use Rattle.kept_rows.specs.Run.{Run, Scan}
+use Rattle.kept_rows.specs.Scans.{AreAsked, IsCovered, IsGoodListing, ShowsEntry, globs_in}
+use Rattle.kept_rows.specs.Trace.{WasGone}
+use Rattle.outside.specs.declared.history.Shown.{Shown}
+use Rattle.pass_sums.specs.Weight.{AsOften}
+use Rattle.ship_core.specs.RowOver.{moment_of, slot_of}
+use Rattle.wire_base.specs.declared.note.Note.{Note}
+use Rattle.accounts.specs.Filed.{Filed, slot_in, turned_of}
+use Rattle.accounts.specs.FollowedFile.{Named, moment_by, name_in}
+use Rattle.accounts.specs.Taken.{Taken, acknowledged_in}
+use Rattle.accounts.specs.ToldFile.{IsToldToItsEnd}
+use Rattle.accounts.specs.Turned.{Turned, notes_told, parcels_told}
+
+-- ---- the scan
+
+-- each glob was listed, no listing failed, and each entry that an input covers was asked for its key: so a scan gives its files
+pub record IsFullScan (run : Run) (scan : Scan) : Type 0 where
+  pub not_cut_off : length scan.listings ≡ length (globs_in run.settings.inputs)
+  pub none_failed : AllByRecursion (IsGoodListing run.trace) scan.listings
+  pub each_asked : AreAsked run scan
+
+abbrev pub name_of : Shown → ℕ → Named
+name_of shown input = record { path = shown.entry.path; input = input }
+
+-- one of the files has the entry's path and the input
+pub record IsAmongFiles (files : List Filed) (shown : Shown) (input : ℕ) : Type 0 where
+  pub file : Filed
+  pub of_files : Contains files file
+  pub name_is : name_in file ≡ name_of shown input
+
+-- nothing was there by the entry's path as it was to be opened
+pub record WasPassed (run : Run) (shown : Shown) : Type 0 where
+  pub opening : ℕ
+  pub was : WasGone run.trace opening shown.entry.path
+
+-- each entry that an input covers was listed, and each listed one was begun or passed over
+abbrev pub EachEntryIsServed : Run → Scan → List Filed → Type 0
+EachEntryIsServed run scan files = (shown : Shown) (input : ℕ) (rule : InputRule) → ShowsEntry run.trace scan shown →
+    slice_get run.settings.inputs input ≡ Some rule → IsCovered rule.paths shown.entry.path → IsAmongFiles files shown input ⊎ WasPassed run shown
+
+-- ---- its files
+
+-- the greatest moment that was noted of it is that of the entry from which it was listed, or of its opening row where that is
+-- greater; some first note of it carries this moment, its Begin or a Seen
+pub record HasItsMoment (run : Run) (scan : Scan) (first : List Note) (file : Filed) : Type 0 where
+  pub shown : Shown
+  pub entry : ShowsEntry run.trace scan shown
+  pub path_is : shown.entry.path ≡ file.opened.begin.path
+  pub changed_is : file.changed ≡ moment_by run file shown
+  pub note : Note
+  pub among : Contains first note
+  pub slot_is : slot_of note ≡ slot_in file
+  pub carries : moment_of note ≡ Some file.changed
+
+-- it was told from its first byte on to its end; a blank registry begins each file there
+pub record IsToldWhole (run : Run) (scan : Scan) (first : List Note) (file : Filed) : Type 0 where
+  pub from_its_first_byte : file.opened.begin.base ≡ 0
+  pub to_its_end : IsToldToItsEnd file.turned.history
+  pub moment : HasItsMoment run scan first file
+
+-- ---- what was told
+
+-- each parcel that files told is acknowledged, and each note that they told, or that settles a parcel, is collected: by counts that
+-- are equal and do not stand still
+pub record AreAllCollected (files : List Turned) (workers : List Taken) (collected : List Note) : Type 0 where
+  pub parcels_are : AsOften (flat_map parcels_told files) (acknowledged_in workers)
+  pub notes_are : AsOften (flat_map notes_told files ++ notes_of (acknowledged_in workers)) collected
+
+-- ---- together
+
+pub record IsDone (run : Run) (scan : Scan) (files : List Filed) (workers : List Taken) (first collected : List Note) : Type 0 where
+  pub full : IsFullScan run scan
+  pub served : EachEntryIsServed run scan files
+  pub whole : AllByRecursion (IsToldWhole run scan first) files
+  pub settled : AreAllCollected (turned_of files) workers collected
