@@ -5,7 +5,7 @@ use Rattle.std.proofs.lemmas.List.Elements.{Contains-append_left}
 use Rattle.std.specs.Prelude.{slice_get}
 use Rattle.std.specs.List.{AllByRecursion, flat_map}
 use Rattle.std.specs.Option.{option_map_or}
-use Rattle.accounts.specs.Filed.{Filed, slot_in, turned_of}
+use Rattle.accounts.specs.Filed.{Filed, HasItsSlot, turned_of}
 use Rattle.accounts.specs.FirstNotes.{AreFirstNotes, IsBeginOf}
 use Rattle.accounts.specs.FirstNotes as first_notes
 use Rattle.accounts.specs.FollowedFile.{AreInSlots}
@@ -13,13 +13,11 @@ use Rattle.accounts.specs.Ground.{HasGround}
 use Rattle.accounts.specs.Opened.{Opened}
 use Rattle.accounts.specs.Turned.{Turned, notes_told, parcels_told}
 use Rattle.accounts.specs.Turning.{IsTurnedSo, Pairs}
-use Rattle.accounts.proofs.Accounts.{slots_apart}
 use Rattle.accounts.proofs.Apart.{IsInEpochs}
 use Rattle.accounts.proofs.Ends.{is_in_epochs}
 use Rattle.accounts.proofs.Often.{often_then}
-use Rattle.accounts.proofs.Ordered.{HasItsSlot, are_orderly}
+use Rattle.accounts.proofs.Ordered.{are_orderly}
 use Rattle.harvester.specs.declared.harvester.Harvester.{Harvester}
-use Rattle.kept_rows.specs.Scans.{AreDistinct}
 use Rattle.lanes.specs.Laning.{Laning}
 use Rattle.outside.specs.declared.history.Look.{Look}
 use Rattle.pass_sums.specs.Weight.{AsOften}
@@ -197,10 +195,6 @@ module _ (listed : List Listed) (opened : List Opened) (files : List Turned) (on
   rising : AreInSlots 0 filed
   rising = in_slots (λ _. []) moment_of 0 opened in_order.turned in_order.slots_are once.rise
 
-  numbers_same : (fs : List Filed) → AllByRecursion HasItsSlot fs → map (λ (t : Turned). t.slot.0) (turned_of fs) ≡ map slot_in fs
-  numbers_same [] each = refl
-  numbers_same (f ∷ fs) each = (λ k. (each.0 k).0 ∷ numbers_same fs each.1 k)
-
   within : (one : Opened) (entry : Listed) → slice_get listed one.begin.slot.0 ≡ Some entry → (moment_noted entry).0 ≤ moment_of one
   unfolding moment_of
   within one entry is = subst (λ (o : Option Listed). (moment_noted entry).0 ≤ option_map_or (λ (e : Listed). (moment_noted e).0) o 0) (sym is) (omega arith)
@@ -209,7 +203,6 @@ module _ (listed : List Listed) (opened : List Opened) (files : List Turned) (on
   pub notes_are_orderly : (begun collected : List Note) (acknowledged : List Parcel) → AreBeginNotes listed opened begun →
       ((turned : List Turned) → AsOften files turned → AllByRecursion (HasGround turned acknowledged) collected) → AreOrderly (begun ++ collected)
   notes_are_orderly begun collected acknowledged are ground =
-      are_orderly filed (subst AreDistinct (sym (numbers_same filed slots_of_files)) (slots_apart 0 filed rising))
-      (subst (AllByRecursion IsInEpochs) (sym turned_same) in_order.each) slots_of_files acknowledged begun collected rising
+      are_orderly filed acknowledged begun collected rising slots_of_files (subst (AllByRecursion IsInEpochs) (sym turned_same) in_order.each)
       (are_first (λ _. []) moment_of listed opened in_order.turned in_order.slots_are within begun are)
       (subst (λ (l : List Turned). AllByRecursion (HasGround l acknowledged) collected) (sym turned_same) (ground in_order.turned in_order.same))
