@@ -14,6 +14,7 @@ pub mod Moments
 pub mod Noting
 pub mod Onward
 pub mod Ordering
+pub mod Releasing
 pub mod Rounding
 pub mod Settling
 pub mod Turning

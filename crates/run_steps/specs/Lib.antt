@@ -1,6 +1,8 @@
 pub mod Areas
 pub mod Began
 pub mod BeginFor
+pub mod CarriersEnd
+pub mod Ends
 pub mod Begun
 pub mod Met
 pub mod MetBy
@@ -8,6 +10,7 @@ pub mod MetIn
 pub mod Onward
 pub mod Registry
 pub mod RegistryErrors
+pub mod Releasing
 pub mod RunState
 pub mod Shown
 pub mod SoFar

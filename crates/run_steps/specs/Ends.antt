@@ -1,0 +1,50 @@
+-- How a run ends (this project's profile): its tails are closed, what was settled is stored, its workers' links are finished, and
+-- what stood of it stands.
+use Rattle.std.specs.Prelude.{◌≡◌, ℕ, ◌+◌, ◌≤◌, ◌<◌, ◌^◌, ◌-◌, List, Option}
+use Rattle.keeper.specs.Keeping.{Keeping}
+use Rattle.lanes.specs.Laning.{Laning}
+use Rattle.outside.specs.Folders.{FolderHistory}
+use Rattle.rounds.specs.Crewed.{lanings}
+use Rattle.rounds.specs.Settled.{AreSettledIn, spans_told}
+use Rattle.rounds.specs.Words.{Words}
+use Rattle.rounds.specs.declared.crew.Crew.{Crew}
+use Rattle.run_steps.specs.Began.{Began}
+use Rattle.run_steps.specs.CarriersEnd.{EndsCarriers}
+use Rattle.run_steps.specs.RunState.{Finished, Phase, RunState}
+use Rattle.run_steps.specs.SoFar.{SoFar}
+use Rattle.run_steps.specs.Stands.{Stands}
+
+-- all that was told is shipped or dropped, by counts that do not stand still
+pub record IsAllSettled {T : Type 0} (lanes : List (Laning T)) (keeper : Keeping) : Type 0 where
+  pub below : spans_told lanes < 2 ^ 64 - 1
+  pub settled : spans_told lanes ≤ keeper.shipped + keeper.dropped
+
+-- all but the crew, which is let go
+pub record Ending (D : Type 0) : Type 0 where
+  pub shown : Option FolderHistory
+  pub moments : Option (List ℕ)
+  pub keeper : Keeping
+  pub a : D
+  pub b : D
+  pub phase : Phase
+
+abbrev pub with_crew : {T W L D : Type 0} → Ending D → Crew T W L → RunState T W L D
+with_crew ending crew = record {
+  shown = ending.shown;
+  moments = ending.moments;
+  crew = crew;
+  keeper = ending.keeper;
+  a = ending.a;
+  b = ending.b;
+  phase = ending.phase;
+}
+
+-- the wires are those of the workers, with their links finished, before those that no worker had
+pub record Ends {T W L D : Type 0} (words : Words T W L D) (start : Began D) (ending : Ending D) (unused wires : List W) : Type 0 where
+  pub crew : Crew T W L
+  pub so_far : SoFar
+  pub stands : Stands words start (with_crew ending crew) so_far
+  pub ended : EndsCarriers words.links words.wires crew.carriers.items unused wires
+  pub all_settled : ending.phase ≡ Finished → IsAllSettled (lanings crew.lanes.items) ending.keeper
+  -- where the last steps were made
+  pub stored : ending.phase ≡ Finished → AreSettledIn crew ending.keeper
