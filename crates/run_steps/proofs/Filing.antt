@@ -23,10 +23,10 @@ slots_in opened = map (λ (one : Opened). one.begin.slot) opened
 number_itself : (n : ℕ) → (n == n) ≡ true
 number_itself n = eq-eqb n n refl
 
-abbrev same_slot : Slot → Slot → Bool
+abbrev pub same_slot : Slot → Slot → Bool
 same_slot one other = one.0 == other.0
 
-tells_slots : TellsSame same_slot
+pub tells_slots : TellsSame same_slot
 tells_slots = record {
   tells = λ one other is. let n : one.0 ≡ other.0 = eqb-true one.0 other.0 is in (λ k. record { 0 = n k });
   itself = λ one. number_itself one.0;

@@ -2,6 +2,7 @@ pub mod Areas
 pub mod Attempts
 pub mod Causing
 pub mod Blank
+pub mod Closing
 pub mod Ended
 pub mod Epochs
 pub mod Filing
@@ -14,6 +15,7 @@ pub mod Moments
 pub mod Noting
 pub mod Onward
 pub mod Ordering
+pub mod Released
 pub mod Releasing
 pub mod Rounding
 pub mod Settling

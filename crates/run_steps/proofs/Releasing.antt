@@ -28,12 +28,12 @@ use Rattle.run_steps.proofs.Lanes.{spans_of_both}
 
 module _ {T : Type 0} (told : T → Option TailHistory) where
   -- of one lane
-  pub left_of : List Turned → List (Harvester T) → List Left
+  unfoldable pub left_of : List Turned → List (Harvester T) → List Left
   left_of [] harvesters = []
   left_of (turned ∷ files) [] = []
   left_of (turned ∷ files) (harvester ∷ harvesters) = record { turned = turned; told = told harvester.tail } ∷ left_of files harvesters
 
-  pub left_of_all : List (List Turned) → List (Laning T) → List Left
+  unfoldable pub left_of_all : List (List Turned) → List (Laning T) → List Left
   left_of_all [] lanes = []
   left_of_all (files ∷ others) [] = []
   left_of_all (files ∷ others) (lane ∷ lanes) = left_of files lane.harvesters ++ left_of_all others lanes
@@ -45,7 +45,7 @@ abbrev turned_of : List Left → List Turned
 turned_of left = map (λ (one : Left). one.turned) left
 
 -- none in each lane
-pub emptied : List (List Turned) → List (List Turned)
+unfoldable pub emptied : List (List Turned) → List (List Turned)
 emptied [] = []
 emptied (files ∷ others) = [] ∷ emptied others
 

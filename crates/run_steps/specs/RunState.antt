@@ -14,6 +14,12 @@ pub data Phase : Type 0 where
   -- tails are closed, whatever was told of their files
   Leaving : Phase
 
+-- once tails are closed
+abbrev pub phase_left : Phase → Phase
+phase_left Reading = Leaving
+phase_left Finished = Finished
+phase_left Leaving = Leaving
+
 pub record RunState (T W L D : Type 0) : Type 0 where
   pub shown : Option FolderHistory
   pub moments : Option (List ℕ)
