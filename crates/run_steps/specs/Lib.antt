@@ -12,6 +12,7 @@ pub mod Registry
 pub mod RegistryErrors
 pub mod Releasing
 pub mod RunState
+pub mod Settling
 pub mod Shown
 pub mod SoFar
 pub mod Stands

@@ -11,6 +11,7 @@ mod opening;
 mod reading;
 mod registry;
 mod registry_error;
+mod settle;
 mod telling;
 
 pub use context::Context;
@@ -20,4 +21,5 @@ pub use opening::{Opening, begin_of};
 pub use reading::{Signals, follow_all, make_round};
 pub use registry::open_registry;
 pub use registry_error::RegistryError;
+pub use settle::settle_all;
 pub use telling::{tell_begin, tell_moments};
