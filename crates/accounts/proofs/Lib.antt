@@ -14,6 +14,7 @@ pub mod Given
 pub mod Ground
 pub mod Grounded
 pub mod Histories
+pub mod Joining
 pub mod Keeping
 pub mod LastEpoch
 pub mod LastNotes
@@ -28,6 +29,7 @@ pub mod Places
 pub mod Placing
 pub mod Same
 pub mod Sending
+pub mod Settling
 pub mod Singles
 pub mod Slots
 pub mod Telling
