@@ -36,3 +36,4 @@ pub mod Telling
 pub mod Turning
 pub mod Within
 pub mod Worked
+pub mod WorkedRun

@@ -1,0 +1,265 @@
+-- All that is asked of a run that is done holds of one at once: two plain lines that were read to their end, acknowledged in one talk.
+use Rattle.std.proofs.Common.{◌≡◌, ◌≢◌, ◌⊎◌, inl, ℕ, zero, suc, List, [], ◌∷◌, ◌++◌, length, Some, None, refl, sym, ap, subst, append-nil, arith, lit≤, codes, length-append}
+use Rattle.std.specs.Prelude.{slice_get}
+use Rattle.batch_worker.specs.Ending.{HasTalks}
+use Rattle.event_tree.specs.declared.group_rule.GroupRule.TheVariants.{Single}
+use Rattle.event_tree.specs.declared.input_rule.InputRule.{InputRule}
+use Rattle.file_looks.specs.Looks.{IsAnswered, IsLook}
+use Rattle.harvester.specs.History.{IsTelling, rules_in}
+use Rattle.harvester.specs.Looked.{IsLookedAt}
+use Rattle.kept_rows.proofs.Worked as worked
+use Rattle.kept_rows.specs.Scans.{IsCovered, ShowsEntry}
+use Rattle.line_cutter.specs.declared.line.Line.{Line}
+use Rattle.lumber_frame.proofs.Settling.{none_in_nothing}
+use Rattle.lumber_frame.specs.Acknowledged.{Acknowledges}
+use Rattle.lumber_frame.specs.Window.{window_bytes}
+use Rattle.multiline_core.specs.Message.{message_of}
+use Rattle.multiline_core.specs.Partition.{IsNaturalEvent, lines_from}
+use Rattle.outside.specs.declared.history.Look.{Look}
+use Rattle.outside.specs.declared.history.Question.TheVariants.{Length, ReadAt}
+use Rattle.outside.specs.declared.history.Shown.{Shown}
+use Rattle.outside.specs.Wires.{Finished}
+use Rattle.ship_core.proofs.Members.{none_there}
+use Rattle.told_events.proofs.Worked.{a_log, both_events, event_of, first_fate, first_line, life, lines, payload, plain, second_fate, second_line}
+use Rattle.told_events.specs.Fate.{ShippedAs, fate_of}
+use Rattle.told_events.specs.Told.{AreTold, HasFate}
+use Rattle.wire_base.specs.declared.note.Cause.TheVariants.{Acked}
+use Rattle.wire_base.specs.declared.note.Note.{Note}
+use Rattle.wire_base.specs.declared.note.Note.TheVariants.{Begin, Settle}
+use Rattle.wire_base.specs.declared.parcel.Parcel.{Parcel}
+use Rattle.accounts.specs.DoneTold.{IsAmongFiles, IsDone, WasPassed}
+use Rattle.accounts.specs.Filed.{Filed}
+use Rattle.accounts.specs.FollowedFile.{IsFollowedFile, tail_of}
+use Rattle.accounts.specs.RunTold.{HasTold}
+use Rattle.accounts.specs.Taken.{Taken}
+use Rattle.accounts.specs.ToldFile.{IsToldFile}
+use Rattle.accounts.specs.Turned.{Turned}
+use Rattle.accounts.proofs.Worked.{history, opened, telling}
+
+-- ---- its file
+
+abbrev turned : Turned
+turned = record { slot = record { 0 = 0 }; history = history }
+
+abbrev file : Filed
+file = record { opened = opened; turned = turned; looks = worked.looks; changed = 0 }
+
+-- of a life that goes on with the two lines
+module _ (more : List ℕ) where
+  abbrev longer : List ℕ
+  longer = life ++ more
+
+  one_is_shortest : (line : Line) (front left : List Line) → line ∷ [] ≡ front ++ left → left ≢ [] → length front ≡ 1 → ⊥
+  one_is_shortest line front [] same some size = some refl
+  one_is_shortest line front (next ∷ left) same some size = absurd (omega (arith, size, length-append front (next ∷ left), ap (λ (l : List Line). length l) same))
+
+  natural : (line : Line) (behind : List Line) → lines_from lines longer line.span.start ≡ line ∷ behind →
+      IsNaturalEvent lines (Single 10485760) longer line.span.start line.span.end
+  natural line behind are = record { row = line ∷ []; natural = record { behind = behind; lines_are = are; event = refl; shortest = one_is_shortest line }; ends = refl }
+
+  has_fate : (line : Line) (behind : List Line) (text : List ℕ) → lines_from lines longer line.span.start ≡ line ∷ behind →
+      fate_of plain a_log line.span.start (message_of plain.events (line ∷ [])) 0 ≡ ShippedAs text → HasFate plain longer (event_of line text)
+  has_fate line behind text are is = record { row = line ∷ []; behind = behind; lines = are; ends = refl; is = sym is }
+
+  two_lines_are_told : AreTold plain [] longer 0 both_events
+  two_lines_are_told = record {
+    partition = (refl, inl (natural first_line (second_line ∷ lines_from lines longer 4) refl), (refl, inl (natural second_line (lines_from lines longer 4) refl), tt));
+    fates = (
+      has_fate first_line (second_line ∷ lines_from lines longer 4) (payload (codes "0") (codes "a")) refl first_fate,
+      (has_fate second_line (lines_from lines longer 4) (payload (codes "2") (codes "b")) refl second_fate, tt),
+    );
+  }
+
+is_telling : IsTelling (rules_in history) telling
+is_telling of has = subst (λ (l : List ℕ). AreTold plain [] l 0 both_events) (sym has.behind) (two_lines_are_told has.more)
+
+is_look : (look : Look) → look.sight ≡ worked.sight → IsAnswered look.question worked.sight → IsLook worked.file worked.sight look
+is_look look is answered =
+    subst (λ s. IsLook worked.file worked.sight (record look { sight = s })) (sym is) (record {
+      of_file = record { known = lit≤ tt; within = lit≤ tt; in_range = lit≤ tt };
+      no_earlier = record { life = omega arith; length = λ same. omega arith };
+      answered = answered;
+    })
+
+looked : IsLookedAt worked.file.numbers history (tail_of file)
+looked = record {
+  since = worked.looks;
+  beyond = [];
+  looks_are = refl;
+  front = [];
+  last = worked.segment;
+  segments = refl;
+  past = tt;
+  present = record {
+    place = refl;
+    to = refl;
+    bytes = refl;
+    on = ((λ e. tt, (λ e. refl, (λ e. tt, (λ e. refl, tt)))));
+    kept_key = inl refl;
+    licensed = tt;
+  };
+  stand_behind = refl;
+  end_look = λ ended. worked.end_look;
+}
+
+told_file : IsToldFile [] opened (0 ∷ []) turned (Some (tail_of file))
+told_file = record {
+  slot = refl;
+  history = record {
+    rule = refl;
+    processors_are = refl;
+    begin = refl;
+    none_before = refl;
+    path = refl;
+    not_ending = refl;
+    not_forgotten = refl;
+    epochs = (refl, refl, tt);
+    at = ([], [], refl, tt);
+    told = (
+      (record { path_is = refl; given = (0, omega arith, refl) }, (record { path_is = refl; given = (0, omega arith, refl) }, tt)),
+      tt,
+    );
+  };
+  epochs = (is_telling, tt);
+  looked = looked;
+  tail = record { opening = refl; number = refl; begun = refl; file = refl };
+  tells = (
+    is_look (record { question = Length; sight = worked.sight }) refl tt,
+    (
+      is_look (record { question = ReadAt 0 4; sight = worked.sight }) refl (λ some. lit≤ tt, λ none. cc),
+      (
+        is_look (record { question = Length; sight = worked.sight }) refl tt,
+        (is_look (record { question = ReadAt 4 0; sight = worked.sight }) refl (λ some. lit≤ tt, λ none. lit≤ tt), tt),
+      ),
+    ),
+  );
+}
+
+followed_file : IsFollowedFile worked.run worked.scan file
+followed_file = record {
+  rule_is = refl;
+  key_is = refl;
+  in_range = (lit≤ tt, lit≤ tt);
+  file_is = refl;
+  tail = record { in_this_run = lit≤ tt; begun = worked.sight; opened = refl; tells = refl };
+  told = told_file;
+  shown = worked.shown;
+  listed = record { number = 0; shows = worked.shows_to; path_is = refl; before = (lit≤ tt, tt); starts = refl };
+  moment = inl refl;
+}
+
+-- ---- its notes and its talk
+
+abbrev parcel : ℕ → ℕ → List ℕ → Parcel
+parcel start end text = record { slot = record { 0 = 0 }; epoch = record { 0 = 0 }; span = record { start = start; end = end }; payload = text }
+
+abbrev parcels : List Parcel
+parcels =
+    parcel 0 2 (payload (codes "0") (codes "a"))
+    ∷ parcel 2 4 (payload (codes "2") (codes "b"))
+    ∷ []
+
+abbrev worker : Taken
+worker = record { acknowledged = parcels; carried = [] }
+
+abbrev first : List Note
+first = Begin (record { 0 = 0 }) worked.key a_log (record { 0 = 0 }) 0 (record { 0 = 0 }) ∷ []
+
+abbrev collected : List Note
+collected =
+    Settle (record { 0 = 0 }) (record { 0 = 0 }) (record { start = 0; end = 2 }) Acked
+    ∷ Settle (record { 0 = 0 }) (record { 0 = 0 }) (record { start = 2; end = 4 }) Acked
+    ∷ []
+
+acknowledged : Acknowledges worked.talk.pieces worked.payloads
+acknowledged = record {
+  windows = worked.payloads ∷ [];
+  sent = record { each = (worked.window, tt); rest = []; whole = sym (append-nil (window_bytes worked.payloads ++ [])); cut = none_in_nothing };
+  are = refl;
+}
+
+has_talks : (idles faults : ℕ) → HasTalks 2048 parcels (parcels ++ []) (Finished worked.talk faults idles ∷ [])
+has_talks idles faults = record {
+  acknowledges = record { first = worked.payloads; rest = []; are = refl; acknowledges = acknowledged; others = refl };
+  sent = (
+    record {
+      windows = parcels ∷ [];
+      each = (worked.window, tt);
+      small = (lit≤ tt, tt);
+      before = [];
+      behind = [];
+      are = refl;
+      left = [];
+      sent = append-nil (window_bytes worked.payloads ++ []);
+    },
+    tt,
+  );
+}
+
+-- ---- all of it
+
+pub has_told : HasTold worked.run worked.scan (file ∷ []) (worker ∷ []) first collected
+has_told = record {
+  by = record {
+    once = refl;
+    only = refl;
+    scans = worked.is_account.followed.scans;
+    askings = (record { no_tail = refl; rule = worked.input; rule_is = refl }, tt);
+    inputs = record { each = (record { identity = refl; no_colon = (λ e. cc, tt) }, tt); ids_apart = (none_there worked.input.id, tt) };
+  };
+  followed = record {
+    each = (followed_file, tt);
+    slots = (omega arith, tt);
+    names_apart = (none_there (record { path = a_log; input = 0 }), tt);
+    openings_apart = (none_there 2, tt);
+    openings_serve = worked.is_account.followed.openings_serve;
+  };
+  talks = (record { most = 2048; talks = has_talks 0 0; none_open = refl }, tt);
+  noted = record {
+    begins = first;
+    seens = [];
+    notes_are = refl;
+    each_begin = (record { path = a_log; changed = record { 0 = 0 }; is = refl; within = omega arith }, tt);
+    each_seen = tt;
+  };
+  fits = record {
+    issued = parcels;
+    noted = [];
+    issued_are = λ h. refl;
+    noted_are = λ h. refl;
+    parcels = [];
+    parcels_are = λ h. refl;
+    notes = [];
+    notes_are = λ h. refl;
+  };
+}
+
+pub is_done : IsDone worked.run worked.scan (file ∷ []) (worker ∷ []) first collected
+is_done = record {
+  full = record { not_cut_off = refl; none_failed = worked.whole.none_failed; each_asked = worked.whole.each_asked };
+  served = served;
+  whole = (
+    record {
+      from_its_first_byte = refl;
+      to_its_end = record { ended = refl; all_told = refl };
+      moment = record {
+        shown = worked.shown;
+        entry = worked.entry;
+        path_is = refl;
+        changed_is = refl;
+        note = Begin (record { 0 = 0 }) worked.key a_log (record { 0 = 0 }) 0 (record { 0 = 0 });
+        among = (0, omega arith, refl);
+        slot_is = refl;
+        carries = refl;
+      };
+    },
+    tt,
+  );
+  settled = record { parcels_are = λ h. refl; notes_are = λ h. refl };
+}
+  where
+    served : (other : Shown) (input : ℕ) (rule : InputRule) → ShowsEntry worked.run.trace worked.scan other → slice_get worked.run.settings.inputs input ≡ Some rule →
+        IsCovered rule.paths other.entry.path → IsAmongFiles (file ∷ []) other input ⊎ WasPassed worked.run other
+    served other zero rule shows is covered =
+        inl (record { file = file; of_files = (0, omega arith, refl); name_is = ap (λ (s : Shown). record { path = s.entry.path; input = 0 }) (worked.only_entry other shows) })
+    served other (suc input) rule shows is covered = absurd (let q : None ≡ Some rule = is in cc)
