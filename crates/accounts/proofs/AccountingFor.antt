@@ -11,7 +11,7 @@ use Rattle.accounts.specs.Filed.{Filed, accounts_of, turned_of}
 use Rattle.accounts.specs.FollowedFile.{IsFollowedFile, tail_of}
 use Rattle.accounts.specs.Ground.{HasGround}
 use Rattle.accounts.specs.Places.{ArePlaces}
-use Rattle.accounts.specs.RunTold.{HasTold}
+use Rattle.accounts.specs.RunTold.{RunTold}
 use Rattle.accounts.specs.Taken.{Taken, acknowledged_in}
 use Rattle.accounts.specs.Turned.{tellings_in}
 use Rattle.accounts.proofs.Accounts.{are_filed, are_in_epochs, have_slots, is_account, told_once}
@@ -27,7 +27,7 @@ use Rattle.accounts.proofs.Orderly.{are_in_rows}
 use Rattle.accounts.proofs.Places.{have_places}
 use Rattle.accounts.proofs.Sending.{sent_only}
 
-module _ (run : Run) (scan : Scan) (files : List Filed) (workers : List Taken) (first collected : List Note) (told : HasTold run scan files workers first collected) where
+module _ (run : Run) (scan : Scan) (files : List Filed) (workers : List Taken) (first collected : List Note) (told : RunTold run scan files workers first collected) where
   each_adjoins : (some : List Filed) → AllByRecursion (IsFollowedFile run scan) some → AllByRecursion (λ (file : Filed). EachAdjoins (tellings_in file.turned.history)) some
   each_adjoins [] each = tt
   each_adjoins (file ∷ some) each =

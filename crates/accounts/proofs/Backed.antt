@@ -18,7 +18,7 @@ use Rattle.wire_base.specs.declared.numbers.Epoch.{Epoch}
 use Rattle.wire_base.specs.declared.numbers.Moment.{Moment}
 use Rattle.wire_base.specs.declared.numbers.Slot.{Slot}
 use Rattle.wire_base.specs.declared.parcel.Parcel.{Parcel}
-use Rattle.accounts.specs.FirstNotes.{AreFirstNotes, IsBeginOf, IsSeenOf}
+use Rattle.accounts.specs.FirstNotes.{AreFirstNotes, IsBeginOf, IsMomentOfOne}
 use Rattle.accounts.specs.Filed.{Filed, IsFiled, IsNoted, accounts_of, slot_in, turned_of}
 use Rattle.accounts.specs.Places.{IsPlacedWell}
 use Rattle.accounts.specs.Ground.{HasGround, IsAcknowledgement, IsNoteBy, IsNoteOf}
@@ -44,7 +44,7 @@ module _ (placed : Parcel → Option Place) (wires : List WireTold) (files : Lis
         begins_are_backed some begins (λ other there. among other (later_there file other some there)) are.1,
       )
 
-  seens_are_backed : (seens : List Note) → AllByRecursion (IsSeenOf files) seens → AreBacked (accounts_of placed files) wires seens
+  seens_are_backed : (seens : List Note) → AllByRecursion (IsMomentOfOne files) seens → AreBacked (accounts_of placed files) wires seens
   seens_are_backed [] are = tt
   seens_are_backed (note ∷ seens) are =
       let seen = are.0 in (

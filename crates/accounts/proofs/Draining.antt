@@ -30,11 +30,11 @@ use Rattle.wire_base.specs.KeyOrder.{compare}
 use Rattle.wire_base.specs.declared.note.Note.{Note}
 use Rattle.wire_base.specs.declared.parcel.Parcel.{Parcel}
 use Rattle.wire_base.specs.declared.row.Row.{Row}
-use Rattle.accounts.specs.DoneTold.{IsAmongFiles, IsDone, IsToldWhole, WasPassed, name_of}
+use Rattle.accounts.specs.RunDone.{IsAmongFiles, RunDone, IsToldWhole, WasPassed, name_of}
 use Rattle.accounts.specs.Filed.{Filed, IsNoted, account_of, accounts_of, slot_in}
 use Rattle.accounts.specs.FollowedFile.{IsFollowedFile, Named, name_in, tail_of}
 use Rattle.accounts.specs.OneScan.{IsAskedByEntry, IsByOneScan, IsByPath}
-use Rattle.accounts.specs.RunTold.{HasTold}
+use Rattle.accounts.specs.RunTold.{RunTold}
 use Rattle.accounts.specs.Taken.{Taken, acknowledged_in}
 use Rattle.accounts.specs.Turned.{tellings_in}
 use Rattle.accounts.proofs.AccountingFor.{have_ground}
@@ -114,8 +114,8 @@ same_rule : (rules : List InputRule) (input other : ℕ) (rule another : InputRu
 same_rule rules input other rule another is and same =
     let q : Some rule ≡ Some another = sym is ∙ ap (slice_get rules) same ∙ and in cc
 
-module _ (run : Run) (scan : Scan) (files : List Filed) (workers : List Taken) (first collected : List Note) (told : HasTold run scan files workers first collected)
-    (done : IsDone run scan files workers first collected) (placed : Parcel → Option Place) (premises : Premises run (followings_of placed files))
+module _ (run : Run) (scan : Scan) (files : List Filed) (workers : List Taken) (first collected : List Note) (told : RunTold run scan files workers first collected)
+    (done : RunDone run scan files workers first collected) (placed : Parcel → Option Place) (premises : Premises run (followings_of placed files))
     (rows : List Row) (over : AreRowsOver run.opening (first ++ collected) rows) where
   abbrev notes : List Note
   notes = first ++ collected

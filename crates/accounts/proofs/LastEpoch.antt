@@ -21,7 +21,7 @@ use Rattle.wire_base.specs.declared.note.Note.TheVariants.{Announce, Begin, Sett
 use Rattle.wire_base.specs.declared.numbers.Epoch.{Epoch}
 use Rattle.wire_base.specs.declared.numbers.Slot.{Slot}
 use Rattle.wire_base.specs.declared.parcel.Parcel.{Parcel}
-use Rattle.accounts.specs.DoneTold.{AreAllCollected}
+use Rattle.accounts.specs.RunDone.{AreAllCollected}
 use Rattle.accounts.specs.Filed.{Filed, HasItsSlot, IsNoted, slot_in, turned_of}
 use Rattle.accounts.specs.FirstNotes.{AreFirstNotes}
 use Rattle.accounts.specs.Ground.{HasGround, IsEpochOf, IsNoteBy}

@@ -22,7 +22,7 @@ use Rattle.wire_base.specs.declared.note.Note.TheVariants.{Announce, Begin, Forg
 use Rattle.wire_base.specs.declared.numbers.Slot.{Slot}
 use Rattle.wire_base.specs.declared.parcel.Parcel.{Parcel}
 use Rattle.accounts.specs.Filed.{Filed, IsNoted, slot_in, turned_of}
-use Rattle.accounts.specs.FirstNotes.{AreFirstNotes, IsBeginOf, IsSeenOf}
+use Rattle.accounts.specs.FirstNotes.{AreFirstNotes, IsBeginOf, IsMomentOfOne}
 use Rattle.accounts.specs.Ground.{HasGround}
 use Rattle.accounts.specs.ToldFile.{AreEpochsFrom, AreNumberedFrom}
 use Rattle.accounts.specs.Turned.{announced_in, notes_in, settlements_in}
@@ -122,15 +122,6 @@ one_slot_given file (first ∷ files) (note ∷ begins) there apart are =
         ∙ later behind
 
 -- ---- kinds of notes
-
--- what a first note is: a Begin, or a moment
-abbrev IsFirst : Note → Type 0
-IsFirst (Begin slot key path epoch base changed) = Unit {0}
-IsFirst (Announce slot epoch) = ⊥
-IsFirst (Settle slot epoch span cause) = ⊥
-IsFirst (Rename slot scan path) = ⊥
-IsFirst (Seen slot changed) = Unit {0}
-IsFirst (Forget slot epoch end) = ⊥
 
 collectable_gives_none : (key : List ℕ) (note : Note) → IsCollectable note → slot_for key note ≡ None
 collectable_gives_none key (Begin slot named path epoch base changed) is = absurd is
@@ -242,7 +233,7 @@ module _ (files : List Filed) (acknowledged : List Parcel) (first collected : Li
 
     -- a first note of the file
     pub first_note : (P : Note → Type 0) →
-        ((note : Note) → IsBeginOf file note → P note) → ((note : Note) (seen : IsSeenOf files note) → seen.file ≡ file → P note) →
+        ((note : Note) → IsBeginOf file note → P note) → ((note : Note) (seen : IsMomentOfOne files note) → seen.file ≡ file → P note) →
         (note : Note) → Contains first note → slot_of note ≡ slot_in file → P note
     first_note P begin seen note there slot =
         by_part (Contains-append_cases are.begins are.seens note (subst (λ (l : List Note). Contains l note) are.notes_are there))
@@ -253,7 +244,7 @@ module _ (files : List Filed) (acknowledged : List Parcel) (first collected : Li
             let same : of.item ≡ file = slot_names of.item of.among (ap slot_of (sym of.is.is) ∙ slot) in
             begin note (subst (λ (f : Filed). IsBeginOf f note) same of.is)
         by_part (inr here) =
-            let of = member_is (IsSeenOf files) are.seens note are.each_seen here in
+            let of = member_is (IsMomentOfOne files) are.seens note are.each_seen here in
             seen note of (slot_names of.file of.of_files (ap slot_of (sym of.is) ∙ slot))
 
     -- ---- its slot
@@ -269,7 +260,7 @@ module _ (files : List Filed) (acknowledged : List Parcel) (first collected : Li
         none_collected (note ∷ some) all =
             (collectable_gives_none (key_in file) note (is_collectable (turned_of files) acknowledged note all.0), none_collected some all.1)
 
-        none_seen : (some : List Note) → AllByRecursion (IsSeenOf files) some → AllByRecursion (λ (note : Note). slot_for (key_in file) note ≡ None) some
+        none_seen : (some : List Note) → AllByRecursion (IsMomentOfOne files) some → AllByRecursion (λ (note : Note). slot_for (key_in file) note ≡ None) some
         none_seen [] all = tt
         none_seen (note ∷ some) all = (ap (slot_for (key_in file)) all.0.is, none_seen some all.1)
 
@@ -316,7 +307,7 @@ module _ (files : List Filed) (acknowledged : List Parcel) (first collected : Li
         no_begin (one ∷ some) [] all = absurd all
         no_begin (one ∷ some) (note ∷ begins) all = (subst IsNoForget (sym all.0.is) tt, no_begin some begins all.1)
 
-        no_seen : (some : List Note) → AllByRecursion (IsSeenOf files) some → ForgetNone some
+        no_seen : (some : List Note) → AllByRecursion (IsMomentOfOne files) some → ForgetNone some
         no_seen [] all = tt
         no_seen (note ∷ some) all = (subst IsNoForget (sym all.0.is) tt, no_seen some all.1)
 

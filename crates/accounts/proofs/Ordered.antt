@@ -22,7 +22,7 @@ use Rattle.wire_base.specs.declared.note.Note.TheVariants.{Announce, Begin, Forg
 use Rattle.wire_base.specs.declared.numbers.Epoch.{Epoch}
 use Rattle.wire_base.specs.declared.numbers.Slot.{Slot}
 use Rattle.wire_base.specs.declared.parcel.Parcel.{Parcel}
-use Rattle.accounts.specs.FirstNotes.{AreFirstNotes, IsBeginOf, IsSeenOf}
+use Rattle.accounts.specs.FirstNotes.{AreFirstNotes, IsBeginOf, IsMomentOfOne}
 use Rattle.accounts.specs.Filed.{Filed, HasItsSlot, IsNoted, slot_in, turned_of}
 use Rattle.accounts.specs.FollowedFile.{AreInSlots}
 use Rattle.accounts.specs.Ground.{HasGround, IsEpochOf, IsNoteBy}
@@ -116,12 +116,12 @@ begins_orderly front least (file ∷ files) (note ∷ begins) is below slots are
 
 -- ---- moments
 
-seens_orderly : (files : List Filed) (front seens : List Note) → AreOrderly front → AllByRecursion (IsNoted front) files → AllByRecursion (IsSeenOf files) seens → AreOrderly (front ++ seens)
+seens_orderly : (files : List Filed) (front seens : List Note) → AreOrderly front → AllByRecursion (IsNoted front) files → AllByRecursion (IsMomentOfOne files) seens → AreOrderly (front ++ seens)
 seens_orderly files front seens is noted are = orderly_on front seens is each
   where
     each : (before : List Note) (note : Note) (behind : List Note) → seens ≡ before ++ note ∷ behind → MayFollow (front ++ before) note
     each before note behind parts =
-        let seen = member_is (IsSeenOf files) (before ++ note ∷ behind) note (subst (AllByRecursion (IsSeenOf files)) parts are)
+        let seen = member_is (IsMomentOfOne files) (before ++ note ∷ behind) note (subst (AllByRecursion (IsMomentOfOne files)) parts are)
         (Contains-append_right before (note ∷ behind) note (first_there note behind)) in
         subst (MayFollow (front ++ before)) (sym seen.is)
         (file_is_begun (front ++ before) seen.file (still_noted front before seen.file (member_is (IsNoted front) files seen.file noted seen.of_files)))
@@ -214,7 +214,7 @@ begins_settle_nothing [] (note ∷ begins) are = absurd are
 begins_settle_nothing (file ∷ files) [] are = absurd are
 begins_settle_nothing (file ∷ files) (note ∷ begins) are = ((λ epoch. ap (span_in epoch) are.0.is), begins_settle_nothing files begins are.1)
 
-seens_settle_nothing : (files : List Filed) (seens : List Note) → AllByRecursion (IsSeenOf files) seens → AllByRecursion SettlesNothing seens
+seens_settle_nothing : (files : List Filed) (seens : List Note) → AllByRecursion (IsMomentOfOne files) seens → AllByRecursion SettlesNothing seens
 seens_settle_nothing files [] all = tt
 seens_settle_nothing files (note ∷ seens) all = ((λ epoch. ap (span_in epoch) all.0.is), seens_settle_nothing files seens all.1)
 

@@ -14,7 +14,7 @@ use Rattle.outside.specs.Wires.{Finished, Outcome, Refused}
 use Rattle.ship_core.proofs.Members.{first_there, later_there, none_there, there_cases}
 use Rattle.wire_base.specs.declared.parcel.Parcel.{Parcel}
 use Rattle.wire_base.specs.declared.talk.Piece.{Piece}
-use Rattle.accounts.specs.Places.{AreOfWorkers, ArePlaces, IsPlacedWell, Standing, place_among, standings_at, standings_in, standings_of}
+use Rattle.accounts.specs.Places.{AreOfWorkers, ArePlaces, IsPlacedWell, Placement, place_among, placements_at, placements_in, placements_of}
 use Rattle.accounts.specs.Same.{same_parcel}
 use Rattle.accounts.specs.Taken.{Taken, acknowledged_in}
 use Rattle.accounts.specs.Turning.{Pairs}
@@ -99,15 +99,15 @@ all_parts (taken ∷ workers) (wire ∷ wires) of =
 
 -- ---- each stands at its place
 
-record IsLocated (all : List (List (List Parcel))) (one : Standing) : Type 0 where
+record IsLocated (all : List (List (List Parcel))) (one : Placement) : Type 0 where
   parts : List (List Parcel)
   wire : slice_get all one.place.wire ≡ Some parts
   part : List Parcel
   connection : slice_get parts one.place.connection ≡ Some part
   number : slice_get part one.place.number ≡ Some one.parcel
 
-abbrev standing : ℕ → ℕ → ℕ → Parcel → Standing
-standing wire connection number parcel = record { parcel = parcel; place = record { wire = wire; connection = connection; number = number } }
+abbrev placement : ℕ → ℕ → ℕ → Parcel → Placement
+placement wire connection number parcel = record { parcel = parcel; place = record { wire = wire; connection = connection; number = number } }
 
 none_more : (n : ℕ) → n + 0 ≡ n
 none_more n = omega arith
@@ -118,51 +118,51 @@ one_more n k = omega arith
 behind_none : (k : ℕ) → 0 + k ≡ k
 behind_none k = omega arith
 
-module _ (P : Standing → Type 0) where
-  at_each : (wire connection number : ℕ) (parcels : List Parcel) → ((k : ℕ) (parcel : Parcel) → slice_get parcels k ≡ Some parcel → P (standing wire connection (number + k) parcel)) →
-      AllByRecursion P (standings_at wire connection number parcels)
+module _ (P : Placement → Type 0) where
+  at_each : (wire connection number : ℕ) (parcels : List Parcel) → ((k : ℕ) (parcel : Parcel) → slice_get parcels k ≡ Some parcel → P (placement wire connection (number + k) parcel)) →
+      AllByRecursion P (placements_at wire connection number parcels)
   at_each wire connection number [] each = tt
   at_each wire connection number (first ∷ parcels) each = (
-    subst (λ (n : ℕ). P (standing wire connection n first)) (none_more number) (each 0 first refl),
-    at_each wire connection (number + 1) parcels (λ k parcel at. subst (λ (n : ℕ). P (standing wire connection n parcel)) (one_more number k) (each (suc k) parcel at)),
+    subst (λ (n : ℕ). P (placement wire connection n first)) (none_more number) (each 0 first refl),
+    at_each wire connection (number + 1) parcels (λ k parcel at. subst (λ (n : ℕ). P (placement wire connection n parcel)) (one_more number k) (each (suc k) parcel at)),
   )
 
   of_each : (wire connection : ℕ) (parts : List (List Parcel)) →
-      ((c : ℕ) (part : List Parcel) → slice_get parts c ≡ Some part → (k : ℕ) (parcel : Parcel) → slice_get part k ≡ Some parcel → P (standing wire (connection + c) k parcel)) →
-      AllByRecursion P (standings_of wire connection parts)
+      ((c : ℕ) (part : List Parcel) → slice_get parts c ≡ Some part → (k : ℕ) (parcel : Parcel) → slice_get part k ≡ Some parcel → P (placement wire (connection + c) k parcel)) →
+      AllByRecursion P (placements_of wire connection parts)
   of_each wire connection [] each = tt
   of_each wire connection (first ∷ parts) each =
-      both P (standings_at wire connection 0 first) (standings_of wire (connection + 1) parts)
+      both P (placements_at wire connection 0 first) (placements_of wire (connection + 1) parts)
       (at_each wire connection 0 first (λ k parcel at.
-      subst (λ (n : ℕ). P (standing wire connection n parcel)) (sym (behind_none k))
-      (subst (λ (n : ℕ). P (standing wire n k parcel)) (none_more connection) (each 0 first refl k parcel at))))
+      subst (λ (n : ℕ). P (placement wire connection n parcel)) (sym (behind_none k))
+      (subst (λ (n : ℕ). P (placement wire n k parcel)) (none_more connection) (each 0 first refl k parcel at))))
       (of_each wire (connection + 1) parts (λ c part there k parcel at.
-      subst (λ (n : ℕ). P (standing wire n k parcel)) (one_more connection c) (each (suc c) part there k parcel at)))
+      subst (λ (n : ℕ). P (placement wire n k parcel)) (one_more connection c) (each (suc c) part there k parcel at)))
 
   in_each : (wire : ℕ) (all : List (List (List Parcel))) →
       ((w : ℕ) (parts : List (List Parcel)) → slice_get all w ≡ Some parts → (c : ℕ) (part : List Parcel) → slice_get parts c ≡ Some part →
-      (k : ℕ) (parcel : Parcel) → slice_get part k ≡ Some parcel → P (standing (wire + w) c k parcel)) → AllByRecursion P (standings_in wire all)
+      (k : ℕ) (parcel : Parcel) → slice_get part k ≡ Some parcel → P (placement (wire + w) c k parcel)) → AllByRecursion P (placements_in wire all)
   in_each wire [] each = tt
   in_each wire (first ∷ all) each =
-      both P (standings_of wire 0 first) (standings_in (wire + 1) all)
+      both P (placements_of wire 0 first) (placements_in (wire + 1) all)
       (of_each wire 0 first (λ c part there k parcel at.
-      subst (λ (n : ℕ). P (standing wire n k parcel)) (sym (behind_none c))
-      (subst (λ (n : ℕ). P (standing n c k parcel)) (none_more wire) (each 0 first refl c part there k parcel at))))
+      subst (λ (n : ℕ). P (placement wire n k parcel)) (sym (behind_none c))
+      (subst (λ (n : ℕ). P (placement n c k parcel)) (none_more wire) (each 0 first refl c part there k parcel at))))
       (in_each (wire + 1) all (λ w parts here c part there k parcel at.
-      subst (λ (n : ℕ). P (standing n c k parcel)) (one_more wire w) (each (suc w) parts here c part there k parcel at)))
+      subst (λ (n : ℕ). P (placement n c k parcel)) (one_more wire w) (each (suc w) parts here c part there k parcel at)))
 
-all_located : (all : List (List (List Parcel))) → AllByRecursion (IsLocated all) (standings_in 0 all)
+all_located : (all : List (List (List Parcel))) → AllByRecursion (IsLocated all) (placements_in 0 all)
 all_located all =
     in_each (IsLocated all) 0 all
     (λ w parts here c part there k parcel at.
-    subst (λ (n : ℕ). IsLocated all (standing n c k parcel)) (sym (behind_none w))
+    subst (λ (n : ℕ). IsLocated all (placement n c k parcel)) (sym (behind_none w))
     (record { parts = parts; wire = here; part = part; connection = there; number = at }))
 
 same_some : {A : Type 0} (o : Option A) (x y : A) → o ≡ Some x → o ≡ Some y → x ≡ y
 same_some o x y is and = let q : Some x ≡ Some y = sym is ∙ and in cc
 
 -- one place has one parcel
-one_parcel : (all : List (List (List Parcel))) (one other : Standing) → IsLocated all one → IsLocated all other → one.place ≡ other.place → one.parcel ≡ other.parcel
+one_parcel : (all : List (List (List Parcel))) (one other : Placement) → IsLocated all one → IsLocated all other → one.place ≡ other.place → one.parcel ≡ other.parcel
 one_parcel all one other is and same =
     let parts = same_some (slice_get all other.place.wire) is.parts and.parts (ap (λ (p : Place). slice_get all p.wire) (sym same) ∙ is.wire) and.wire in
     let part = same_some (slice_get and.parts other.place.connection) is.part and.part
@@ -172,65 +172,65 @@ one_parcel all one other is and same =
 
 -- ---- what stands among them
 
-record IsAmong (standings : List Standing) (parcel : Parcel) (place : Place) : Type 0 where
-  one : Standing
-  among : Contains standings one
+record IsAmong (placements : List Placement) (parcel : Parcel) (place : Place) : Type 0 where
+  one : Placement
+  among : Contains placements one
   parcel_is : one.parcel ≡ parcel
   place_is : one.place ≡ place
 
-among : (standings : List Standing) (parcel : Parcel) (place : Place) → place_among standings parcel ≡ Some place → IsAmong standings parcel place
+among : (placements : List Placement) (parcel : Parcel) (place : Place) → place_among placements parcel ≡ Some place → IsAmong placements parcel place
 among [] parcel place is = absurd cc
-among (first ∷ standings) parcel place is = by_case (same_parcel first.parcel parcel) refl is (among standings parcel place)
+among (first ∷ placements) parcel place is = by_case (same_parcel first.parcel parcel) refl is (among placements parcel place)
   where
-    by_case : (b : Bool) → same_parcel first.parcel parcel ≡ b → (if b then Some first.place else place_among standings parcel) ≡ Some place →
-        (place_among standings parcel ≡ Some place → IsAmong standings parcel place) → IsAmong (first ∷ standings) parcel place
+    by_case : (b : Bool) → same_parcel first.parcel parcel ≡ b → (if b then Some first.place else place_among placements parcel) ≡ Some place →
+        (place_among placements parcel ≡ Some place → IsAmong placements parcel place) → IsAmong (first ∷ placements) parcel place
     by_case true same q others =
         let there : first.place ≡ place = cc in
-        record { one = first; among = first_there first standings; parcel_is = tells_parcels.tells first.parcel parcel same; place_is = there }
+        record { one = first; among = first_there first placements; parcel_is = tells_parcels.tells first.parcel parcel same; place_is = there }
     by_case false other q others =
         let later = others q in
-        record { one = later.one; among = later_there first later.one standings later.among; parcel_is = later.parcel_is; place_is = later.place_is }
+        record { one = later.one; among = later_there first later.one placements later.among; parcel_is = later.parcel_is; place_is = later.place_is }
 
 record HasPlace (o : Option Place) : Type 0 where
   place : Place
   is : o ≡ Some place
 
-has_place : (standings : List Standing) (one : Standing) → Contains standings one → HasPlace (place_among standings one.parcel)
+has_place : (placements : List Placement) (one : Placement) → Contains placements one → HasPlace (place_among placements one.parcel)
 has_place [] one there = absurd (none_there one there)
-has_place (first ∷ standings) one there = by_case (same_parcel first.parcel one.parcel) refl (there_cases first one standings there) (has_place standings one)
+has_place (first ∷ placements) one there = by_case (same_parcel first.parcel one.parcel) refl (there_cases first one placements there) (has_place placements one)
   where
-    by_case : (b : Bool) → same_parcel first.parcel one.parcel ≡ b → (first ≡ one) ⊎ Contains standings one → (Contains standings one → HasPlace (place_among standings one.parcel)) →
-        HasPlace (if b then Some first.place else place_among standings one.parcel)
+    by_case : (b : Bool) → same_parcel first.parcel one.parcel ≡ b → (first ≡ one) ⊎ Contains placements one → (Contains placements one → HasPlace (place_among placements one.parcel)) →
+        HasPlace (if b then Some first.place else place_among placements one.parcel)
     by_case true same cases others = record { place = first.place; is = refl }
     by_case false other (inl here) others =
-        absurd (let no : true ≡ false = sym (tells_parcels.itself one.parcel) ∙ ap (λ (s : Standing). same_parcel s.parcel one.parcel) (sym here) ∙ other in cc)
+        absurd (let no : true ≡ false = sym (tells_parcels.itself one.parcel) ∙ ap (λ (s : Placement). same_parcel s.parcel one.parcel) (sym here) ∙ other in cc)
     by_case false other (inr later) others = others later
 
 -- ---- all parcels are there
 
-abbrev parcels_in : List Standing → List Parcel
-parcels_in standings = map (λ (one : Standing). one.parcel) standings
+abbrev parcels_in : List Placement → List Parcel
+parcels_in placements = map (λ (one : Placement). one.parcel) placements
 
-map_both : (xs ys : List Standing) → parcels_in (xs ++ ys) ≡ parcels_in xs ++ parcels_in ys
+map_both : (xs ys : List Placement) → parcels_in (xs ++ ys) ≡ parcels_in xs ++ parcels_in ys
 map_both [] ys = refl
 map_both (x ∷ xs) ys = ap (λ (l : List Parcel). x.parcel ∷ l) (map_both xs ys)
 
-at_parcels : (wire connection number : ℕ) (parcels : List Parcel) → parcels_in (standings_at wire connection number parcels) ≡ parcels
+at_parcels : (wire connection number : ℕ) (parcels : List Parcel) → parcels_in (placements_at wire connection number parcels) ≡ parcels
 at_parcels wire connection number [] = refl
 at_parcels wire connection number (parcel ∷ parcels) = ap (λ (l : List Parcel). parcel ∷ l) (at_parcels wire connection (number + 1) parcels)
 
-of_parcels : (wire connection : ℕ) (parts : List (List Parcel)) → parcels_in (standings_of wire connection parts) ≡ flat parts
+of_parcels : (wire connection : ℕ) (parts : List (List Parcel)) → parcels_in (placements_of wire connection parts) ≡ flat parts
 of_parcels wire connection [] = refl
 of_parcels wire connection (part ∷ parts) =
-    map_both (standings_at wire connection 0 part) (standings_of wire (connection + 1) parts)
-    ∙ ap (λ (l : List Parcel). l ++ parcels_in (standings_of wire (connection + 1) parts)) (at_parcels wire connection 0 part)
+    map_both (placements_at wire connection 0 part) (placements_of wire (connection + 1) parts)
+    ∙ ap (λ (l : List Parcel). l ++ parcels_in (placements_of wire (connection + 1) parts)) (at_parcels wire connection 0 part)
     ∙ ap (λ (l : List Parcel). part ++ l) (of_parcels wire (connection + 1) parts)
 
-all_parcels : (wire : ℕ) (all : List (List (List Parcel))) → parcels_in (standings_in wire all) ≡ flat_map flat all
+all_parcels : (wire : ℕ) (all : List (List (List Parcel))) → parcels_in (placements_in wire all) ≡ flat_map flat all
 all_parcels wire [] = refl
 all_parcels wire (parts ∷ all) =
-    map_both (standings_of wire 0 parts) (standings_in (wire + 1) all)
-    ∙ ap (λ (l : List Parcel). l ++ parcels_in (standings_in (wire + 1) all)) (of_parcels wire 0 parts)
+    map_both (placements_of wire 0 parts) (placements_in (wire + 1) all)
+    ∙ ap (λ (l : List Parcel). l ++ parcels_in (placements_in (wire + 1) all)) (of_parcels wire 0 parts)
     ∙ ap (λ (l : List Parcel). flat parts ++ l) (all_parcels (wire + 1) all)
 
 -- ---- acknowledged there
@@ -280,7 +280,7 @@ has_wire (first ∷ all) (wire ∷ wires) (suc number) parts are at =
     let later = has_wire all wires number parts are.1 at in
     record { wire = later.wire; wire_is = later.wire_is; are = later.are }
 
-acknowledged_there : (wires : List WireTold) (all : List (List (List Parcel))) (one : Standing) → Pairs (λ parts (wire : WireTold). AreParts wire.outcomes parts) all wires →
+acknowledged_there : (wires : List WireTold) (all : List (List (List Parcel))) (one : Placement) → Pairs (λ parts (wire : WireTold). AreParts wire.outcomes parts) all wires →
     IsLocated all one → IsAcknowledgedAt wires one.parcel.payload one.place
 acknowledged_there wires all one are is =
     let wire = has_wire all wires one.place.wire is.parts are is.wire in
@@ -305,27 +305,27 @@ module _ (workers : List Taken) (wires : List WireTold) (of : AreOfWorkers worke
   parts : HaveParts workers wires
   parts = all_parts workers wires of
 
-  abbrev standings : List Standing
-  standings = standings_in 0 parts.all
+  abbrev placements : List Placement
+  placements = placements_in 0 parts.all
 
-  one_each : (parcel other : Parcel) (place : Place) → place_among standings parcel ≡ Some place → place_among standings other ≡ Some place → parcel ≡ other
+  one_each : (parcel other : Parcel) (place : Place) → place_among placements parcel ≡ Some place → place_among placements other ≡ Some place → parcel ≡ other
   one_each parcel other place is and =
-      let one = among standings parcel place is in
-      let two = among standings other place and in
+      let one = among placements parcel place is in
+      let two = among placements other place and in
       let located = all_located parts.all in
       sym one.parcel_is
-      ∙ one_parcel parts.all one.one two.one (member_is (IsLocated parts.all) standings one.one located one.among) (member_is (IsLocated parts.all) standings two.one located two.among)
+      ∙ one_parcel parts.all one.one two.one (member_is (IsLocated parts.all) placements one.one located one.among) (member_is (IsLocated parts.all) placements two.one located two.among)
       (one.place_is ∙ sym two.place_is)
       ∙ two.parcel_is
 
-  well : (parcel : Parcel) → Contains (acknowledged_in workers) parcel → IsPlacedWell (place_among standings) wires parcel
+  well : (parcel : Parcel) → Contains (acknowledged_in workers) parcel → IsPlacedWell (place_among placements) wires parcel
   well parcel there =
-      let mapped = of_map (λ (one : Standing). one.parcel) standings parcel
+      let mapped = of_map (λ (one : Placement). one.parcel) placements parcel
       (subst (λ (l : List Parcel). Contains l parcel) (sym (all_parcels 0 parts.all ∙ parts.together)) there) in
-      let has = has_place standings mapped.item mapped.among in
-      let is : place_among standings parcel ≡ Some has.place = ap (place_among standings) (sym mapped.is) ∙ has.is in
-      let one = among standings parcel has.place is in
-      let located = member_is (IsLocated parts.all) standings one.one (all_located parts.all) one.among in
+      let has = has_place placements mapped.item mapped.among in
+      let is : place_among placements parcel ≡ Some has.place = ap (place_among placements) (sym mapped.is) ∙ has.is in
+      let one = among placements parcel has.place is in
+      let located = member_is (IsLocated parts.all) placements one.one (all_located parts.all) one.among in
       record {
         place = has.place;
         is = is;
@@ -334,4 +334,4 @@ module _ (workers : List Taken) (wires : List WireTold) (of : AreOfWorkers worke
       }
 
   pub have_places : HavePlaces workers wires
-  have_places = record { placed = place_among standings; are = record { one_each = one_each; well = well } }
+  have_places = record { placed = place_among placements; are = record { one_each = one_each; well = well } }

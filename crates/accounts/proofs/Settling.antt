@@ -12,7 +12,7 @@ use Rattle.wire_base.specs.Extent.{Extent}
 use Rattle.wire_base.specs.declared.note.Note.{Note}
 use Rattle.wire_base.specs.declared.numbers.Slot.{Slot}
 use Rattle.wire_base.specs.declared.parcel.Parcel.{Parcel}
-use Rattle.accounts.specs.DoneTold.{AreAllCollected}
+use Rattle.accounts.specs.RunDone.{AreAllCollected}
 use Rattle.accounts.specs.Filed.{Filed, turned_of}
 use Rattle.accounts.specs.Taken.{FitBooks, Taken, acknowledged_in, carried_in, settles, taken_by, taken_in}
 use Rattle.accounts.specs.Turned.{Turned, announced_in, events_in, notes_in, notes_told, parcels_by, parcels_in, parcels_of, parcels_told, settlements_by, settlements_in, settlements_of, spans_in, tellings_in}

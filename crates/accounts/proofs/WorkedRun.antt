@@ -27,10 +27,10 @@ use Rattle.wire_base.specs.declared.note.Cause.TheVariants.{Acked}
 use Rattle.wire_base.specs.declared.note.Note.{Note}
 use Rattle.wire_base.specs.declared.note.Note.TheVariants.{Begin, Settle}
 use Rattle.wire_base.specs.declared.parcel.Parcel.{Parcel}
-use Rattle.accounts.specs.DoneTold.{IsAmongFiles, IsDone, WasPassed}
+use Rattle.accounts.specs.RunDone.{IsAmongFiles, RunDone, WasPassed}
 use Rattle.accounts.specs.Filed.{Filed}
 use Rattle.accounts.specs.FollowedFile.{IsFollowedFile, tail_of}
-use Rattle.accounts.specs.RunTold.{HasTold}
+use Rattle.accounts.specs.RunTold.{RunTold}
 use Rattle.accounts.specs.Taken.{Taken}
 use Rattle.accounts.specs.ToldFile.{IsToldFile}
 use Rattle.accounts.specs.Turned.{Turned}
@@ -198,7 +198,7 @@ has_talks idles faults = record {
 
 -- ---- all of it
 
-pub has_told : HasTold worked.run worked.scan (file ∷ []) (worker ∷ []) first collected
+pub has_told : RunTold worked.run worked.scan (file ∷ []) (worker ∷ []) first collected
 has_told = record {
   by = record {
     once = refl;
@@ -234,7 +234,7 @@ has_told = record {
   };
 }
 
-pub is_done : IsDone worked.run worked.scan (file ∷ []) (worker ∷ []) first collected
+pub is_done : RunDone worked.run worked.scan (file ∷ []) (worker ∷ []) first collected
 is_done = record {
   full = record { not_cut_off = refl; none_failed = worked.whole.none_failed; each_asked = worked.whole.each_asked };
   served = served;

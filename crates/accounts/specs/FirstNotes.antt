@@ -16,7 +16,7 @@ pub record IsBeginOf (file : Filed) (note : Note) : Type 0 where
   pub within : changed.0 ≤ file.changed
 
 -- a moment of one of the files
-pub record IsSeenOf (files : List Filed) (note : Note) : Type 0 where
+pub record IsMomentOfOne (files : List Filed) (note : Note) : Type 0 where
   pub file : Filed
   pub of_files : Contains files file
   pub changed : Moment
@@ -28,4 +28,4 @@ pub record AreFirstNotes (files : List Filed) (notes : List Note) : Type 0 where
   pub seens : List Note
   pub notes_are : notes ≡ begins ++ seens
   pub each_begin : Pairs IsBeginOf files begins
-  pub each_seen : AllByRecursion (IsSeenOf files) seens
+  pub each_seen : AllByRecursion (IsMomentOfOne files) seens

@@ -1,6 +1,5 @@
 pub mod Accounted
 pub mod AccountedFor
-pub mod DoneTold
 pub mod Filed
 pub mod FirstNotes
 pub mod FollowedFile
@@ -9,6 +8,7 @@ pub mod Once
 pub mod OneScan
 pub mod Opened
 pub mod Places
+pub mod RunDone
 pub mod RunTold
 pub mod Same
 pub mod Taken

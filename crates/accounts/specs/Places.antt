@@ -12,28 +12,28 @@ use Rattle.accounts.specs.Turning.{Pairs}
 
 -- ---- a place for each
 
-pub record Standing : Type 0 where
+pub record Placement : Type 0 where
   pub parcel : Parcel
   pub place : Place
 
 -- what one connection's talk acknowledged, from this number on
-abbrev pub standings_at : ℕ → ℕ → ℕ → List Parcel → List Standing
-standings_at wire connection number [] = []
-standings_at wire connection number (parcel ∷ parcels) =
-    record { parcel = parcel; place = record { wire = wire; connection = connection; number = number } } ∷ standings_at wire connection (number + 1) parcels
+abbrev pub placements_at : ℕ → ℕ → ℕ → List Parcel → List Placement
+placements_at wire connection number [] = []
+placements_at wire connection number (parcel ∷ parcels) =
+    record { parcel = parcel; place = record { wire = wire; connection = connection; number = number } } ∷ placements_at wire connection (number + 1) parcels
 
 -- connection by connection, from this one on
-abbrev pub standings_of : ℕ → ℕ → List (List Parcel) → List Standing
-standings_of wire connection [] = []
-standings_of wire connection (parcels ∷ others) = standings_at wire connection 0 parcels ++ standings_of wire (connection + 1) others
+abbrev pub placements_of : ℕ → ℕ → List (List Parcel) → List Placement
+placements_of wire connection [] = []
+placements_of wire connection (parcels ∷ others) = placements_at wire connection 0 parcels ++ placements_of wire (connection + 1) others
 
 -- wire by wire, from this one on
-abbrev pub standings_in : ℕ → List (List (List Parcel)) → List Standing
-standings_in wire [] = []
-standings_in wire (parts ∷ others) = standings_of wire 0 parts ++ standings_in (wire + 1) others
+abbrev pub placements_in : ℕ → List (List (List Parcel)) → List Placement
+placements_in wire [] = []
+placements_in wire (parts ∷ others) = placements_of wire 0 parts ++ placements_in (wire + 1) others
 
 -- the first place of the parcel
-abbrev pub place_among : List Standing → Parcel → Option Place
+abbrev pub place_among : List Placement → Parcel → Option Place
 place_among [] parcel = None
 place_among (one ∷ others) parcel = if same_parcel one.parcel parcel then Some one.place else place_among others parcel
 

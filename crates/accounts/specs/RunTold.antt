@@ -12,7 +12,7 @@ use Rattle.accounts.specs.Taken.{FitBooks, Taken}
 
 -- of these files, in the order of their slots, whose first notes are these, of these workers, a wire for each, and with these notes
 -- collected: where the folder, all wires and the clock tell
-pub record HasTold (run : Run) (scan : Scan) (files : List Filed) (workers : List Taken) (first collected : List Note) : Type 0 where
+pub record RunTold (run : Run) (scan : Scan) (files : List Filed) (workers : List Taken) (first collected : List Note) : Type 0 where
   pub by : IsByOneScan run scan
   pub followed : AreFollowedFiles run scan files
   pub talks : AreOfWorkers workers run.trace.wires

@@ -6,5 +6,9 @@
 //! so do turns of several, one behind the other. Nothing is given twice, and what is given has its ground in some event or
 //! epoch. What was told of a file outlives its harvester, and from it and from the looks of its tail its account is made.
 //!
+//! Of a run as it ends `RunTold` says what was told of its files, where that went and what the talks of its wires
+//! acknowledged; then its account is one of the run, rows over its notes are kept, also those that images hold, and only
+//! told events were sent. With `RunDone` it drained its folder.
+//!
 //! Definitions and lemmas alone; nothing here runs.
 #![tactic(auto)]

@@ -74,7 +74,7 @@ pub record AreAllCollected (files : List Turned) (workers : List Taken) (collect
 
 -- ---- together
 
-pub record IsDone (run : Run) (scan : Scan) (files : List Filed) (workers : List Taken) (first collected : List Note) : Type 0 where
+pub record RunDone (run : Run) (scan : Scan) (files : List Filed) (workers : List Taken) (first collected : List Note) : Type 0 where
   pub full : IsFullScan run scan
   pub served : EachEntryIsServed run scan files
   pub whole : AllByRecursion (IsToldWhole run scan first) files
