@@ -7,9 +7,8 @@ use Rattle.kept_rows.specs.Run.{Run, Scan}
 use Rattle.wire_base.specs.declared.note.Note.{Note}
 use Rattle.wire_base.specs.declared.parcel.Parcel.{Parcel}
 use Rattle.accounts.specs.AccountedFor.{AccountsFor}
-use Rattle.accounts.specs.Filed.{Filed, accounts_of, turned_of}
+use Rattle.accounts.specs.Filed.{Filed, accounts_of}
 use Rattle.accounts.specs.FollowedFile.{IsFollowedFile, tail_of}
-use Rattle.accounts.specs.Ground.{HasGround}
 use Rattle.accounts.specs.Places.{ArePlaces}
 use Rattle.accounts.specs.RunTold.{RunTold}
 use Rattle.accounts.specs.Taken.{Taken, acknowledged_in}
@@ -17,12 +16,12 @@ use Rattle.accounts.specs.Turned.{tellings_in}
 use Rattle.accounts.proofs.Accounts.{are_filed, are_in_epochs, have_slots, is_account, told_once}
 use Rattle.accounts.proofs.Apart.{EachAdjoins}
 use Rattle.accounts.proofs.Backed.{are_backed, are_noted}
+use Rattle.accounts.proofs.BegunRows.{begun_keys_have_rows, have_ground, notes_are_orderly}
 use Rattle.accounts.proofs.Beginning.{are_begun}
 use Rattle.accounts.proofs.Ends.{is_in_epochs}
 use Rattle.accounts.proofs.Following.{are_followed}
-use Rattle.accounts.proofs.Grounded.{each_has_ground}
 use Rattle.accounts.proofs.Keeping.{images_hold_kept_rows, rows_are_kept}
-use Rattle.accounts.proofs.Ordered.{are_orderly, slots_apart, turned_apart}
+use Rattle.accounts.proofs.Ordered.{slots_apart, turned_apart}
 use Rattle.accounts.proofs.Orderly.{are_in_rows}
 use Rattle.accounts.proofs.Places.{have_places}
 use Rattle.accounts.proofs.Sending.{sent_only}
@@ -33,9 +32,6 @@ module _ (run : Run) (scan : Scan) (files : List Filed) (workers : List Taken) (
   each_adjoins (file ∷ some) each =
       ((is_in_epochs run.settings.processors file.opened run.trace.moments file.turned each.0.in_range (Some (tail_of file)) each.0.told).adjoin, each_adjoins some each.1)
 
-  pub have_ground : AllByRecursion (HasGround (turned_of files) (acknowledged_in workers)) collected
-  have_ground = each_has_ground (turned_of files) workers collected told.fits
-
   module _ (placed : Parcel → Option Place) (places : ArePlaces placed workers run.trace.wires) where
     pub in_rows : AreInRows (accounts_of placed files)
     in_rows = are_in_rows placed files (are_filed run scan files told.followed.each) (each_adjoins files told.followed.each)
@@ -43,7 +39,7 @@ module _ (run : Run) (scan : Scan) (files : List Filed) (workers : List Taken) (
     pub backed : AreBacked (accounts_of placed files) run.trace.wires (first ++ collected)
     backed =
         are_backed placed run.trace.wires files (slots_apart 0 files told.followed.slots) (are_filed run scan files told.followed.each) (acknowledged_in workers) places.well
-        first collected told.noted have_ground
+        first collected told.noted (have_ground run scan files workers first collected told)
 
     pub begun : AreBegun (accounts_of placed files) (first ++ collected)
     begun = are_begun placed (first ++ collected) files (are_noted files first collected told.noted)
@@ -55,9 +51,9 @@ module _ (run : Run) (scan : Scan) (files : List Filed) (workers : List Taken) (
       sent = sent_only placed run.trace.wires files (slots_apart 0 files told.followed.slots) (are_filed run scan files told.followed.each)
           (turned_apart files told.followed.slots (have_slots run scan files told.followed.each)) (are_in_epochs run scan files told.followed.each)
           workers collected told.talks told.fits (told_once run scan files told.followed);
-      orderly = are_orderly files (acknowledged_in workers) first collected told.followed.slots (have_slots run scan files told.followed.each)
-          (are_in_epochs run scan files told.followed.each) told.noted have_ground;
+      orderly = notes_are_orderly run scan files workers first collected told;
       ends = rows_are_kept (accounts_of placed files) run.opening run.trace.wires (first ++ collected) in_rows backed begun;
+      begun = begun_keys_have_rows run scan files workers first collected told placed;
       images = images_hold_kept_rows (accounts_of placed files) run.opening run.trace.wires (first ++ collected) in_rows backed;
     }
 

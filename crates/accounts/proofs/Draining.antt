@@ -1,32 +1,24 @@
 -- A run that is done drained its folder: each entry that an input covers was passed over, or its file has a row that stands at the end
 -- of its last complete line.
-use Rattle.std.proofs.Common.{◌≡◌, ◌⊎◌, inl, inr, ℕ, cond, List, [], ◌∷◌, ◌++◌, Contains, map, Option, None, Some, refl, sym, ap, subst, ◌∙◌, append-nil}
+use Rattle.std.proofs.Common.{◌≡◌, ◌⊎◌, inl, inr, ℕ, List, [], ◌∷◌, ◌++◌, Contains, Option, None, Some, refl, sym, ap, subst, ◌∙◌, append-nil}
 use Rattle.std.specs.Prelude.{slice_get}
 use Rattle.std.specs.List.{AllByRecursion}
-use Rattle.std.specs.Ordering.{is_eq}
-use Rattle.std.specs.declared.cmp.Ordering.{Ordering}
-use Rattle.std.specs.declared.cmp.Ordering.TheVariants.{Equal, Greater, Less}
 use Rattle.event_tree.specs.declared.input_rule.IdentityRule.{IdentityRule}
 use Rattle.event_tree.specs.declared.input_rule.InputRule.{InputRule}
 use Rattle.file_identity.specs.Key.{named_key, path_key}
 use Rattle.file_looks.specs.Segment.{segments_of}
 use Rattle.file_looks.specs.Truncation.{SeesTruncations}
 use Rattle.harvester.specs.History.{Telling, told_to}
-use Rattle.kept_rows.proofs.Begun.{begun_key_has_its_row}
 use Rattle.kept_rows.specs.Account.{Place, SlotAccount}
 use Rattle.kept_rows.specs.Drained.{HasRow, IsDoneWith, IsDrained, IsGone, IsReadToItsEnd}
 use Rattle.kept_rows.specs.Premises.{Premises, SeesTruncationsOf}
 use Rattle.kept_rows.specs.Run.{Asking, Run, Scan}
-use Rattle.kept_rows.specs.Scans.{AreDistinct, Gave, IsAskedIn, IsCovered, IsNoFingerprint, IsWhole, MetNoFault, ShowsEntry, ShowsFileTo, WasAskedWell}
+use Rattle.kept_rows.specs.Scans.{Gave, IsAskedIn, IsCovered, IsNoFingerprint, IsWhole, MetNoFault, ShowsEntry, ShowsFileTo, WasAskedWell}
 use Rattle.outside.specs.declared.history.Shown.{Shown}
-use Rattle.ship_core.proofs.Members.{first_there, later_there}
 use Rattle.ship_core.specs.CoveredEnd.{Adjoin}
-use Rattle.ship_core.specs.Orderly.{AreOrderly}
-use Rattle.ship_core.specs.RowOver.{Start, notes_of, standing_row}
-use Rattle.ship_core.specs.Rows.{find}
+use Rattle.ship_core.specs.RowOver.{notes_of, standing_row}
 use Rattle.ship_core.specs.RowsOver.{AreRowsOver}
 use Rattle.told_events.specs.Told.{spans_of}
-use Rattle.wire_base.specs.KeyOrder.{compare}
 use Rattle.wire_base.specs.declared.note.Note.{Note}
 use Rattle.wire_base.specs.declared.parcel.Parcel.{Parcel}
 use Rattle.wire_base.specs.declared.row.Row.{Row}
@@ -37,33 +29,17 @@ use Rattle.accounts.specs.OneScan.{IsAskedByEntry, IsByOneScan, IsByPath}
 use Rattle.accounts.specs.RunTold.{RunTold}
 use Rattle.accounts.specs.Taken.{Taken, acknowledged_in}
 use Rattle.accounts.specs.Turned.{tellings_in}
-use Rattle.accounts.proofs.AccountingFor.{have_ground}
 use Rattle.accounts.proofs.Accounts.{are_in_epochs, have_slots}
 use Rattle.accounts.proofs.Backed.{are_noted}
+use Rattle.accounts.proofs.BegunRows.{begun_row, have_ground}
 use Rattle.accounts.proofs.Backing.{mapped_there}
 use Rattle.accounts.proofs.Ends.{is_in_epochs, is_read_to_its_end, start_is_none}
-use Rattle.accounts.proofs.Following.{followings_of, got_each, same_name}
-use Rattle.accounts.proofs.Grounded.{of_map}
+use Rattle.accounts.proofs.Following.{followings_of, got_each}
 use Rattle.accounts.proofs.LastEpoch.{epoch_is, offset_is}
-use Rattle.accounts.proofs.LastNotes.{is_started, key_in, moment_is, none_forgotten, one_slot}
+use Rattle.accounts.proofs.LastNotes.{key_in, moment_is}
 use Rattle.accounts.proofs.Lists.{last_of_each}
-use Rattle.accounts.proofs.Ordered.{are_orderly, first_notes_settle_nothing, slots_apart, turned_apart}
+use Rattle.accounts.proofs.Ordered.{first_notes_settle_nothing, slots_apart, turned_apart}
 use Rattle.accounts.proofs.Orderly.{member_is}
-
--- ---- rows
-
--- a row that is found is among them
-found_there : (key : List ℕ) (rows : List Row) (row : Row) → find key rows ≡ Some row → Contains rows row
-found_there key [] row is = absurd (let q : None ≡ Some row = is in cc)
-found_there key (first ∷ rows) row is = by_case (compare key first.key) is (found_there key rows row)
-  where
-    by_case : (o : Ordering) → cond (is_eq o) (Some first) (find key rows) ≡ Some row → (find key rows ≡ Some row → Contains rows row) → Contains (first ∷ rows) row
-    by_case Less e others = later_there first row rows (others e)
-    by_case Greater e others = later_there first row rows (others e)
-    by_case Equal e others =
-        let q : Some first ≡ Some row = e in
-        let same : first ≡ row = cc in
-        subst (λ (r : Row). Contains (first ∷ rows) r) same (first_there first rows)
 
 -- ---- the scan
 
@@ -97,17 +73,6 @@ module _ (run : Run) (scan : Scan) (by : IsByOneScan run scan) where
     was = passed.was;
   }
 
-  -- keys are apart
-  keys_apart : (files : List Filed) → AllByRecursion (IsFollowedFile run scan) files → AreDistinct (map name_in files) → AreDistinct (map key_in files)
-  keys_apart [] each names = tt
-  keys_apart (file ∷ files) each names = (
-    λ there.
-        let of = of_map key_in files (key_in file) there in
-        names.0 (subst (λ (n : Named). Contains (map name_in files) n) (same_name run scan by of.item file (member_is (IsFollowedFile run scan) files of.item each.1 of.among) each.0 of.is)
-        (mapped_there name_in files of.item of.among)),
-    keys_apart files each.1 names.1,
-  )
-
 -- ---- its files
 
 same_rule : (rules : List InputRule) (input other : ℕ) (rule another : InputRule) → slice_get rules input ≡ Some rule → slice_get rules other ≡ Some another → input ≡ other → rule ≡ another
@@ -127,11 +92,6 @@ module _ (run : Run) (scan : Scan) (files : List Filed) (workers : List Taken) (
     each_asked = done.full.each_asked;
     none_faulty = each_asked_well run scan told.by scan.askings told.by.askings;
   }
-
-  orderly : AreOrderly notes
-  orderly =
-      are_orderly files (acknowledged_in workers) first collected told.followed.slots (have_slots run scan files told.followed.each)
-      (are_in_epochs run scan files told.followed.each) told.noted (have_ground run scan files workers first collected told)
 
   module _ (file : Filed) (among : Contains files file) where
     followed : IsFollowedFile run scan file
@@ -165,13 +125,7 @@ module _ (run : Run) (scan : Scan) (files : List Filed) (workers : List Taken) (
         let apart = slots_apart 0 files told.followed.slots in
         let ground = have_ground run scan files workers first collected told in
         let slots = have_slots run scan files told.followed.each in
-        let started = is_started files (acknowledged_in workers) first collected apart told.noted ground file among orderly noted in
-        let start : Start = record { key = key_in file; path = started.path; epoch = file.opened.begin.epoch.0; base = file.opened.begin.base } in
-        let own = notes_of (slot_in file) notes in
-        let found = begun_key_has_its_row run.opening notes rows (key_in file) (slot_in file) start over
-        (none_forgotten files (acknowledged_in workers) first collected apart told.noted ground file among)
-        (one_slot files (acknowledged_in workers) first collected apart told.noted ground file among (keys_apart run scan told.by files told.followed.each told.followed.names_apart))
-        started.is in
+        let begun = begun_row run scan files workers first collected told file among rows over in
         let epochs = are_in_epochs run scan files told.followed.each in
         let epoch = epoch_is files workers first collected apart (turned_apart files told.followed.slots slots) epochs slots told.noted ground done.settled file among
         followed.told.history.epochs noted in
@@ -182,11 +136,11 @@ module _ (run : Run) (scan : Scan) (files : List Filed) (workers : List Taken) (
         last_of_each (λ (t : Telling). t.start ≡ 0) file.turned.history.past present
         (start_is_none file.opened.begin.epoch.0 file.opened.begin.base (tellings_in file.turned.history) whole.from_its_first_byte followed.told.history.epochs) in
         let offset = offset_is files workers first collected apart (turned_apart files told.followed.slots slots) epochs slots told.noted ground done.settled file among
-        start whole.from_its_first_byte from epoch (first_notes_settle_nothing files first told.noted) adjoin in (
-          standing_row own start,
+        begun.start (begun.base_is ∙ whole.from_its_first_byte) from epoch (first_notes_settle_nothing files first told.noted) adjoin in (
+          standing_row (notes_of (slot_in file) notes) begun.start,
           record {
-            of_rows = found_there (key_in file) rows (standing_row own start) found;
-            key_is = refl;
+            of_rows = begun.of_rows;
+            key_is = begun.key_is;
             moment_so = moment_is files (acknowledged_in workers) first collected apart told.noted ground file among
                 whole.moment.note whole.moment.among whole.moment.slot_is whole.moment.carries;
             epoch_so = epoch;

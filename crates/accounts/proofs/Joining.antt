@@ -1,16 +1,20 @@
 -- The files of a run in the order of their slots, each with what was told of it, wherever its harvester stood.
-use Rattle.std.proofs.Common.{◌≡◌, ◌⊎◌, inl, inr, ℕ, ◌==◌, Bool, List, [], ◌∷◌, ◌++◌, Contains, map, refl, sym, ap, subst, ◌∙◌, arith}
+use Rattle.std.proofs.Common.{◌≡◌, ◌⊎◌, inl, inr, ℕ, ◌+◌, ◌≤◌, ◌==◌, Bool, List, [], ◌∷◌, ◌++◌, Contains, map, Some, refl, sym, ap, subst, ◌∙◌, arith}
 use Rattle.std.specs.List.{AllByRecursion, flat_map}
 use Rattle.std.proofs.lemmas.Bool.{eq-eqb, eqb-true}
 use Rattle.std.proofs.lemmas.List.Elements.{Contains-append_cases, Contains-append_left, Contains-append_right}
+use Rattle.event_tree.specs.declared.processor_rule.ProcessorRule.{ProcessorRule}
+use Rattle.outside.specs.Tails.{TailHistory}
 use Rattle.outside.specs.declared.history.Look.{Look}
 use Rattle.pass_sums.proofs.Weights.{weigh-append, weigh-flat_map, weigh-map}
 use Rattle.pass_sums.specs.Weight.{AsOften, weigh}
 use Rattle.ship_core.proofs.Members.{first_there, later_there}
 use Rattle.wire_base.specs.declared.numbers.Slot.{Slot}
-use Rattle.accounts.specs.Filed.{Filed, HasItsSlot, turned_of}
+use Rattle.accounts.specs.Filed.{Filed, HasItsSlot, slot_in, turned_of}
+use Rattle.accounts.specs.FollowedFile.{AreInSlots, tail_of}
 use Rattle.accounts.specs.Opened.{Opened}
 use Rattle.accounts.specs.Same.{TellsSame}
+use Rattle.accounts.specs.ToldFile.{IsToldFile}
 use Rattle.accounts.specs.Turned.{Turned}
 use Rattle.accounts.proofs.Grounded.{of_map}
 use Rattle.accounts.proofs.LastNotes.{parts_at}
@@ -110,3 +114,25 @@ module _ (looks : Opened → List Look) (changed : Opened → ℕ) where
 -- what files told is the same in any order of them
 pub told_as_often : {A : Type 0} (f : Turned → List A) (xs ys : List Turned) → AsOften xs ys → AsOften (flat_map f xs) (flat_map f ys)
 told_as_often f xs ys often h = weigh-flat_map h f xs ∙ often (λ turned. weigh h (f turned)) ∙ sym (weigh-flat_map h f ys)
+
+-- ---- what joined files have
+
+-- the slots rise from this one on
+abbrev pub AreOpenedInSlots : ℕ → List Opened → Type 0
+AreOpenedInSlots least [] = Unit {0}
+AreOpenedInSlots least (one ∷ opened) = (least ≤ one.begin.slot.0) × AreOpenedInSlots (one.begin.slot.0 + 1) opened
+
+rising : (least : ℕ) (files : List Filed) → AreOpenedInSlots least (map (λ (file : Filed). file.opened) files) → AreInSlots least files
+rising least [] rise = tt
+rising least (file ∷ files) rise = (rise.0, rising (slot_in file + 1) files rise.1)
+
+pub joined_in_slots : (least : ℕ) (files : List Filed) (opened : List Opened) → map (λ (file : Filed). file.opened) files ≡ opened → AreOpenedInSlots least opened → AreInSlots least files
+joined_in_slots least files opened are rise = rising least files (subst (AreOpenedInSlots least) (sym are) rise)
+
+-- what is told of a file by its tail is told by what the file has of it
+pub told_by_its_tail : (processors : List ProcessorRule) (moments : List ℕ) (file : Filed) (tail : TailHistory) → tail.looks ≡ file.looks →
+    IsToldFile processors file.opened moments file.turned (Some tail) → IsToldFile processors file.opened moments file.turned (Some (tail_of file))
+told_by_its_tail processors moments file tail looks is =
+    let same : tail ≡ tail_of file =
+    λ k. record { opening = is.tail.opening k; number = is.tail.number k; file = is.tail.file k; begun = is.tail.begun k; looks = looks k } in
+    subst (λ (t : TailHistory). IsToldFile processors file.opened moments file.turned (Some t)) same is

@@ -5,6 +5,7 @@ pub mod Apart
 pub mod Backed
 pub mod Backing
 pub mod Beginning
+pub mod BegunRows
 pub mod Cuts
 pub mod Draining
 pub mod Ends

@@ -1,7 +1,9 @@
 -- Where each span that files told is settled and every note is collected, all that they told is acknowledged or dropped; and how the
 -- books of rounds, list by list, fit what files told.
-use Rattle.std.proofs.Common.{◌≡◌, ℕ, ◌+◌, List, [], ◌∷◌, ◌++◌, length, refl, ap, arith}
+use Rattle.std.proofs.Common.{◌≡◌, ℕ, ◌+◌, Bool, true, false, cond, List, [], ◌∷◌, ◌++◌, length, refl, ap, ◌∙◌, arith}
+use Rattle.std.specs.Prelude.{count_by}
 use Rattle.std.specs.List.{flat_map}
+use Rattle.std.proofs.lemmas.List.Sums.{sum_by-cons}
 use Rattle.batch_worker.specs.Held.{notes_of}
 use Rattle.harvester.specs.History.{Telling}
 use Rattle.pass_sums.proofs.Weights.{weigh-append}
@@ -12,6 +14,7 @@ use Rattle.wire_base.specs.Extent.{Extent}
 use Rattle.wire_base.specs.declared.note.Note.{Note}
 use Rattle.wire_base.specs.declared.numbers.Slot.{Slot}
 use Rattle.wire_base.specs.declared.parcel.Parcel.{Parcel}
+use Rattle.accounts.specs.Once.{one_where}
 use Rattle.accounts.specs.RunDone.{AreAllCollected}
 use Rattle.accounts.specs.Filed.{Filed, turned_of}
 use Rattle.accounts.specs.Taken.{FitBooks, Taken, acknowledged_in, carried_in, settles, taken_by, taken_in}
@@ -86,6 +89,24 @@ acknowledged_weigh (parcel ∷ parcels) = let later = acknowledged_weigh parcels
 weightless_none : {A : Type 0} (xs : List A) → weigh one_each xs ≡ 0 → xs ≡ []
 weightless_none [] none = refl
 weightless_none (x ∷ xs) none = absurd (omega (arith, none))
+
+one_is : (b : Bool) → cond b 1 0 ≡ one_where b
+one_is true = refl
+one_is false = refl
+
+counted_more : (p : Note → Bool) (note : Note) (notes : List Note) → count_by p (note ∷ notes) ≡ one_where (p note) + count_by p notes
+counted_more p note notes = sum_by-cons (λ (n : Note). cond (p n) 1 0) note notes ∙ ap (λ (n : ℕ). n + count_by p notes) (one_is (p note))
+
+-- counted by two tests, of which a note that settles an event passes one, and no other note passes any
+pub settles_counted : (is_one is_other : Note → Bool) → ((note : Note) → one_where (is_one note) + one_where (is_other note) ≡ settles note) → (notes : List Note) →
+    count_by is_one notes + count_by is_other notes ≡ weigh settles notes
+settles_counted is_one is_other either [] = refl
+settles_counted is_one is_other either (note ∷ notes) =
+    let later = settles_counted is_one is_other either notes in
+    let own = either note in
+    let one = counted_more is_one note notes in
+    let other = counted_more is_other note notes in
+    omega (arith, later, own, one, other)
 
 -- ---- all is settled
 

@@ -1,9 +1,9 @@
 -- A run that an account accounts for (this project's profile): its files are followed so, the account is one of the run where files
--- keep their identities and truncations are seen, only told events were sent, and rows over its notes are kept. Of these the notes
--- are those of its keeper.
-use Rattle.std.specs.Prelude.{List, map}
+-- keep their identities and truncations are seen, only told events were sent, and rows over its notes are kept, one for each key that
+-- was begun. The notes are those of its keeper.
+use Rattle.std.specs.Prelude.{◌≡◌, Contains, List, map}
 use Rattle.std.specs.List.{AllByRecursion}
-use Rattle.kept_rows.specs.Account.{Following, SlotAccount}
+use Rattle.kept_rows.specs.Account.{Following, SlotAccount, key_of}
 use Rattle.kept_rows.specs.Backed.{AreRowsOverFronts}
 use Rattle.kept_rows.specs.Followed.{AreFollowed}
 use Rattle.kept_rows.specs.Kept.{IsKept, IsKeptInImage}
@@ -16,6 +16,12 @@ use Rattle.ship_core.specs.RowsOver.{AreRowsOver}
 use Rattle.wire_base.specs.declared.note.Note.{Note}
 use Rattle.wire_base.specs.declared.row.Row.{Row}
 
+-- the key of the slot has a row among these
+pub record HasItsRow (rows : List Row) (one : SlotAccount) : Type 0 where
+  pub row : Row
+  pub of_rows : Contains rows row
+  pub key_is : row.key ≡ key_of one
+
 abbrev pub followings_in : List SlotAccount → List Following
 followings_in account = map (λ (one : SlotAccount). one.following) account
 
@@ -26,5 +32,6 @@ pub record AccountsFor (run : Run) (account : List SlotAccount) (notes : List No
   pub orderly : AreOrderly notes
   -- rows over all the notes, with which a run ends
   pub ends : (rows : List Row) → AreRowsOver run.opening notes rows → AllByRecursion (IsKept account run.opening run.trace.wires) rows
+  pub begun : (rows : List Row) → AreRowsOver run.opening notes rows → AllByRecursion (HasItsRow rows) account
   -- rows over some first of them, key by key, which an image may hold
   pub images : (rows : List Row) → AreRowsOverFronts run.opening notes rows → AllByRecursion (IsKeptInImage account run.opening run.trace.wires) rows
