@@ -1,5 +1,5 @@
 -- Which worker failed as often as it may, one worker after the other.
-use Rattle.std.proofs.Common.{ℕ, ◌≡◌, ◌+◌, ◌<◌, ◌≤◌, false, All, None, List, [], ◌∷◌, get_or, length, take, sym, subst, arith}
+use Rattle.std.proofs.Common.{ℕ, ◌≡◌, ◌+◌, ◌<◌, ◌≤◌, Bool, true, false, not, All, None, List, [], ◌∷◌, get_or, length, take, refl, sym, subst, arith}
 use Rattle.std.proofs.lemmas.List.{take_all, take_more}
 use Rattle.std.proofs.lemmas.List.Elements.{All-append, All-cons, All-nil}
 use Rattle.std.proofs.lemmas.Option.{slice_get-get_or}
@@ -32,3 +32,11 @@ was_sending attempts crew round carriers memory disk faults epochs same none = r
   reading = record { storing = record { memory = memory; disk = disk }; no_faults = omega (arith, faults); no_epochs = epochs };
   none_failed = subst (NoneFailed attempts) same none;
 }
+
+pub was_still : (moved : Bool) → not moved ≡ true → moved ≡ false
+was_still true is = cc is
+was_still false is = refl
+
+pub never_both : (moved : Bool) → moved ≡ false → not moved ≡ false → ⊥
+never_both true still is = cc still
+never_both false still is = cc is

@@ -1,106 +1,53 @@
--- Where all lanes are done, each file is told to its end: a file that is followed by its path has no other key.
-use Rattle.std.proofs.Common.{◌≡◌, ◌≢◌, ◌⊎◌, inl, inr, ⊎_elim, ℕ, true, List, [], ◌∷◌, ◌++◌, All, Contains, map, Option, Some, None, IsSome, IfSome, refl, sym, ap, subst, ◌∙◌}
-use Rattle.std.proofs.lemmas.List.Elements.{All-contains}
-use Rattle.std.specs.List.{AllByRecursion, flat_map}
-use Rattle.accounts.specs.Opened.{IsTailOf, Opened}
-use Rattle.accounts.specs.ToldFile.{IsToldFile, IsToldToItsEnd}
-use Rattle.accounts.specs.Turned.{Turned}
-use Rattle.accounts.specs.Turning.{IsTurnedSo, Pairs}
-use Rattle.event_tree.specs.declared.input_rule.IdentityRule.{IdentityRule}
-use Rattle.event_tree.specs.declared.input_rule.IdentityRule.TheVariants.{Path}
-use Rattle.event_tree.specs.declared.input_rule.InputRule.{InputRule}
-use Rattle.event_tree.specs.declared.processor_rule.ProcessorRule.{ProcessorRule}
-use Rattle.file_identity.specs.Key.{named_key}
-use Rattle.file_identity.specs.Answers.{with_numbers}
-use Rattle.file_identity.specs.Asking.{given_key}
-use Rattle.harvester.specs.HasTold.{HasTold, IsChanged}
-use Rattle.harvester.specs.History.{Changed, History, Stage}
-use Rattle.harvester.specs.Looked.{AreLookedAt, HasChanged, IsLookedAt, StandBehind}
-use Rattle.harvester.specs.Standing.{stage_of}
-use Rattle.harvester.specs.declared.harvester.Harvester.{Harvester}
-use Rattle.harvester.specs.declared.stage.Stage.TheVariants as stage
-use Rattle.lanes.specs.Done.{IsDone, IsThrough}
-use Rattle.lanes.specs.Laning.{Laning}
-use Rattle.outside.specs.Files.{File}
-use Rattle.outside.specs.Tails.{TailHistory}
-use Rattle.outside.specs.declared.history.Look.{Look}
-use Rattle.rounds.specs.Words.{TailWords}
-use Rattle.ship_core.proofs.Members.{first_there, later_there, none_there, there_cases}
-use Rattle.wire_base.specs.declared.note.Begin.{Begin}
-use Rattle.run_steps.specs.Begun.{IsKeyedByPath}
-use Rattle.run_steps.specs.Stands.{AreTurnedIn}
+-- Lanes and workers that are let go, from the last one on.
+use Rattle.std.proofs.Common.{◌≡◌, All, List, [], ◌∷◌, ◌++◌, length, refl, sym, ap, subst, ◌∙◌, arith}
+use Rattle.std.proofs.lemmas.List.{append_assoc, append-nil, map-append}
+use Rattle.lanes.specs.Laning.{Laning, laning}
+use Rattle.lanes.specs.declared.lane.Lane.{Lane}
+use Rattle.rounds.specs.Crewed.{lanings}
+use Rattle.rounds.specs.Words.{LinkWords, WireWords}
+use Rattle.rounds.specs.declared.carrier.Carrier.{Carrier}
+use Rattle.rounds.proofs.Making.{all_but_last, last_of}
+use Rattle.run_steps.specs.CarriersEnd.{EndsCarriers, PutsWire}
 
--- ---- no other key
+nil_by : {A : Type 0} (xs : List A) → length xs ≡ 0 → xs ≡ []
+nil_by [] none = refl
+nil_by (x ∷ xs) none = absurd (omega (arith, none))
 
-module _ (opened : Opened) (h : History) (told : TailHistory) (looked : IsLookedAt opened.file.numbers h told) (begin : h.begin ≡ opened.begin) (rule : h.rule ≡ opened.rule)
-    (by_path : opened.rule.file_identity ≡ Path) (keyed : IsKeyedByPath opened) where
-  never_changed : h.stage ≡ Changed → ⊥
-  never_changed is =
-      let file = with_numbers opened.file.numbers told.file in
-      let changed : HasChanged h file looked.beyond = subst (λ (s : Stage). StandBehind h file s looked.beyond) is looked.stand_behind in
-      changed.other.other (same_key changed.other.asked)
-    where
-      id_is : h.rule.id ≡ opened.rule.id
-      id_is = ap (λ (r : InputRule). r.id) rule
+-- ---- lanes
 
-      path_is : h.begin.path ≡ opened.begin.path
-      path_is = ap (λ (b : Begin). b.path) begin
+module _ {T : Type 0} (P : Laning T → Type 0) (all left : List (Lane T)) (one : Lane T) (is : all ≡ left ++ one ∷ []) (each : All P (lanings all)) where
+  lanes_are : lanings all ≡ lanings left ++ laning one ∷ []
+  lanes_are = ap lanings is ∙ map-append laning left (one ∷ [])
 
-      same_key : (asked : List Look) → given_key h.rule.id h.rule.file_identity h.begin.path (with_numbers opened.file.numbers told.file) asked ≡ Some h.begin.key
-      same_key asked =
-          ap (λ (i : IdentityRule). given_key h.rule.id i h.begin.path (with_numbers opened.file.numbers told.file) asked)
-          (ap (λ (r : InputRule). r.file_identity) rule ∙ by_path)
-          ∙ (λ k. named_key (id_is k) Path (path_is k) opened.file.numbers) ∙ keyed ∙ ap (λ (b : Begin). Some b.key) (sym begin)
+  pub lanes_left : All P (lanings left)
+  lanes_left = all_but_last P (lanings all) (lanings left) (laning one) lanes_are each
 
--- ---- one by one
+  pub lane_let_go : P (laning one)
+  lane_let_go = last_of P (lanings all) (lanings left) (laning one) lanes_are each
 
-module _ {T : Type 0} (numbers : T → Option (ℕ × ℕ)) (told : T → Option TailHistory) (processors : List ProcessorRule) (files : List Opened) (moments : List ℕ)
-    (by_path : (one : Opened) → Contains files one → (one.rule.file_identity ≡ Path) × IsKeyedByPath one) where
-  abbrev Stands : Turned → Harvester T → Type 0
-  Stands = IsTurnedSo numbers told processors files moments
+-- ---- workers
 
-  abbrev ToItsEnd : Turned → Type 0
-  ToItsEnd turned = IsToldToItsEnd turned.history
+module _ {W L : Type 0} (links : LinkWords L) (wires : WireWords W) where
+  -- some of them ended
+  pub record EndedSome (all left : List (Carrier W L)) (old new : List W) : Type 0 where
+    pub ended : List (Carrier W L)
+    pub are : all ≡ left ++ ended
+    pub ends : EndsCarriers links wires ended old new
 
-  one_ends : (turned : Turned) (harvester : Harvester T) → Stands turned harvester → IsSome (told harvester.tail) → harvester.reader.stage ≢ stage.Over → IsThrough harvester → ToItsEnd turned
-  one_ends turned harvester stands tells not_over through = ⊎_elim (λ rests. stands.rests rests.rests) (λ changed. absurd (⊎_elim other not_over changed)) through
-    where
-      of_path : (stands.opened.rule.file_identity ≡ Path) × IsKeyedByPath stands.opened
-      of_path = by_path stands.opened stands.of_files
+  pub none_ended : (all : List (Carrier W L)) (old : List W) → EndedSome all all old old
+  none_ended all old = record { ended = []; are = sym (append-nil all); ends = record { ended = []; is = refl; each = tt } }
 
-      none : (o : Option TailHistory) → IsSome o → AreLookedAt stands.opened.file.numbers turned.history o → turned.history.stage ≡ Changed → ⊥
-      none None some looked is = cc
-      none (Some history) some looked is =
-          never_changed stands.opened turned.history history looked stands.is_told.history.begin stands.is_told.history.rule of_path.0 of_path.1 is
+  pub ended_on : (all left now : List (Carrier W L)) (one : Carrier W L) (old mid new : List W) → EndedSome all left old mid → left ≡ now ++ one ∷ [] → PutsWire links wires one mid new → EndedSome all now old new
+  ended_on all left now one old mid new so_far is puts = record {
+    ended = one ∷ so_far.ended;
+    are = so_far.are ∙ ap (λ (l : List (Carrier W L)). l ++ so_far.ended) is ∙ append_assoc now (one ∷ []) so_far.ended;
+    ends = record {
+      ended = puts.wire ∷ so_far.ends.ended;
+      is = puts.is ∙ ap (λ (l : List W). puts.wire ∷ l) so_far.ends.is;
+      each = (puts.ends, so_far.ends.each);
+    };
+  }
 
-      other : harvester.reader.stage ≡ stage.Changed → ⊥
-      other is = none (told harvester.tail) tells stands.is_told.looked (sym stands.has_told.held.holds.follows.stage ∙ ap stage_of is)
-
-  each_ends : (ts : List Turned) (harvesters : List (Harvester T)) → Pairs Stands ts harvesters → AllByRecursion (λ (h : Harvester T). IsSome (told h.tail)) harvesters →
-      AllByRecursion (λ (h : Harvester T). h.reader.stage ≢ stage.Over) harvesters → ((h : Harvester T) → Contains harvesters h → IsThrough h) → AllByRecursion ToItsEnd ts
-  each_ends [] harvesters stand tell over through = tt
-  each_ends (turned ∷ ts) [] stand tell over through = absurd stand
-  each_ends (turned ∷ ts) (harvester ∷ harvesters) stand tell over through = (
-    one_ends turned harvester stand.0 tell.0 over.0 (through harvester (first_there harvester harvesters)),
-    each_ends ts harvesters stand.1 tell.1 over.1 (λ h there. through h (later_there harvester h harvesters there)),
-  )
-
-  each_both : (first second : List Turned) → AllByRecursion ToItsEnd first → AllByRecursion ToItsEnd second → AllByRecursion ToItsEnd (first ++ second)
-  each_both [] second one other = other
-  each_both (turned ∷ first) second one other = (one.0, each_both first second one.1 other)
-
-  -- ---- lane by lane
-
-  abbrev LaneStands : List Turned → Laning T → Type 0
-  LaneStands turned lane = Pairs Stands turned lane.harvesters
-
-  pub all_end : (files_by_lane : List (List Turned)) (lanes : List (Laning T)) → Pairs LaneStands files_by_lane lanes →
-      AllByRecursion (λ (lane : Laning T). AllByRecursion (λ (h : Harvester T). IsSome (told h.tail)) lane.harvesters) lanes →
-      AllByRecursion (λ (lane : Laning T). AllByRecursion (λ (h : Harvester T). h.reader.stage ≢ stage.Over) lane.harvesters) lanes →
-      AllByRecursion IsDone lanes → AllByRecursion ToItsEnd (flat_map (λ (turned : List Turned). turned) files_by_lane)
-  all_end [] lanes stand tell over done = tt
-  all_end (turned ∷ others) [] stand tell over done = absurd stand
-  all_end (turned ∷ others) (lane ∷ lanes) stand tell over done =
-      each_both turned (flat_map (λ (ts : List Turned). ts) others)
-      (each_ends turned lane.harvesters stand.0 tell.0 over.0 (λ h there. All-contains IsThrough lane.harvesters h done.0.through there))
-      (all_end others lanes stand.1 tell.1 over.1 done.1)
+  pub all_ended : (all left : List (Carrier W L)) (old new : List W) → EndedSome all left old new → length left ≡ 0 → EndsCarriers links wires all old new
+  all_ended all left old new so_far none =
+      subst (λ (l : List (Carrier W L)). EndsCarriers links wires l old new) (sym (so_far.are ∙ ap (λ (l : List (Carrier W L)). l ++ so_far.ended) (nil_by left none))) so_far.ends

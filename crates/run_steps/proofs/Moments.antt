@@ -1,10 +1,9 @@
 -- What a keeper is told of moments, slot by slot.
-use Rattle.std.proofs.Common.{◌≡◌, ℕ, suc, ◌+◌, ◌<◌, List, [], ◌∷◌, ◌++◌, get_or, length, take, Result, Ok, Err, OnErr, refl, sym, subst, arith}
+use Rattle.std.proofs.Common.{ℕ, suc, ◌+◌, ◌<◌, List, [], ◌∷◌, ◌++◌, get_or, length, take, Result, Ok, Err, OnErr, refl, sym, subst, arith}
 use Rattle.std.proofs.lemmas.List.{length-take-le, take_more}
 use Rattle.keeper.specs.Keeping.{Keeping}
 use Rattle.prospect.specs.declared.listed.Listed.{Listed}
-use Rattle.wire_base.specs.declared.numbers.Moment.{Moment}
-use Rattle.run_steps.specs.Telling.{TellMoments, TellSomeMoments, TellsMoment}
+use Rattle.run_steps.specs.Telling.{TellMoments, TellsMoment}
 
 one_more : (from : ℕ) (listed : List Listed) (one : Listed) (old mid new : Keeping) → TellMoments from listed old mid → TellsMoment (record { 0 = from + length listed }) one.changed mid new
     → TellMoments from (listed ++ one ∷ []) old new

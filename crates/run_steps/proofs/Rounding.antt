@@ -49,7 +49,7 @@ use Rattle.run_steps.specs.Shown.{HasDone, HasShown, IsTurnedIn}
 use Rattle.run_steps.specs.SoFar.{Left, SoFar, files_in}
 use Rattle.run_steps.specs.Stands.{AreCounted, AreEachOnce, AreNoted, AreTurnedIn, Further, HaveGiven, IsLeftSo, IsReading, Stands, TellIn}
 use Rattle.run_steps.proofs.Areas.{areas_by_turns, areas_on}
-use Rattle.run_steps.proofs.Ended.{all_end}
+use Rattle.run_steps.proofs.Finishing.{all_end}
 use Rattle.run_steps.proofs.Epochs.{no_turn_out}
 use Rattle.run_steps.proofs.Giving.{GivenOn, given_on}
 use Rattle.run_steps.proofs.Grounds.{have_ground}

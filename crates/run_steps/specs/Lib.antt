@@ -1,9 +1,11 @@
 pub mod Areas
 pub mod Began
 pub mod BeginFor
+pub mod Beginning
+pub mod Begun
 pub mod CarriersEnd
 pub mod Ends
-pub mod Begun
+pub mod FolderSeen
 pub mod Met
 pub mod MetBy
 pub mod MetIn

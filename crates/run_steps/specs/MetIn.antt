@@ -1,5 +1,5 @@
 -- What ends the run in a round (this project's profile): where a round met several causes, the first in this order.
-use Rattle.std.specs.Prelude.{◌≡◌, ℕ, ◌<◌, ◌≤◌, Bool, true, false, List, All, take, slice_get, Option, Some, None}
+use Rattle.std.specs.Prelude.{◌≡◌, ℕ, ◌<◌, ◌≤◌, true, false, List, All, take, slice_get, Option, Some, None}
 use Rattle.keeper.specs.Keeping.{Keeping}
 use Rattle.rounds.specs.Settled.{IsDoneIn}
 use Rattle.rounds.specs.declared.answer.Round.{Round}

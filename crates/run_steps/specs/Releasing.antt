@@ -1,5 +1,5 @@
 -- What lets harvesters go (this project's profile): their tails are closed, those of a lane from the last one on, lane by lane.
-use Rattle.std.specs.Prelude.{ℕ, ◌+◌, ◌-◌, ◌≤◌, ◌≡◌, List, [], ◌∷◌, ◌++◌, All, length, Option, Some, None}
+use Rattle.std.specs.Prelude.{ℕ, ◌≤◌, ◌≡◌, List, [], ◌∷◌, ◌++◌, All, Option, Some, None}
 use Rattle.harvester.specs.declared.harvester.Harvester.{Harvester}
 use Rattle.lanes.specs.Laning.{Laning}
 use Rattle.outside.specs.Counts.{added_counts}

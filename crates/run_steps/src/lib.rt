@@ -1,11 +1,15 @@
-//! The steps of a run over rounds: how its registry and its files are opened, what ends it in a round, and how all is let go.
+//! The steps of a run over rounds: its registry and its files are opened, files are turned until nothing more is found, all is let
+//! go, and what was settled is stored.
 //!
-//! Each step says in full what it changed, and what it left. Nothing here makes a round.
+//! Each step says what it changed. Rounds, the last steps and what lets go keep one relation: what was told of each file, where
+//! each event of it is, what the keeper noted, and what the areas may hold at any moment.
 #![tactic(auto)]
 
+mod begin;
 mod context;
 mod follow;
 mod laws;
+mod leave;
 mod met;
 mod opening;
 mod reading;
@@ -14,8 +18,10 @@ mod registry_error;
 mod settle;
 mod telling;
 
+pub use begin::{admit, begin_one, harvest, pass_over};
 pub use context::Context;
 pub use follow::{PAUSE, met_in, pause_where_still};
+pub use leave::{end_crew, end_lanes, release, release_all};
 pub use met::Met;
 pub use opening::{Opening, begin_of};
 pub use reading::{Signals, follow_all, make_round};

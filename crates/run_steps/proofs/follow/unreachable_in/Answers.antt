@@ -1,4 +1,4 @@
-use Rattle.std.proofs.Common.{arith, sym, subst, ◌≤◌, ℕ}
+use Rattle.std.proofs.Common.{arith, subst, ◌≤◌, ℕ}
 use Rattle.run_steps.proofs.Attempts.{failed_at, none_of_all, none_on}
 use Rattle.run_steps.proofs.follow.unreachable_in.Goals as goal
 

@@ -1,4 +1,4 @@
-use Rattle.std.proofs.Common.{List, length, sym, subst, take, arith}
+use Rattle.std.proofs.Common.{List, sym, subst, take, arith}
 use Rattle.std.proofs.lemmas.List.{take_all}
 use Rattle.keeper.specs.Keeping.{Keeping}
 use Rattle.prospect.specs.declared.listed.Listed.{Listed}

@@ -1,4 +1,4 @@
-use Rattle.std.proofs.Common.{ℕ, ◌-◌, ◌≤◌, length, take}
+use Rattle.std.proofs.Common.{◌-◌, ◌≤◌, length, take}
 use Rattle.run_steps.specs.Telling.{TellMoments}
 use Rattle.run_steps.proofs.telling.tell_moments.Given as goal
 

@@ -1,0 +1,38 @@
+use Rattle.std.proofs.Common.{arith, refl, ◌∙◌}
+use Rattle.rounds.specs.Words.{link_words, wire_words}
+use Rattle.rounds.proofs.Making.{all_but_last, last_of}
+use Rattle.run_steps.specs.CarriersEnd.{HasCarrierPasses}
+use Rattle.run_steps.proofs.Ended.{all_ended, ended_on, none_ended}
+use Rattle.run_steps.proofs.leave.end_carriers.Goals as goal
+
+pub carriers-init : goal.carriers-init
+carriers-init g c = record {
+  passes = c.requires.passes;
+  ended = none_ended (link_words g.L.Link.told g.L.Link.faults g.L.Link.idles) (wire_words g.W.Wire.outcomes g.W.Wire.open_links g.W.Wire.faults g.W.Wire.idles) c.args.carriers.items c.args.wires.now.items;
+  room = c.requires.room;
+  capacity = refl;
+}
+
+pub end_carrier-requires-clause-passes : goal.end_carrier-requires-clause-passes
+end_carrier-requires-clause-passes g c = last_of HasCarrierPasses c.carriers.carriers.items c.pop.new.self.items c.in-Some.carrier c.in-Some.ensures.items c.carriers.invariant.passes
+
+pub end_carrier-requires-clause-room : goal.end_carrier-requires-clause-room
+end_carrier-requires-clause-room g c = omega (arith, c.in-Some.ensures.len, c.carriers.invariant.room)
+
+pub carriers-preserved : goal.carriers-preserved
+carriers-preserved g c = record {
+  passes = all_but_last HasCarrierPasses c.carriers.carriers.items c.pop.new.self.items c.in-Some.carrier c.in-Some.ensures.items c.carriers.invariant.passes;
+  ended = ended_on (link_words g.L.Link.told g.L.Link.faults g.L.Link.idles) (wire_words g.W.Wire.outcomes g.W.Wire.open_links g.W.Wire.faults g.W.Wire.idles)
+      c.args.carriers.items c.carriers.carriers.items c.pop.new.self.items c.in-Some.carrier c.args.wires.now.items c.carriers.wires.items c.end_carrier.new.wires.items
+      c.carriers.invariant.ended c.in-Some.ensures.items c.end_carrier.ensures.ended;
+  room = omega (arith, c.in-Some.ensures.len, c.end_carrier.ensures.len, c.end_carrier.ensures.capacity, c.carriers.invariant.room);
+  capacity = c.end_carrier.ensures.capacity ∙ c.carriers.invariant.capacity;
+}
+
+pub returns-clause-ended : goal.returns-clause-ended
+returns-clause-ended g c =
+    all_ended (link_words g.L.Link.told g.L.Link.faults g.L.Link.idles) (wire_words g.W.Wire.outcomes g.W.Wire.open_links g.W.Wire.faults g.W.Wire.idles)
+    c.args.carriers.items c.carriers.carriers.items c.args.wires.now.items c.carriers.wires.items c.carriers.invariant.ended (omega (arith, c.carriers.carriers.ok, c.in_default.ensures.cases.0))
+
+pub returns-clause-capacity : goal.returns-clause-capacity
+returns-clause-capacity g c = c.carriers.invariant.capacity

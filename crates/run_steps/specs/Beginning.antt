@@ -1,0 +1,126 @@
+-- How a listed file begins (this project's profile): it is opened, the keeper is told of it, and the lane of its slot has
+-- its harvester.
+use Rattle.std.specs.Prelude.{◌≡◌, ◌⊎◌, ℕ, ◌%◌, Bool, true, false, List, [], ◌∷◌, ◌++◌, length, slice_get, Option, Some, None, Result, Ok, Err}
+use Rattle.event_tree.specs.declared.input_rule.InputRule.{InputRule}
+use Rattle.event_tree.specs.declared.settings.Settings.{Settings}
+use Rattle.harvester.specs.HasTold.{HasTold, begin_of, looks_so_far}
+use Rattle.harvester.specs.History.{opened}
+use Rattle.harvester.specs.declared.harvester.Harvester.{Harvester}
+use Rattle.keeper.specs.Keeping.{Keeping}
+use Rattle.lanes.specs.Laning.{Laning}
+use Rattle.outside.specs.declared.failed.FolderError.{FolderError}
+use Rattle.outside.specs.declared.failed.FolderError.TheVariants.{Failed, NoMemory as WithoutMemory}
+use Rattle.prospect.specs.declared.listed.Listed.{Listed}
+use Rattle.rounds.specs.Crewed.{lanings}
+use Rattle.rounds.specs.Words.{TailWords}
+use Rattle.rounds.specs.declared.crew.Crew.{Crew}
+use Rattle.wire_base.specs.declared.note.Begin.{Begin}
+use Rattle.wire_base.specs.declared.numbers.Moment.{Moment}
+use Rattle.wire_base.specs.declared.numbers.Slot.{Slot}
+use Rattle.run_steps.specs.BeginFor.{IsBeginFor}
+use Rattle.run_steps.specs.FolderSeen.{Closes, FolderSeen, FolderWords, OpensBy, seen_in}
+use Rattle.run_steps.specs.Telling.{TellsBegin}
+use Rattle.run_steps.specs.declared.met.Met.{Met}
+use Rattle.run_steps.specs.declared.met.Met.TheVariants.{Done, Stopped, NoMemory, DiskFault, FolderFault, Unreachable, Epochs}
+
+-- a listed file, its slot, and the moment of the scan
+pub record ListedFile : Type 0 where
+  pub slot : Slot
+  pub listed : Listed
+  pub now : Moment
+
+abbrev pub listed_file : Slot → Listed → Moment → ListedFile
+listed_file slot listed now = record { slot = slot; listed = listed; now = now }
+
+-- a harvester over the open file, by the rule of its input
+pub record IsOpenedFor {T : Type 0} (tails : TailWords T) (settings : Settings) (file : ListedFile) (tail : T) (harvester : Harvester T) : Type 0 where
+  pub rule : InputRule
+  pub rule_is : slice_get settings.inputs file.listed.input ≡ Some rule
+  pub begin : Begin
+  pub begins : IsBeginFor file.slot file.listed begin
+  pub told : HasTold tails.numbers tails.told (opened rule settings.processors begin (looks_so_far (tails.told tail)) file.now.0) harvester
+  pub begun : begin_of harvester ≡ begin
+  pub at_work : harvester.rests ≡ false
+  pub tail_kept : harvester.tail ≡ tail
+
+-- the lane of this number has one harvester more, behind its others; the other lanes are as they were
+pub record AdmitsAt {T : Type 0} (number : ℕ) (harvester : Harvester T) (old new : List (Laning T)) : Type 0 where
+  pub front : List (Laning T)
+  pub lane : Laning T
+  pub back : List (Laning T)
+  pub were : old ≡ front ++ lane ∷ back
+  pub at : length front ≡ number
+  pub are : new ≡ front ++ (record lane { harvesters = lane.harvesters ++ harvester ∷ [] }) ∷ back
+
+-- ---- what opening files changes: what the folder shows, the lanes and the keeper
+
+pub record Beginning (T W L : Type 0) : Type 0 where
+  pub folder : FolderSeen
+  pub crew : Crew T W L
+  pub keeper : Keeping
+
+abbrev pub beginning : {F T W L : Type 0} → FolderWords F → F → Crew T W L → Keeping → Beginning T W L
+beginning words folder crew keeper = record { folder = seen_in words folder; crew = crew; keeper = keeper }
+
+-- the crew is the same but for its lanes, and these have the same harvesters
+pub record SameLanes {T W L : Type 0} (old new : Crew T W L) : Type 0 where
+  pub lanes : lanings new.lanes.items ≡ lanings old.lanes.items
+  pub others : new ≡ record old { lanes = new.lanes }
+
+-- the keeper was told of the file, and then the lane of its slot got its harvester
+pub record TakesIn {T W L : Type 0} (file : ListedFile) (harvester : Harvester T) (old new : Beginning T W L) : Type 0 where
+  pub tells : TellsBegin file.slot file.listed old.keeper new.keeper
+  pub admits : AdmitsAt (file.slot.0 % length old.crew.lanes.items) harvester (lanings old.crew.lanes.items) (lanings new.crew.lanes.items)
+  pub others : new.crew ≡ record old.crew { lanes = new.crew.lanes }
+  pub folder : new.folder ≡ old.folder
+
+-- the file is followed
+pub record Follows {T W L : Type 0} (tails : TailWords T) (settings : Settings) (file : ListedFile) (tail : T) (old new : Beginning T W L) : Type 0 where
+  pub harvester : Harvester T
+  pub opened : IsOpenedFor tails settings file tail harvester
+  pub taken : TakesIn file harvester old new
+
+-- for want of memory its tail was closed, and no lane has it; it may be that the keeper was told of it
+pub record GivesUp {T W L : Type 0} (tails : TailWords T) (file : ListedFile) (tail : T) (old new : Beginning T W L) : Type 0 where
+  pub closes : Closes tails tail old.folder new.folder
+  pub lanes : SameLanes old.crew new.crew
+  pub keeper : (new.keeper ≡ old.keeper) ⊎ TellsBegin file.slot file.listed old.keeper new.keeper
+
+-- ---- by what the folder answered
+
+-- a file had the path, and was opened
+pub record HasOpened {T W L : Type 0} (tails : TailWords T) (file : ListedFile) (tail : T) (old mid : Beginning T W L) : Type 0 where
+  pub opens : OpensBy tails file.listed.path (Ok (Some tail)) old.folder mid.folder
+  pub crew : mid.crew ≡ old.crew
+  pub keeper : mid.keeper ≡ old.keeper
+
+-- and is followed
+pub record BeginsFile {T W L : Type 0} (tails : TailWords T) (settings : Settings) (file : ListedFile) (old new : Beginning T W L) : Type 0 where
+  pub tail : T
+  pub mid : Beginning T W L
+  pub opened : HasOpened tails file tail old mid
+  pub follows : Follows tails settings file tail mid new
+
+-- or was closed again
+pub record GivesFileUp {T W L : Type 0} (tails : TailWords T) (file : ListedFile) (old new : Beginning T W L) : Type 0 where
+  pub tail : T
+  pub mid : Beginning T W L
+  pub opened : HasOpened tails file tail old mid
+  pub gives_up : GivesUp tails file tail mid new
+
+-- no file was opened, and nothing but the folder's list has changed
+pub record OpensNone {T W L : Type 0} (tails : TailWords T) (file : ListedFile) (result : Result (Option T) FolderError) (old new : Beginning T W L) : Type 0 where
+  pub opens : OpensBy tails file.listed.path result old.folder new.folder
+  pub crew : new.crew ≡ old.crew
+  pub keeper : new.keeper ≡ old.keeper
+
+abbrev pub BeginsOne : {T W L : Type 0} → TailWords T → Settings → ListedFile → Result Bool Met → Beginning T W L → Beginning T W L → Type 0
+BeginsOne tails settings file (Ok true) old new = BeginsFile tails settings file old new
+BeginsOne tails settings file (Ok false) old new = OpensNone tails file (Ok None) old new
+BeginsOne tails settings file (Err FolderFault) old new = OpensNone tails file (Err Failed) old new
+BeginsOne tails settings file (Err NoMemory) old new = OpensNone tails file (Err WithoutMemory) old new ⊎ GivesFileUp tails file old new
+BeginsOne tails settings file (Err Done) old new = ⊥
+BeginsOne tails settings file (Err Stopped) old new = ⊥
+BeginsOne tails settings file (Err DiskFault) old new = ⊥
+BeginsOne tails settings file (Err (Unreachable worker)) old new = ⊥
+BeginsOne tails settings file (Err (Epochs slot)) old new = ⊥

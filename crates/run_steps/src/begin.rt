@@ -1,0 +1,190 @@
+ghost use Rattle.std.specs.Prelude.{◌≡◌, ◌∷◌, ◌++◌, ◌+◌, ◌%◌, ◌<◌, ◌≤◌, [], All, IfErr, IfOk, OnErr, OnOk, length};
+ghost use Rattle.beat_config.specs.InRange.{AreInRange};
+ghost use Rattle.prospect.specs.ListedFiles.{IsListedInRange};
+ghost use Rattle.report.specs.declared.passing.Why.TheVariants.{Gone};
+ghost use Rattle.rounds.specs.Crewed.{lanings};
+ghost use Rattle.rounds.specs.Words.{tail_words};
+ghost use Rattle.wire_base.specs.Ranges.{IsMoment};
+ghost use Rattle.run_steps.specs.Beginning.{AdmitsAt, BeginsOne, Follows, GivesUp, IsOpenedFor, SameLanes, TakesIn, beginning, listed_file};
+ghost use Rattle.run_steps.specs.FolderSeen.{folder_words};
+
+use crate::context::Context;
+use crate::leave::release;
+use crate::met::Met;
+use crate::opening::{Opening, begin_of};
+use crate::telling::tell_begin;
+use harvester::Harvester;
+use keeper::Keeper;
+use outside::{Folder, Link, Tail, Wire};
+use prospect::Listed;
+use report::{Passing, Why};
+use rounds::Crew;
+use std::alloc::Global;
+use wire_base::{NoMemory, Slot};
+
+/// Adds the path of a file that was listed and then not found.
+pub fn pass_over(alloc: Global, listed: &Listed, passed: &mut Vec<Passing>) -> Result<(), NoMemory>
+    ensures passed { OnOk result (passed.new.items
+        ≡ passed.old.items ++ record { path = listed.now.path; why = Gone } ∷ []) }
+    ensures kept { OnErr result (passed.new.items ≡ passed.old.items) }
+{
+    let path = listed.path.copy(alloc)?;
+    passed.push(Passing {
+        path,
+        why: Why::Gone,
+    })?;
+    Ok(())
+}
+
+/// Opens the file and follows it in the lane of its slot; whether some file had the path. `Err` is `FolderFault` where the
+/// folder failed, and `NoMemory`; a file that was opened is closed again then.
+pub fn begin_one<F: Folder, L: Link, W: Wire<Link = L>>(
+    context: Context<'_, '_>,
+    opening: Opening<'_>,
+    folder: &mut F,
+    crew: &mut Crew<F::Tail, W, L>,
+    keeper: &mut Keeper,
+) -> Result<bool, Met>
+    requires settings { AreInRange context.settings.now }
+    requires in_range { IsListedInRange opening.listed.now }
+    requires input { opening.listed.now.input < length context.settings.now.inputs }
+    requires moment { IsMoment opening.now }
+    requires some_lanes { 0 < length crew.old.lanes.items }
+    requires few { length keeper.old.store.rows + length keeper.old.tracked.notes < 65_536 }
+    ensures { BeginsOne (tail_words F.Tail.numbers F.Tail.told F.Tail.faults)
+        context.entry.settings.now
+        (listed_file opening.entry.slot opening.entry.listed.now opening.entry.now) result
+        (beginning (folder_words F.told F.states F.present F.open_tails F.faults)
+        folder.old crew.old keeper.old)
+        (beginning (folder_words F.told F.states F.present F.open_tails F.faults)
+        folder.new crew.new keeper.new) }
+{
+    match folder.open(context.alloc, &opening.listed.path) {
+        Ok(Some(tail)) => match follow_one(context, opening, tail, folder, crew, keeper) {
+            Ok(()) => Ok(true),
+            Err(NoMemory) => Err(Met::NoMemory),
+        },
+        Ok(None) => Ok(false),
+        Err(error) => Err(error.into()),
+    }
+}
+
+// Follows an open file in the lane of its slot, or closes it.
+fn follow_one<F: Folder, L: Link, W: Wire<Link = L>>(
+    context: Context<'_, '_>,
+    opening: Opening<'_>,
+    tail: F::Tail,
+    folder: &mut F,
+    crew: &mut Crew<F::Tail, W, L>,
+    keeper: &mut Keeper,
+) -> Result<(), NoMemory>
+    requires settings { AreInRange context.settings.now }
+    requires in_range { IsListedInRange opening.listed.now }
+    requires input { opening.listed.now.input < length context.settings.now.inputs }
+    requires moment { IsMoment opening.now }
+    requires some_lanes { 0 < length crew.old.lanes.items }
+    requires few { length keeper.old.store.rows + length keeper.old.tracked.notes < 65_536 }
+    ensures follows { OnOk result (Follows
+        (tail_words F.Tail.numbers F.Tail.told F.Tail.faults) context.entry.settings.now
+        (listed_file opening.entry.slot opening.entry.listed.now opening.entry.now) tail
+        (beginning (folder_words F.told F.states F.present F.open_tails F.faults)
+        folder.old crew.old keeper.old)
+        (beginning (folder_words F.told F.states F.present F.open_tails F.faults)
+        folder.new crew.new keeper.new)) }
+    ensures gives_up { OnErr result (GivesUp
+        (tail_words F.Tail.numbers F.Tail.told F.Tail.faults)
+        (listed_file opening.entry.slot opening.entry.listed.now opening.entry.now) tail
+        (beginning (folder_words F.told F.states F.present F.open_tails F.faults)
+        folder.old crew.old keeper.old)
+        (beginning (folder_words F.told F.states F.present F.open_tails F.faults)
+        folder.new crew.new keeper.new)) }
+{
+    match harvest(context, opening, tail) {
+        Ok(harvester) => take_in(context.alloc, opening, harvester, folder, crew, keeper),
+        Err(tail) => {
+            folder.close(tail);
+            Err(NoMemory)
+        }
+    }
+}
+
+/// A harvester over the open file. `Err` is want of memory, and gives the tail back; so is a file whose key the listing did not
+/// tell, and a pattern that is too large when it is compiled.
+pub fn harvest<T: Tail>(
+    context: Context<'_, '_>,
+    opening: Opening<'_>,
+    tail: T,
+) -> Result<Harvester<T>, T>
+    requires settings { AreInRange context.settings.now }
+    requires in_range { IsListedInRange opening.listed.now }
+    requires input { opening.listed.now.input < length context.settings.now.inputs }
+    requires moment { IsMoment opening.now }
+    ensures opened { IfOk result (IsOpenedFor (tail_words T.numbers T.told T.faults)
+        context.entry.settings.now
+        (listed_file opening.entry.slot opening.entry.listed.now opening.entry.now) tail) }
+    ensures given_back { IfErr result (λ back. back ≡ tail) }
+{
+    let Ok(begin) = begin_of(context.alloc, opening) else {
+        return Err(tail);
+    };
+    let settings = context.settings;
+    let rule = &settings.inputs.as_slice()[opening.listed.input as usize];
+    let processors = settings.processors.as_slice();
+    Harvester::open(context.alloc, rule, processors, begin, tail, opening.now)
+}
+
+// Admits the harvester to the lane of its slot once the keeper was told of it, or closes its file.
+fn take_in<F: Folder, L: Link, W: Wire<Link = L>>(
+    alloc: Global,
+    opening: Opening<'_>,
+    harvester: Harvester<F::Tail>,
+    folder: &mut F,
+    crew: &mut Crew<F::Tail, W, L>,
+    keeper: &mut Keeper,
+) -> Result<(), NoMemory>
+    requires in_range { IsListedInRange opening.listed.now }
+    requires some_lanes { 0 < length crew.old.lanes.items }
+    requires few { length keeper.old.store.rows + length keeper.old.tracked.notes < 65_536 }
+    ensures taken { OnOk result (TakesIn
+        (listed_file opening.entry.slot opening.entry.listed.now opening.entry.now) harvester
+        (beginning (folder_words F.told F.states F.present F.open_tails F.faults)
+        folder.old crew.old keeper.old)
+        (beginning (folder_words F.told F.states F.present F.open_tails F.faults)
+        folder.new crew.new keeper.new)) }
+    ensures gives_up { OnErr result (GivesUp
+        (tail_words F.Tail.numbers F.Tail.told F.Tail.faults)
+        (listed_file opening.entry.slot opening.entry.listed.now opening.entry.now) harvester.tail
+        (beginning (folder_words F.told F.states F.present F.open_tails F.faults)
+        folder.old crew.old keeper.old)
+        (beginning (folder_words F.told F.states F.present F.open_tails F.faults)
+        folder.new crew.new keeper.new)) }
+{
+    if let Err(error) = tell_begin(alloc, opening, keeper) {
+        release(folder, harvester);
+        return Err(error);
+    }
+    match admit(opening.slot, harvester, crew) {
+        Ok(()) => Ok(()),
+        Err(harvester) => {
+            release(folder, harvester);
+            Err(NoMemory)
+        }
+    }
+}
+
+/// Admits the harvester to the lane of its slot modulo the number of lanes. `Err` is want of memory, and gives it back.
+pub fn admit<T: Tail, L: Link, W: Wire<Link = L>>(
+    slot: Slot,
+    harvester: Harvester<T>,
+    crew: &mut Crew<T, W, L>,
+) -> Result<(), Harvester<T>>
+    requires some_lanes { 0 < length crew.old.lanes.items }
+    ensures admitted { OnOk result (AdmitsAt (slot.0 % length crew.old.lanes.items) harvester
+        (lanings crew.old.lanes.items) (lanings crew.new.lanes.items)) }
+    ensures kept { OnErr result (SameLanes crew.old crew.new) }
+    ensures given_back { IfErr result (λ back. back ≡ harvester) }
+    ensures others { crew.new ≡ record crew.old { lanes = crew.new.lanes } }
+{
+    let lane = slot.0 as usize % crew.lanes.len();
+    crew.lanes[lane].admit(harvester)
+}
