@@ -6,8 +6,7 @@ use Rattle.std.specs.Prelude.{slice_get}
 use Rattle.std.specs.List.{AllByRecursion, flat_map}
 use Rattle.std.specs.Option.{option_map_or}
 use Rattle.accounts.specs.Filed.{Filed, HasItsSlot, turned_of}
-use Rattle.accounts.specs.FirstNotes.{AreFirstNotes, IsBeginOf}
-use Rattle.accounts.specs.FirstNotes as first_notes
+use Rattle.accounts.specs.FirstNotes.{AreFirstNotes, IsBeginOf, IsMomentOfOne}
 use Rattle.accounts.specs.FollowedFile.{AreInSlots}
 use Rattle.accounts.specs.Ground.{HasGround}
 use Rattle.accounts.specs.Opened.{Opened}
@@ -112,7 +111,7 @@ module _ (looks : Opened → List Look) (changed : Opened → ℕ) where
 
   module _ (listed : List Listed) (opened : List Opened) (turned : List Turned) (same : slots_of turned ≡ slots_in opened)
       (within : (one : Opened) (entry : Listed) → slice_get listed one.begin.slot.0 ≡ Some entry → (moment_noted entry).0 ≤ changed one) where
-    seens_are : (seens : List Note) → AllByRecursion (IsSeenOf listed opened) seens → AllByRecursion (first_notes.IsSeenOf (zipped looks changed opened turned)) seens
+    seens_are : (seens : List Note) → AllByRecursion (IsSeenOf listed opened) seens → AllByRecursion (IsMomentOfOne (zipped looks changed opened turned)) seens
     seens_are [] are = tt
     seens_are (note ∷ seens) are =
         let of = zipped_there opened turned are.0.file same are.0.among in

@@ -1,5 +1,6 @@
 -- The last steps of a run keep what stands of it.
-use Rattle.std.proofs.Common.{◌≡◌, ◌≢◌, ◌⊎◌, ℕ, ◌+◌, ◌<◌, ◌≤◌, ◌^◌, ◌-◌, List, [], ◌∷◌, ◌++◌, map, append-nil, Option, Some, None, IsSome, IfSome, refl, sym, ap, subst, ◌∙◌, arith}
+use Rattle.std.proofs.Common.{◌≡◌, ◌≢◌, ◌⊎◌, ℕ, ◌+◌, ◌<◌, ◌≤◌, ◌^◌, ◌-◌, List, [], ◌∷◌, ◌++◌, All, map, append-nil, Option, Some, None, IsSome, IfSome, refl, sym, ap, subst, ◌∙◌, arith}
+use Rattle.std.proofs.lemmas.List.Elements.{All-from_recursion, recursion_from_All}
 use Rattle.std.specs.List.{AllByRecursion, flat_map}
 use Rattle.accounts.specs.Opened.{Opened}
 use Rattle.accounts.specs.Turned.{Turned, notes_told, parcels_told, spans_in}
@@ -12,7 +13,8 @@ use Rattle.lanes.specs.Laning.{Laning}
 use Rattle.mem_queue.specs.BoundedQueue.{BoundedQueue}
 use Rattle.outside.specs.Folders.{FolderHistory}
 use Rattle.pass_sums.specs.Weight.{AsOften}
-use Rattle.keeper.specs.Keeping.{held_in}
+use Rattle.keeper.specs.Collecting.{Collects}
+use Rattle.keeper.specs.Keeping.{Keeping, held_in}
 use Rattle.rounds.specs.Books.{Heard, flat}
 use Rattle.rounds.specs.Crewed.{lanings}
 use Rattle.rounds.specs.Crewing.{Crewing}
@@ -31,6 +33,8 @@ use Rattle.wire_base.specs.declared.parcel.Parcel.{Parcel}
 use Rattle.wire_base.specs.declared.row.Row.{Row}
 use Rattle.run_steps.specs.Areas.{BeganAtRest, HaveHeldFronts, IsAtRest}
 use Rattle.run_steps.specs.Began.{Began}
+use Rattle.run_steps.specs.Ends.{IsAllSettled}
+use Rattle.run_steps.specs.Releasing.{HasNoHarvesters}
 use Rattle.run_steps.specs.RunState.{Phase, Reading}
 use Rattle.run_steps.specs.Shown.{HasShown}
 use Rattle.run_steps.specs.SoFar.{SoFar, files_in}
@@ -67,6 +71,21 @@ module _ {T : Type 0} where
   spans_kept [] (new ∷ news) keep = absurd keep
   spans_kept (old ∷ olds) [] keep = absurd keep
   spans_kept (old ∷ olds) (new ∷ news) keep = let here = keep.0.spans in let rest = spans_kept olds news keep.1 in omega (arith, here, rest)
+
+  -- ---- for those that let go
+
+  pub none_still : (olds news : List (Laning T)) → round_pairs.Pairs KeepsFiles olds news → All HasNoHarvesters olds → All HasNoHarvesters news
+  none_still olds news keep none =
+      All-from_recursion HasNoHarvesters news (lanes_kept (λ (hs : List (Harvester T)). hs ≡ []) olds news keep (recursion_from_All HasNoHarvesters olds none))
+
+  pub settled_still : (olds news : List (Laning T)) (before after : Keeping) → round_pairs.Pairs KeepsFiles olds news → Collects before after → IsAllSettled olds before → IsAllSettled news after
+  settled_still olds news before after keep collects all =
+      let same = spans_kept olds news keep in
+      let shipped = collects.shipped in
+      let dropped = collects.dropped in
+      let few = all.below in
+      let settled = all.settled in
+      record { below = omega (arith, same, few); settled = omega (arith, same, settled, shipped, dropped) }
 
 module _ {T W L D : Type 0} (words : Words T W L D) (queue : BoundedQueue) (desk : BoundedBox) (old new : Crewing T W L D) (round : Round)
     (keeps : SettlingKeeps words queue desk old new round) where

@@ -1,112 +1,74 @@
-use Rattle.std.proofs.Common.{rules, ◌≡◌, ◌⊎◌, ◌≤◌, All, ℕ, List, Option, ◌+◌, ◌-◌, ◌*◌, ◌<◌, length, ◌/◌, ◌%◌, Bool, true, false, nat_eq, nat_lt, [], ◌∷◌, ◌++◌, slice_index_or, slice_set, bit_and, bit_or, Fits, w8, w32, w64, Bor, MutBor}
+use Rattle.std.proofs.Common.{◌≡◌, ◌≤◌, ℕ, List, Option, refl, ◌∙◌, arith}
 use Rattle.outside.specs.Folders.{FolderHistory}
 use Rattle.rounds.specs.Crewed.{lanings}
-use Rattle.rounds.specs.Crewing.{crewing}
-use Rattle.rounds.specs.KeeperTurns.{SameAreas}
-use Rattle.rounds.specs.Rounds.{IsAble, IsReady}
-use Rattle.rounds.specs.Settled.{AreSettledIn}
-use Rattle.rounds.specs.Staying.{AreAsMany}
 use Rattle.rounds.specs.Words.{disk_words, link_words, tail_words, wire_words, words}
-use Rattle.run_steps.specs.Areas.{IsAtRest}
-use Rattle.run_steps.specs.Ends.{IsAllSettled}
-use Rattle.run_steps.specs.Met.{AreLeft}
-use Rattle.run_steps.specs.Onward.{Onward}
-use Rattle.run_steps.specs.Releasing.{HasNoHarvesters}
-use Rattle.run_steps.specs.RunState.{Phase}
-use Rattle.run_steps.specs.Settling.{IsMetByStoring, IsStoredAs}
+use Rattle.run_steps.specs.RunState.{Phase, within}
+use Rattle.run_steps.proofs.Onward.{onward_by_nothing, onward_by_two, settle_onward}
+use Rattle.run_steps.proofs.Settling.{none_still, settled_still}
 use Rattle.run_steps.proofs.settle.settle_all.Goals as goal
 
--- src/settle.rt:73:5
 pub loop-init : goal.loop-init
-loop-init g c = ?
+loop-init g c =
+    let all = words (tail_words g.T.Tail.numbers g.T.Tail.told g.T.Tail.faults) (link_words g.L.Link.told g.L.Link.faults g.L.Link.idles)
+        (wire_words g.W.Wire.outcomes g.W.Wire.open_links g.W.Wire.faults g.W.Wire.idles)
+        (disk_words g.D.Disk.contents g.D.Disk.images g.D.Disk.moment g.D.Disk.images_since g.D.Disk.faults) in
+    record {
+      goes_on = tt;
+      ends = tt;
+      ready = c.requires.ready;
+      onward = λ shown moments phase. onward_by_nothing all (within shown moments c.args.crew.now c.args.storing.now phase);
+      at_rest = λ rest. rest;
+      no_harvesters = λ none. none;
+      all_settled = λ settled. settled;
+      as_many = record { lanes = refl; carriers = refl };
+      a_faults = omega arith;
+      b_faults = omega arith;
+      same_areas = record { a = refl; b = refl };
+    }
 
--- src/settle.rt:75:13
-pub returns-then-is_settled-clause-onward : goal.returns-then-is_settled-clause-onward
-returns-then-is_settled-clause-onward g c = ?
-
--- src/settle.rt:75:13
-pub returns-then-is_settled-clause-at_rest : goal.returns-then-is_settled-clause-at_rest
-returns-then-is_settled-clause-at_rest g c = ?
-
--- src/settle.rt:75:13
-pub returns-then-is_settled-clause-able : goal.returns-then-is_settled-clause-able
-returns-then-is_settled-clause-able g c = ?
-
--- src/settle.rt:75:13
-pub returns-then-is_settled-clause-no_harvesters :
-    goal.returns-then-is_settled-clause-no_harvesters
-returns-then-is_settled-clause-no_harvesters g c = ?
-
--- src/settle.rt:75:13
-pub returns-then-is_settled-clause-all_settled : goal.returns-then-is_settled-clause-all_settled
-returns-then-is_settled-clause-all_settled g c = ?
-
--- src/settle.rt:75:13
-pub returns-then-is_settled-clause-as_many : goal.returns-then-is_settled-clause-as_many
-returns-then-is_settled-clause-as_many g c = ?
-
--- src/settle.rt:75:13
-pub returns-then-is_settled-clause-a_faults_never_fall :
-    goal.returns-then-is_settled-clause-a_faults_never_fall
-returns-then-is_settled-clause-a_faults_never_fall g c = ?
-
--- src/settle.rt:75:13
-pub returns-then-is_settled-clause-b_faults_never_fall :
-    goal.returns-then-is_settled-clause-b_faults_never_fall
-returns-then-is_settled-clause-b_faults_never_fall g c = ?
-
--- src/settle.rt:75:13
-pub returns-then-is_settled-clause-same_areas : goal.returns-then-is_settled-clause-same_areas
-returns-then-is_settled-clause-same_areas g c = ?
-
--- src/settle.rt:77:13
-pub settle-round-requires-clause-ready : goal.settle-round-requires-clause-ready
-settle-round-requires-clause-ready g c κs within = ?
-
--- src/settle.rt:79:13
 pub returns-in-Some-stored_by-clause-onward : goal.returns-in-Some-stored_by-clause-onward
-returns-in-Some-stored_by-clause-onward g c = ?
+returns-in-Some-stored_by-clause-onward g c shown moments phase =
+    let all = words (tail_words g.T.Tail.numbers g.T.Tail.told g.T.Tail.faults) (link_words g.L.Link.told g.L.Link.faults g.L.Link.idles)
+        (wire_words g.W.Wire.outcomes g.W.Wire.open_links g.W.Wire.faults g.W.Wire.idles)
+        (disk_words g.D.Disk.contents g.D.Disk.images g.D.Disk.moment g.D.Disk.images_since g.D.Disk.faults) in
+    onward_by_two all (within shown moments c.args.crew.now c.args.storing.now phase) (within shown moments c.loop.crew c.loop.storing phase)
+    (within shown moments c.settle-round.new.self c.settle-round.new.storing phase) c.loop.invariant.at_rest (c.loop.invariant.onward shown moments phase)
+    (settle_onward all c.disk_images_are_counted.ensures.reads c.disk_images_are_counted.ensures.counts c.args.context.outlets.queue.now c.args.context.outlets.desk.now
+    c.loop.crew c.settle-round.new.self c.loop.storing c.settle-round.new.storing c.settle-round.result shown moments phase c.settle-round.ensures.keeps)
 
--- src/settle.rt:79:13
-pub returns-in-Some-stored_by-clause-at_rest : goal.returns-in-Some-stored_by-clause-at_rest
-returns-in-Some-stored_by-clause-at_rest g c = ?
+pub returns-in-Some-stored_by-clause-no_harvesters : goal.returns-in-Some-stored_by-clause-no_harvesters
+returns-in-Some-stored_by-clause-no_harvesters g c none =
+    none_still (lanings c.loop.crew.lanes.items) (lanings c.settle-round.new.self.lanes.items) c.settle-round.ensures.keeps.lanes (c.loop.invariant.no_harvesters none)
 
--- src/settle.rt:79:13
-pub returns-in-Some-stored_by-clause-met : goal.returns-in-Some-stored_by-clause-met
-returns-in-Some-stored_by-clause-met g c = ?
+pub returns-in-Some-stored_by-clause-all_settled : goal.returns-in-Some-stored_by-clause-all_settled
+returns-in-Some-stored_by-clause-all_settled g c settled =
+    settled_still (lanings c.loop.crew.lanes.items) (lanings c.settle-round.new.self.lanes.items) c.loop.storing.keeper c.settle-round.new.storing.keeper
+    c.settle-round.ensures.keeps.lanes c.settle-round.ensures.keeps.collects (c.loop.invariant.all_settled settled)
 
--- src/settle.rt:79:13
-pub returns-in-Some-stored_by-clause-settled : goal.returns-in-Some-stored_by-clause-settled
-returns-in-Some-stored_by-clause-settled g c = ?
-
--- src/settle.rt:79:13
-pub returns-in-Some-stored_by-clause-no_harvesters :
-    goal.returns-in-Some-stored_by-clause-no_harvesters
-returns-in-Some-stored_by-clause-no_harvesters g c = ?
-
--- src/settle.rt:79:13
-pub returns-in-Some-stored_by-clause-all_settled :
-    goal.returns-in-Some-stored_by-clause-all_settled
-returns-in-Some-stored_by-clause-all_settled g c = ?
-
--- src/settle.rt:79:13
-pub returns-in-Some-stored_by-clause-as_many : goal.returns-in-Some-stored_by-clause-as_many
-returns-in-Some-stored_by-clause-as_many g c = ?
-
--- src/settle.rt:79:13
-pub returns-in-Some-stored_by-clause-a_faults_never_fall :
-    goal.returns-in-Some-stored_by-clause-a_faults_never_fall
-returns-in-Some-stored_by-clause-a_faults_never_fall g c = ?
-
--- src/settle.rt:79:13
-pub returns-in-Some-stored_by-clause-b_faults_never_fall :
-    goal.returns-in-Some-stored_by-clause-b_faults_never_fall
-returns-in-Some-stored_by-clause-b_faults_never_fall g c = ?
-
--- src/settle.rt:79:13
-pub returns-in-Some-stored_by-clause-same_areas : goal.returns-in-Some-stored_by-clause-same_areas
-returns-in-Some-stored_by-clause-same_areas g c = ?
-
--- src/settle.rt:73:5
 pub loop-preserved : goal.loop-preserved
-loop-preserved g c = ?
+loop-preserved g c =
+    let all = words (tail_words g.T.Tail.numbers g.T.Tail.told g.T.Tail.faults) (link_words g.L.Link.told g.L.Link.faults g.L.Link.idles)
+        (wire_words g.W.Wire.outcomes g.W.Wire.open_links g.W.Wire.faults g.W.Wire.idles)
+        (disk_words g.D.Disk.contents g.D.Disk.images g.D.Disk.moment g.D.Disk.images_since g.D.Disk.faults) in
+    let kept = c.loop.invariant in
+    let keeps = c.settle-round.ensures.keeps in
+    let well = c.in_default.ensures in
+    record {
+      goes_on = tt;
+      ends = tt;
+      ready = keeps.ready well.0 well.1;
+      onward = λ shown moments phase. onward_by_two all (within shown moments c.args.crew.now c.args.storing.now phase) (within shown moments c.loop.crew c.loop.storing phase)
+          (within shown moments c.settle-round.new.self c.settle-round.new.storing phase) kept.at_rest (kept.onward shown moments phase)
+          (settle_onward all c.disk_images_are_counted.ensures.reads c.disk_images_are_counted.ensures.counts c.args.context.outlets.queue.now c.args.context.outlets.desk.now
+    c.loop.crew c.settle-round.new.self c.loop.storing c.settle-round.new.storing c.settle-round.result shown moments phase c.settle-round.ensures.keeps);
+      at_rest = λ rest. let before = kept.at_rest rest in
+          let after = keeps.at_rest well.0 well.1 (record { settled = before.settled; committed = before.committed }) in
+          record { settled = after.settled; committed = after.committed };
+      no_harvesters = λ none. none_still (lanings c.loop.crew.lanes.items) (lanings c.settle-round.new.self.lanes.items) keeps.lanes (kept.no_harvesters none);
+      all_settled = λ settled. settled_still (lanings c.loop.crew.lanes.items) (lanings c.settle-round.new.self.lanes.items) c.loop.storing.keeper c.settle-round.new.storing.keeper
+          keeps.lanes keeps.collects (kept.all_settled settled);
+      as_many = record { lanes = keeps.as_many.lanes ∙ kept.as_many.lanes; carriers = keeps.as_many.carriers ∙ kept.as_many.carriers };
+      a_faults = let more = keeps.causes.a_faults in let were = kept.a_faults in omega (arith, more, were);
+      b_faults = let more = keeps.causes.b_faults in let were = kept.b_faults in omega (arith, more, were);
+      same_areas = record { a = keeps.same_areas.a ∙ kept.same_areas.a; b = keeps.same_areas.b ∙ kept.same_areas.b };
+    }
