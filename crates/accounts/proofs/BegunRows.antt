@@ -77,6 +77,7 @@ module _ (run : Run) (scan : Scan) (files : List Filed) (workers : List Taken) (
   pub record IsBegunRow (file : Filed) (rows : List Row) : Type 0 where
     pub start : Start
     pub key_is : start.key ≡ key_in file
+    pub epoch_is : start.epoch ≡ file.opened.begin.epoch.0
     pub base_is : start.base ≡ file.opened.begin.base
     pub of_rows : Contains rows (standing_row (notes_of (slot_in file) notes) start)
 
@@ -90,7 +91,7 @@ module _ (run : Run) (scan : Scan) (files : List Filed) (workers : List Taken) (
       (none_forgotten files (acknowledged_in workers) first collected apart told.noted have_ground file among)
       (one_slot files (acknowledged_in workers) first collected apart told.noted have_ground file among
       (keys_apart run scan told.by files told.followed.each told.followed.names_apart)) started.is in
-      record { start = start; key_is = refl; base_is = refl; of_rows = found_there (key_in file) rows (standing_row (notes_of (slot_in file) notes) start) found }
+      record { start = start; key_is = refl; epoch_is = refl; base_is = refl; of_rows = found_there (key_in file) rows (standing_row (notes_of (slot_in file) notes) start) found }
 
   module _ (placed : Parcel → Option Place) (rows : List Row) (over : AreRowsOver run.opening notes rows) where
     have_rows : (some : List Filed) → ((file : Filed) → Contains some file → Contains files file) → AllByRecursion (HasItsRow rows) (accounts_of placed some)

@@ -28,12 +28,11 @@ use Rattle.accounts.specs.FollowedFile.{IsFollowedFile, Named, name_in, tail_of}
 use Rattle.accounts.specs.OneScan.{IsAskedByEntry, IsByOneScan, IsByPath}
 use Rattle.accounts.specs.RunTold.{RunTold}
 use Rattle.accounts.specs.Taken.{Taken, acknowledged_in}
-use Rattle.accounts.specs.Turned.{tellings_in}
 use Rattle.accounts.proofs.Accounts.{are_in_epochs, have_slots}
 use Rattle.accounts.proofs.Backed.{are_noted}
 use Rattle.accounts.proofs.BegunRows.{begun_row, have_ground}
 use Rattle.accounts.proofs.Backing.{mapped_there}
-use Rattle.accounts.proofs.Ends.{is_in_epochs, is_read_to_its_end, start_is_none}
+use Rattle.accounts.proofs.Ends.{is_in_epochs, is_read_to_its_end}
 use Rattle.accounts.proofs.Following.{followings_of, got_each}
 use Rattle.accounts.proofs.LastEpoch.{epoch_is, offset_is}
 use Rattle.accounts.proofs.LastNotes.{key_in, moment_is}
@@ -132,11 +131,8 @@ module _ (run : Run) (scan : Scan) (files : List Filed) (workers : List Taken) (
         let in_epochs = is_in_epochs run.settings.processors file.opened run.trace.moments file.turned followed.in_range (Some (tail_of file)) followed.told in
         let adjoin : Adjoin present.start (spans_of present.told) =
         last_of_each (λ (t : Telling). Adjoin t.start (spans_of t.told)) file.turned.history.past present in_epochs.adjoin in
-        let from : present.start ≡ 0 =
-        last_of_each (λ (t : Telling). t.start ≡ 0) file.turned.history.past present
-        (start_is_none file.opened.begin.epoch.0 file.opened.begin.base (tellings_in file.turned.history) whole.from_its_first_byte followed.told.history.epochs) in
         let offset = offset_is files workers first collected apart (turned_apart files told.followed.slots slots) epochs slots told.noted ground done.settled file among
-        begun.start (begun.base_is ∙ whole.from_its_first_byte) from epoch (first_notes_settle_nothing files first told.noted) adjoin in (
+        begun.start begun.epoch_is begun.base_is followed.told.history.epochs epoch (first_notes_settle_nothing files first told.noted) adjoin in (
           standing_row (notes_of (slot_in file) notes) begun.start,
           record {
             of_rows = begun.of_rows;
@@ -151,7 +147,7 @@ module _ (run : Run) (scan : Scan) (files : List Filed) (workers : List Taken) (
     row_is_read : (row : Row) → IsItsRow row → IsReadToItsEnd run file.opened.rule (accounts_of placed files) row
     row_is_read row is =
         is_read_to_its_end run placed files file.opened file.turned (tail_of file) file.changed sees.last_read (slots_apart 0 files told.followed.slots) among followed.told
-        whole.from_its_first_byte followed.file_is
+        followed.in_range followed.file_is
         (subst (SeesTruncations sees.last_read) (append-nil (segments_of file.opened.begin.base file.looks)) sees.seen)
         whole.to_its_end row (sym is.key_is) is.epoch_so is.offset_so
 

@@ -1,7 +1,8 @@
 -- A file that is told to its end has a row that stands there, where its events are settled.
-use Rattle.std.proofs.Common.{◌≡◌, ◌⊎◌, inl, inr, ℕ, ◌+◌, ◌==◌, List, [], ◌∷◌, ◌++◌, Contains, length, drop, map, Option, Some, refl, sym, ap, subst, ◌∙◌, append-nil, arith}
+use Rattle.std.proofs.Common.{◌≡◌, ◌⊎◌, inl, inr, ℕ, ◌+◌, ◌==◌, List, [], ◌∷◌, ◌++◌, Contains, length, take, drop, map, Option, Some, refl, sym, ap, subst, ◌∙◌, append-nil, arith}
 use Rattle.std.specs.Prelude.{slice_get}
 use Rattle.std.specs.List.{AllByRecursion}
+use Rattle.std.proofs.lemmas.List.{drop-take}
 use Rattle.std.proofs.lemmas.Bool.{cond-false, cond-true, eq-eqb, ne_eqb}
 use Rattle.event_tree.specs.declared.input_rule.InputRule.{InputRule}
 use Rattle.event_tree.specs.declared.line_rule.LineRule.{LineRule}
@@ -12,7 +13,11 @@ use Rattle.file_looks.specs.Looks.{AreLooks}
 use Rattle.file_looks.specs.Reading.{EachReadsLife, ReadOn, ReadsLife, last_life}
 use Rattle.file_looks.specs.Segment.{Segment, segments_of, steps_in}
 use Rattle.file_looks.specs.Truncation.{SeesTruncations}
-use Rattle.harvester.specs.History.{HasBytes, History, IsTelling, Stage, Telling, read_to, rules_in, told_to}
+use Rattle.harvester.specs.History.{HasBytes, History, IsTelling, Stage, Telling, left_to_tell, read_to, rules_in, told_to}
+use Rattle.line_cutter.specs.Lines.{complete_lines}
+use Rattle.multiline_core.specs.Message.{row_end}
+use Rattle.ship_core.specs.CoveredEnd.{last_end}
+use Rattle.told_events.specs.Told.{ToldEvent, spans_of}
 use Rattle.harvester.specs.Looked.{AreReadBy, IsReadBy, StandBehind}
 use Rattle.kept_rows.specs.Account.{Place, epoch_at}
 use Rattle.kept_rows.specs.Drained.{IsReadToItsEnd}
@@ -30,7 +35,7 @@ use Rattle.wire_base.specs.declared.row.Row.{Row}
 use Rattle.accounts.specs.Accounted.{epoch_account, epoch_accounts, life_by}
 use Rattle.accounts.specs.Filed.{Filed, IsFiled, accounts_of, account_of, slot_in}
 use Rattle.accounts.specs.Opened.{Opened}
-use Rattle.accounts.specs.ToldFile.{AreEpochsFrom, AreNumberedFrom, IsToldFile, IsToldToItsEnd}
+use Rattle.accounts.specs.ToldFile.{IsToldFile, IsToldToItsEnd}
 use Rattle.accounts.specs.Turned.{Turned, tellings_in}
 use Rattle.accounts.proofs.Accounting.{as_many, epochs_have_segments}
 use Rattle.accounts.proofs.Apart.{IsInEpochs, epochs_apart, numbers_of, told_spans_adjoin}
@@ -38,7 +43,7 @@ use Rattle.accounts.proofs.Backing.{mapped_there, slot_found}
 use Rattle.accounts.proofs.Lists.{each_then, last_of_each}
 use Rattle.accounts.proofs.Lives.{bytes_or_none}
 use Rattle.accounts.proofs.Slots.{reads_on}
-use Rattle.accounts.proofs.Within.{ends_at_last_line}
+use Rattle.accounts.proofs.Within.{ends_at_last_line, none_of_nothing}
 
 -- ---- of what was told of a file
 
@@ -87,14 +92,6 @@ module _ (opened : Opened) (placed : Parcel → Option Place) where
 
 -- ---- its bytes
 
-starts_at_none : (number : ℕ) (tellings : List Telling) → AreNumberedFrom number tellings → AllByRecursion (λ (telling : Telling). telling.start ≡ 0) tellings
-starts_at_none number [] are = tt
-starts_at_none number (telling ∷ tellings) are = (are.1, starts_at_none (number + 1) tellings are.2)
-
-pub start_is_none : (epoch base : ℕ) (tellings : List Telling) → base ≡ 0 → AreEpochsFrom epoch base tellings → AllByRecursion (λ (telling : Telling). telling.start ≡ 0) tellings
-start_is_none epoch base [] none are = absurd are
-start_is_none epoch base (first ∷ later) none are = (are.1 ∙ none, starts_at_none epoch later are.2)
-
 record ReadsSome (file : File) (segment : Segment) : Type 0 where
   last : ℕ
   reads : ReadsLife file (last_life last (steps_in segment)) segment
@@ -103,29 +100,34 @@ last_reads : (file : File) (life : ℕ) (front : List Segment) (last : Segment) 
 last_reads file life [] last more each = record { last = life; reads = each.0 }
 last_reads file life (segment ∷ front) last more each = last_reads file (last_life life (steps_in segment)) front last more each.2
 
-life_has : (h : History) (opened : Opened) (segment : Segment) → h.present.start ≡ 0 → IsReadBy h opened.file h.present segment → ReadsSome opened.file segment →
-    HasBytes h.present.start h.present.bytes (life_of opened.file (life_by opened segment))
-life_has h opened segment start read some = by_case (bytes_or_none h opened.file h.present segment read opened some.last some.reads)
+-- the last event ends at the last complete line of its life
+ends_there : (h : History) (opened : Opened) (segment : Segment) → IsGroupRule h.rule.multiline → IsTelling (rules_in h) h.present → left_to_tell h ≡ [] →
+    IsReadBy h opened.file h.present segment → ReadsSome opened.file segment →
+    whole_lines_end h.rule.lines (life_of opened.file (life_by opened segment)) h.present.start (read_to h.present) ≡ told_to h.present
+ends_there h opened segment in_range tells all_told read some = by_case (bytes_or_none h opened.file h.present segment read opened some.last some.reads)
   where
+    -- where nothing was read, both are its start
     by_case : (h.present.bytes ≡ []) ⊎ HasBytes h.present.start h.present.bytes (life_of opened.file (life_by opened segment)) →
-        HasBytes h.present.start h.present.bytes (life_of opened.file (life_by opened segment))
-    by_case (inl none) = record {
-      within = omega (arith, start);
-      more = drop h.present.start (life_of opened.file (life_by opened segment));
-      behind = sym (ap (λ (l : List ℕ). l ++ drop h.present.start (life_of opened.file (life_by opened segment))) none);
-    }
-    by_case (inr has) = has
+        whole_lines_end h.rule.lines (life_of opened.file (life_by opened segment)) h.present.start (read_to h.present) ≡ told_to h.present
+    by_case (inl none) =
+        let start = h.present.start in
+        let nothing : drop start (take (start + length h.present.bytes) (life_of opened.file (life_by opened segment))) ≡ [] =
+        drop-take start (length h.present.bytes) (life_of opened.file (life_by opened segment))
+        ∙ ap (λ (l : List ℕ). take (length l) (drop start (life_of opened.file (life_by opened segment)))) none in
+        ap (λ (l : List ℕ). row_end start (complete_lines h.rule.lines start l)) nothing
+        ∙ sym (ap (λ (l : List ToldEvent). last_end start (spans_of l)) (none_of_nothing (rules_in h) h.present in_range none tells))
+    by_case (inr has) = ends_at_last_line h (life_of opened.file (life_by opened segment)) tells all_told has
 
 -- ---- the row
 
--- a file that was begun at its first byte, and is told to its end
+-- a file that is told to its end
 pub is_read_to_its_end : (run : Run) (placed : Parcel → Option Place) (files : List Filed) (opened : Opened) (turned : Turned) (told : TailHistory) (changed last : ℕ) →
     AreDistinct (map slot_in files) → Contains files (record { opened = opened; turned = turned; looks = told.looks; changed = changed }) →
-    IsToldFile run.settings.processors opened run.trace.moments turned (Some told) → opened.begin.base ≡ 0 → slice_get run.trace.files opened.number ≡ Some opened.file →
+    IsToldFile run.settings.processors opened run.trace.moments turned (Some told) → IsGroupRule opened.rule.multiline → slice_get run.trace.files opened.number ≡ Some opened.file →
     SeesTruncations last (segments_of opened.begin.base told.looks) → IsToldToItsEnd turned.history →
     (row : Row) → opened.begin.key ≡ row.key → row.epoch.0 ≡ turned.history.present.epoch → row.offset ≡ told_to turned.history.present →
     IsReadToItsEnd run opened.rule (accounts_of placed files) row
-is_read_to_its_end run placed files opened turned told changed last apart among is from_none file_is seen ended row key epoch offset =
+is_read_to_its_end run placed files opened turned told changed last apart among is in_range file_is seen ended row key epoch offset =
     let h = turned.history in
     let looked = is.looked in
     let filed : Filed = record { opened = opened; turned = turned; looks = told.looks; changed = changed } in
@@ -142,13 +144,11 @@ is_read_to_its_end run placed files opened turned told changed last apart among 
     let looks : AreLooks opened.file told.begun told.looks = subst (λ (f : File). AreLooks f told.begun told.looks) is.tail.file is.tells in
     let lives = each_reads opened.file told.begun opened.begin.base last told.looks looks on seen in
     let some = last_reads opened.file last looked.front looked.last [] (subst (EachReadsLife opened.file last) (sym segments) lives) in
-    let start : h.present.start ≡ 0 =
-    last_of_each (λ (telling : Telling). telling.start ≡ 0) h.past h.present (start_is_none opened.begin.epoch.0 opened.begin.base (tellings_in h) from_none is.history.epochs) in
     let numbers = epochs_apart opened.begin.epoch.0 opened.begin.base (tellings_in h) is.history.epochs in
     let found = last_epoch opened placed opened.begin.epoch.0 h.past h.present looked.front looked.last [] (as_many h opened.file h.past looked.front past) numbers in
     let account = epoch_account opened placed h.present looked.last in
     let present_told = last_of_each (IsTelling (rules_in h)) h.past h.present is.epochs in
-    let ends = ends_at_last_line h (life_of opened.file account.life) present_told ended.all_told (life_has h opened looked.last start present some) in
+    let ends = ends_there h opened looked.last (subst (λ (r : InputRule). IsGroupRule r.multiline) (sym is.history.rule) in_range) present_told ended.all_told present some in
     record {
       slot = slot_in filed;
       one = account_of placed filed;

@@ -1,8 +1,8 @@
 -- Where a file of a done run stands by its notes: its last epoch is the greatest that they name, and what they settle of it is all
 -- that was told.
-use Rattle.std.proofs.Common.{◌≡◌, ◌⊎◌, inl, inr, ℕ, ◌==◌, ◌≤◌, Bool, true, false, List, [], ◌∷◌, ◌++◌, Contains, map, None, Some, refl, sym, ap, subst, ◌∙◌, arith, if◌then◌else◌}
+use Rattle.std.proofs.Common.{◌≡◌, ◌⊎◌, inl, inr, ℕ, ◌==◌, ◌≤◌, Bool, List, [], ◌∷◌, ◌++◌, Contains, map, None, Some, refl, sym, ap, subst, ◌∙◌, arith, if◌then◌else◌}
 use Rattle.std.specs.List.{AllByRecursion, filter_map, flat_map}
-use Rattle.std.proofs.lemmas.Bool.{eq-eqb, eqb-true}
+use Rattle.std.proofs.lemmas.Bool.{eq-eqb, eqb-true, ne_eqb}
 use Rattle.std.proofs.lemmas.List.Elements.{All-from_recursion, Contains-append_cases, Contains-append_left, Contains-append_right}
 use Rattle.batch_worker.specs.Held.{note_of, notes_of as settlements_of}
 use Rattle.harvester.specs.History.{Telling, told_to}
@@ -31,7 +31,8 @@ use Rattle.accounts.specs.ToldFile.{AreEpochsFrom}
 use Rattle.accounts.specs.Turned.{Turned, notes_told, parcels_by, parcels_in, parcels_told, settlements_by, tellings_in}
 use Rattle.accounts.proofs.Apart.{IsInEpochs}
 use Rattle.accounts.proofs.Backing.{mapped_there}
-use Rattle.accounts.proofs.LastNotes.{epochs_within, first_note, first_within, flat_there, last_there, present_is_named, settlement_there}
+use Rattle.accounts.proofs.LastNotes.{epochs_within, first_note, first_within, flat_there, last_there, numbered_to_last, present_is_named, settlement_there, starts_at_none}
+use Rattle.accounts.proofs.Lists.{last_of_each}
 use Rattle.accounts.proofs.Often.{often_back, often_contains}
 use Rattle.accounts.proofs.Ordered.{SettlesNothing, settled_span}
 use Rattle.accounts.proofs.Orderly.{member_is, one_epoch, same_item}
@@ -59,6 +60,17 @@ of_epoch files acknowledged note (inr settled) = record {
   slot_is = ap slot_of settled.is ∙ ap (λ (s : Slot). s.0) settled.of.slot_is;
   epoch_is = ap epoch_of settled.is ∙ ap Some settled.of.epoch_is;
 }
+
+-- ---- where the present epoch begins
+
+present_begins : (start : Start) (epoch base : ℕ) (past : List Telling) (present : Telling) → start.epoch ≡ epoch → start.base ≡ base → AreEpochsFrom epoch base (past ++ present ∷ []) →
+    base_in start present.epoch ≡ present.start
+present_begins start epoch base [] present number place are =
+    ap (λ (b : Bool). if b then start.base else 0) (eq-eqb present.epoch start.epoch (are.0 ∙ sym number)) ∙ place ∙ sym are.1
+present_begins start epoch base (first ∷ past) present number place are =
+    let later = numbered_to_last epoch past present are.2 in
+    ap (λ (b : Bool). if b then start.base else 0) (ne_eqb present.epoch start.epoch (λ same. omega (arith, later, same, number)))
+    ∙ sym (last_of_each (λ (t : Telling). t.start ≡ 0) past present (starts_at_none epoch (past ++ present ∷ []) are.2))
 
 module _ (files : List Filed) (workers : List Taken) (first collected : List Note) (apart : AreDistinct (map slot_in files))
     (turned_apart : AreDistinct (map (λ (turned : Turned). turned.slot.0) (turned_of files))) (epochs : AllByRecursion IsInEpochs (turned_of files))
@@ -238,15 +250,13 @@ module _ (files : List Filed) (workers : List Taken) (first collected : List Not
         all_known [] known = tt
         all_known (event ∷ told) known = (known event (first_there event told), all_known told (λ other there. known other (later_there event other told there)))
 
-    -- where it is told from its first byte on
-    pub offset_is : (start : Start) → start.base ≡ 0 → present.start ≡ 0 → greatest_epoch own_notes ≡ present.epoch → AllByRecursion SettlesNothing first →
-        Adjoin present.start (spans_of present.told) → offset_over start own_notes ≡ told_to present
-    offset_is start base from epoch none adjoin =
-        let base_is : base_in start (greatest_epoch own_notes) ≡ present.start = none_either (greatest_epoch own_notes == start.epoch) ∙ sym from in
+    -- it begins at the base of its Begin, or at the first byte
+    pub offset_is : (start : Start) → start.epoch ≡ file.opened.begin.epoch.0 → start.base ≡ file.opened.begin.base →
+        AreEpochsFrom file.opened.begin.epoch.0 file.opened.begin.base (tellings_in file.turned.history) → greatest_epoch own_notes ≡ present.epoch →
+        AllByRecursion SettlesNothing first → Adjoin present.start (spans_of present.told) → offset_over start own_notes ≡ told_to present
+    offset_is start number base numbered epoch none adjoin =
+        let base_is : base_in start (greatest_epoch own_notes) ≡ present.start =
+        ap (base_in start) epoch ∙ present_begins start file.opened.begin.epoch.0 file.opened.begin.base file.turned.history.past present number base numbered in
         ap (covered_end (spans_in (greatest_epoch own_notes) own_notes)) base_is
         ∙ ap (λ (n : ℕ). covered_end (spans_in n own_notes) present.start) epoch
         ∙ covers_all none adjoin
-      where
-        none_either : (b : Bool) → (if b then start.base else 0) ≡ 0
-        none_either true = base
-        none_either false = refl

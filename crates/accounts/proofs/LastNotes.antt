@@ -149,9 +149,13 @@ no_forget (Forget slot epoch end) is = absurd is
 
 -- ---- epochs
 
-numbered_to_last : (before : ℕ) (past : List Telling) (present : Telling) → AreNumberedFrom before (past ++ present ∷ []) → before < present.epoch
+pub numbered_to_last : (before : ℕ) (past : List Telling) (present : Telling) → AreNumberedFrom before (past ++ present ∷ []) → before < present.epoch
 numbered_to_last before [] present are = let next = are.0 in omega (arith, next)
 numbered_to_last before (telling ∷ past) present are = let later = numbered_to_last (before + 1) past present are.2 in omega (arith, later)
+
+pub starts_at_none : (number : ℕ) (tellings : List Telling) → AreNumberedFrom number tellings → AllByRecursion (λ (telling : Telling). telling.start ≡ 0) tellings
+starts_at_none number [] are = tt
+starts_at_none number (telling ∷ tellings) are = (are.1, starts_at_none (number + 1) tellings are.2)
 
 numbered_within : (before : ℕ) (past : List Telling) (present telling : Telling) → AreNumberedFrom before (past ++ present ∷ []) → Contains (past ++ present ∷ []) telling →
     telling.epoch ≤ present.epoch

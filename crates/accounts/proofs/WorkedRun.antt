@@ -240,7 +240,6 @@ is_done = record {
   served = served;
   whole = (
     record {
-      from_its_first_byte = refl;
       to_its_end = record { ended = refl; all_told = refl };
       moment = record {
         shown = worked.shown;

@@ -58,9 +58,8 @@ pub record HasItsMoment (run : Run) (scan : Scan) (first : List Note) (file : Fi
   pub slot_is : slot_of note ≡ slot_in file
   pub carries : moment_of note ≡ Some file.changed
 
--- it was told from its first byte on to its end; a blank registry begins each file there
+-- it was told to its end; where its harvester rests, this is known of it, and stays so once its tail is closed
 pub record IsToldWhole (run : Run) (scan : Scan) (first : List Note) (file : Filed) : Type 0 where
-  pub from_its_first_byte : file.opened.begin.base ≡ 0
   pub to_its_end : IsToldToItsEnd file.turned.history
   pub moment : HasItsMoment run scan first file
 
