@@ -20,10 +20,10 @@ use Rattle.accounts.proofs.Grounded.{of_map}
 use Rattle.accounts.proofs.LastNotes.{parts_at}
 use Rattle.accounts.proofs.Often.{often_contains}
 
-abbrev slots_of : List Turned → List Slot
+abbrev pub slots_of : List Turned → List Slot
 slots_of files = map (λ (turned : Turned). turned.slot) files
 
-abbrev slots_in : List Opened → List Slot
+abbrev pub slots_in : List Opened → List Slot
 slots_in files = map (λ (opened : Opened). opened.begin.slot) files
 
 abbrev same_slot : Slot → Slot → Bool

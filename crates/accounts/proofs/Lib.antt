@@ -33,6 +33,7 @@ pub mod Sending
 pub mod Settling
 pub mod Singles
 pub mod Slots
+pub mod SoFar
 pub mod Telling
 pub mod Turning
 pub mod Within

@@ -16,11 +16,8 @@ use Rattle.wire_base.specs.declared.numbers.Slot.{Slot}
 use Rattle.wire_base.specs.declared.parcel.Parcel.{Parcel}
 use Rattle.accounts.specs.Once.{one_where}
 use Rattle.accounts.specs.RunDone.{AreAllCollected}
-use Rattle.accounts.specs.Filed.{Filed, turned_of}
 use Rattle.accounts.specs.Taken.{FitBooks, Taken, acknowledged_in, carried_in, settles, taken_by, taken_in}
 use Rattle.accounts.specs.Turned.{Turned, announced_in, events_in, notes_in, notes_told, parcels_by, parcels_in, parcels_of, parcels_told, settlements_by, settlements_in, settlements_of, spans_in, tellings_in}
-use Rattle.accounts.proofs.Joining.{told_as_often}
-use Rattle.accounts.proofs.Often.{often_back, often_then}
 
 abbrev one_each : {A : Type 0} → A → ℕ
 one_each item = 1
@@ -160,29 +157,26 @@ module _ (files : List Turned) (workers : List Taken) (collected : List Note) (f
 
 -- ---- from the books of rounds
 
-module _ (files : List Filed) (told : List Turned) (turned_are : AsOften (turned_of files) told) (workers : List Taken) (collected : List Note) where
-  -- by where each parcel and each note is, as the passes met last
-  pub fit_books : (issued : List Parcel) (noted : List Note) (held queued : List Parcel) (others : List Note) →
-      AsOften issued (flat_map parcels_told told) → AsOften noted (flat_map notes_told told) →
-      AsOften issued (held ++ (queued ++ (carried_in workers ++ acknowledged_in workers))) →
-      AsOften (noted ++ notes_of (acknowledged_in workers)) (collected ++ others) → FitBooks (turned_of files) workers collected
-  fit_books issued noted held queued others issued_are noted_are parcels_are notes_are = record {
-    issued = issued;
-    noted = noted;
-    issued_are = often_then issued (flat_map parcels_told told) (flat_map parcels_told (turned_of files)) issued_are
-        (often_back (flat_map parcels_told (turned_of files)) (flat_map parcels_told told) (told_as_often parcels_told (turned_of files) told turned_are));
-    noted_are = often_then noted (flat_map notes_told told) (flat_map notes_told (turned_of files)) noted_are
-        (often_back (flat_map notes_told (turned_of files)) (flat_map notes_told told) (told_as_often notes_told (turned_of files) told turned_are));
-    parcels = held ++ queued;
-    parcels_are = λ h.
-        let sums = parcels_are h in
-        let one = weigh-append h held (queued ++ (carried_in workers ++ acknowledged_in workers)) in
-        let two = weigh-append h queued (carried_in workers ++ acknowledged_in workers) in
-        let three = weigh-append h (carried_in workers) (acknowledged_in workers) in
-        let taken = taken_weighs h workers in
-        let both = weigh-append h (held ++ queued) (taken_in workers) in
-        let own = weigh-append h held queued in
-        omega (arith, sums, one, two, three, taken, both, own);
-    notes = others;
-    notes_are = notes_are;
-  }
+-- by where each parcel and each note is, as the passes met last
+pub fit_books : (told : List Turned) (workers : List Taken) (collected : List Note) (issued : List Parcel) (noted : List Note) (held queued : List Parcel) (others : List Note) →
+    AsOften issued (flat_map parcels_told told) → AsOften noted (flat_map notes_told told) →
+    AsOften issued (held ++ (queued ++ (carried_in workers ++ acknowledged_in workers))) →
+    AsOften (noted ++ notes_of (acknowledged_in workers)) (collected ++ others) → FitBooks told workers collected
+fit_books told workers collected issued noted held queued others issued_are noted_are parcels_are notes_are = record {
+  issued = issued;
+  noted = noted;
+  issued_are = issued_are;
+  noted_are = noted_are;
+  parcels = held ++ queued;
+  parcels_are = λ h.
+      let sums = parcels_are h in
+      let one = weigh-append h held (queued ++ (carried_in workers ++ acknowledged_in workers)) in
+      let two = weigh-append h queued (carried_in workers ++ acknowledged_in workers) in
+      let three = weigh-append h (carried_in workers) (acknowledged_in workers) in
+      let taken = taken_weighs h workers in
+      let both = weigh-append h (held ++ queued) (taken_in workers) in
+      let own = weigh-append h held queued in
+      omega (arith, sums, one, two, three, taken, both, own);
+  notes = others;
+  notes_are = notes_are;
+}

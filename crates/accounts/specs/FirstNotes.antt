@@ -6,6 +6,7 @@ use Rattle.wire_base.specs.declared.note.Note.{Note}
 use Rattle.wire_base.specs.declared.note.Note.TheVariants.{Begin, Seen}
 use Rattle.wire_base.specs.declared.numbers.Moment.{Moment}
 use Rattle.accounts.specs.Filed.{Filed}
+use Rattle.accounts.specs.Opened.{Opened}
 use Rattle.accounts.specs.Turning.{Pairs}
 
 -- the Begin of the file, with no greater moment than was noted of it
@@ -29,3 +30,25 @@ pub record AreFirstNotes (files : List Filed) (notes : List Note) : Type 0 where
   pub notes_are : notes ≡ begins ++ seens
   pub each_begin : Pairs IsBeginOf files begins
   pub each_seen : AllByRecursion (IsMomentOfOne files) seens
+
+-- ---- the same by files as they were opened, with the greatest moment that was noted of each
+
+pub record IsBeginAs (changed : Opened → ℕ) (opened : Opened) (note : Note) : Type 0 where
+  pub path : List ℕ
+  pub moment : Moment
+  pub is : note ≡ Begin opened.begin.slot opened.begin.key path opened.begin.epoch opened.begin.base moment
+  pub within : moment.0 ≤ changed opened
+
+pub record IsMomentAs (changed : Opened → ℕ) (files : List Opened) (note : Note) : Type 0 where
+  pub opened : Opened
+  pub of_files : Contains files opened
+  pub moment : Moment
+  pub is : note ≡ Seen opened.begin.slot moment
+  pub within : moment.0 ≤ changed opened
+
+pub record AreFirstNotesAs (changed : Opened → ℕ) (files : List Opened) (notes : List Note) : Type 0 where
+  pub begins : List Note
+  pub seens : List Note
+  pub notes_are : notes ≡ begins ++ seens
+  pub each_begin : Pairs (IsBeginAs changed) files begins
+  pub each_seen : AllByRecursion (IsMomentAs changed files) seens
