@@ -36,6 +36,7 @@ pub mod Slots
 pub mod SoFar
 pub mod Telling
 pub mod Turning
+pub mod Unscanned
 pub mod Within
 pub mod Worked
 pub mod WorkedRun

@@ -55,7 +55,7 @@ parted (first ∷ front) more (other ∷ before) note behind e =
     by_case same (inl within) = inl (within.0, λ k. same k ∷ within.1 k)
     by_case same (inr at) = inr (at.0, (λ k. sym same k ∷ at.1 k), at.2)
 
-none_orderly : AreOrderly []
+pub none_orderly : AreOrderly []
 none_orderly = record { each = λ front note rest e. absurd (nothing front note rest e) }
   where
     nothing : (front : List Note) (note : Note) (rest : List Note) → [] ≡ front ++ note ∷ rest → ⊥

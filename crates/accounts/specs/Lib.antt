@@ -15,3 +15,4 @@ pub mod Taken
 pub mod ToldFile
 pub mod Turned
 pub mod Turning
+pub mod Unscanned
