@@ -13,6 +13,7 @@ pub mod Giving
 pub mod Grounds
 pub mod Lanes
 pub mod Leaving
+pub mod Letting
 pub mod Members
 pub mod MetBy
 pub mod Moments

@@ -48,7 +48,7 @@ fn release_lane<F: Folder>(folder: &mut F, lane: &mut Lane<F::Tail>)
 }
 
 /// Lets a harvester go, and gives the folder its tail back. It takes no memory.
-pub fn release<F: Folder>(folder: &mut F, harvester: Harvester<F::Tail>)
+pub(crate) fn release<F: Folder>(folder: &mut F, harvester: Harvester<F::Tail>)
     ensures told { F.told folder.new ≡ with_events
         (closing_of (F.Tail.told harvester.tail) (F.Tail.faults harvester.tail))
         (F.told folder.old) }

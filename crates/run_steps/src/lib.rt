@@ -18,14 +18,14 @@ mod registry_error;
 mod settle;
 mod telling;
 
-pub use begin::{admit, begin_one, harvest, pass_over};
+pub use begin::{begin_one, pass_over};
 pub use context::Context;
 pub use follow::{PAUSE, met_in, pause_where_still};
-pub use leave::{end_crew, end_lanes, release, release_all};
+pub use leave::{end_crew, end_lanes, release_all};
 pub use met::Met;
-pub use opening::{Opening, begin_of};
+pub use opening::Opening;
 pub use reading::{Signals, follow_all, make_round};
 pub use registry::open_registry;
 pub use registry_error::RegistryError;
 pub use settle::settle_all;
-pub use telling::{tell_begin, tell_moments};
+pub use telling::tell_moments;

@@ -19,7 +19,7 @@ pub struct Opening<'a> {
 
 /// How the file begins: in its first epoch, from its first byte on. `Err` is want of memory, or a key that the listing did not
 /// tell.
-pub fn begin_of(alloc: Global, opening: Opening<'_>) -> Result<Begin, NoMemory>
+pub(crate) fn begin_of(alloc: Global, opening: Opening<'_>) -> Result<Begin, NoMemory>
     ensures begin { IfOk result (IsBeginFor opening.entry.slot opening.entry.listed.now) }
     ensures in_range { IsListedInRange opening.entry.listed.now → IfOk result IsBegin }
 {

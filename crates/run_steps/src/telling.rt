@@ -13,7 +13,11 @@ use wire_base::{MAX_MOMENT, Moment, NoMemory, Note, Slot};
 
 /// Tells the keeper how the file begins, with 0 for its moment of change. `Err` is want of memory, and leaves the keeper as it
 /// was; so is a file whose key the listing did not tell.
-pub fn tell_begin(alloc: Global, opening: Opening<'_>, keeper: &mut Keeper) -> Result<(), NoMemory>
+pub(crate) fn tell_begin(
+    alloc: Global,
+    opening: Opening<'_>,
+    keeper: &mut Keeper,
+) -> Result<(), NoMemory>
     requires in_range { IsListedInRange opening.listed.now }
     requires few { length keeper.old.store.rows + length keeper.old.tracked.notes < 65_536 }
     ensures told { OnOk result
