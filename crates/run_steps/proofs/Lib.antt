@@ -20,7 +20,6 @@ pub mod Moments
 pub mod Noting
 pub mod Onward
 pub mod Ordering
-pub mod Readable
 pub mod Released
 pub mod Releasing
 pub mod Rounding

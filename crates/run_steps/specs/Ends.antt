@@ -10,9 +10,12 @@ use Rattle.rounds.specs.Words.{Words}
 use Rattle.rounds.specs.declared.crew.Crew.{Crew}
 use Rattle.run_steps.specs.Began.{Began}
 use Rattle.run_steps.specs.CarriersEnd.{EndsCarriers}
+use Rattle.run_steps.specs.Met.{AreLeft}
 use Rattle.run_steps.specs.RunState.{Finished, Phase, RunState}
 use Rattle.run_steps.specs.SoFar.{SoFar}
 use Rattle.run_steps.specs.Stands.{Stands}
+use Rattle.run_steps.specs.declared.met.Met.{Met}
+use Rattle.run_steps.specs.declared.met.Met.TheVariants.{Done}
 
 -- all that was told is shipped or dropped, by counts that do not stand still
 pub record IsAllSettled {T : Type 0} (lanes : List (Laning T)) (keeper : Keeping) : Type 0 where
@@ -39,12 +42,14 @@ with_crew ending crew = record {
   phase = ending.phase;
 }
 
--- the wires are those of the workers, with their links finished, before those that no worker had
-pub record Ends {T W L D : Type 0} (words : Words T W L D) (start : Began D) (ending : Ending D) (unused wires : List W) : Type 0 where
+-- what was met, the wires are those of the workers, with their links finished, before those that no worker had
+pub record Ends {T W L D : Type 0} (words : Words T W L D) (start : Began D) (ending : Ending D) (met : Met) (unused wires : List W) : Type 0 where
   pub crew : Crew T W L
   pub so_far : SoFar
   pub stands : Stands words start (with_crew ending crew) so_far
   pub ended : EndsCarriers words.links words.wires crew.carriers.items unused wires
-  pub all_settled : ending.phase ≡ Finished → IsAllSettled (lanings crew.lanes.items) ending.keeper
+  -- a run that is done told each file to its end, and settled all of it
+  pub finished : met ≡ Done → ending.phase ≡ Finished
+  pub all_settled : met ≡ Done → IsAllSettled (lanings crew.lanes.items) ending.keeper
   -- where the last steps were made
-  pub stored : ending.phase ≡ Finished → AreSettledIn crew ending.keeper
+  pub stored : AreLeft met → AreSettledIn crew ending.keeper
