@@ -19,3 +19,4 @@ pub mod Shown
 pub mod SoFar
 pub mod Stands
 pub mod Telling
+pub mod Worked

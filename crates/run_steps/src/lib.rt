@@ -17,9 +17,10 @@ mod registry;
 mod registry_error;
 mod settle;
 mod telling;
+mod work;
 
 pub use begin::{begin_one, pass_over};
-pub use context::Context;
+pub use context::{Context, Outside};
 pub use follow::{PAUSE, met_in, pause_where_still};
 pub use leave::{end_crew, end_lanes, release_all};
 pub use met::Met;
@@ -29,3 +30,4 @@ pub use registry::open_registry;
 pub use registry_error::RegistryError;
 pub use settle::settle_all;
 pub use telling::tell_moments;
+pub use work::{Worked, follow_begun, settle_after};

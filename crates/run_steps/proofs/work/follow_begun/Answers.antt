@@ -1,0 +1,18 @@
+use Rattle.std.proofs.Common.{Result, Vec, subst, sym}
+use Rattle.std.specs.declared.alloc.Global.{Global}
+use Rattle.report.specs.declared.passing.Passing.{Passing}
+use Rattle.rounds.specs.Words.{disk_words, link_words, tail_words, wire_words, words}
+use Rattle.run_steps.specs.Onward.{Onward}
+use Rattle.run_steps.specs.RunState.{Leaving, Phase, within}
+use Rattle.run_steps.specs.Worked.{phase_begun, phase_worked}
+use Rattle.run_steps.specs.declared.met.Met.{Met}
+use Rattle.run_steps.proofs.Onward.{onward_by_nothing}
+use Rattle.run_steps.proofs.work.follow_begun.Goals as goal
+
+pub returns-in-Err-clause-onward : goal.returns-in-Err-clause-onward
+returns-in-Err-clause-onward g c shown =
+    let all = words (tail_words g.T.Tail.numbers g.T.Tail.told g.T.Tail.faults) (link_words g.L.Link.told g.L.Link.faults g.L.Link.idles)
+        (wire_words g.W.Wire.outcomes g.W.Wire.open_links g.W.Wire.faults g.W.Wire.idles)
+        (disk_words g.D.Disk.contents g.D.Disk.images g.D.Disk.moment g.D.Disk.images_since g.D.Disk.faults) in
+    let at = λ (phase : Phase). within shown (g.K.Clock.moments c.args.signals.now.clock.now) c.args.crew.now c.args.storing.now phase in
+    subst (λ (b : Result (Vec Passing Global) Met). Onward all (at (phase_begun b)) (at (phase_worked b c.in-Err.met))) (sym c.in-Err.is) (onward_by_nothing all (at Leaving))

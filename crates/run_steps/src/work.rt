@@ -1,0 +1,205 @@
+ghost use Rattle.std.specs.Prelude.{◌≡◌, ◌≢◌, ◌⊎◌, ◌+◌, ◌-◌, ◌^◌, ◌≤◌, All, ℕ, IfErr, IfOk, List, Option, Result, length, vec_capacity, vec_len};
+ghost use Rattle.outside.specs.Counts.{Rose};
+ghost use Rattle.outside.specs.Folders.{FolderHistory};
+ghost use Rattle.rounds.specs.Crewed.{lanings};
+ghost use Rattle.rounds.specs.Crewing.{crewing};
+ghost use Rattle.rounds.specs.KeeperTurns.{SameAreas};
+ghost use Rattle.rounds.specs.Rounds.{IsAble, IsReady};
+ghost use Rattle.rounds.specs.Settled.{AreSettledIn};
+ghost use Rattle.rounds.specs.Staying.{AreAsMany, begins_of};
+ghost use Rattle.rounds.specs.Words.{disk_words, link_words, tail_words, wire_words, words};
+ghost use Rattle.run_steps.specs.Areas.{IsAtRest};
+ghost use Rattle.run_steps.specs.Ends.{IsAllSettled};
+ghost use Rattle.run_steps.specs.Met.{AreLeft};
+ghost use Rattle.run_steps.specs.MetBy.{IsMetBy};
+ghost use Rattle.run_steps.specs.Onward.{Onward};
+ghost use Rattle.run_steps.specs.Releasing.{HasNoHarvesters};
+ghost use Rattle.run_steps.specs.RunState.{Phase, within};
+ghost use Rattle.run_steps.specs.Settling.{IsMetByStoring};
+ghost use Rattle.run_steps.specs.Worked.{HasPassed, IsFollowedBy, phase_begun, phase_worked};
+ghost use Rattle.run_steps.specs.declared.met.Met.TheVariants.{Stopped};
+
+use crate::context::Context;
+use crate::met::Met;
+use crate::reading::{Signals, follow_all};
+use crate::settle::settle_all;
+use outside::{Bell, Clock, Disk, Link, Tail, Wire};
+use report::Passing;
+use rounds::{Crew, Storing};
+use std::sync::Wait;
+use std::thread::Threads;
+
+/// What a run has done and met.
+#[derive(Drop)]
+pub struct Worked {
+    /// The paths that were listed and then not found.
+    pub passed: Vec<Passing>,
+    pub met: Met,
+}
+
+/// Rounds where all files were begun.
+pub fn follow_begun<
+    T: Tail + Send,
+    L: Link + Send,
+    W: Wire<Link = L> + Send,
+    D: Disk + Send,
+    K: Clock,
+    B: Bell,
+    R: Threads + Wait + Sync,
+>(
+    rt: &R,
+    context: Context<'_, '_>,
+    begun: Result<Vec<Passing>, Met>,
+    crew: &mut Crew<T, W, L>,
+    storing: &mut Storing<'_, D>,
+    signals: &mut Signals<'_, K, B>,
+) -> Worked
+    requires ready { IsReady (tail_words T.numbers T.told T.faults) context.outlets.queue.now.id
+        context.outlets.desk.now.id (crewing crew.old storing.old) }
+    requires few { length crew.old.carriers.items ≤ 2 ^ 32 - 1 }
+    ensures onward { (shown : Option FolderHistory) → Onward (words (tail_words T.numbers T.told T.faults)
+        (link_words L.told L.faults L.idles)
+        (wire_words W.outcomes W.open_links W.faults W.idles)
+        (disk_words D.contents D.images D.moment D.images_since D.faults))
+        (within shown (K.moments signals.old.clock.now) crew.old storing.old
+        (phase_begun begun))
+        (within shown (K.moments signals.new.clock.now) crew.new storing.new
+        (phase_worked begun result.met)) }
+    ensures at_rest { AreLeft result.met →
+        IsAtRest (disk_words D.contents D.images D.moment D.images_since D.faults)
+        storing.old.keeper storing.old.a.now storing.old.b.now →
+        IsAtRest (disk_words D.contents D.images D.moment D.images_since D.faults)
+        storing.new.keeper storing.new.a.now storing.new.b.now }
+    ensures ready { AreLeft result.met →
+        IsReady (tail_words T.numbers T.told T.faults) context.entry.outlets.queue.now.id
+        context.entry.outlets.desk.now.id (crewing crew.new storing.new) }
+    ensures able { IsAble (tail_words T.numbers T.told T.faults)
+        context.entry.outlets.queue.now.id context.entry.outlets.desk.now.id
+        (crewing crew.new storing.new) }
+    ensures passed { HasPassed begun result.passed.items }
+    ensures met { IsFollowedBy (tail_words T.numbers T.told T.faults)
+        (disk_words D.contents D.images D.moment D.images_since D.faults)
+        context.entry.settings.now.output.attempts
+        (record { a = storing.old.a.now; b = storing.old.b.now;
+        now = crewing crew.new storing.new }) begun result.met }
+    ensures stopped { IfOk begun (λ _. result.met ≡ Stopped →
+        Rose (B.rings signals.old.bell.now) (B.rings signals.new.bell.now)) }
+    ensures as_many { AreAsMany (crewing crew.old storing.old) (crewing crew.new storing.new) }
+    ensures slots { begins_of (lanings crew.new.lanes.items)
+        ≡ begins_of (lanings crew.old.lanes.items) }
+    ensures a_faults_never_fall { D.faults storing.old.a.now ≤ D.faults storing.new.a.now }
+    ensures b_faults_never_fall { D.faults storing.old.b.now ≤ D.faults storing.new.b.now }
+    ensures rings_never_fall { B.rings signals.old.bell.now ≤ B.rings signals.new.bell.now }
+    ensures same_areas { SameAreas storing.old storing.new }
+    ensures same_clock { signals.new.clock.ghost_name ≡ signals.old.clock.ghost_name }
+    ensures same_bell { signals.new.bell.ghost_name ≡ signals.old.bell.ghost_name }
+{
+    match begun {
+        Ok(passed) => Worked {
+            passed,
+            met: follow_all(rt, context, crew, storing, signals),
+        },
+        Err(met) => Worked {
+            passed: Vec::new(context.alloc),
+            met,
+        },
+    }
+}
+
+/// The last steps, except where the run met want of memory or a disk's fault. What they meet takes the place of what it met.
+pub fn settle_after<
+    T: Tail + Send,
+    L: Link + Send,
+    W: Wire<Link = L> + Send,
+    D: Disk + Send,
+    R: Wait,
+>(
+    rt: &R,
+    context: Context<'_, '_>,
+    worked: Worked,
+    crew: &mut Crew<T, W, L>,
+    storing: &mut Storing<'_, D>,
+) -> Worked
+    requires ready { AreLeft worked.met →
+        IsReady (tail_words T.numbers T.told T.faults) context.outlets.queue.now.id
+        context.outlets.desk.now.id (crewing crew.old storing.old) }
+    requires able { IsAble (tail_words T.numbers T.told T.faults) context.outlets.queue.now.id
+        context.outlets.desk.now.id (crewing crew.old storing.old) }
+    ensures onward { (shown : Option FolderHistory) (moments : Option (List ℕ)) (phase : Phase) →
+        Onward (words (tail_words T.numbers T.told T.faults)
+        (link_words L.told L.faults L.idles)
+        (wire_words W.outcomes W.open_links W.faults W.idles)
+        (disk_words D.contents D.images D.moment D.images_since D.faults))
+        (within shown moments crew.old storing.old phase)
+        (within shown moments crew.new storing.new phase) }
+    ensures passed { result.passed ≡ worked.passed }
+    ensures met { (result.met ≡ worked.met) ⊎ IsMetByStoring
+        (disk_words D.contents D.images D.moment D.images_since D.faults)
+        (record { a = storing.old.a.now; b = storing.old.b.now; new_a = storing.new.a.now;
+        new_b = storing.new.b.now }) result.met }
+    ensures settled { AreLeft result.met → AreSettledIn crew.new storing.new.keeper }
+    ensures able { IsAble (tail_words T.numbers T.told T.faults)
+        context.entry.outlets.queue.now.id context.entry.outlets.desk.now.id
+        (crewing crew.new storing.new) }
+    ensures no_harvesters { All HasNoHarvesters (lanings crew.old.lanes.items) →
+        All HasNoHarvesters (lanings crew.new.lanes.items) }
+    ensures all_settled { IsAllSettled (lanings crew.old.lanes.items) storing.old.keeper →
+        IsAllSettled (lanings crew.new.lanes.items) storing.new.keeper }
+    ensures as_many { AreAsMany (crewing crew.old storing.old) (crewing crew.new storing.new) }
+    ensures a_faults_never_fall { D.faults storing.old.a.now ≤ D.faults storing.new.a.now }
+    ensures b_faults_never_fall { D.faults storing.old.b.now ≤ D.faults storing.new.b.now }
+    ensures same_areas { SameAreas storing.old storing.new }
+{
+    let Worked { passed, met } = worked;
+    let met = settle_where_left(rt, context, met, crew, storing);
+    Worked { passed, met }
+}
+
+// The last steps, where they are left to be made.
+fn settle_where_left<
+    T: Tail + Send,
+    L: Link + Send,
+    W: Wire<Link = L> + Send,
+    D: Disk + Send,
+    R: Wait,
+>(
+    rt: &R,
+    context: Context<'_, '_>,
+    met: Met,
+    crew: &mut Crew<T, W, L>,
+    storing: &mut Storing<'_, D>,
+) -> Met
+    requires ready { AreLeft met →
+        IsReady (tail_words T.numbers T.told T.faults) context.outlets.queue.now.id
+        context.outlets.desk.now.id (crewing crew.old storing.old) }
+    requires able { IsAble (tail_words T.numbers T.told T.faults) context.outlets.queue.now.id
+        context.outlets.desk.now.id (crewing crew.old storing.old) }
+    ensures onward { (shown : Option FolderHistory) (moments : Option (List ℕ)) (phase : Phase) →
+        Onward (words (tail_words T.numbers T.told T.faults)
+        (link_words L.told L.faults L.idles)
+        (wire_words W.outcomes W.open_links W.faults W.idles)
+        (disk_words D.contents D.images D.moment D.images_since D.faults))
+        (within shown moments crew.old storing.old phase)
+        (within shown moments crew.new storing.new phase) }
+    ensures met { (result ≡ met) ⊎ IsMetByStoring
+        (disk_words D.contents D.images D.moment D.images_since D.faults)
+        (record { a = storing.old.a.now; b = storing.old.b.now; new_a = storing.new.a.now;
+        new_b = storing.new.b.now }) result }
+    ensures settled { AreLeft result → AreSettledIn crew.new storing.new.keeper }
+    ensures able { IsAble (tail_words T.numbers T.told T.faults)
+        context.entry.outlets.queue.now.id context.entry.outlets.desk.now.id
+        (crewing crew.new storing.new) }
+    ensures no_harvesters { All HasNoHarvesters (lanings crew.old.lanes.items) →
+        All HasNoHarvesters (lanings crew.new.lanes.items) }
+    ensures all_settled { IsAllSettled (lanings crew.old.lanes.items) storing.old.keeper →
+        IsAllSettled (lanings crew.new.lanes.items) storing.new.keeper }
+    ensures as_many { AreAsMany (crewing crew.old storing.old) (crewing crew.new storing.new) }
+    ensures a_faults_never_fall { D.faults storing.old.a.now ≤ D.faults storing.new.a.now }
+    ensures b_faults_never_fall { D.faults storing.old.b.now ≤ D.faults storing.new.b.now }
+    ensures same_areas { SameAreas storing.old storing.new }
+{
+    match met {
+        Met::NoMemory | Met::DiskFault => met,
+        _ => settle_all(rt, context, met, crew, storing),
+    }
+}
