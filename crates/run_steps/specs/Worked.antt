@@ -1,12 +1,20 @@
 -- What a run has done once its rounds are made (this project's profile): where files could not all be begun, none is.
-use Rattle.std.specs.Prelude.{◌≡◌, ◌≢◌, ℕ, List, [], Result, Ok, Err, Vec}
+use Rattle.std.specs.Prelude.{◌≡◌, ◌≢◌, ◌⊎◌, ◌≤◌, ◌<◌, ℕ, List, [], length, Result, Ok, Err, Vec}
+use Rattle.std.specs.Borrow.{MutBor}
 use Rattle.std.specs.declared.alloc.Global.{Global}
+use Rattle.keeper.specs.Keeping.{Keeping}
+use Rattle.outside.specs.Counts.{Rose}
 use Rattle.report.specs.declared.passing.Passing.{Passing}
+use Rattle.rounds.specs.Crewed.{lanings}
+use Rattle.rounds.specs.KeeperTurns.{begun_stored}
+use Rattle.rounds.specs.Staying.{HaveSlot}
 use Rattle.rounds.specs.Words.{DiskWords, TailWords}
+use Rattle.rounds.specs.declared.crew.Crew.{Crew}
+use Rattle.rounds.specs.declared.storing.Storing.{Storing}
 use Rattle.run_steps.specs.MetBy.{IsMetBy, Since, phase_met}
 use Rattle.run_steps.specs.RunState.{Leaving, Phase, Reading}
 use Rattle.run_steps.specs.declared.met.Met.{Met}
-use Rattle.run_steps.specs.declared.met.Met.TheVariants.{Stopped}
+use Rattle.run_steps.specs.declared.met.Met.TheVariants.{DiskFault, Done, Epochs, FolderFault, NoMemory, Stopped, Unreachable}
 
 abbrev pub phase_begun : Result (Vec Passing Global) Met → Phase
 phase_begun (Ok passed) = Reading
@@ -25,3 +33,36 @@ HasPassed (Err met) after = after ≡ []
 abbrev pub IsFollowedBy : {T W L D : Type 0} → TailWords T → DiskWords D → ℕ → Since T W L D → Result (Vec Passing Global) Met → Met → Type 0
 IsFollowedBy tails disks attempts since (Ok passed) met = met ≢ Stopped → IsMetBy tails disks attempts since met
 IsFollowedBy tails disks attempts since (Err first) met = met ≡ first
+
+-- the keeper with its areas, as they are lent to the rounds
+abbrev pub lent : {D : Type 0} → Keeping → MutBor D → MutBor D → Storing D
+lent keeper a b = record { keeper = keeper; a = a; b = b; stored = begun_stored }
+
+-- what counts tell of the objects of a run, before it works and behind it
+pub record Tolls : Type 0 where
+  pub a_faults : ℕ
+  pub b_faults : ℕ
+  pub folder_faults : ℕ
+  pub rings : ℕ
+
+-- no count of them falls
+pub record NeverFall (before after : Tolls) : Type 0 where
+  pub a_faults : before.a_faults ≤ after.a_faults
+  pub b_faults : before.b_faults ≤ after.b_faults
+  pub folder_faults : before.folder_faults ≤ after.folder_faults
+  pub rings : before.rings ≤ after.rings
+
+-- what was met as files were begun is met still, or what the last steps met
+abbrev pub IsBegunWith : Result (Vec Passing Global) Met → Met → Type 0
+IsBegunWith (Ok passed) met = ⊥
+IsBegunWith (Err first) met = met ≡ first
+
+-- why the run with this crew met this behind its files' beginning
+abbrev pub IsWorkedBy : {T W L : Type 0} → Crew T W L → Tolls → Tolls → Met → Type 0
+IsWorkedBy crew before after Done = Unit {0}
+IsWorkedBy crew before after Stopped = Rose before.rings after.rings
+IsWorkedBy crew before after NoMemory = Unit {0}
+IsWorkedBy crew before after DiskFault = Rose before.a_faults after.a_faults ⊎ Rose before.b_faults after.b_faults
+IsWorkedBy crew before after FolderFault = Rose before.folder_faults after.folder_faults
+IsWorkedBy crew before after (Unreachable worker) = worker < length crew.carriers.items
+IsWorkedBy crew before after (Epochs slot) = HaveSlot slot (lanings crew.lanes.items)

@@ -17,7 +17,7 @@ mod registry;
 mod registry_error;
 mod settle;
 mod telling;
-mod work;
+mod working;
 
 pub use begin::{begin_one, pass_over};
 pub use context::{Context, Outside};
@@ -30,4 +30,4 @@ pub use registry::open_registry;
 pub use registry_error::RegistryError;
 pub use settle::settle_all;
 pub use telling::tell_moments;
-pub use work::{Worked, follow_begun, settle_after};
+pub use working::{Worked, follow_begun, settle_after, work};

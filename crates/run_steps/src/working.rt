@@ -8,24 +8,29 @@ ghost use Rattle.rounds.specs.Rounds.{IsAble, IsReady};
 ghost use Rattle.rounds.specs.Settled.{AreSettledIn};
 ghost use Rattle.rounds.specs.Staying.{AreAsMany, begins_of};
 ghost use Rattle.rounds.specs.Words.{disk_words, link_words, tail_words, wire_words, words};
-ghost use Rattle.run_steps.specs.Areas.{IsAtRest};
-ghost use Rattle.run_steps.specs.Ends.{IsAllSettled};
+ghost use Rattle.run_steps.specs.Areas.{BeganAtRest, IsAtRest};
+ghost use Rattle.run_steps.specs.Began.{Began};
+ghost use Rattle.run_steps.specs.Ends.{Ends, IsAllSettled};
 ghost use Rattle.run_steps.specs.Met.{AreLeft};
 ghost use Rattle.run_steps.specs.MetBy.{IsMetBy};
 ghost use Rattle.run_steps.specs.Onward.{Onward};
 ghost use Rattle.run_steps.specs.Releasing.{HasNoHarvesters};
 ghost use Rattle.run_steps.specs.RunState.{Phase, within};
 ghost use Rattle.run_steps.specs.Settling.{IsMetByStoring};
-ghost use Rattle.run_steps.specs.Worked.{HasPassed, IsFollowedBy, phase_begun, phase_worked};
+ghost use Rattle.run_steps.specs.SoFar.{SoFar};
+ghost use Rattle.run_steps.specs.Stands.{Stands};
+ghost use Rattle.run_steps.specs.Worked.{HasPassed, IsBegunWith, IsFollowedBy, IsWorkedBy, NeverFall, lent, phase_begun, phase_worked};
 ghost use Rattle.run_steps.specs.declared.met.Met.TheVariants.{Stopped};
 
-use crate::context::Context;
+use crate::context::{Context, Outside};
+use crate::leave::{end_crew, release_all};
 use crate::met::Met;
 use crate::reading::{Signals, follow_all};
 use crate::settle::settle_all;
-use outside::{Bell, Clock, Disk, Link, Tail, Wire};
+use keeper::Keeper;
+use outside::{Bell, Clock, Disk, Folder, Link, Tail, Wire};
 use report::Passing;
-use rounds::{Crew, Storing};
+use rounds::{Crew, Stored, Storing};
 use std::sync::Wait;
 use std::thread::Threads;
 
@@ -35,6 +40,96 @@ pub struct Worked {
     /// The paths that were listed and then not found.
     pub passed: Vec<Passing>,
     pub met: Met,
+}
+
+/// Rounds until one ends the run, and the last steps; then all files, lanes and workers are let go, and the wires are back in their
+/// order. What was met as files were begun ends the run before a round. Takes as long as the files, the peers and the disk do.
+pub fn work<
+    X: Threads + Wait + Sync,
+    F: Folder,
+    L: Link + Send,
+    W: Wire<Link = L> + Send,
+    D: Disk + Send,
+    K: Clock,
+    B: Bell,
+>(
+    rt: &X,
+    context: Context<'_, '_>,
+    begun: Result<Vec<Passing>, Met>,
+    mut crew: Crew<F::Tail, W, L>,
+    keeper: Keeper,
+    outside: &mut Outside<F, W, D, K, B>,
+) -> (Worked, Keeper)
+where
+    F::Tail: Send,
+    requires ready { IsReady (tail_words F.Tail.numbers F.Tail.told F.Tail.faults)
+        context.outlets.queue.now.id context.outlets.desk.now.id
+        (crewing crew (lent keeper outside.old.a outside.old.b)) }
+    requires few { length crew.carriers.items ≤ 2 ^ 32 - 1 }
+    requires room { vec_len crew.carriers + vec_len outside.old.wires.now
+        ≤ vec_capacity outside.old.wires.now }
+    // What stood as the files were begun stands at the end, and by it the run is accounted for.
+    ensures ends { (start : Began D) (so_far : SoFar) → Stands (words (tail_words F.Tail.numbers F.Tail.told F.Tail.faults)
+        (link_words L.told L.faults L.idles)
+        (wire_words W.outcomes W.open_links W.faults W.idles)
+        (disk_words D.contents D.images D.moment D.images_since D.faults))
+        start (record { shown = F.told outside.old.folder.now;
+        moments = K.moments outside.old.clock.now; crew = crew; keeper = keeper;
+        a = outside.old.a.now; b = outside.old.b.now; phase = phase_begun begun }) so_far →
+        (BeganAtRest (disk_words D.contents D.images D.moment D.images_since D.faults) start →
+        IsAtRest (disk_words D.contents D.images D.moment D.images_since D.faults)
+        keeper outside.old.a.now outside.old.b.now) →
+        (phase : Phase) × Ends (words (tail_words F.Tail.numbers F.Tail.told F.Tail.faults)
+        (link_words L.told L.faults L.idles)
+        (wire_words W.outcomes W.open_links W.faults W.idles)
+        (disk_words D.contents D.images D.moment D.images_since D.faults))
+        start (record { shown = F.told outside.new.folder.now;
+        moments = K.moments outside.new.clock.now; keeper = result.1;
+        a = outside.new.a.now; b = outside.new.b.now; phase = phase }) result.0.met
+        outside.old.wires.now.items outside.new.wires.now.items }
+    ensures passed { HasPassed begun result.0.passed.items }
+    ensures cause { IsBegunWith begun result.0.met ⊎ IsWorkedBy crew
+        (record { a_faults = D.faults outside.old.a.now;
+        b_faults = D.faults outside.old.b.now; folder_faults = F.faults outside.old.folder.now;
+        rings = B.rings outside.old.bell.now })
+        (record { a_faults = D.faults outside.new.a.now;
+        b_faults = D.faults outside.new.b.now; folder_faults = F.faults outside.new.folder.now;
+        rings = B.rings outside.new.bell.now }) result.0.met }
+    ensures never_fall { NeverFall
+        (record { a_faults = D.faults outside.old.a.now;
+        b_faults = D.faults outside.old.b.now; folder_faults = F.faults outside.old.folder.now;
+        rings = B.rings outside.old.bell.now })
+        (record { a_faults = D.faults outside.new.a.now;
+        b_faults = D.faults outside.new.b.now; folder_faults = F.faults outside.new.folder.now;
+        rings = B.rings outside.new.bell.now }) }
+    ensures same_folder { outside.new.folder.ghost_name ≡ outside.old.folder.ghost_name }
+    ensures same_wires { outside.new.wires.ghost_name ≡ outside.old.wires.ghost_name }
+    ensures same_a { outside.new.a.ghost_name ≡ outside.old.a.ghost_name }
+    ensures same_b { outside.new.b.ghost_name ≡ outside.old.b.ghost_name }
+    ensures same_clock { outside.new.clock.ghost_name ≡ outside.old.clock.ghost_name }
+    ensures same_bell { outside.new.bell.ghost_name ≡ outside.old.bell.ghost_name }
+{
+    let mut storing = Storing {
+        keeper,
+        a: &mut *outside.a,
+        b: &mut *outside.b,
+        stored: Stored::begun(),
+    };
+    let mut signals = Signals {
+        clock: &mut *outside.clock,
+        bell: &mut *outside.bell,
+    };
+    let worked = follow_begun(rt, context, begun, &mut crew, &mut storing, &mut signals);
+    release_all(outside.folder, crew.lanes.as_mut_slice());
+    let worked = settle_after(rt, context, worked, &mut crew, &mut storing);
+    end_crew(crew, outside.wires);
+    let Storing {
+        keeper,
+        a: _,
+        b: _,
+        stored: _,
+    } = storing;
+    (worked, keeper)
 }
 
 /// Rounds where all files were begun.

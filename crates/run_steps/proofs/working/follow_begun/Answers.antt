@@ -7,7 +7,7 @@ use Rattle.run_steps.specs.RunState.{Leaving, Phase, within}
 use Rattle.run_steps.specs.Worked.{phase_begun, phase_worked}
 use Rattle.run_steps.specs.declared.met.Met.{Met}
 use Rattle.run_steps.proofs.Onward.{onward_by_nothing}
-use Rattle.run_steps.proofs.work.follow_begun.Goals as goal
+use Rattle.run_steps.proofs.working.follow_begun.Goals as goal
 
 pub returns-in-Err-clause-onward : goal.returns-in-Err-clause-onward
 returns-in-Err-clause-onward g c shown =

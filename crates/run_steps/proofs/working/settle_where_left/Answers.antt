@@ -1,7 +1,7 @@
 use Rattle.rounds.specs.Words.{disk_words, link_words, tail_words, wire_words, words}
 use Rattle.run_steps.specs.RunState.{within}
 use Rattle.run_steps.proofs.Onward.{onward_by_nothing}
-use Rattle.run_steps.proofs.work.settle_where_left.Goals as goal
+use Rattle.run_steps.proofs.working.settle_where_left.Goals as goal
 
 pub returns-in-NoMemory-clause-onward : goal.returns-in-NoMemory-clause-onward
 returns-in-NoMemory-clause-onward g c shown moments phase =
