@@ -11,12 +11,14 @@ pub mod Filing
 pub mod Finishing
 pub mod Giving
 pub mod Grounds
+pub mod Keeps
 pub mod Lanes
 pub mod Leaving
 pub mod Letting
 pub mod Members
 pub mod MetBy
 pub mod Moments
+pub mod Notes
 pub mod Noting
 pub mod Onward
 pub mod Ordering
