@@ -1,7 +1,7 @@
 -- A crew whose harvesters were let go may end, and may be settled before.
 use Rattle.std.specs.List.{AllByRecursion}
 use Rattle.std.specs.Vec.{with_items}
-use Rattle.std.proofs.Common.{◌≡◌, ◌≢◌, All, List, [], ◌∷◌, ◌++◌, Vec, length, map, Option, Some, None, IsSome, refl, sym, ap, subst, ◌∙◌, arith}
+use Rattle.std.proofs.Common.{◌≡◌, ◌≢◌, All, List, [], ◌∷◌, Vec, length, map, Option, Some, None, IsSome, refl, sym, ap, subst, ◌∙◌}
 use Rattle.std.proofs.lemmas.List.{length-map, with_items_is}
 use Rattle.std.proofs.lemmas.List.Elements.{All-from_recursion, All-nil, recursion_from_All}
 use Rattle.atomic_table.specs.Seated.{TableId}
@@ -9,17 +9,17 @@ use Rattle.lanes.specs.Laning.{Laning, laning}
 use Rattle.lanes.specs.Turned.{IsKnown}
 use Rattle.lanes.specs.declared.lane.Lane.{Lane}
 use Rattle.mem_queue.specs.Known.{Known}
-use Rattle.pass_sums.specs.Share.{IsWhole}
 use Rattle.settle_box.specs.Poster.{Poster}
 use Rattle.rounds.specs.Crewed.{carriers_passes, lane_passes, lanes_passes, lanings}
 use Rattle.rounds.specs.Crewing.{Crewing}
-use Rattle.rounds.specs.Passes.{AreAllOf, IsOfBox, IsOfQueue, Passes, post_shares, shares}
+use Rattle.rounds.specs.Passes.{AreAllOf, IsOfBox, IsOfQueue, Passes}
 use Rattle.rounds.specs.Rounds.{IsAble}
 use Rattle.rounds.specs.Running.{IsLaneReady}
 use Rattle.rounds.specs.Words.{TailWords}
 use Rattle.rounds.specs.declared.carrier.Carrier.{Carrier}
 use Rattle.run_steps.specs.CarriersEnd.{HasCarrierPasses, HasLanePasses}
 use Rattle.run_steps.specs.Releasing.{HasNoHarvesters, released}
+use Rattle.run_steps.proofs.Having.{have_still, some_still}
 
 -- ---- the passes are there
 
@@ -70,10 +70,6 @@ ready_by tails queue desk (lane ∷ lanes) ready =
 as_many : {T : Type 0} (old new : List (Lane T)) → lanings new ≡ map released (lanings old) → length new ≡ length old
 as_many old new same = sym (length-map new laning) ∙ ap length same ∙ length-map (lanings old) released ∙ length-map old laning
 
-some_left : {T : Type 0} (old new : List (Lane T)) → length new ≡ length old → old ≢ [] → new ≢ []
-some_left [] new many some = absurd (some refl)
-some_left (x ∷ old) new many some = λ none. absurd (omega (arith, many, ap length none))
-
 -- what was done to the slice of the crew's lanes is done to these
 pub released_in : {T Z : Type 0} (lanes : Vec (Lane T) Z) (later : List (Lane T)) → lanings later ≡ map released (lanings lanes.items) → lanings (with_items lanes later).items ≡ map released (lanings lanes.items)
 released_in {T} lanes later same = subst (λ (l : List (Lane T)). lanings l ≡ map released (lanings lanes.items)) (sym (with_items_is lanes later (as_many lanes.items later same ∙ sym lanes.ok.0))) same
@@ -84,16 +80,9 @@ able_released {T} {W} {L} tails queue desk old new able same carriers pass =
     let passes : lanes_passes (lanings new.lanes.items) ≡ lanes_passes (lanings old.lanes.items) = ap lanes_passes same ∙ same_passes (lanings old.lanes.items) in
     let items : new.carriers.items ≡ old.carriers.items = ap (λ v. v.items) carriers in
     record {
-      some_lanes = some_left old.lanes.items new.lanes.items (as_many old.lanes.items new.lanes.items same) able.some_lanes;
+      some_lanes = some_still old.lanes.items new.lanes.items (as_many old.lanes.items new.lanes.items same) able.some_lanes;
       some_carriers = subst (λ (l : List (Carrier W L)). l ≢ []) (sym items) able.some_carriers;
-      have = record {
-        lanes_have = subst (AreAllOf queue desk) (sym passes) able.have.lanes_have;
-        carriers_have = subst (λ (l : List (Carrier W L)). AreAllOf queue desk (carriers_passes l)) (sym items) able.have.carriers_have;
-        puts = subst (λ (l : List Passes). IsWhole (shares l)) (sym passes) able.have.puts;
-        takes = subst (λ (l : List (Carrier W L)). IsWhole (shares (carriers_passes l))) (sym items) able.have.takes;
-        posts = subst (λ (l : List Passes). IsWhole (post_shares l ++ post_shares (carriers_passes new.carriers.items))) (sym passes)
-            (subst (λ (l : List (Carrier W L)). IsWhole (post_shares (lanes_passes (lanings old.lanes.items)) ++ post_shares (carriers_passes l))) (sym items) able.have.posts);
-      };
+      have = have_still queue desk (lanings old.lanes.items) (lanings new.lanes.items) old.carriers.items new.carriers.items passes items able.have;
       lanes = subst (All (IsLaneReady tails queue desk)) (sym same)
           (All-from_recursion (IsLaneReady tails queue desk) (map released (lanings old.lanes.items)) (ready_by tails queue desk (lanings old.lanes.items) (recursion_from_All (IsLaneReady tails queue desk) (lanings old.lanes.items) able.lanes)));
       pass = ap (λ p. p.desk) pass ∙ able.pass;

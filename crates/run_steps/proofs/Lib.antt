@@ -1,3 +1,4 @@
+pub mod Able
 pub mod Admitted
 pub mod Areas
 pub mod Attempts
@@ -11,6 +12,7 @@ pub mod Filing
 pub mod Finishing
 pub mod Giving
 pub mod Grounds
+pub mod Having
 pub mod Keeps
 pub mod Lanes
 pub mod Leaving
