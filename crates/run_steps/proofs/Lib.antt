@@ -28,4 +28,5 @@ pub mod Released
 pub mod Releasing
 pub mod Rounding
 pub mod Settling
+pub mod Tails
 pub mod Turning

@@ -1,10 +1,11 @@
 -- Harvesters that are let go, one after the other: what the folder shows of their tails.
-use Rattle.std.proofs.Common.{◌≡◌, ℕ, ◌-◌, ◌≤◌, All, List, [], ◌∷◌, ◌++◌, length, Option, Some, None, refl, sym, ap, subst, ◌∙◌, arith}
+use Rattle.std.proofs.Common.{◌≡◌, ◌⊎◌, inl, inr, ℕ, ◌-◌, ◌<◌, ◌≤◌, All, Any, List, [], ◌∷◌, ◌++◌, length, Option, Some, None, refl, sym, ap, subst, ◌∙◌, arith}
+use Rattle.std.proofs.Math.Nat.{eq-or-lt_of_le}
 use Rattle.std.proofs.lemmas.List.{append_assoc, append-nil, length-append}
 use Rattle.std.proofs.lemmas.List.Elements.{All-append, All-cons, All-nil}
 use Rattle.harvester.specs.declared.harvester.Harvester.{Harvester}
 use Rattle.lanes.specs.Laning.{Laning, Pops}
-use Rattle.outside.specs.Counts.{added_counts}
+use Rattle.outside.specs.Counts.{Rose, added_counts}
 use Rattle.outside.specs.Folders.{Event, FolderHistory}
 use Rattle.outside.specs.Tails.{TailHistory}
 use Rattle.run_steps.specs.Releasing.{CountsFaults, all_closings, closing_of, closings_of, harvesters_of, released, with_events}
@@ -31,6 +32,18 @@ added_behind first second (Some told) = ap (λ (events : List Event). Some (reco
 
 earlier_counts : (before mid faults now : ℕ) → before ≤ mid → added_counts mid faults ≤ now → added_counts before faults ≤ now
 earlier_counts before mid faults now le counts = omega (arith, le, counts)
+
+rose_by : (before faults now : ℕ) → 0 < faults → added_counts before faults ≤ now → Rose before now
+rose_by before faults now some counts = by_order (eq-or-lt_of_le (omega (arith, counts)))
+  where
+    by_order : (before ≡ now) ⊎ (before < now) → Rose before now
+    by_order (inl same) = inr (omega (arith, some, counts, same))
+    by_order (inr less) = inl less
+
+-- where a tail has met a fault, the folder's count rose as its harvester was let go
+pub rose_where_some : {T : Type 0} (faults : T → ℕ) (before now : ℕ) (harvesters : List (Harvester T)) → CountsFaults faults before now harvesters → Any (λ (h : Harvester T). 0 < faults h.tail) harvesters → Rose before now
+rose_where_some {T} faults before now harvesters counted (place, one, inside, is, some) =
+    rose_by before (faults one.tail) now some (subst (λ (h : Harvester T). added_counts before (faults h.tail) ≤ now) is (counted place one inside))
 
 module _ {T : Type 0} (told : T → Option TailHistory) (faults : T → ℕ) where
   counted_on : (before mid now : ℕ) (harvesters : List (Harvester T)) → mid ≤ now → CountsFaults faults before mid harvesters → CountsFaults faults before now harvesters

@@ -1,0 +1,71 @@
+-- How many tails are open: one for each harvester more.
+use Rattle.std.proofs.Common.{◌≡◌, inl, inr, ℕ, ◌+◌, ◌-◌, ◌^◌, ◌<◌, Bool, true, false, List, [], ◌∷◌, ◌++◌, length, Result, Ok, Err, ap, arith}
+use Rattle.std.proofs.lemmas.List.{length-append}
+use Rattle.event_tree.specs.declared.settings.Settings.{Settings}
+use Rattle.harvester.specs.declared.harvester.Harvester.{Harvester}
+use Rattle.lanes.specs.Laning.{Laning}
+use Rattle.rounds.specs.Crewed.{lanings}
+use Rattle.rounds.specs.Words.{TailWords}
+use Rattle.rounds.specs.declared.crew.Crew.{Crew}
+use Rattle.run_steps.specs.Beginning.{AdmitsAt, Beginning, BeginsOne, ListedFile}
+use Rattle.run_steps.specs.Releasing.{harvesters_of}
+use Rattle.run_steps.specs.declared.met.Met.{Met}
+use Rattle.run_steps.specs.declared.met.Met.TheVariants.{Done, Stopped, NoMemory, DiskFault, FolderFault, Unreachable, Epochs}
+
+-- how many files are followed by this answer
+abbrev pub followed_by : Result Bool Met → ℕ
+followed_by (Ok true) = 1
+followed_by (Ok false) = 0
+followed_by (Err met) = 0
+
+many_in : {T : Type 0} (front back : List (Laning T)) (lane : Laning T) → length (harvesters_of (front ++ lane ∷ back)) ≡ length (harvesters_of front) + (length lane.harvesters + length (harvesters_of back))
+many_in [] back lane = omega (arith, length-append lane.harvesters (harvesters_of back))
+many_in (first ∷ front) back lane =
+    omega (arith, length-append first.harvesters (harvesters_of (front ++ lane ∷ back)), length-append first.harvesters (harvesters_of front), many_in front back lane)
+
+one_harvester_more : {T : Type 0} (number : ℕ) (harvester : Harvester T) (old new : List (Laning T)) → AdmitsAt number harvester old new → length (harvesters_of new) ≡ length (harvesters_of old) + 1
+one_harvester_more number harvester old new admits =
+    let lane = admits.lane in
+    let after : Laning _ = record lane { harvesters = lane.harvesters ++ harvester ∷ [] } in
+    omega (
+      arith,
+      ap (λ l. length (harvesters_of l)) admits.were,
+      ap (λ l. length (harvesters_of l)) admits.are,
+      many_in admits.front admits.back lane,
+      many_in admits.front admits.back after,
+      length-append lane.harvesters (harvester ∷ []),
+    )
+
+module _ {T W L : Type 0} (tails : TailWords T) (settings : Settings) (file : ListedFile) where
+  pub as_many_harvesters : (result : Result Bool Met) (old new : Beginning T W L) → BeginsOne tails settings file result old new
+      → length (harvesters_of (lanings new.crew.lanes.items)) ≡ length (harvesters_of (lanings old.crew.lanes.items)) + followed_by result
+  as_many_harvesters (Ok true) old new begins =
+      omega (
+        arith,
+        ap (λ (c : Crew T W L). length (harvesters_of (lanings c.lanes.items))) begins.opened.crew,
+        one_harvester_more _ begins.follows.harvester (lanings begins.mid.crew.lanes.items) (lanings new.crew.lanes.items) begins.follows.taken.admits,
+      )
+  as_many_harvesters (Ok false) old new begins = omega (arith, ap (λ (c : Crew T W L). length (harvesters_of (lanings c.lanes.items))) begins.crew)
+  as_many_harvesters (Err FolderFault) old new begins = omega (arith, ap (λ (c : Crew T W L). length (harvesters_of (lanings c.lanes.items))) begins.crew)
+  as_many_harvesters (Err NoMemory) old new (inl begins) = omega (arith, ap (λ (c : Crew T W L). length (harvesters_of (lanings c.lanes.items))) begins.crew)
+  as_many_harvesters (Err NoMemory) old new (inr begins) =
+      omega (arith, ap (λ (c : Crew T W L). length (harvesters_of (lanings c.lanes.items))) begins.opened.crew, ap (λ l. length (harvesters_of l)) begins.gives_up.lanes.lanes)
+  as_many_harvesters (Err Done) old new begins = absurd begins
+  as_many_harvesters (Err Stopped) old new begins = absurd begins
+  as_many_harvesters (Err DiskFault) old new begins = absurd begins
+  as_many_harvesters (Err (Unreachable worker)) old new begins = absurd begins
+  as_many_harvesters (Err (Epochs slot)) old new begins = absurd begins
+
+  -- where the count of open tails does not stand at its end
+  pub as_many_open : (result : Result Bool Met) (old new : Beginning T W L) → old.folder.open_tails < 2 ^ 64 - 1 → BeginsOne tails settings file result old new
+      → new.folder.open_tails ≡ old.folder.open_tails + followed_by result
+  as_many_open (Ok true) old new below begins = omega (arith, below, begins.opened.opens.open_tails, ap (λ f. f.open_tails) begins.follows.taken.folder)
+  as_many_open (Ok false) old new below begins = omega (arith, begins.opens.open_tails)
+  as_many_open (Err FolderFault) old new below begins = omega (arith, begins.opens.open_tails)
+  as_many_open (Err NoMemory) old new below (inl begins) = omega (arith, begins.opens.open_tails)
+  as_many_open (Err NoMemory) old new below (inr begins) = omega (arith, below, begins.opened.opens.open_tails, begins.gives_up.closes.open_tails)
+  as_many_open (Err Done) old new below begins = absurd begins
+  as_many_open (Err Stopped) old new below begins = absurd begins
+  as_many_open (Err DiskFault) old new below begins = absurd begins
+  as_many_open (Err (Unreachable worker)) old new below begins = absurd begins
+  as_many_open (Err (Epochs slot)) old new below begins = absurd begins
