@@ -30,3 +30,4 @@ pub mod Rounding
 pub mod Settling
 pub mod Tails
 pub mod Turning
+pub mod Whole

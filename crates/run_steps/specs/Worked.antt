@@ -1,20 +1,26 @@
 -- What a run has done once its rounds are made (this project's profile): where files could not all be begun, none is.
 use Rattle.std.specs.Prelude.{◌≡◌, ◌≢◌, ◌⊎◌, ◌≤◌, ◌<◌, ℕ, List, [], length, Result, Ok, Err, Vec}
-use Rattle.std.specs.Borrow.{MutBor}
 use Rattle.std.specs.declared.alloc.Global.{Global}
-use Rattle.keeper.specs.Keeping.{Keeping}
 use Rattle.outside.specs.Counts.{Rose}
 use Rattle.report.specs.declared.passing.Passing.{Passing}
 use Rattle.rounds.specs.Crewed.{lanings}
-use Rattle.rounds.specs.KeeperTurns.{begun_stored}
 use Rattle.rounds.specs.Staying.{HaveSlot}
 use Rattle.rounds.specs.Words.{DiskWords, TailWords}
 use Rattle.rounds.specs.declared.crew.Crew.{Crew}
-use Rattle.rounds.specs.declared.storing.Storing.{Storing}
 use Rattle.run_steps.specs.MetBy.{IsMetBy, Since, phase_met}
 use Rattle.run_steps.specs.RunState.{Leaving, Phase, Reading}
 use Rattle.run_steps.specs.declared.met.Met.{Met}
 use Rattle.run_steps.specs.declared.met.Met.TheVariants.{DiskFault, Done, Epochs, FolderFault, NoMemory, Stopped, Unreachable}
+
+-- what may end the beginning of files
+abbrev pub IsBeginEnd : Met → Type 0
+IsBeginEnd Done = ⊥
+IsBeginEnd Stopped = ⊥
+IsBeginEnd NoMemory = Unit {0}
+IsBeginEnd DiskFault = ⊥
+IsBeginEnd FolderFault = Unit {0}
+IsBeginEnd (Unreachable worker) = ⊥
+IsBeginEnd (Epochs slot) = ⊥
 
 abbrev pub phase_begun : Result (Vec Passing Global) Met → Phase
 phase_begun (Ok passed) = Reading
@@ -33,10 +39,6 @@ HasPassed (Err met) after = after ≡ []
 abbrev pub IsFollowedBy : {T W L D : Type 0} → TailWords T → DiskWords D → ℕ → Since T W L D → Result (Vec Passing Global) Met → Met → Type 0
 IsFollowedBy tails disks attempts since (Ok passed) met = met ≢ Stopped → IsMetBy tails disks attempts since met
 IsFollowedBy tails disks attempts since (Err first) met = met ≡ first
-
--- the keeper with its areas, as they are lent to the rounds
-abbrev pub lent : {D : Type 0} → Keeping → MutBor D → MutBor D → Storing D
-lent keeper a b = record { keeper = keeper; a = a; b = b; stored = begun_stored }
 
 -- what counts tell of the objects of a run, before it works and behind it
 pub record Tolls : Type 0 where

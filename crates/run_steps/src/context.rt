@@ -10,14 +10,12 @@ pub struct Context<'a, 'b> {
     pub outlets: Outlets<'b>,
 }
 
-/// All that lies outside and is used once the settings are read. It is written out where the references are, for of a call that
-/// made it no caller could tell what they come to.
+/// What a run reads, sends by and asks, beside its areas. It is written out where the references are, for of a call that made it no
+/// caller could tell what they come to.
 #[derive(Drop)]
-pub struct Outside<'a, 'b, 'c, 'd, 'e, 'f, F, W, D, K, B> {
+pub struct Surroundings<'a, 'b, 'c, 'd, F, W, K, B> {
     pub folder: &'a mut F,
     pub wires: &'b mut Vec<W>,
-    pub a: &'c mut D,
-    pub b: &'d mut D,
-    pub clock: &'e mut K,
-    pub bell: &'f mut B,
+    pub clock: &'c mut K,
+    pub bell: &'d mut B,
 }

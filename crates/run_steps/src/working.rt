@@ -19,18 +19,17 @@ ghost use Rattle.run_steps.specs.RunState.{Phase, within};
 ghost use Rattle.run_steps.specs.Settling.{IsMetByStoring};
 ghost use Rattle.run_steps.specs.SoFar.{SoFar};
 ghost use Rattle.run_steps.specs.Stands.{Stands};
-ghost use Rattle.run_steps.specs.Worked.{HasPassed, IsBegunWith, IsFollowedBy, IsWorkedBy, NeverFall, lent, phase_begun, phase_worked};
+ghost use Rattle.run_steps.specs.Worked.{HasPassed, IsBeginEnd, IsBegunWith, IsFollowedBy, IsWorkedBy, NeverFall, phase_begun, phase_worked};
 ghost use Rattle.run_steps.specs.declared.met.Met.TheVariants.{Stopped};
 
-use crate::context::{Context, Outside};
+use crate::context::{Context, Surroundings};
 use crate::leave::{end_crew, release_all};
 use crate::met::Met;
 use crate::reading::{Signals, follow_all};
 use crate::settle::settle_all;
-use keeper::Keeper;
 use outside::{Bell, Clock, Disk, Folder, Link, Tail, Wire};
 use report::Passing;
-use rounds::{Crew, Stored, Storing};
+use rounds::{Crew, Storing};
 use std::sync::Wait;
 use std::thread::Threads;
 
@@ -57,79 +56,65 @@ pub fn work<
     context: Context<'_, '_>,
     begun: Result<Vec<Passing>, Met>,
     mut crew: Crew<F::Tail, W, L>,
-    keeper: Keeper,
-    outside: &mut Outside<F, W, D, K, B>,
-) -> (Worked, Keeper)
+    storing: &mut Storing<'_, D>,
+    around: &mut Surroundings<F, W, K, B>,
+) -> Worked
 where
     F::Tail: Send,
     requires ready { IsReady (tail_words F.Tail.numbers F.Tail.told F.Tail.faults)
-        context.outlets.queue.now.id context.outlets.desk.now.id
-        (crewing crew (lent keeper outside.old.a outside.old.b)) }
+        context.outlets.queue.now.id context.outlets.desk.now.id (crewing crew storing.old) }
     requires few { length crew.carriers.items ≤ 2 ^ 32 - 1 }
-    requires room { vec_len crew.carriers + vec_len outside.old.wires.now
-        ≤ vec_capacity outside.old.wires.now }
+    requires begins { IfErr begun IsBeginEnd }
+    requires room { vec_len crew.carriers + vec_len around.old.wires.now
+        ≤ vec_capacity around.old.wires.now }
     // What stood as the files were begun stands at the end, and by it the run is accounted for.
     ensures ends { (start : Began D) (so_far : SoFar) → Stands (words (tail_words F.Tail.numbers F.Tail.told F.Tail.faults)
         (link_words L.told L.faults L.idles)
         (wire_words W.outcomes W.open_links W.faults W.idles)
         (disk_words D.contents D.images D.moment D.images_since D.faults))
-        start (record { shown = F.told outside.old.folder.now;
-        moments = K.moments outside.old.clock.now; crew = crew; keeper = keeper;
-        a = outside.old.a.now; b = outside.old.b.now; phase = phase_begun begun }) so_far →
+        start (within (F.told around.old.folder.now) (K.moments around.old.clock.now)
+        crew storing.old (phase_begun begun)) so_far →
         (BeganAtRest (disk_words D.contents D.images D.moment D.images_since D.faults) start →
         IsAtRest (disk_words D.contents D.images D.moment D.images_since D.faults)
-        keeper outside.old.a.now outside.old.b.now) →
+        storing.old.keeper storing.old.a.now storing.old.b.now) →
         (phase : Phase) × Ends (words (tail_words F.Tail.numbers F.Tail.told F.Tail.faults)
         (link_words L.told L.faults L.idles)
         (wire_words W.outcomes W.open_links W.faults W.idles)
         (disk_words D.contents D.images D.moment D.images_since D.faults))
-        start (record { shown = F.told outside.new.folder.now;
-        moments = K.moments outside.new.clock.now; keeper = result.1;
-        a = outside.new.a.now; b = outside.new.b.now; phase = phase }) result.0.met
-        outside.old.wires.now.items outside.new.wires.now.items }
-    ensures passed { HasPassed begun result.0.passed.items }
-    ensures cause { IsBegunWith begun result.0.met ⊎ IsWorkedBy crew
-        (record { a_faults = D.faults outside.old.a.now;
-        b_faults = D.faults outside.old.b.now; folder_faults = F.faults outside.old.folder.now;
-        rings = B.rings outside.old.bell.now })
-        (record { a_faults = D.faults outside.new.a.now;
-        b_faults = D.faults outside.new.b.now; folder_faults = F.faults outside.new.folder.now;
-        rings = B.rings outside.new.bell.now }) result.0.met }
+        start (record { shown = F.told around.new.folder.now;
+        moments = K.moments around.new.clock.now; keeper = storing.new.keeper;
+        a = storing.new.a.now; b = storing.new.b.now; phase = phase }) result.met
+        around.old.wires.now.items around.new.wires.now.items }
+    ensures passed { HasPassed begun result.passed.items }
+    ensures cause { IsBegunWith begun result.met ⊎ IsWorkedBy crew
+        (record { a_faults = D.faults storing.old.a.now;
+        b_faults = D.faults storing.old.b.now; folder_faults = F.faults around.old.folder.now;
+        rings = B.rings around.old.bell.now })
+        (record { a_faults = D.faults storing.new.a.now;
+        b_faults = D.faults storing.new.b.now; folder_faults = F.faults around.new.folder.now;
+        rings = B.rings around.new.bell.now }) result.met }
     ensures never_fall { NeverFall
-        (record { a_faults = D.faults outside.old.a.now;
-        b_faults = D.faults outside.old.b.now; folder_faults = F.faults outside.old.folder.now;
-        rings = B.rings outside.old.bell.now })
-        (record { a_faults = D.faults outside.new.a.now;
-        b_faults = D.faults outside.new.b.now; folder_faults = F.faults outside.new.folder.now;
-        rings = B.rings outside.new.bell.now }) }
-    ensures same_folder { outside.new.folder.ghost_name ≡ outside.old.folder.ghost_name }
-    ensures same_wires { outside.new.wires.ghost_name ≡ outside.old.wires.ghost_name }
-    ensures same_a { outside.new.a.ghost_name ≡ outside.old.a.ghost_name }
-    ensures same_b { outside.new.b.ghost_name ≡ outside.old.b.ghost_name }
-    ensures same_clock { outside.new.clock.ghost_name ≡ outside.old.clock.ghost_name }
-    ensures same_bell { outside.new.bell.ghost_name ≡ outside.old.bell.ghost_name }
+        (record { a_faults = D.faults storing.old.a.now;
+        b_faults = D.faults storing.old.b.now; folder_faults = F.faults around.old.folder.now;
+        rings = B.rings around.old.bell.now })
+        (record { a_faults = D.faults storing.new.a.now;
+        b_faults = D.faults storing.new.b.now; folder_faults = F.faults around.new.folder.now;
+        rings = B.rings around.new.bell.now }) }
+    ensures same_areas { SameAreas storing.old storing.new }
+    ensures same_folder { around.new.folder.ghost_name ≡ around.old.folder.ghost_name }
+    ensures same_wires { around.new.wires.ghost_name ≡ around.old.wires.ghost_name }
+    ensures same_clock { around.new.clock.ghost_name ≡ around.old.clock.ghost_name }
+    ensures same_bell { around.new.bell.ghost_name ≡ around.old.bell.ghost_name }
 {
-    let mut storing = Storing {
-        keeper,
-        a: &mut *outside.a,
-        b: &mut *outside.b,
-        stored: Stored::begun(),
-    };
     let mut signals = Signals {
-        clock: &mut *outside.clock,
-        bell: &mut *outside.bell,
+        clock: &mut *around.clock,
+        bell: &mut *around.bell,
     };
-    let worked = follow_begun(rt, context, begun, &mut crew, &mut storing, &mut signals);
-    release_all(outside.folder, crew.lanes.as_mut_slice());
-    let worked = settle_after(rt, context, worked, &mut crew, &mut storing);
-    end_crew(crew, outside.wires);
-    let Storing {
-        keeper,
-        a: _,
-        b: _,
-        stored: _,
-    } = storing;
-    (worked, keeper)
+    let worked = follow_begun(rt, context, begun, &mut crew, storing, &mut signals);
+    release_all(around.folder, crew.lanes.as_mut_slice());
+    let worked = settle_after(rt, context, worked, &mut crew, storing);
+    end_crew(crew, around.wires);
+    worked
 }
 
 /// Rounds where all files were begun.
@@ -232,6 +217,7 @@ pub fn settle_after<
         (disk_words D.contents D.images D.moment D.images_since D.faults)
         (record { a = storing.old.a.now; b = storing.old.b.now; new_a = storing.new.a.now;
         new_b = storing.new.b.now }) result.met }
+    ensures still { ¬ AreLeft worked.met → (crew.new ≡ crew.old) × (storing.new ≡ storing.old) }
     ensures settled { AreLeft result.met → AreSettledIn crew.new storing.new.keeper }
     ensures able { IsAble (tail_words T.numbers T.told T.faults)
         context.entry.outlets.queue.now.id context.entry.outlets.desk.now.id
@@ -280,6 +266,7 @@ fn settle_where_left<
         (disk_words D.contents D.images D.moment D.images_since D.faults)
         (record { a = storing.old.a.now; b = storing.old.b.now; new_a = storing.new.a.now;
         new_b = storing.new.b.now }) result }
+    ensures still { ¬ AreLeft met → (crew.new ≡ crew.old) × (storing.new ≡ storing.old) }
     ensures settled { AreLeft result → AreSettledIn crew.new storing.new.keeper }
     ensures able { IsAble (tail_words T.numbers T.told T.faults)
         context.entry.outlets.queue.now.id context.entry.outlets.desk.now.id

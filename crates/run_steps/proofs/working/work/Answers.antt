@@ -1,56 +1,112 @@
-use Rattle.std.proofs.Common.{rules, ◌≡◌, ◌≢◌, ◌⊎◌, ◌+◌, ◌-◌, ◌^◌, ◌≤◌, All, ℕ, IfErr, IfOk, List, Option, Result, length, vec_capacity, vec_len, ◌*◌, ◌<◌, ◌/◌, ◌%◌, Bool, true, false, nat_eq, nat_lt, [], ◌∷◌, ◌++◌, slice_index_or, slice_set, bit_and, bit_or, Fits, w8, w32, w64, Bor, MutBor}
-use Rattle.outside.specs.Counts.{Rose}
-use Rattle.outside.specs.Folders.{FolderHistory}
+use Rattle.std.proofs.Common.{◌≡◌, ℕ, All, map, List, Option, refl, sym, ap, subst, ◌∙◌}
+use Rattle.lanes.specs.declared.lane.Lane.{Lane}
 use Rattle.rounds.specs.Crewed.{lanings}
 use Rattle.rounds.specs.Crewing.{crewing}
-use Rattle.rounds.specs.KeeperTurns.{SameAreas}
-use Rattle.rounds.specs.Rounds.{IsAble, IsReady}
-use Rattle.rounds.specs.Settled.{AreSettledIn}
-use Rattle.rounds.specs.Staying.{AreAsMany, begins_of}
-use Rattle.rounds.specs.Words.{disk_words, link_words, tail_words, wire_words, words}
-use Rattle.run_steps.specs.Areas.{BeganAtRest, IsAtRest}
-use Rattle.run_steps.specs.Began.{Began}
-use Rattle.run_steps.specs.Ends.{Ends, IsAllSettled}
-use Rattle.run_steps.specs.Met.{AreLeft}
-use Rattle.run_steps.specs.MetBy.{IsMetBy}
-use Rattle.run_steps.specs.Onward.{Onward}
-use Rattle.run_steps.specs.Releasing.{HasNoHarvesters}
-use Rattle.run_steps.specs.RunState.{Phase}
-use Rattle.run_steps.specs.Settling.{IsMetByStoring}
-use Rattle.run_steps.specs.SoFar.{SoFar}
-use Rattle.run_steps.specs.Stands.{Stands}
-use Rattle.run_steps.specs.Worked.{HasPassed, IsBegunWith, IsFollowedBy, IsWorkedBy, NeverFall, lent, phase_begun, phase_worked}
-use Rattle.run_steps.specs.declared.met.Met.TheVariants.{Stopped}
+use Rattle.rounds.specs.Words.{Words, disk_words, link_words, tail_words, wire_words, words}
+use Rattle.std.specs.Vec.{with_items}
+use Rattle.run_steps.specs.MetBy.{Since}
+use Rattle.run_steps.specs.Releasing.{CountsFaults, HasNoHarvesters, all_closings, harvesters_of, released, with_events}
+use Rattle.run_steps.specs.RunState.{phase_left}
+use Rattle.run_steps.specs.Worked.{phase_worked}
+use Rattle.run_steps.specs.declared.met.Met.TheVariants.{Done}
+use Rattle.run_steps.proofs.Letting.{able_released, carriers_have_passes, lanes_have_passes, none_left, released_in}
+use Rattle.run_steps.proofs.Whole.{cause, done_before, done_in, ends, finished_by, first_met}
 use Rattle.run_steps.proofs.working.work.Goals as goal
 
--- src/working.rt:124:9
 pub settle_after-worked-requires-clause-ready : goal.settle_after-worked-requires-clause-ready
-settle_after-worked-requires-clause-ready g c κs within = ?
+settle_after-worked-requires-clause-ready g c κs within left =
+    let one = c.follow_begun-worked.new.crew in
+    let same = released_in one.lanes c.release_all.new.lanes (subst (λ (l : List (Lane g.row.F-Tail.Denot)). lanings c.release_all.new.lanes ≡ map released (lanings l)) c.as_mut_slice.ensures.value c.release_all.ensures.released) in
+    let ready = c.follow_begun-worked.ensures.ready left in
+    record {
+      able = able_released (tail_words g.F.Tail.Tail.numbers g.F.Tail.Tail.told g.F.Tail.Tail.faults) c.args.context.outlets.queue.now.id c.args.context.outlets.desk.now.id
+          (crewing one c.follow_begun-worked.new.storing) (crewing (record one { lanes = with_items one.lanes c.release_all.new.lanes }) c.follow_begun-worked.new.storing)
+          ready.able same refl refl;
+      is_open = ready.is_open;
+    }
 
--- src/working.rt:124:9
 pub settle_after-worked-requires-clause-able : goal.settle_after-worked-requires-clause-able
-settle_after-worked-requires-clause-able g c κs within = ?
+settle_after-worked-requires-clause-able g c κs within =
+    let one = c.follow_begun-worked.new.crew in
+    let same = released_in one.lanes c.release_all.new.lanes (subst (λ (l : List (Lane g.row.F-Tail.Denot)). lanings c.release_all.new.lanes ≡ map released (lanings l)) c.as_mut_slice.ensures.value c.release_all.ensures.released) in
+    able_released (tail_words g.F.Tail.Tail.numbers g.F.Tail.Tail.told g.F.Tail.Tail.faults) c.args.context.outlets.queue.now.id c.args.context.outlets.desk.now.id
+    (crewing one c.follow_begun-worked.new.storing) (crewing (record one { lanes = with_items one.lanes c.release_all.new.lanes }) c.follow_begun-worked.new.storing)
+    c.follow_begun-worked.ensures.able same refl refl
 
--- src/working.rt:125:5
 pub end_crew-requires-clause-lanes : goal.end_crew-requires-clause-lanes
-end_crew-requires-clause-lanes g c = ?
+end_crew-requires-clause-lanes g c =
+    lanes_have_passes c.args.context.outlets.queue.now.id c.args.context.outlets.desk.now.id (tail_words g.F.Tail.Tail.numbers g.F.Tail.Tail.told g.F.Tail.Tail.faults)
+    (crewing c.settle_after-worked.new.crew c.settle_after-worked.new.storing) c.settle_after-worked.ensures.able
 
--- src/working.rt:125:5
 pub end_crew-requires-clause-no_harvesters : goal.end_crew-requires-clause-no_harvesters
-end_crew-requires-clause-no_harvesters g c = ?
+end_crew-requires-clause-no_harvesters g c =
+    let one = c.follow_begun-worked.new.crew in
+    let same = released_in one.lanes c.release_all.new.lanes (subst (λ (l : List (Lane g.row.F-Tail.Denot)). lanings c.release_all.new.lanes ≡ map released (lanings l)) c.as_mut_slice.ensures.value c.release_all.ensures.released) in
+    c.settle_after-worked.ensures.no_harvesters (subst (All HasNoHarvesters) (sym same) (none_left (lanings one.lanes.items)))
 
--- src/working.rt:125:5
 pub end_crew-requires-clause-carriers : goal.end_crew-requires-clause-carriers
-end_crew-requires-clause-carriers g c = ?
+end_crew-requires-clause-carriers g c =
+    carriers_have_passes c.args.context.outlets.queue.now.id c.args.context.outlets.desk.now.id (tail_words g.F.Tail.Tail.numbers g.F.Tail.Tail.told g.F.Tail.Tail.faults)
+    (crewing c.settle_after-worked.new.crew c.settle_after-worked.new.storing) c.settle_after-worked.ensures.able
 
--- src/working.rt:47:1
 pub returns-clause-ends : goal.returns-clause-ends
-returns-clause-ends g c = ?
+returns-clause-ends g c start so_far stands began =
+    let all = words (tail_words g.F.Tail.Tail.numbers g.F.Tail.Tail.told g.F.Tail.Tail.faults) (link_words g.L.Link.told g.L.Link.faults g.L.Link.idles)
+        (wire_words g.W.Wire.outcomes g.W.Wire.open_links g.W.Wire.faults g.W.Wire.idles)
+        (disk_words g.D.Disk.contents g.D.Disk.images g.D.Disk.moment g.D.Disk.images_since g.D.Disk.faults) in
+    let one = c.follow_begun-worked.new.crew in
+    let first = c.follow_begun-worked.new.storing in
+    let met = c.follow_begun-worked.result.met in
+    let now = c.settle_after-worked.result.met in
+    let since : Since g.row.F-Tail.Denot g.row.W.Denot g.row.L.Denot g.row.D.Denot = record { a = c.args.storing.now.a.now; b = c.args.storing.now.b.now; now = crewing one first } in
+    let is_done = λ (is : now ≡ Done). done_before all.disks (record { a = first.a.now; b = first.b.now; new_a = c.settle_after-worked.new.storing.a.now; new_b = c.settle_after-worked.new.storing.b.now }) met now
+        c.settle_after-worked.ensures.met is in
+    (
+      phase_left (phase_worked c.args.begun met),
+      ends all start c.args.begun (g.F.Folder.told c.args.around.now.folder.now) (g.F.Folder.told c.release_all.new.folder) (g.K.Clock.moments c.args.around.now.clock.now)
+      (g.K.Clock.moments c.follow_begun-worked.new.signals.clock.now) c.args.crew one (record one { lanes = with_items one.lanes c.release_all.new.lanes }) c.settle_after-worked.new.crew
+      c.args.storing.now first c.settle_after-worked.new.storing met now c.args.around.now.wires.now.items c.end_crew.new.wires.items
+      (record {
+        followed = c.follow_begun-worked.ensures.onward;
+        at_rest = c.follow_begun-worked.ensures.at_rest;
+        lanes_are = released_in one.lanes c.release_all.new.lanes (subst (λ (l : List (Lane g.row.F-Tail.Denot)). lanings c.release_all.new.lanes ≡ map released (lanings l)) c.as_mut_slice.ensures.value c.release_all.ensures.released);
+        carriers_are = refl;
+        shows = subst (λ (l : List (Lane g.row.F-Tail.Denot)). g.F.Folder.told c.release_all.new.folder ≡ with_events (all_closings g.F.Tail.Tail.told g.F.Tail.Tail.faults (lanings l)) (g.F.Folder.told c.args.around.now.folder.now))
+            c.as_mut_slice.ensures.value c.release_all.ensures.told;
+        settled = c.settle_after-worked.ensures.onward;
+        still = c.settle_after-worked.ensures.still;
+        stored = c.settle_after-worked.ensures.settled;
+        all_settled = c.settle_after-worked.ensures.all_settled;
+        ended = c.end_crew.ensures.ended;
+        done = λ is. done_in all c.args.context.settings.now.output.attempts since c.args.begun met c.requires.begins c.follow_begun-worked.ensures.met (is_done is);
+        finished = λ is. finished_by c.args.begun met c.requires.begins (first_met all c.args.context.settings.now.output.attempts since c.args.begun met c.follow_begun-worked.ensures.met) (is_done is);
+      })
+      so_far stands began,
+    )
 
--- src/working.rt:47:1
 pub returns-clause-cause : goal.returns-clause-cause
-returns-clause-cause g c = ?
-
--- src/working.rt:47:1
-pub returns-clause-never_fall : goal.returns-clause-never_fall
-returns-clause-never_fall g c = let e : c.outside-2-1.given ≡ c.settle_after-worked.new.storing.a.now = c.outside-2-1.given_is in ?
+returns-clause-cause g c =
+    let all = words (tail_words g.F.Tail.Tail.numbers g.F.Tail.Tail.told g.F.Tail.Tail.faults) (link_words g.L.Link.told g.L.Link.faults g.L.Link.idles)
+        (wire_words g.W.Wire.outcomes g.W.Wire.open_links g.W.Wire.faults g.W.Wire.idles)
+        (disk_words g.D.Disk.contents g.D.Disk.images g.D.Disk.moment g.D.Disk.images_since g.D.Disk.faults) in
+    let one = c.follow_begun-worked.new.crew in
+    let first = c.follow_begun-worked.new.storing in
+    let second = c.settle_after-worked.new.storing in
+    cause all c.args.context.settings.now.output.attempts c.args.crew one c.args.storing.now first second
+    (record { a_faults = g.D.Disk.faults c.args.storing.now.a.now; b_faults = g.D.Disk.faults c.args.storing.now.b.now; folder_faults = g.F.Folder.faults c.args.around.now.folder.now; rings = g.B.Bell.rings c.args.around.now.bell.now })
+    (record { a_faults = g.D.Disk.faults second.a.now; b_faults = g.D.Disk.faults second.b.now; folder_faults = g.F.Folder.faults c.release_all.new.folder; rings = g.B.Bell.rings c.follow_begun-worked.new.signals.bell.now })
+    (record {
+      a_before = refl;
+      b_before = refl;
+      a_after = refl;
+      b_after = refl;
+      a_first = c.follow_begun-worked.ensures.a_faults_never_fall;
+      b_first = c.follow_begun-worked.ensures.b_faults_never_fall;
+      a_then = c.settle_after-worked.ensures.a_faults_never_fall;
+      b_then = c.settle_after-worked.ensures.b_faults_never_fall;
+      folder = subst (λ (l : List (Lane g.row.F-Tail.Denot)). CountsFaults g.F.Tail.Tail.faults (g.F.Folder.faults c.args.around.now.folder.now) (g.F.Folder.faults c.release_all.new.folder) (harvesters_of (lanings l)))
+          c.as_mut_slice.ensures.value c.release_all.ensures.counts_faults;
+      as_many = c.follow_begun-worked.ensures.as_many;
+      slots = c.follow_begun-worked.ensures.slots;
+    })
+    c.args.begun c.follow_begun-worked.result.met c.settle_after-worked.result.met c.follow_begun-worked.ensures.met c.follow_begun-worked.ensures.stopped c.settle_after-worked.ensures.met

@@ -1,0 +1,249 @@
+-- What a run does behind the beginning of its files, step by step.
+use Rattle.std.proofs.Common.{◌≡◌, ◌≢◌, ◌⊎◌, inl, inr, ⊎_elim, ℕ, zero, suc, ◌+◌, ◌≤◌, ◌<◌, ◌^◌, ◌-◌, All, Any, List, [], ◌∷◌, ◌++◌, length, map, take, Option, Some, None, IfErr, IfOk, IfSome, Result, Ok, Err, Vec, refl, sym, ap, subst, ◌∙◌, arith}
+use Rattle.std.proofs.lemmas.List.Elements.{All-from_recursion, recursion_from_All}
+use Rattle.std.specs.Prelude.{slice_get}
+use Rattle.std.specs.List.{AllByRecursion}
+use Rattle.std.specs.declared.alloc.Global.{Global}
+use Rattle.harvester.specs.HasTold.{begin_of}
+use Rattle.harvester.specs.declared.harvester.Harvester.{Harvester}
+use Rattle.lanes.specs.Laning.{Laning}
+use Rattle.lanes.specs.declared.lane.Lane.{Lane}
+use Rattle.outside.specs.Counts.{Rose, added_counts}
+use Rattle.outside.specs.Folders.{FolderHistory}
+use Rattle.report.specs.declared.passing.Passing.{Passing}
+use Rattle.rounds.specs.Crewed.{lanings}
+use Rattle.rounds.specs.Crewing.{Crewing, crew_of, crewing}
+use Rattle.rounds.specs.Pairs.{SomeOf}
+use Rattle.rounds.specs.Settled.{AreSettledIn, IsDoneIn, IsEachSettled, spans_told}
+use Rattle.rounds.specs.Staying.{AreAsMany, HaveSlot, begins_of}
+use Rattle.rounds.specs.Words.{DiskWords, TailWords, Words}
+use Rattle.rounds.specs.declared.carrier.Carrier.{Carrier}
+use Rattle.rounds.specs.declared.crew.Crew.{Crew}
+use Rattle.rounds.specs.declared.storing.Storing.{Storing}
+use Rattle.keeper.specs.Keeping.{Keeping}
+use Rattle.wire_base.specs.declared.note.Begin.{Begin}
+use Rattle.wire_base.specs.declared.numbers.Slot.{Slot}
+use Rattle.run_steps.specs.Areas.{BeganAtRest, IsAtRest}
+use Rattle.run_steps.specs.Began.{Began}
+use Rattle.run_steps.specs.CarriersEnd.{EndsCarriers}
+use Rattle.run_steps.specs.Ends.{Ends, IsAllSettled}
+use Rattle.run_steps.specs.Met.{AreLeft}
+use Rattle.run_steps.specs.MetBy.{HasFaults, IsMetBy, IsOverOf, Since, SomeHarvester, phase_met}
+use Rattle.run_steps.specs.MetIn.{HasFailed}
+use Rattle.run_steps.specs.Onward.{Onward}
+use Rattle.run_steps.specs.Releasing.{CountsFaults, all_closings, harvesters_of, released, with_events}
+use Rattle.run_steps.specs.RunState.{Finished, Phase, RunState, phase_left, within}
+use Rattle.run_steps.specs.Settling.{IsMetByStoring, Written}
+use Rattle.run_steps.specs.SoFar.{SoFar}
+use Rattle.run_steps.specs.Stands.{Further, Stands}
+use Rattle.run_steps.specs.Worked.{IsBeginEnd, IsBegunWith, IsFollowedBy, IsWorkedBy, Tolls, phase_begun, phase_worked}
+use Rattle.run_steps.specs.declared.met.Met.{Met}
+use Rattle.run_steps.specs.declared.met.Met.TheVariants.{DiskFault, Done, Epochs, FolderFault, NoMemory, Stopped, Unreachable}
+use Rattle.run_steps.proofs.Leaving.{spans_same, stands_released}
+use Rattle.run_steps.proofs.Released.{rose_where_some}
+
+-- ---- whether the last steps are left
+
+left_or_not : (met : Met) → AreLeft met ⊎ (¬ AreLeft met)
+left_or_not Done = inl tt
+left_or_not Stopped = inl tt
+left_or_not NoMemory = inr (λ left. left)
+left_or_not DiskFault = inr (λ left. left)
+left_or_not FolderFault = inl tt
+left_or_not (Unreachable worker) = inl tt
+left_or_not (Epochs slot) = inl tt
+
+-- what the last steps met is none of these
+pub done_before : {D : Type 0} (disks : DiskWords D) (written : Written D) (met now : Met) → (now ≡ met) ⊎ IsMetByStoring disks written now → now ≡ Done → met ≡ Done
+done_before disks written met now (inl same) is = sym same ∙ is
+done_before disks written met now (inr by) is = absurd (subst (IsMetByStoring disks written) is by)
+
+pub finished_by : (begun : Result (Vec Passing Global) Met) (met : Met) → IfErr begun IsBeginEnd → (IfErr begun (λ first. met ≡ first)) → met ≡ Done →
+    phase_left (phase_worked begun met) ≡ Finished
+finished_by (Ok passed) met ends first is = ap (λ (m : Met). phase_left (phase_met m)) is
+finished_by (Err other) met ends first is = absurd (subst IsBeginEnd (sym first ∙ is) ends)
+
+-- ---- the end
+
+module _ {T W L D : Type 0} (words : Words T W L D) (start : Began D) (begun : Result (Vec Passing Global) Met)
+    (shown later : Option FolderHistory) (moments then : Option (List ℕ)) (crew one two three : Crew T W L) (storing first second : Storing D) (met now : Met) (old new : List W) where
+  -- what each step gave
+  pub record Steps : Type 0 where
+    pub followed : (at : Option FolderHistory) → Onward words (within at moments crew storing (phase_begun begun)) (within at then one first (phase_worked begun met))
+    pub at_rest : AreLeft met → IsAtRest words.disks storing.keeper storing.a.now storing.b.now → IsAtRest words.disks first.keeper first.a.now first.b.now
+    pub lanes_are : lanings two.lanes.items ≡ map released (lanings one.lanes.items)
+    pub carriers_are : two.carriers ≡ one.carriers
+    pub shows : later ≡ with_events (all_closings words.tails.told words.tails.faults (lanings one.lanes.items)) shown
+    pub settled : (at : Option FolderHistory) (given : Option (List ℕ)) (phase : Phase) → Onward words (within at given two first phase) (within at given three second phase)
+    pub still : (¬ AreLeft met) → (three ≡ two) × (second ≡ first)
+    pub stored : AreLeft now → AreSettledIn three second.keeper
+    pub all_settled : IsAllSettled (lanings two.lanes.items) first.keeper → IsAllSettled (lanings three.lanes.items) second.keeper
+    pub ended : EndsCarriers words.links words.wires three.carriers.items old new
+    pub done : now ≡ Done → IsDoneIn one first.keeper
+    pub finished : now ≡ Done → phase_left (phase_worked begun met) ≡ Finished
+
+  module _ (steps : Steps) (so_far : SoFar) (stands : Stands words start (within shown moments crew storing (phase_begun begun)) so_far)
+      (began : BeganAtRest words.disks start → IsAtRest words.disks storing.keeper storing.a.now storing.b.now) where
+    abbrev phase : Phase
+    phase = phase_left (phase_worked begun met)
+
+    after_rounds : Further words start (within shown then one first (phase_worked begun met))
+    unfolding Onward
+    after_rounds = steps.followed shown start so_far stands began
+
+    after_release : Further words start (within later then two first phase)
+    after_release = stands_released words start after_rounds.so_far (within shown then one first (phase_worked begun met)) after_rounds.stands two later steps.lanes_are steps.carriers_are steps.shows
+
+    after_all : Further words start (within later then three second phase)
+    unfolding Onward
+    after_all = ⊎_elim (λ left. steps.settled later then phase start after_release.so_far after_release.stands (λ at_start. steps.at_rest left (began at_start)))
+        (λ not. let same = steps.still not in
+        subst (λ (s : Storing D). Further words start (within later then three s phase)) (sym same.1)
+        (subst (λ (c : Crew T W L). Further words start (within later then c first phase)) (sym same.0) after_release)) (left_or_not met)
+
+    told_all : now ≡ Done → IsAllSettled (lanings two.lanes.items) first.keeper
+    told_all is =
+        let done = steps.done is in
+        let same = ap spans_told steps.lanes_are ∙ spans_same (lanings one.lanes.items) in
+        let few = done.spans.below in
+        let each = done.spans.settled in
+        record { below = omega (arith, same, few); settled = omega (arith, same, each) }
+
+    pub ends : Ends words start (record { shown = later; moments = then; keeper = second.keeper; a = second.a.now; b = second.b.now; phase = phase }) now old new
+    ends = record {
+      crew = three;
+      so_far = after_all.so_far;
+      stands = after_all.stands;
+      ended = steps.ended;
+      finished = steps.finished;
+      all_settled = λ is. steps.all_settled (told_all is);
+      stored = steps.stored;
+    }
+
+-- ---- why
+
+-- the phase by what was met as rounds were made
+pub first_met : {T W L D : Type 0} (words : Words T W L D) (attempts : ℕ) (since : Since T W L D) (begun : Result (Vec Passing Global) Met) (met : Met) →
+    IsFollowedBy words.tails words.disks attempts since begun met → IfErr begun (λ first. met ≡ first)
+first_met words attempts since (Ok passed) met is = tt
+first_met words attempts since (Err first) met is = is
+
+not_stopped : Done ≡ Stopped → ⊥
+not_stopped is = cc
+
+pub done_in : {T W L D : Type 0} (words : Words T W L D) (attempts : ℕ) (since : Since T W L D) (begun : Result (Vec Passing Global) Met) (met : Met) → IfErr begun IsBeginEnd →
+    IsFollowedBy words.tails words.disks attempts since begun met → met ≡ Done → IsDoneIn (crew_of since.now) since.now.storing.keeper
+done_in words attempts since (Ok passed) met range by is =
+    subst (IsMetBy words.tails words.disks attempts since) is (by (λ stopped. not_stopped (sym is ∙ stopped)))
+done_in words attempts since (Err first) met range by is = absurd (subst IsBeginEnd (sym by ∙ is) range)
+
+some_mapped : {A B : Type 0} (P : B → Type 0) (f : A → B) (xs : List A) → SomeOf (λ x. P (f x)) xs → SomeOf P (map f xs)
+some_mapped P f [] some = absurd some
+some_mapped P f (x ∷ xs) some = ⊎_elim (λ here. inl here) (λ later. inr (some_mapped P f xs later)) some
+
+some_as : {A : Type 0} (P Q : A → Type 0) (xs : List A) → ((x : A) → P x → Q x) → SomeOf P xs → SomeOf Q xs
+some_as P Q [] into some = absurd some
+some_as P Q (x ∷ xs) into some = ⊎_elim (λ here. inl (into x here)) (λ later. inr (some_as P Q xs into later)) some
+
+has_slot : {T : Type 0} (slot : Slot) (lanes : List (Laning T)) → SomeHarvester (IsOverOf slot) lanes → HaveSlot slot lanes
+has_slot {T} slot [] some = absurd some
+has_slot {T} slot (lane ∷ lanes) some =
+    ⊎_elim (λ here. inl (some_mapped (λ (b : Begin). b.slot ≡ slot) begin_of lane.harvesters
+    (some_as (IsOverOf slot) (λ (h : Harvester T). (begin_of h).slot ≡ slot) lane.harvesters (λ h is. is.0) here))) (λ later. inr (has_slot slot lanes later)) some
+
+some_any : {A : Type 0} (P : A → Type 0) (xs : List A) → SomeOf P xs → Any P xs
+some_any P [] some = absurd some
+some_any P (x ∷ xs) some = ⊎_elim (λ here. (0, x, omega arith, refl, here)) (λ later. let rest = some_any P xs later in (suc rest.0, rest.1, omega (arith, rest.2), rest.3, rest.4)) some
+
+in_both : {T : Type 0} (P : Harvester T → Type 0) (xs ys : List (Harvester T)) → SomeOf P xs ⊎ SomeOf P ys → SomeOf P (xs ++ ys)
+in_both P [] ys (inl some) = absurd some
+in_both P [] ys (inr some) = some
+in_both P (x ∷ xs) ys (inl some) = ⊎_elim (λ here. inl here) (λ later. inr (in_both P xs ys (inl later))) some
+in_both P (x ∷ xs) ys (inr some) = inr (in_both P xs ys (inr some))
+
+in_all : {T : Type 0} (P : Harvester T → Type 0) (lanes : List (Laning T)) → SomeHarvester P lanes → SomeOf P (harvesters_of lanes)
+in_all P [] some = absurd some
+in_all P (lane ∷ lanes) some = in_both P lane.harvesters (harvesters_of lanes) (⊎_elim (λ here. inl here) (λ later. inr (in_all P lanes later)) some)
+
+module _ {T W L D : Type 0} (words : Words T W L D) (attempts : ℕ) (crew one : Crew T W L) (storing first second : Storing D) (before after : Tolls) where
+  -- what each step tells of its counts
+  pub record Counts : Type 0 where
+    pub a_before : before.a_faults ≡ words.disks.faults storing.a.now
+    pub b_before : before.b_faults ≡ words.disks.faults storing.b.now
+    pub a_after : after.a_faults ≡ words.disks.faults second.a.now
+    pub b_after : after.b_faults ≡ words.disks.faults second.b.now
+    pub a_first : words.disks.faults storing.a.now ≤ words.disks.faults first.a.now
+    pub b_first : words.disks.faults storing.b.now ≤ words.disks.faults first.b.now
+    pub a_then : words.disks.faults first.a.now ≤ words.disks.faults second.a.now
+    pub b_then : words.disks.faults first.b.now ≤ words.disks.faults second.b.now
+    pub folder : CountsFaults words.tails.faults before.folder_faults after.folder_faults (harvesters_of (lanings one.lanes.items))
+    pub as_many : AreAsMany (crewing crew storing) (crewing one first)
+    pub slots : begins_of (lanings one.lanes.items) ≡ begins_of (lanings crew.lanes.items)
+
+  rose_on : (x y z : ℕ) → Rose x y → y ≤ z → Rose x z
+  rose_on x y z (inl less) on = inl (omega (arith, less, on))
+  rose_on x y z (inr end) on = inr (omega (arith, end, on))
+
+  rose_from : (x y z : ℕ) → x ≤ y → Rose y z → Rose x z
+  rose_from x y z le (inl less) = inl (omega (arith, less, le))
+  rose_from x y z le (inr end) = inr end
+
+  module _ (counts : Counts) where
+    rose_as : (x y x' y' : ℕ) → x' ≡ x → y' ≡ y → Rose x y → Rose x' y'
+    rose_as x y x' y' same also rose = subst (λ (n : ℕ). Rose n y') (sym same) (subst (Rose x) (sym also) rose)
+
+    by_rounds : (met : Met) → IsMetBy words.tails words.disks attempts (record { a = storing.a.now; b = storing.b.now; now = crewing one first }) met → IsWorkedBy crew before after met
+    by_rounds Done is = tt
+    by_rounds Stopped is = absurd is
+    by_rounds NoMemory is = tt
+    by_rounds DiskFault is = ⊎_elim
+        (λ rose. inl (rose_as (words.disks.faults storing.a.now) (words.disks.faults second.a.now) before.a_faults after.a_faults counts.a_before counts.a_after
+        (rose_on (words.disks.faults storing.a.now) (words.disks.faults first.a.now) (words.disks.faults second.a.now) rose counts.a_then)))
+        (λ rose. inr (rose_as (words.disks.faults storing.b.now) (words.disks.faults second.b.now) before.b_faults after.b_faults counts.b_before counts.b_after
+        (rose_on (words.disks.faults storing.b.now) (words.disks.faults first.b.now) (words.disks.faults second.b.now) rose counts.b_then))) is
+    by_rounds FolderFault is =
+        rose_where_some words.tails.faults before.folder_faults after.folder_faults (harvesters_of (lanings one.lanes.items)) counts.folder
+        (some_any (HasFaults words.tails) (harvesters_of (lanings one.lanes.items)) (in_all (HasFaults words.tails) (lanings one.lanes.items) is))
+    by_rounds (Unreachable worker) is =
+        let within = got_within one.carriers.items worker is.one is.is in
+        let many = counts.as_many.carriers in
+        omega (arith, within, many)
+      where
+        got_within : (cs : List (Carrier W L)) (k : ℕ) (c : Carrier W L) → slice_get cs k ≡ Some c → k < length cs
+        got_within [] k c got = absurd cc
+        got_within (x ∷ cs) zero c got = omega arith
+        got_within (x ∷ cs) (suc k) c got = let more = got_within cs k c got in omega (arith, more)
+    by_rounds (Epochs slot) is = subst (SomeOf (SomeOf (λ (b : Begin). b.slot ≡ slot))) counts.slots (has_slot slot (lanings one.lanes.items) is)
+
+    by_storing : (met : Met) → IsMetByStoring words.disks (record { a = first.a.now; b = first.b.now; new_a = second.a.now; new_b = second.b.now }) met → IsWorkedBy crew before after met
+    by_storing Done is = absurd is
+    by_storing Stopped is = absurd is
+    by_storing NoMemory is = tt
+    by_storing DiskFault is = ⊎_elim
+        (λ rose. inl (rose_as (words.disks.faults storing.a.now) (words.disks.faults second.a.now) before.a_faults after.a_faults counts.a_before counts.a_after
+        (rose_from (words.disks.faults storing.a.now) (words.disks.faults first.a.now) (words.disks.faults second.a.now) counts.a_first rose)))
+        (λ rose. inr (rose_as (words.disks.faults storing.b.now) (words.disks.faults second.b.now) before.b_faults after.b_faults counts.b_before counts.b_after
+        (rose_from (words.disks.faults storing.b.now) (words.disks.faults first.b.now) (words.disks.faults second.b.now) counts.b_first rose))) is
+    by_storing FolderFault is = absurd is
+    by_storing (Unreachable worker) is = absurd is
+    by_storing (Epochs slot) is = absurd is
+
+    by_following : (begun : Result (Vec Passing Global) Met) (met : Met) →
+        IsFollowedBy words.tails words.disks attempts (record { a = storing.a.now; b = storing.b.now; now = crewing one first }) begun met →
+        IfOk begun (λ _. met ≡ Stopped → Rose before.rings after.rings) → IsBegunWith begun met ⊎ IsWorkedBy crew before after met
+    by_following (Err other) met is rang = inl is
+    by_following (Ok passed) Stopped is rang = inr (rang refl)
+    by_following (Ok passed) Done is rang = inr tt
+    by_following (Ok passed) NoMemory is rang = inr tt
+    by_following (Ok passed) DiskFault is rang = inr (by_rounds DiskFault (is (λ e. cc)))
+    by_following (Ok passed) FolderFault is rang = inr (by_rounds FolderFault (is (λ e. cc)))
+    by_following (Ok passed) (Unreachable worker) is rang = inr (by_rounds (Unreachable worker) (is (λ e. cc)))
+    by_following (Ok passed) (Epochs slot) is rang = inr (by_rounds (Epochs slot) (is (λ e. cc)))
+
+    pub cause : (begun : Result (Vec Passing Global) Met) (met now : Met) →
+        IsFollowedBy words.tails words.disks attempts (record { a = storing.a.now; b = storing.b.now; now = crewing one first }) begun met →
+        IfOk begun (λ _. met ≡ Stopped → Rose before.rings after.rings) →
+        (now ≡ met) ⊎ IsMetByStoring words.disks (record { a = first.a.now; b = first.b.now; new_a = second.a.now; new_b = second.b.now }) now →
+        IsBegunWith begun now ⊎ IsWorkedBy crew before after now
+    cause begun met now follows rang (inl same) = subst (λ (m : Met). IsBegunWith begun m ⊎ IsWorkedBy crew before after m) (sym same) (by_following begun met follows rang)
+    cause begun met now follows rang (inr stored) = inr (by_storing now stored)
