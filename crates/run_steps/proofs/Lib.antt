@@ -1,8 +1,12 @@
 pub mod Able
 pub mod Admitted
+pub mod Admitting
 pub mod Areas
 pub mod Attempts
+pub mod BeginningOne
 pub mod Begun
+pub mod BegunFolder
+pub mod BegunNotes
 pub mod Blank
 pub mod Causing
 pub mod Closing
@@ -23,11 +27,13 @@ pub mod Moments
 pub mod Notes
 pub mod Noting
 pub mod Onward
+pub mod Openings
 pub mod Ordering
 pub mod Released
 pub mod Releasing
 pub mod Rounding
 pub mod Settling
+pub mod TailOpened
 pub mod Tails
 pub mod Turning
 pub mod Whole

@@ -2,6 +2,7 @@ pub mod Areas
 pub mod Began
 pub mod BeginFor
 pub mod Beginning
+pub mod BeginsAll
 pub mod Begun
 pub mod CarriersEnd
 pub mod Ends

@@ -1,0 +1,245 @@
+-- A file that is opened keeps what stands of a run, whether it is followed, passed over or given up.
+use Rattle.std.proofs.Common.{◌≡◌, ◌≢◌, ◌⊎◌, inl, inr, ⊎_elim, ℕ, zero, suc, ◌+◌, ◌%◌, ◌<◌, ◌≤◌, ◌^◌, ◌-◌, Bool, true, false, List, [], ◌∷◌, ◌++◌, Contains, length, map, append-nil, append_assoc, Option, Some, None, IsSome, IfSome, Result, Ok, Err, refl, sym, ap, subst, ◌∙◌, arith}
+use Rattle.std.proofs.lemmas.List.{map-append}
+use Rattle.std.proofs.lemmas.List.Elements.{Contains-append_right}
+use Rattle.std.specs.Prelude.{slice_get}
+use Rattle.std.specs.List.{AllByRecursion, flat_map}
+use Rattle.accounts.specs.Opened.{IsTailOf, Opened}
+use Rattle.accounts.specs.ToldFile.{IsToldToItsEnd}
+use Rattle.accounts.specs.Turned.{Turned, notes_told, parcels_told, spans_in}
+use Rattle.accounts.specs.Turning.{IsTurnedSo, Pairs}
+use Rattle.accounts.proofs.Lists.{each_last, each_then}
+use Rattle.accounts.proofs.Often.{often_back, often_both, often_contains, often_same, often_then}
+use Rattle.accounts.proofs.Onward.{stands_opened}
+use Rattle.event_tree.specs.declared.input_rule.IdentityRule.TheVariants.{Path}
+use Rattle.event_tree.specs.declared.input_rule.InputRule.{InputRule}
+use Rattle.event_tree.specs.declared.processor_rule.ProcessorRule.{ProcessorRule}
+use Rattle.file_identity.specs.Key.{named_key}
+use Rattle.file_looks.specs.Looks.{TellsLooks}
+use Rattle.harvester.specs.HasTold.{HasTold, looks_so_far}
+use Rattle.harvester.specs.History as history
+use Rattle.harvester.specs.Standing.{EndsAt, stage_of}
+use Rattle.harvester.specs.declared.harvester.Harvester.{Harvester}
+use Rattle.harvester.specs.declared.stage.Stage.{Stage}
+use Rattle.harvester.specs.declared.stage.Stage.TheVariants as stage
+use Rattle.keeper.specs.Keeping.{Keeping}
+use Rattle.lanes.specs.Laning.{Laning}
+use Rattle.multiline_core.specs.Rule.{IsGroupRule}
+use Rattle.outside.specs.Folders.{FolderHistory}
+use Rattle.outside.specs.Tails.{TailHistory}
+use Rattle.pass_sums.specs.Weight.{AsOften, weigh}
+use Rattle.pass_sums.proofs.Weights.{weigh-append}
+use Rattle.prospect.specs.declared.listed.Listed.{Listed}
+use Rattle.rounds.specs.Books.{held_notes, held_parcels}
+use Rattle.rounds.specs.Crewed.{lanes_passes, lanings}
+use Rattle.rounds.specs.Settled.{spans_told}
+use Rattle.rounds.specs.Words.{TailWords, Words}
+use Rattle.rounds.specs.declared.crew.Crew.{Crew}
+use Rattle.settle_box.specs.Senders.{notes}
+use Rattle.ship_core.proofs.Members.{first_there, later_there, none_there, there_cases}
+use Rattle.wire_base.specs.declared.note.Begin.{Begin}
+use Rattle.wire_base.specs.declared.note.Note.{Note}
+use Rattle.wire_base.specs.declared.numbers.Moment.{Moment}
+use Rattle.wire_base.specs.declared.numbers.Slot.{Slot}
+use Rattle.run_steps.specs.Areas.{BeganAtRest}
+use Rattle.run_steps.specs.Began.{Began}
+use Rattle.run_steps.specs.BeginFor.{begin_for}
+use Rattle.run_steps.specs.Beginning.{AdmitsAt, IsOpenedFor, SameLanes, listed_file}
+use Rattle.run_steps.specs.Begun.{AreBeginNotes, AreSlotsFrom, IsKeyedByPath, IsOpenedAsListed, IsSeenOf, noted_begin}
+use Rattle.run_steps.specs.Releasing.{closing_of, with_events}
+use Rattle.run_steps.specs.RunState.{Finished, Leaving, Phase, Reading, RunState}
+use Rattle.run_steps.specs.Shown.{HasShown, IsTurnedIn}
+use Rattle.run_steps.specs.SoFar.{Left, SoFar, files_in}
+use Rattle.run_steps.specs.Stands.{AreCounted, AreEachOnce, AreTurnedIn, HaveGiven, IsLeftSo, IsReading, Stands, TellIn}
+use Rattle.run_steps.specs.Telling.{TellsBegin, TellsNotes}
+use Rattle.run_steps.proofs.Admitting.{TurnedWith, all_of, booked_by, each_still, last_as_first, notes_same, often_mapped, opened_later, parcels_same, passes_same, placed_by, spans_often, spans_same, turned_at}
+use Rattle.run_steps.proofs.BegunFolder.{followed_shown, left_shown, unread_shown}
+use Rattle.run_steps.proofs.BegunNotes.{areas_more, got_same, noted_more, stores_more}
+use Rattle.run_steps.proofs.Filing.{given_as_often, same_slot, tells_slots}
+use Rattle.run_steps.proofs.TailOpened.{HasTail, IsShown, opened_now, told_unread}
+
+-- ---- lists
+
+mapped_there : {A B : Type 0} (f : A → B) (xs : List A) (x : A) → Contains xs x → Contains (map f xs) (f x)
+mapped_there {A} {B} f [] x there = absurd (none_there x there)
+mapped_there {A} {B} f (first ∷ xs) x there = from (there_cases first x xs there) (mapped_there f xs x)
+  where
+    from : (first ≡ x) ⊎ Contains xs x → (Contains xs x → Contains (map f xs) (f x)) → Contains (f first ∷ map f xs) (f x)
+    from (inl same) later = subst (λ (y : A). Contains (f first ∷ map f xs) (f y)) same (first_there (f first) (map f xs))
+    from (inr behind) later = later_there (f first) (f x) (map f xs) (later behind)
+
+abbrev slots_of : List Turned → List Slot
+slots_of files = map (λ (turned : Turned). turned.slot) files
+
+abbrev slots_in : List Opened → List Slot
+slots_in opened = map (λ (one : Opened). one.begin.slot) opened
+
+abbrev pub AreBelow : ℕ → List Opened → Type 0
+AreBelow slot opened = AllByRecursion (λ (one : Opened). one.begin.slot.0 < slot) opened
+
+slots_then : (least : ℕ) (opened : List Opened) (one : Opened) → AreSlotsFrom least opened → least ≤ one.begin.slot.0 → AreBelow one.begin.slot.0 opened → AreSlotsFrom least (opened ++ one ∷ [])
+slots_then least [] one rise le below = (le, tt)
+slots_then least (first ∷ opened) one rise le below = (rise.0, slots_then (first.begin.slot.0 + 1) opened one rise.1 (let less = below.0 in omega (arith, less)) below.1)
+
+slots_below : (slot : ℕ) (opened : List Opened) → AreBelow slot opened → (other : Slot) → Contains (slots_in opened) other → other.0 < slot
+slots_below slot [] below other there = absurd (none_there other there)
+slots_below slot (one ∷ opened) below other there = from (there_cases one.begin.slot other (slots_in opened) there) (slots_below slot opened below.1 other)
+  where
+    from : (one.begin.slot ≡ other) ⊎ Contains (slots_in opened) other → (Contains (slots_in opened) other → other.0 < slot) → other.0 < slot
+    from (inl same) later = subst (λ (s : Slot). s.0 < slot) same below.0
+    from (inr behind) later = later behind
+
+-- ---- a state with this crew and this keeper
+
+module _ {T W L D : Type 0} (words : Words T W L D) (start : Began D) (moments : Option (List ℕ)) (a b : D) where
+  abbrev pub at_phase : Option FolderHistory → Crew T W L → Keeping → Phase → RunState T W L D
+  at_phase shown crew keeper phase = record { shown = shown; moments = moments; crew = crew; keeper = keeper; a = a; b = b; phase = phase }
+
+  -- what was done with the folder, and whether files are read on
+  pub stands_at : (shown later : Option FolderHistory) (crew : Crew T W L) (keeper : Keeping) (phase : Phase) (so_far : SoFar) → phase ≢ Finished → HasShown start.shown later so_far →
+      Stands words start (at_phase shown crew keeper Reading) so_far → Stands words start (at_phase later crew keeper phase) so_far
+  stands_at shown later crew keeper phase so_far not_finished has stands = record {
+    opened = stands.opened;
+    keyed = stands.keyed;
+    each_once = stands.each_once;
+    turned = stands.turned;
+    left = stands.left;
+    reading = λ is. stands.reading refl;
+    finished = λ is some. absurd (not_finished is);
+    tell = stands.tell;
+    left_tell = stands.left_tell;
+    shown = has;
+    given = stands.given;
+    gave = stands.gave;
+    booked = stands.booked;
+    heard = stands.heard;
+    placed = stands.placed;
+    counted = stands.counted;
+    begun = stands.begun;
+    noted = stands.noted;
+    stores = stands.stores;
+    areas = stands.areas;
+  }
+
+  -- lanes of the same harvesters
+  pub stands_same : (shown : Option FolderHistory) (old new : Crew T W L) (keeper : Keeping) (phase : Phase) (so_far : SoFar) → SameLanes old new →
+      Stands words start (at_phase shown old keeper phase) so_far → Stands words start (at_phase shown new keeper phase) so_far
+  stands_same shown old new keeper phase so_far same stands =
+      subst (λ (c : Crew T W L). Stands words start (at_phase shown c keeper phase) so_far) (sym same.others) with_lanes
+    where
+      by : (P : List (Laning T) → Type 0) → P (lanings old.lanes.items) → P (lanings new.lanes.items)
+      by P is = subst P (sym same.lanes) is
+
+      with_lanes : Stands words start (at_phase shown (record old { lanes = new.lanes }) keeper phase) so_far
+      with_lanes = record {
+        opened = stands.opened;
+        keyed = stands.keyed;
+        each_once = stands.each_once;
+        turned = by (λ l. Pairs (AreTurnedIn words.tails start.settings.processors so_far.opened so_far.moments) so_far.lanes l) stands.turned;
+        left = stands.left;
+        reading = λ is. by (λ l. IsReading l so_far) (stands.reading is);
+        finished = stands.finished;
+        tell = λ some. by (AllByRecursion (TellIn words.tails)) (stands.tell some);
+        left_tell = stands.left_tell;
+        shown = stands.shown;
+        given = stands.given;
+        gave = stands.gave;
+        booked = booked_by (lanings old.lanes.items) (lanings new.lanes.items) (ap held_parcels same.lanes) (ap held_notes same.lanes) words.links words.wires so_far.told old.carriers.items (ap lanes_passes same.lanes) stands.booked;
+        heard = stands.heard;
+        placed = placed_by (lanings old.lanes.items) (lanings new.lanes.items) (ap held_parcels same.lanes) (ap held_notes same.lanes) so_far.told old.carriers.items so_far.queued (notes keeper.pass.got) so_far.boxed stands.placed;
+        counted = by (λ l. AreCounted l keeper so_far) stands.counted;
+        begun = stands.begun;
+        noted = stands.noted;
+        stores = stands.stores;
+        areas = stands.areas;
+      }
+
+  -- ---- while files are begun
+
+  -- those of slots below this one were
+  pub record Begins (now : Moment) (shown : Option FolderHistory) (crew : Crew T W L) (keeper : Keeping) (slot : ℕ) : Type 0 where
+    pub so_far : SoFar
+    pub stands : Stands words start (at_phase shown crew keeper Reading) so_far
+    pub below : AreBelow slot so_far.opened
+    pub begun_are : so_far.begun ≡ map (λ (one : Opened). noted_begin one.begin) so_far.opened
+    pub none_collected : so_far.collected ≡ []
+    pub ends : EndsAt so_far.moments now.0
+
+  -- the file of this slot, as it is opened by the rule of its input
+  pub record IsBegunSo (slot : ℕ) (one : Opened) : Type 0 where
+    pub as_listed : IsOpenedAsListed start.settings start.listed one
+    pub keyed : IsSome start.shown → IsKeyedByPath one
+    pub slot_is : one.begin.slot.0 ≡ slot
+
+  module _ (now : Moment) (shown : Option FolderHistory) (crew : Crew T W L) (keeper : Keeping) (slot : ℕ) (begins : Begins now shown crew keeper slot) where
+    abbrev was : SoFar
+    was = begins.so_far
+
+    none_left : was.left ≡ []
+    none_left = (begins.stands.reading refl).none_left
+
+    slots_often : AsOften (slots_of (all_of was.lanes)) (slots_in was.opened)
+    slots_often = subst (λ (l : List Turned). AsOften (slots_of l) (slots_in was.opened)) (append-nil (all_of was.lanes))
+        (subst (λ (l : List Left). AsOften (slots_of (all_of was.lanes ++ map (λ (one : Left). one.turned) l)) (slots_in was.opened)) none_left begins.stands.each_once.are)
+
+    all_turned : (other : Opened) → Contains was.opened other → IsTurnedIn was other
+    all_turned other there = often_contains same_slot tells_slots (slots_of (all_of was.lanes)) (slots_in was.opened) other.begin.slot slots_often
+        (mapped_there (λ (one : Opened). one.begin.slot) was.opened other there)
+
+    -- one more, of which nothing was told yet
+    module _ (one : Opened) (so : IsBegunSo slot one) where
+      abbrev turned : Turned
+      turned = opened_now start.settings.processors one now.0
+
+      abbrev more : List Opened
+      more = was.opened ++ one ∷ []
+
+      not_turned : IsTurnedIn was one → ⊥
+      not_turned there =
+          let below = slots_below slot was.opened begins.below one.begin.slot
+          (often_contains same_slot tells_slots (slots_in was.opened) (slots_of (all_of was.lanes)) one.begin.slot (often_back (slots_of (all_of was.lanes)) (slots_in was.opened) slots_often) there) in
+          let is = so.slot_is in
+          omega (arith, below, is)
+
+      opened_as_listed : AllByRecursion (IsOpenedAsListed start.settings start.listed) more
+      opened_as_listed = each_last (IsOpenedAsListed start.settings start.listed) was.opened one begins.stands.opened so.as_listed
+
+      keyed : IsSome start.shown → AllByRecursion IsKeyedByPath more
+      keyed some = each_last IsKeyedByPath was.opened one (begins.stands.keyed some) (so.keyed some)
+
+      below_next : AreBelow (suc slot) more
+      below_next = each_last (λ (o : Opened). o.begin.slot.0 < suc slot) was.opened one
+          (each_then (λ (o : Opened). o.begin.slot.0 < slot) (λ (o : Opened). o.begin.slot.0 < suc slot) was.opened (λ o less. omega (arith, less)) begins.below)
+          (let is = so.slot_is in omega (arith, is))
+
+      begun_next : was.begun ++ noted_begin one.begin ∷ [] ≡ map (λ (o : Opened). noted_begin o.begin) more
+      begun_next = ap (λ (l : List Note). l ++ noted_begin one.begin ∷ []) begins.begun_are ∙ sym (map-append (λ (o : Opened). noted_begin o.begin) was.opened (one ∷ []))
+
+      begun : AreBeginNotes start.listed more (was.begun ++ noted_begin one.begin ∷ [])
+      begun = record { seen = []; are = begun_next ∙ sym (append-nil (map (λ (o : Opened). noted_begin o.begin) more)); seen_are = tt }
+
+      module _ (files : List Turned) (often : AsOften files (turned ∷ files_in was)) where
+        each_once : AreEachOnce more files
+        each_once = record {
+          rise = slots_then 0 was.opened one begins.stands.each_once.rise (omega arith) (subst (λ (n : ℕ). AreBelow n was.opened) (sym so.slot_is) begins.below);
+          are = often_then (slots_of files) (slots_of (turned ∷ files_in was)) (slots_in more) (often_mapped (λ (t : Turned). t.slot) files (turned ∷ files_in was) often) together;
+        }
+          where
+            together : AsOften (slots_of (turned ∷ files_in was)) (slots_in more)
+            together h = omega (
+              arith,
+              ap (weigh h) (map-append (λ (o : Opened). o.begin.slot) was.opened (one ∷ [])),
+              weigh-append h (slots_in was.opened) (one.begin.slot ∷ []),
+              begins.stands.each_once.are h,
+            )
+
+        parcels : AsOften was.told.issued (flat_map parcels_told files)
+        parcels = often_then was.told.issued (flat_map parcels_told (files_in was)) (flat_map parcels_told files) begins.stands.gave.parcels
+            (often_back (flat_map parcels_told files) (flat_map parcels_told (files_in was)) (given_as_often parcels_told files (turned ∷ files_in was) often))
+
+        notes_are : AsOften was.told.noted (flat_map notes_told files)
+        notes_are = often_then was.told.noted (flat_map notes_told (files_in was)) (flat_map notes_told files) begins.stands.gave.notes_are
+            (often_back (flat_map notes_told files) (flat_map notes_told (files_in was)) (given_as_often notes_told files (turned ∷ files_in was) often))
+
+        spans : spans_in files ≡ spans_in (files_in was)
+        spans = let is = spans_often files (turned ∷ files_in was) often in omega (arith, is)

@@ -1,0 +1,331 @@
+-- What a folder tells as files are opened, and as tails are closed that were not read.
+use Rattle.std.proofs.Common.{◌≡◌, ◌≢◌, ◌⊎◌, inl, inr, ⊎_elim, ℕ, zero, suc, ◌+◌, ◌≤◌, ◌<◌, ◌==◌, Bool, true, false, drop, List, [], ◌∷◌, ◌++◌, Contains, length, map, append-nil, append_assoc, Option, Some, None, IfSome, refl, sym, ap, subst, ◌∙◌, arith, if◌then◌else◌}
+use Rattle.std.proofs.lemmas.Bool.{eq-eqb, eqb-true}
+use Rattle.std.proofs.lemmas.List.{drop-append-le, length-append, map-append}
+use Rattle.std.proofs.lemmas.List.Elements.{Contains-append_left, Contains-append_right}
+use Rattle.std.proofs.lemmas.Option.{slice_get_within}
+use Rattle.std.specs.Prelude.{slice_get}
+use Rattle.std.specs.List.{AllByRecursion}
+use Rattle.accounts.specs.Opened.{Opened as OpenedFile}
+use Rattle.accounts.proofs.Lists.{each_then}
+use Rattle.kept_rows.specs.Scans.{AreDistinct}
+use Rattle.kept_rows.specs.Trace.{Closing, closing_by, closing_in, first_of_two}
+use Rattle.kept_rows.proofs.Acknowledging.{got_in_front}
+use Rattle.kept_rows.proofs.Showing.{both}
+use Rattle.outside.specs.Files.{File}
+use Rattle.outside.specs.Folders.{Closed, Event, FolderHistory, NotThere, Opened, OpeningFailed}
+use Rattle.outside.specs.Tails.{TailHistory}
+use Rattle.outside.specs.declared.history.Look.{Look}
+use Rattle.outside.specs.declared.history.Sight.{Sight}
+use Rattle.ship_core.proofs.Members.{first_there, later_there, none_there, there_cases}
+use Rattle.run_steps.specs.Shown.{HasDone, IsNoListing, IsStillOpen, IsTurnedIn, WasClosedWith, WasOpenedSince, openings_of}
+use Rattle.run_steps.specs.SoFar.{Left, SoFar}
+use Rattle.run_steps.proofs.Members.{member_is}
+
+-- ---- closings
+
+closing_stays : (opening : ℕ) (events more : List Event) (closing : Closing) → closing_in opening events ≡ Some closing → closing_in opening (events ++ more) ≡ Some closing
+closing_stays opening [] more closing is = absurd (let q : None ≡ Some closing = is in cc)
+closing_stays opening (event ∷ events) more closing is = go (closing_by opening event) is (λ e. closing_stays opening events more closing e)
+  where
+    go : (o : Option Closing) → first_of_two o (closing_in opening events) ≡ Some closing →
+        (closing_in opening events ≡ Some closing → closing_in opening (events ++ more) ≡ Some closing) → first_of_two o (closing_in opening (events ++ more)) ≡ Some closing
+    go None e again = again e
+    go (Some first) e again = e
+
+closing_stays_behind : (count opening : ℕ) (events more : List Event) (closing : Closing) → closing_in opening (drop count events) ≡ Some closing → closing_in opening (drop count (events ++ more)) ≡ Some closing
+closing_stays_behind zero opening events more closing is = closing_stays opening events more closing is
+closing_stays_behind (suc count) opening [] more closing is = absurd (let q : None ≡ Some closing = is in cc)
+closing_stays_behind (suc count) opening (event ∷ events) more closing is = closing_stays_behind count opening events more closing is
+
+none_in_both : (opening : ℕ) (events more : List Event) → closing_in opening events ≡ None → closing_in opening more ≡ None → closing_in opening (events ++ more) ≡ None
+none_in_both opening [] more none later = later
+none_in_both opening (event ∷ events) more none later = go (closing_by opening event) none (λ e. none_in_both opening events more e later)
+  where
+    go : (o : Option Closing) → first_of_two o (closing_in opening events) ≡ None →
+        (closing_in opening events ≡ None → closing_in opening (events ++ more) ≡ None) → first_of_two o (closing_in opening (events ++ more)) ≡ None
+    go None e again = again e
+    go (Some first) e again = e
+
+-- a closing of this opening, and of another one
+closes_itself : (opening : ℕ) (looks : List Look) (faults : ℕ) → closing_in opening (Closed opening looks faults ∷ []) ≡ Some (record { looks = looks; faults = faults })
+closes_itself opening looks faults =
+    ap (λ (b : Bool). first_of_two (if b then Some (record { looks = looks; faults = faults }) else None) (closing_in opening [])) (eq-eqb opening opening refl)
+
+closes_no_other : (opening of : ℕ) (looks : List Look) (faults : ℕ) → opening < of → closing_in opening (Closed of looks faults ∷ []) ≡ None
+closes_no_other opening of looks faults less = by_case (of == opening) refl
+  where
+    by_case : (b : Bool) → (of == opening) ≡ b → closing_in opening (Closed of looks faults ∷ []) ≡ None
+    by_case true is = absurd (let same = eqb-true of opening is in omega (arith, same, less))
+    by_case false is = ap (λ (b : Bool). first_of_two (if b then Some (record { looks = looks; faults = faults }) else None) (closing_in opening [])) is
+
+-- ---- places
+
+got_at_end : {A : Type 0} (xs : List A) (x : A) (ys : List A) → slice_get (xs ++ x ∷ ys) (length xs) ≡ Some x
+got_at_end [] x ys = refl
+got_at_end (first ∷ xs) x ys = got_at_end xs x ys
+
+-- it stands in the first list, or so far behind it in the second
+pub record StandsBehind {A : Type 0} (xs ys : List A) (k : ℕ) (x : A) : Type 0 where
+  pub place : ℕ
+  pub at : k ≡ length xs + place
+  pub stands : slice_get ys place ≡ Some x
+
+got_cases : {A : Type 0} (xs ys : List A) (k : ℕ) (x : A) → slice_get (xs ++ ys) k ≡ Some x → (slice_get xs k ≡ Some x) ⊎ StandsBehind xs ys k x
+got_cases [] ys k x is = inr (record { place = k; at = omega arith; stands = is })
+got_cases (first ∷ xs) ys zero x is = inl is
+got_cases (first ∷ xs) ys (suc k) x is =
+    ⊎_elim inl (λ of. inr (record { place = of.place; at = omega (arith, of.at); stands = of.stands })) (got_cases xs ys k x is)
+
+behind_all : (events more : List Event) → drop (suc (length events)) (events ++ more) ≡ drop 1 more
+behind_all [] more = refl
+behind_all (event ∷ events) more = behind_all events more
+
+-- ---- one behind others, in lists without doubles
+
+distinct_then : (xs : List ℕ) (x : ℕ) → AreDistinct xs → ((one : ℕ) → Contains xs one → one < x) → AreDistinct (xs ++ x ∷ [])
+distinct_then [] x apart less = ((λ there. none_there x there), tt)
+distinct_then (first ∷ xs) x apart less = (
+  (λ there. by_case (parted xs first there)),
+  distinct_then xs x apart.1 (λ one there. less one (later_there first one xs there)),
+)
+  where
+    parted : (l : List ℕ) (one : ℕ) → Contains (l ++ x ∷ []) one → Contains l one ⊎ (x ≡ one)
+    parted [] one there = from (there_cases x one [] there)
+      where
+        from : (x ≡ one) ⊎ Contains [] one → Contains [] one ⊎ (x ≡ one)
+        from (inl same) = inr same
+        from (inr none) = inl none
+    parted (other ∷ l) one there = from (there_cases other one (l ++ x ∷ []) there) (parted l one)
+      where
+        from : (other ≡ one) ⊎ Contains (l ++ x ∷ []) one → (Contains (l ++ x ∷ []) one → Contains l one ⊎ (x ≡ one)) → Contains (other ∷ l) one ⊎ (x ≡ one)
+        from (inl same) behind = inl (subst (λ (n : ℕ). Contains (other ∷ l) n) same (first_there other l))
+        from (inr later) behind = ⊎_elim (λ is. inl (later_there other one l is)) inr (behind later)
+
+    by_case : Contains xs first ⊎ (x ≡ first) → ⊥
+    by_case (inl there) = apart.0 there
+    by_case (inr same) = let less_here = less first (first_there first xs) in omega (arith, less_here, same)
+
+-- ---- the folder's list with more behind it
+
+-- its tail was closed with what it told
+abbrev pub IsClosedIn : FolderHistory → Left → Type 0
+IsClosedIn told one = IfSome one.told (λ tail. WasClosedWith told tail.opening tail.looks)
+
+abbrev pub with_more : FolderHistory → List Event → FolderHistory
+with_more now more = record { files = now.files; events = now.events ++ more }
+
+-- what is added, with these files opened among it
+pub record Adds (now : FolderHistory) (more : List Event) (news : List OpenedFile) : Type 0 where
+  pub no_listing : AllByRecursion IsNoListing more
+  pub closes_none : (opening : ℕ) → opening < length now.events → closing_in opening more ≡ None
+  pub stand : AllByRecursion (WasOpenedSince now (with_more now more)) news
+  pub behind : AllByRecursion (λ (one : OpenedFile). one.opening ≡ length now.events) news
+  pub serve : (place : ℕ) (path : List ℕ) (number : ℕ) (begun : Sight) → slice_get more place ≡ Some (Opened path number begun) →
+      Contains (openings_of news) (length now.events + place) ⊎ WasClosedWith (with_more now more) (length now.events + place) []
+
+openings_below : (before now : FolderHistory) (files : List OpenedFile) → AllByRecursion (WasOpenedSince before now) files → (opening : ℕ) → Contains (openings_of files) opening → opening < length now.events
+openings_below before now [] each opening there = absurd (none_there opening there)
+openings_below before now (one ∷ files) each opening there = from (there_cases one.opening opening (openings_of files) there) (openings_below before now files each.1 opening)
+  where
+    from : (one.opening ≡ opening) ⊎ Contains (openings_of files) opening → (Contains (openings_of files) opening → opening < length now.events) → opening < length now.events
+    from (inl same) later = let less = slice_get_within now.events one.opening (Opened one.begin.path one.number one.begun) each.0.stands in omega (arith, less, same)
+    from (inr behind) later = later behind
+
+pub below_all : (before now : FolderHistory) (so_far : SoFar) → HasDone before now so_far → (one : OpenedFile) → Contains so_far.opened one → one.opening < length now.events
+below_all before now so_far done one there =
+    slice_get_within now.events one.opening (Opened one.begin.path one.number one.begun) (member_is (WasOpenedSince before now) so_far.opened one done.opened there).stands
+
+module _ (before now : FolderHistory) (so_far : SoFar) (done : HasDone before now so_far) (more : List Event) where
+  pub closed_stays : (opening : ℕ) (looks : List Look) → WasClosedWith now opening looks → WasClosedWith (with_more now more) opening looks
+  closed_stays opening looks was = record {
+    faults = was.faults;
+    closing = closing_stays_behind (suc opening) opening now.events more (record { looks = looks; faults = was.faults }) was.closing;
+  }
+
+  pub still_stays : (opening : ℕ) → opening < length now.events → closing_in opening more ≡ None → IsStillOpen now opening → IsStillOpen (with_more now more) opening
+  still_stays opening less none is_open =
+      ap (λ (l : List Event). closing_in opening l) (drop-append-le (suc opening) now.events more less) ∙ none_in_both opening (drop (suc opening) now.events) more is_open none
+
+  pub left_stays : (left : List Left) → AllByRecursion (IsClosedIn now) left → AllByRecursion (IsClosedIn (with_more now more)) left
+  left_stays [] each = tt
+  left_stays (one ∷ left) each = (go one.told each.0, left_stays left each.1)
+    where
+      go : (told : Option TailHistory) → IfSome told (λ tail. WasClosedWith now tail.opening tail.looks) → IfSome told (λ tail. WasClosedWith (with_more now more) tail.opening tail.looks)
+      go None was = tt
+      go (Some tail) was = closed_stays tail.opening tail.looks was
+
+  opened_stays : (files : List OpenedFile) → AllByRecursion (WasOpenedSince before now) files → AllByRecursion (WasOpenedSince before (with_more now more)) files
+  opened_stays files each = each_then (WasOpenedSince before now) (WasOpenedSince before (with_more now more)) files
+      (λ one was. record {
+        since = was.since;
+        stands = got_in_front now.events more one.opening (Opened one.begin.path one.number one.begun) was.stands;
+        file_is = was.file_is;
+      }) each
+
+  longer : length before.events ≤ length now.events
+  longer = let is = ap (λ (l : List Event). length l) done.events ∙ length-append before.events done.more in omega (arith, is)
+
+  module _ (news : List OpenedFile) (adds : Adds now more news) where
+    news_stand : AllByRecursion (WasOpenedSince before (with_more now more)) news
+    news_stand = each_then (WasOpenedSince now (with_more now more)) (WasOpenedSince before (with_more now more)) news
+        (λ one was. record { since = omega (arith, was.since, longer); stands = was.stands; file_is = was.file_is }) adds.stand
+
+    openings_are : openings_of (so_far.opened ++ news) ≡ openings_of so_far.opened ++ openings_of news
+    openings_are = map-append (λ (one : OpenedFile). one.opening) so_far.opened news
+
+    serve : (opening : ℕ) (path : List ℕ) (number : ℕ) (begun : Sight) → length before.events ≤ opening → slice_get (now.events ++ more) opening ≡ Some (Opened path number begun) →
+        Contains (openings_of so_far.opened ++ openings_of news) opening ⊎ WasClosedWith (with_more now more) opening []
+    serve opening path number begun least is = from (got_cases now.events more opening (Opened path number begun) is)
+      where
+        old : Contains (openings_of so_far.opened) opening ⊎ WasClosedWith now opening [] → Contains (openings_of so_far.opened ++ openings_of news) opening ⊎ WasClosedWith (with_more now more) opening []
+        old (inl there) = inl (Contains-append_left (openings_of so_far.opened) (openings_of news) opening there)
+        old (inr was) = inr (closed_stays opening [] was)
+
+        new : (place : ℕ) → opening ≡ length now.events + place → Contains (openings_of news) (length now.events + place) ⊎ WasClosedWith (with_more now more) (length now.events + place) [] →
+            Contains (openings_of so_far.opened ++ openings_of news) opening ⊎ WasClosedWith (with_more now more) opening []
+        new place at (inl there) = inl (subst (λ (n : ℕ). Contains (openings_of so_far.opened ++ openings_of news) n) (sym at)
+            (Contains-append_right (openings_of so_far.opened) (openings_of news) (length now.events + place) there))
+        new place at (inr was) = inr (subst (λ (n : ℕ). WasClosedWith (with_more now more) n []) (sym at) was)
+
+        from : (slice_get now.events opening ≡ Some (Opened path number begun)) ⊎ StandsBehind now.events more opening (Opened path number begun) →
+            Contains (openings_of so_far.opened ++ openings_of news) opening ⊎ WasClosedWith (with_more now more) opening []
+        from (inl there) = old (done.serve opening path number begun least there)
+        from (inr of) = new of.place of.at (adds.serve of.place path number begun of.stands)
+
+    pub done_on : (after : SoFar) → after.opened ≡ so_far.opened ++ news → AreDistinct (openings_of so_far.opened ++ openings_of news) →
+        AllByRecursion (IsClosedIn (with_more now more)) after.left → ((one : OpenedFile) → Contains (so_far.opened ++ news) one → IsTurnedIn after one → IsStillOpen (with_more now more) one.opening) →
+        HasDone before (with_more now more) after
+    done_on after opened_are apart closed still = record {
+      files = done.files;
+      more = done.more ++ more;
+      events = ap (λ (l : List Event). l ++ more) done.events ∙ append_assoc before.events done.more more;
+      no_listing = both IsNoListing done.more more done.no_listing adds.no_listing;
+      opened = subst (AllByRecursion (WasOpenedSince before (with_more now more))) (sym opened_are)
+          (both (WasOpenedSince before (with_more now more)) so_far.opened news (opened_stays so_far.opened done.opened) news_stand);
+      apart = subst AreDistinct (sym (ap openings_of opened_are ∙ openings_are)) apart;
+      serve = λ opening path number begun least is. subst (λ (l : List ℕ). Contains l opening ⊎ WasClosedWith (with_more now more) opening []) (sym (ap openings_of opened_are ∙ openings_are))
+          (serve opening path number begun least is);
+      closed = closed;
+      still_open = λ one there turned. still one (subst (λ (l : List OpenedFile). Contains l one) opened_are there) turned;
+    }
+
+  pub apart_with : (one : OpenedFile) → one.opening ≡ length now.events → AreDistinct (openings_of so_far.opened ++ openings_of (one ∷ []))
+  apart_with one at = distinct_then (openings_of so_far.opened) one.opening done.apart
+      (λ opening there. let less = openings_below before now so_far.opened done.opened opening there in omega (arith, less, at))
+
+  pub apart_without : AreDistinct (openings_of so_far.opened ++ [])
+  apart_without = subst AreDistinct (sym (append-nil (openings_of so_far.opened))) done.apart
+
+-- ---- what is added
+
+module _ (now : FolderHistory) where
+  -- one thing that is no listing, no opening and no closing
+  pub adds_none_there : (path : List ℕ) → Adds now (NotThere path ∷ []) []
+  adds_none_there path = record {
+    no_listing = (tt, tt);
+    closes_none = λ opening less. refl;
+    stand = tt;
+    behind = tt;
+    serve = none;
+  }
+    where
+      none : (place : ℕ) (other : List ℕ) (number : ℕ) (begun : Sight) → slice_get (NotThere path ∷ []) place ≡ Some (Opened other number begun) →
+          Contains [] (length now.events + place) ⊎ WasClosedWith (with_more now (NotThere path ∷ [])) (length now.events + place) []
+      none zero other number begun is = absurd (let q : Some (NotThere path) ≡ Some (Opened other number begun) = is in cc)
+      none (suc place) other number begun is = absurd (let q : None ≡ Some (Opened other number begun) = is in cc)
+
+  pub adds_failed : (path : List ℕ) → Adds now (OpeningFailed path ∷ []) []
+  adds_failed path = record {
+    no_listing = (tt, tt);
+    closes_none = λ opening less. refl;
+    stand = tt;
+    behind = tt;
+    serve = none;
+  }
+    where
+      none : (place : ℕ) (other : List ℕ) (number : ℕ) (begun : Sight) → slice_get (OpeningFailed path ∷ []) place ≡ Some (Opened other number begun) →
+          Contains [] (length now.events + place) ⊎ WasClosedWith (with_more now (OpeningFailed path ∷ [])) (length now.events + place) []
+      none zero other number begun is = absurd (let q : Some (OpeningFailed path) ≡ Some (Opened other number begun) = is in cc)
+      none (suc place) other number begun is = absurd (let q : None ≡ Some (Opened other number begun) = is in cc)
+
+  module _ (one : OpenedFile) (at : one.opening ≡ length now.events) (file_is : slice_get now.files one.number ≡ Some one.file) where
+    abbrev opening_of_it : Event
+    opening_of_it = Opened one.begin.path one.number one.begun
+
+    was_opened : (others : List Event) → WasOpenedSince now (with_more now (opening_of_it ∷ others)) one
+    was_opened others = record {
+      since = omega (arith, at);
+      stands = ap (λ (k : ℕ). slice_get (now.events ++ opening_of_it ∷ others) k) at ∙ got_at_end now.events opening_of_it others;
+      file_is = file_is;
+    }
+
+    there_at : (place : ℕ) → place ≡ 0 → Contains (openings_of (one ∷ [])) (length now.events + place)
+    there_at place is = subst (λ (n : ℕ). Contains (openings_of (one ∷ [])) n) (omega (arith, at, is)) (first_there one.opening [])
+
+    pub adds_opening : Adds now (opening_of_it ∷ []) (one ∷ [])
+    adds_opening = record {
+      no_listing = (tt, tt);
+      closes_none = λ opening less. refl;
+      stand = (was_opened [], tt);
+      behind = (at, tt);
+      serve = it;
+    }
+      where
+        it : (place : ℕ) (path : List ℕ) (number : ℕ) (begun : Sight) → slice_get (opening_of_it ∷ []) place ≡ Some (Opened path number begun) →
+            Contains (openings_of (one ∷ [])) (length now.events + place) ⊎ WasClosedWith (with_more now (opening_of_it ∷ [])) (length now.events + place) []
+        it zero path number begun is = inl (there_at zero refl)
+        it (suc place) path number begun is = absurd (let q : None ≡ Some (Opened path number begun) = is in cc)
+
+    pub still_open_now : IsStillOpen (with_more now (opening_of_it ∷ [])) one.opening
+    still_open_now = ap (λ (k : ℕ). closing_in one.opening (drop (suc k) (now.events ++ opening_of_it ∷ []))) at
+        ∙ ap (λ (l : List Event). closing_in one.opening l) (behind_all now.events (opening_of_it ∷ []))
+
+    -- and closed again
+    module _ (faults : ℕ) where
+      abbrev both_events : List Event
+      both_events = opening_of_it ∷ Closed one.opening [] faults ∷ []
+
+      pub closed_at_once : WasClosedWith (with_more now both_events) one.opening []
+      closed_at_once = record {
+        faults = faults;
+        closing = ap (λ (k : ℕ). closing_in one.opening (drop (suc k) (now.events ++ both_events))) at
+            ∙ ap (λ (l : List Event). closing_in one.opening l) (behind_all now.events both_events)
+            ∙ closes_itself one.opening [] faults;
+      }
+
+      none_closed : (opening : ℕ) → opening < length now.events → closing_in opening both_events ≡ None
+      none_closed opening less = closes_no_other opening one.opening [] faults (omega (arith, less, at))
+
+      closes_here : (place : ℕ) → place ≡ 0 → WasClosedWith (with_more now both_events) (length now.events + place) []
+      closes_here place is = subst (λ (n : ℕ). WasClosedWith (with_more now both_events) n []) (omega (arith, at, is)) closed_at_once
+
+      pub adds_unread : Adds now both_events []
+      adds_unread = record {
+        no_listing = (tt, (tt, tt));
+        closes_none = none_closed;
+        stand = tt;
+        behind = tt;
+        serve = it;
+      }
+        where
+          it : (place : ℕ) (path : List ℕ) (number : ℕ) (begun : Sight) → slice_get both_events place ≡ Some (Opened path number begun) →
+              Contains [] (length now.events + place) ⊎ WasClosedWith (with_more now both_events) (length now.events + place) []
+          it zero path number begun is = inr (closes_here zero refl)
+          it (suc zero) path number begun is = absurd (let q : Some (Closed one.opening [] faults) ≡ Some (Opened path number begun) = is in cc)
+          it (suc (suc place)) path number begun is = absurd (let q : None ≡ Some (Opened path number begun) = is in cc)
+
+      pub adds_left : Adds now both_events (one ∷ [])
+      adds_left = record {
+        no_listing = (tt, (tt, tt));
+        closes_none = none_closed;
+        stand = (was_opened (Closed one.opening [] faults ∷ []), tt);
+        behind = (at, tt);
+        serve = it;
+      }
+        where
+          it : (place : ℕ) (path : List ℕ) (number : ℕ) (begun : Sight) → slice_get both_events place ≡ Some (Opened path number begun) →
+              Contains (openings_of (one ∷ [])) (length now.events + place) ⊎ WasClosedWith (with_more now both_events) (length now.events + place) []
+          it zero path number begun is = inl (there_at zero refl)
+          it (suc zero) path number begun is = absurd (let q : Some (Closed one.opening [] faults) ≡ Some (Opened path number begun) = is in cc)
+          it (suc (suc place)) path number begun is = absurd (let q : None ≡ Some (Opened path number begun) = is in cc)

@@ -1,0 +1,83 @@
+-- What beginning all listed files does (this project's profile): file by file, in the order of their slots, each is opened and
+-- followed, or passed over where none is there; and then the keeper is told when each was changed.
+use Rattle.std.specs.Prelude.{◌≡◌, ◌⊎◌, ℕ, suc, ◌<◌, Bool, true, false, List, [], ◌∷◌, ◌++◌, All, take, slice_get, Some, Ok, Err}
+use Rattle.event_tree.specs.declared.settings.Settings.{Settings}
+use Rattle.lanes.specs.Laning.{Laning}
+use Rattle.prospect.specs.declared.listed.Listed.{Listed}
+use Rattle.report.specs.declared.passing.Passing.{Passing}
+use Rattle.report.specs.declared.passing.Why.TheVariants.{Gone}
+use Rattle.rounds.specs.Staying.{begins_of}
+use Rattle.rounds.specs.Words.{TailWords}
+use Rattle.wire_base.specs.declared.note.Begin.{Begin}
+use Rattle.wire_base.specs.declared.numbers.Moment.{Moment}
+use Rattle.run_steps.specs.Beginning.{Beginning, BeginsOne, ListedFile, listed_file}
+use Rattle.run_steps.specs.Telling.{TellMoments, TellSomeMoments}
+use Rattle.run_steps.specs.declared.met.Met.{Met}
+use Rattle.run_steps.specs.declared.met.Met.TheVariants.{NoMemory}
+
+-- the path is passed over where its opening found no file
+abbrev pub passed_by : Bool → Listed → List Passing
+passed_by true listed = []
+passed_by false listed = record { path = listed.path; why = Gone } ∷ []
+
+abbrev pub file_at : ℕ → Listed → Moment → ListedFile
+file_at slot listed now = listed_file (record { 0 = slot }) listed now
+
+module _ {T W L : Type 0} (tails : TailWords T) (settings : Settings) (now : Moment) where
+  -- one file was opened or passed over, and then the rest
+  pub record BeginsFirst (slot : ℕ) (listed : Listed) (Rest : List Passing → Beginning T W L → Type 0) (passed : List Passing) (old : Beginning T W L) : Type 0 where
+    pub found : Bool
+    pub mid : Beginning T W L
+    pub first : BeginsOne tails settings (file_at slot listed now) (Ok found) old mid
+    pub later : List Passing
+    pub passed_are : passed ≡ passed_by found listed ++ later
+    pub rest : Rest later mid
+
+  -- these files, in the order of their slots from this one on
+  abbrev pub BeginsFrom : ℕ → List Listed → List Passing → Beginning T W L → Beginning T W L → Type 0
+  BeginsFrom slot [] passed old new = (passed ≡ []) × (new ≡ old)
+  BeginsFrom slot (one ∷ listed) passed old new = BeginsFirst slot one (λ later mid. BeginsFrom (suc slot) listed later mid new) passed old
+
+  module _ (listed : List Listed) where
+    -- each of them, and then the keeper was told when those were changed that are followed
+    pub record BeginsAll (passed : List Passing) (old new : Beginning T W L) : Type 0 where
+      pub mid : Beginning T W L
+      pub begins : BeginsFrom 0 listed passed old mid
+      pub tell : TellMoments 0 listed mid.keeper new.keeper
+      pub others : new ≡ record mid { keeper = new.keeper }
+
+    -- ---- where it ended early
+
+    -- in a file, behind the first so many
+    pub record EndsInFile (met : Met) (old new : Beginning T W L) : Type 0 where
+      pub count : ℕ
+      pub passed : List Passing
+      pub mid : Beginning T W L
+      pub begins : BeginsFrom 0 (take count listed) passed old mid
+      pub one : Listed
+      pub is : slice_get listed count ≡ Some one
+      pub ended : BeginsOne tails settings (file_at count one now) (Err met) mid new
+
+    -- for want of memory behind the first so many, as the last path was to be passed over
+    pub record EndsBehindFile (old new : Beginning T W L) : Type 0 where
+      pub count : ℕ
+      pub passed : List Passing
+      pub begins : BeginsFrom 0 (take count listed) passed old new
+
+    -- for want of memory behind all of them, as the keeper was told of some moments
+    pub record EndsInMoments (old new : Beginning T W L) : Type 0 where
+      pub passed : List Passing
+      pub mid : Beginning T W L
+      pub begins : BeginsFrom 0 listed passed old mid
+      pub tell : TellSomeMoments listed mid.keeper new.keeper
+      pub others : new ≡ record mid { keeper = new.keeper }
+
+    abbrev pub BeginsSome : Met → Beginning T W L → Beginning T W L → Type 0
+    BeginsSome met old new = EndsInFile met old new ⊎ ((met ≡ NoMemory) × (EndsBehindFile old new ⊎ EndsInMoments old new))
+
+-- each harvester is of one of so many slots
+abbrev pub IsSlotBelow : ℕ → Begin → Type 0
+IsSlotBelow count begin = begin.slot.0 < count
+
+abbrev pub AreSlotsBelow : {T : Type 0} → ℕ → List (Laning T) → Type 0
+AreSlotsBelow count lanes = All (All (IsSlotBelow count)) (begins_of lanes)
