@@ -175,14 +175,14 @@ module _ {T W L D : Type 0} (words : Words T W L D) (start : Began D) (moments :
     abbrev was : SoFar
     was = begins.so_far
 
-    none_left : was.left ≡ []
+    pub none_left : was.left ≡ []
     none_left = (begins.stands.reading refl).none_left
 
     slots_often : AsOften (slots_of (all_of was.lanes)) (slots_in was.opened)
     slots_often = subst (λ (l : List Turned). AsOften (slots_of l) (slots_in was.opened)) (append-nil (all_of was.lanes))
         (subst (λ (l : List Left). AsOften (slots_of (all_of was.lanes ++ map (λ (one : Left). one.turned) l)) (slots_in was.opened)) none_left begins.stands.each_once.are)
 
-    all_turned : (other : Opened) → Contains was.opened other → IsTurnedIn was other
+    pub all_turned : (other : Opened) → Contains was.opened other → IsTurnedIn was other
     all_turned other there = often_contains same_slot tells_slots (slots_of (all_of was.lanes)) (slots_in was.opened) other.begin.slot slots_often
         (mapped_there (λ (one : Opened). one.begin.slot) was.opened other there)
 
@@ -194,32 +194,32 @@ module _ {T W L D : Type 0} (words : Words T W L D) (start : Began D) (moments :
       abbrev more : List Opened
       more = was.opened ++ one ∷ []
 
-      not_turned : IsTurnedIn was one → ⊥
+      pub not_turned : IsTurnedIn was one → ⊥
       not_turned there =
           let below = slots_below slot was.opened begins.below one.begin.slot
           (often_contains same_slot tells_slots (slots_in was.opened) (slots_of (all_of was.lanes)) one.begin.slot (often_back (slots_of (all_of was.lanes)) (slots_in was.opened) slots_often) there) in
           let is = so.slot_is in
           omega (arith, below, is)
 
-      opened_as_listed : AllByRecursion (IsOpenedAsListed start.settings start.listed) more
+      pub opened_as_listed : AllByRecursion (IsOpenedAsListed start.settings start.listed) more
       opened_as_listed = each_last (IsOpenedAsListed start.settings start.listed) was.opened one begins.stands.opened so.as_listed
 
-      keyed : IsSome start.shown → AllByRecursion IsKeyedByPath more
+      pub keyed : IsSome start.shown → AllByRecursion IsKeyedByPath more
       keyed some = each_last IsKeyedByPath was.opened one (begins.stands.keyed some) (so.keyed some)
 
-      below_next : AreBelow (suc slot) more
+      pub below_next : AreBelow (suc slot) more
       below_next = each_last (λ (o : Opened). o.begin.slot.0 < suc slot) was.opened one
           (each_then (λ (o : Opened). o.begin.slot.0 < slot) (λ (o : Opened). o.begin.slot.0 < suc slot) was.opened (λ o less. omega (arith, less)) begins.below)
           (let is = so.slot_is in omega (arith, is))
 
-      begun_next : was.begun ++ noted_begin one.begin ∷ [] ≡ map (λ (o : Opened). noted_begin o.begin) more
+      pub begun_next : was.begun ++ noted_begin one.begin ∷ [] ≡ map (λ (o : Opened). noted_begin o.begin) more
       begun_next = ap (λ (l : List Note). l ++ noted_begin one.begin ∷ []) begins.begun_are ∙ sym (map-append (λ (o : Opened). noted_begin o.begin) was.opened (one ∷ []))
 
-      begun : AreBeginNotes start.listed more (was.begun ++ noted_begin one.begin ∷ [])
+      pub begun : AreBeginNotes start.listed more (was.begun ++ noted_begin one.begin ∷ [])
       begun = record { seen = []; are = begun_next ∙ sym (append-nil (map (λ (o : Opened). noted_begin o.begin) more)); seen_are = tt }
 
       module _ (files : List Turned) (often : AsOften files (turned ∷ files_in was)) where
-        each_once : AreEachOnce more files
+        pub each_once : AreEachOnce more files
         each_once = record {
           rise = slots_then 0 was.opened one begins.stands.each_once.rise (omega arith) (subst (λ (n : ℕ). AreBelow n was.opened) (sym so.slot_is) begins.below);
           are = often_then (slots_of files) (slots_of (turned ∷ files_in was)) (slots_in more) (often_mapped (λ (t : Turned). t.slot) files (turned ∷ files_in was) often) together;
@@ -233,13 +233,13 @@ module _ {T W L D : Type 0} (words : Words T W L D) (start : Began D) (moments :
               begins.stands.each_once.are h,
             )
 
-        parcels : AsOften was.told.issued (flat_map parcels_told files)
+        pub parcels : AsOften was.told.issued (flat_map parcels_told files)
         parcels = often_then was.told.issued (flat_map parcels_told (files_in was)) (flat_map parcels_told files) begins.stands.gave.parcels
             (often_back (flat_map parcels_told files) (flat_map parcels_told (files_in was)) (given_as_often parcels_told files (turned ∷ files_in was) often))
 
-        notes_are : AsOften was.told.noted (flat_map notes_told files)
+        pub notes_are : AsOften was.told.noted (flat_map notes_told files)
         notes_are = often_then was.told.noted (flat_map notes_told (files_in was)) (flat_map notes_told files) begins.stands.gave.notes_are
             (often_back (flat_map notes_told files) (flat_map notes_told (files_in was)) (given_as_often notes_told files (turned ∷ files_in was) often))
 
-        spans : spans_in files ≡ spans_in (files_in was)
+        pub spans : spans_in files ≡ spans_in (files_in was)
         spans = let is = spans_often files (turned ∷ files_in was) often in omega (arith, is)

@@ -1,8 +1,13 @@
 -- What stands of a keeper that was told some notes.
-use Rattle.std.proofs.Common.{◌≡◌, ℕ, List, [], ◌∷◌, ◌++◌, append-nil, append_assoc, IfSome, ◌≤◌, refl, sym, ap, subst, ◌∙◌}
+use Rattle.std.proofs.Common.{◌≡◌, ℕ, ◌≤◌, ◌<◌, ◌^◌, ◌-◌, min, List, [], ◌∷◌, ◌++◌, length, append-nil, append_assoc, IfSome, refl, sym, ap, subst, ◌∙◌}
+use Rattle.std.specs.List.{count_by}
+use Rattle.accounts.specs.Turned.{spans_in}
+use Rattle.keeper.specs.Collecting.{is_dropped, is_shipped}
 use Rattle.keeper.specs.Keeping.{Keeping, held_in}
 use Rattle.keeper.specs.Storing.{Stores}
+use Rattle.lanes.specs.Laning.{Laning}
 use Rattle.registry_store.specs.Standing.{Standing}
+use Rattle.rounds.specs.Settled.{spans_told}
 use Rattle.rounds.specs.Words.{DiskWords}
 use Rattle.settle_box.specs.Senders.{notes}
 use Rattle.ship_core.specs.Orderly.{AreOrderly}
@@ -10,7 +15,8 @@ use Rattle.ship_core.specs.RowsOver.{AreRowsOver}
 use Rattle.wire_base.specs.declared.note.Note.{Note}
 use Rattle.wire_base.specs.declared.row.Row.{Row}
 use Rattle.run_steps.specs.Areas.{HaveHeldFronts}
-use Rattle.run_steps.specs.Stands.{AreNoted}
+use Rattle.run_steps.specs.SoFar.{SoFar, files_in}
+use Rattle.run_steps.specs.Stands.{AreCounted, AreNoted}
 use Rattle.run_steps.specs.Telling.{TellsNotes}
 use Rattle.run_steps.proofs.Areas.{areas_on}
 
@@ -29,6 +35,15 @@ module _ (told : List Note) (old new : Keeping) (tells : TellsNotes told old new
     are = tells.told ∙ ap (λ (l : List Note). l ++ told) (noted.are ∙ ap (λ (l : List Note). begun ++ l) none ∙ append-nil begun)
         ∙ sym (ap (λ (l : List Note). (begun ++ told) ++ l) none ∙ append-nil (begun ++ told));
     got = got_same ∙ noted.got ∙ ap (λ (k : Keeping). collected ++ held_in k.held) (sym tells.others_stay);
+  }
+
+  -- counts do not go on
+  pub counted_more : {T : Type 0} (before after : List (Laning T)) (was now : SoFar) → (spans_told after < 2 ^ 64 - 1 → spans_in (files_in now) ≡ spans_told after) → AreCounted before old was → AreCounted after new now
+  counted_more before after was now spans counted = record {
+    spans = spans;
+    shipped = subst (λ (k : Keeping). k.shipped ≡ min (count_by is_shipped (notes k.pass.got)) (2 ^ 64 - 1)) (sym tells.others_stay) counted.shipped;
+    dropped = subst (λ (k : Keeping). k.dropped ≡ min (count_by is_dropped (notes k.pass.got)) (2 ^ 64 - 1)) (sym tells.others_stay) counted.dropped;
+    collected = subst (λ (k : Keeping). k.collected ≡ min (length k.pass.got) (2 ^ 64 - 1)) (sym tells.others_stay) counted.collected;
   }
 
   pub stores_more : Stores old.tracked old.store → Stores new.tracked new.store

@@ -3,7 +3,9 @@ pub mod Admitted
 pub mod Admitting
 pub mod Areas
 pub mod Attempts
+pub mod BeginningFiles
 pub mod BeginningOne
+pub mod BeginningSteps
 pub mod Begun
 pub mod BegunFolder
 pub mod BegunNotes

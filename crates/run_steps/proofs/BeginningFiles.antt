@@ -1,0 +1,254 @@
+-- Each file that is opened keeps what stands of a run: as its steps say what they changed.
+use Rattle.std.proofs.Common.{◌≡◌, ◌≢◌, ◌⊎◌, inl, inr, ℕ, suc, ◌≤◌, Bool, true, false, List, [], ◌∷◌, ◌++◌, Contains, Option, Some, None, IsSome, IfSome, Result, Ok, Err, length, ◌<◌, ◌%◌, arith, refl, sym, ap, subst, ◌∙◌}
+use Rattle.std.proofs.lemmas.List.Elements.{Contains-append_right}
+use Rattle.std.specs.Prelude.{slice_get}
+use Rattle.accounts.specs.Opened.{IsTailOf, Opened}
+use Rattle.accounts.specs.Turning.{IsTurnedSo}
+use Rattle.accounts.proofs.Lists.{each_then}
+use Rattle.accounts.proofs.Onward.{stands_opened}
+use Rattle.event_tree.specs.declared.input_rule.IdentityRule.TheVariants.{Path}
+use Rattle.event_tree.specs.declared.input_rule.InputRule.{InputRule}
+use Rattle.file_looks.specs.Looks.{TellsLooks}
+use Rattle.file_identity.specs.Key.{named_key, path_key}
+use Rattle.harvester.specs.HasTold.{HasTold, looks_so_far}
+use Rattle.harvester.specs.History as history
+use Rattle.harvester.specs.Standing.{stage_of}
+use Rattle.harvester.specs.declared.harvester.Harvester.{Harvester}
+use Rattle.harvester.specs.declared.stage.Stage.TheVariants as stage
+use Rattle.keeper.specs.Keeping.{Keeping}
+use Rattle.multiline_core.specs.Rule.{IsGroupRule}
+use Rattle.outside.specs.Folders.{FolderHistory, TellsOpening}
+use Rattle.outside.specs.declared.failed.FolderError.TheVariants.{Failed, NoMemory as WithoutMemory}
+use Rattle.outside.specs.declared.history.Look.{Look}
+use Rattle.prospect.specs.declared.listed.Listed.{Listed}
+use Rattle.rounds.specs.Crewed.{lanings}
+use Rattle.rounds.specs.Words.{Words}
+use Rattle.rounds.specs.declared.crew.Crew.{Crew}
+use Rattle.ship_core.proofs.Members.{first_there}
+use Rattle.wire_base.specs.declared.note.Begin.{Begin}
+use Rattle.wire_base.specs.declared.note.Note.{Note}
+use Rattle.wire_base.specs.declared.numbers.Moment.{Moment}
+use Rattle.run_steps.specs.Began.{Began}
+use Rattle.run_steps.specs.BeginFor.{begin_for}
+use Rattle.run_steps.specs.Beginning.{AdmitsAt, Beginning, BeginsFile, BeginsOne, GivesFileUp, IsOpenedFor, OpensNone, SameLanes}
+use Rattle.run_steps.specs.BeginsAll.{file_at}
+use Rattle.run_steps.specs.Begun.{noted_begin}
+use Rattle.run_steps.specs.FolderSeen.{FolderSeen, OpensBy}
+use Rattle.run_steps.specs.RunState.{Finished, Leaving, Reading}
+use Rattle.run_steps.specs.Shown.{HasShown}
+use Rattle.run_steps.specs.SoFar.{SoFar}
+use Rattle.run_steps.specs.Stands.{Further, Stands}
+use Rattle.run_steps.specs.Telling.{TellsBegin, TellsNotes}
+use Rattle.run_steps.specs.declared.met.Met.{Met}
+use Rattle.run_steps.specs.declared.met.Met.TheVariants as met
+use Rattle.run_steps.proofs.BegunFolder.{error_shown, none_shown, unread_shown}
+use Rattle.run_steps.proofs.BeginningOne.{AreBelow, Begins, IsBegunSo, at_phase, stands_at, stands_same}
+use Rattle.run_steps.proofs.BeginningSteps.{begins_next, left_after, stands_left}
+use Rattle.run_steps.proofs.TailOpened.{HasTail, IsShown, has_tail, opened_now}
+
+module _ {T W L D : Type 0} (words : Words T W L D) (reads : (disk : D) → IfSome (words.disks.contents disk) (words.disks.images disk))
+    (counts : (disk : D) (at : ℕ) (image : List ℕ) → at ≤ words.disks.moment disk → words.disks.images disk image → words.disks.images_since disk at image)
+    (start : Began D) (moments : Option (List ℕ)) (a b : D) (now : Moment) where
+  -- a listed file of an input that tells files by their paths
+  pub record IsToBegin (slot : ℕ) (listed : Listed) : Type 0 where
+    pub there : slice_get start.listed slot ≡ Some listed
+    pub rule : InputRule
+    pub rule_is : slice_get start.settings.inputs listed.input ≡ Some rule
+    pub by_path : rule.file_identity ≡ Path
+    pub in_range : IsGroupRule rule.multiline
+    -- where the folder tells
+    pub keyed : IsSome start.shown → (numbers : Option (ℕ × ℕ)) × (listed.key ≡ named_key rule.id Path listed.path numbers)
+
+  -- all that stands of a run in this state, with its files begun below the slot
+  abbrev pub BeginsBelow : ℕ → Beginning T W L → Type 0
+  BeginsBelow slot state = Begins words start moments a b now state.folder.told state.crew state.keeper slot
+
+  abbrev pub Leaves : Beginning T W L → Type 0
+  Leaves state = Further words start (at_phase words start moments a b state.folder.told state.crew state.keeper Leaving)
+
+  -- where it ends with what stands
+  pub leaves : (state : Beginning T W L) (slot : ℕ) → BeginsBelow slot state → Leaves state
+  leaves state slot begins = record {
+    so_far = begins.so_far;
+    stands = stands_at words start moments a b state.folder.told state.folder.told state.crew state.keeper Leaving begins.so_far (λ is. let no : Leaving ≡ Finished = is in cc) begins.stands.shown begins.stands;
+  }
+
+  -- the slots below the next one
+  pub later_slot : (state : Beginning T W L) (slot : ℕ) → BeginsBelow slot state → BeginsBelow (suc slot) state
+  later_slot state slot begins = record {
+    so_far = begins.so_far;
+    stands = begins.stands;
+    below = each_then (λ (o : Opened). o.begin.slot.0 < slot) (λ (o : Opened). o.begin.slot.0 < suc slot) begins.so_far.opened (λ o less. omega (arith, less)) begins.below;
+    begun_are = begins.begun_are;
+    none_collected = begins.none_collected;
+    ends = begins.ends;
+  }
+
+  module _ (slot : ℕ) (listed : Listed) (to : IsToBegin slot listed) (old : Beginning T W L) (begins : BeginsBelow slot old) where
+    -- nothing but what the folder tells has changed
+    with_shown : (later : Option FolderHistory) → HasShown start.shown later begins.so_far → Begins words start moments a b now later old.crew old.keeper slot
+    with_shown later has = record {
+      so_far = begins.so_far;
+      stands = stands_at words start moments a b old.folder.told later old.crew old.keeper Reading begins.so_far (λ is. let no : Reading ≡ Finished = is in cc) has begins.stands;
+      below = begins.below;
+      begun_are = begins.begun_are;
+      none_collected = begins.none_collected;
+      ends = begins.ends;
+    }
+
+    moved : (new : Beginning T W L) (n : ℕ) → new.crew ≡ old.crew → new.keeper ≡ old.keeper → Begins words start moments a b now new.folder.told old.crew old.keeper n → BeginsBelow n new
+    moved new n crew keeper is =
+        subst (λ (c : Crew T W L). Begins words start moments a b now new.folder.told c new.keeper n) (sym crew)
+        (subst (λ (k : Keeping). Begins words start moments a b now new.folder.told old.crew k n) (sym keeper) is)
+
+    -- ---- none was opened
+
+    pub none_opened : (new : Beginning T W L) → OpensNone words.tails (file_at slot listed now) (Ok None) old new → BeginsBelow (suc slot) new
+    none_opened new none = later_slot new slot (moved new slot none.crew none.keeper (with_shown new.folder.told
+        (none_shown begins.so_far listed.path words.tails old.folder.states old.folder.present start.shown old.folder.told new.folder.told begins.stands.shown none.opens.told)))
+
+    pub failed_opening : (new : Beginning T W L) → OpensNone words.tails (file_at slot listed now) (Err Failed) old new → Leaves new
+    failed_opening new none = leaves new slot (moved new slot none.crew none.keeper (with_shown new.folder.told
+        (error_shown begins.so_far listed.path words.tails old.folder.states old.folder.present Failed start.shown old.folder.told new.folder.told begins.stands.shown none.opens.told)))
+
+    pub without_memory : (new : Beginning T W L) → OpensNone words.tails (file_at slot listed now) (Err WithoutMemory) old new → Leaves new
+    without_memory new none = leaves new slot (moved new slot none.crew none.keeper (with_shown new.folder.told
+        (error_shown begins.so_far listed.path words.tails old.folder.states old.folder.present WithoutMemory start.shown old.folder.told new.folder.told begins.stands.shown none.opens.told)))
+
+    -- ---- one was opened
+
+    -- by the rule of its input
+    begun_so : (key : List ℕ) → listed.key ≡ Some key → (one : Opened) → one.begin ≡ begin_for (record { 0 = slot }) listed key → one.rule ≡ to.rule → IsBegunSo words start moments a b slot one
+    begun_so key key_is one begin_is rule_is = record {
+      as_listed = record {
+        one = listed;
+        listed_there = ap (λ (g : Begin). slice_get start.listed g.slot.0) begin_is ∙ to.there;
+        keyed = key_is ∙ ap (λ (g : Begin). Some g.key) (sym begin_is);
+        begin_is = begin_is ∙ ap (λ (g : Begin). begin_for g.slot listed g.key) (sym begin_is);
+        rule_is = to.rule_is ∙ ap Some (sym rule_is);
+        by_path = ap (λ (r : InputRule). r.file_identity) rule_is ∙ to.by_path;
+        in_range = subst (λ (r : InputRule). IsGroupRule r.multiline) (sym rule_is) to.in_range;
+      };
+      keyed = λ some. ap (λ (r : InputRule). Some (path_key r.id one.begin.path)) rule_is ∙ ap (λ (g : Begin). Some (path_key to.rule.id g.path)) begin_is
+          ∙ sym (to.keyed some).1 ∙ key_is ∙ ap (λ (g : Begin). Some g.key) (sym begin_is);
+      slot_is = ap (λ (g : Begin). g.slot.0) begin_is;
+    }
+
+    module _ (mid : Option FolderHistory) (tail : T) (opens : TellsOpening words.tails.told words.tails.numbers old.folder.told old.folder.states old.folder.present listed.path (Ok (Some tail)) mid)
+        (key : List ℕ) (key_is : listed.key ≡ Some key) where
+      begin : Begin
+      begin = begin_for (record { 0 = slot }) listed key
+
+      has : HasTail words.tails (begin_for (record { 0 = slot }) listed key) to.rule old.folder.told tail mid
+      has = has_tail words.tails (begin_for (record { 0 = slot }) listed key) to.rule old.folder.states old.folder.present tail old.folder.told mid opens
+
+      so : IsBegunSo words start moments a b slot has.one
+      so = begun_so key key_is has.one has.begin_is has.rule_is
+
+      tells_it : (keeper new : Keeping) → TellsNotes (noted_begin (begin_for (record { 0 = slot }) listed key) ∷ []) keeper new → TellsNotes (noted_begin has.one.begin ∷ []) keeper new
+      tells_it keeper new tells = subst (λ (g : Begin). TellsNotes (noted_begin g ∷ []) keeper new) (sym has.begin_is) tells
+
+      -- a harvester over it stands for it
+      turns : (harvester : Harvester T) → IsOpenedFor words.tails start.settings (file_at slot listed now) tail harvester →
+          IsTurnedSo words.tails.numbers words.tails.told start.settings.processors (begins.so_far.opened ++ has.one ∷ []) begins.so_far.moments (opened_now start.settings.processors has.one now.0) harvester
+      turns harvester is =
+          stands_opened words.tails.numbers words.tails.told start.settings.processors (begins.so_far.opened ++ has.one ∷ []) begins.so_far.moments has.one now.0 harvester
+          (Contains-append_right begins.so_far.opened (has.one ∷ []) has.one (first_there has.one [])) begins.ends told_so
+          (subst (λ (t : T). IfSome (words.tails.told t) (IsTailOf has.one)) (sym is.tail_kept) has.tail_is)
+          (subst (λ (t : T). IfSome (words.tails.told t) TellsLooks) (sym is.tail_kept) has.tells)
+          (subst (λ (t : T). IfSome (words.tails.told t) (λ told. words.tails.numbers t ≡ has.one.file.numbers)) (sym is.tail_kept) has.numbers_are)
+          is.at_work
+        where
+          rule_same : is.rule ≡ has.one.rule
+          rule_same = same is.rule to.rule (sym is.rule_is ∙ to.rule_is) ∙ sym has.rule_is
+            where
+              same : (x y : InputRule) → Some x ≡ Some y → x ≡ y
+              same x y e = cc
+
+          begin_same : is.begin ≡ has.one.begin
+          begin_same = is.begins.is ∙ ap (begin_for (record { 0 = slot }) listed) (same is.begins.key key (sym is.begins.key_is ∙ key_is)) ∙ sym has.begin_is
+            where
+              same : (x y : List ℕ) → Some x ≡ Some y → x ≡ y
+              same x y e = cc
+
+          told_so : HasTold words.tails.numbers words.tails.told (history.opened has.one.rule start.settings.processors has.one.begin [] now.0) harvester
+          told_so =
+              subst (λ (r : InputRule). HasTold words.tails.numbers words.tails.told (history.opened r start.settings.processors has.one.begin [] now.0) harvester) rule_same
+              (subst (λ (g : Begin). HasTold words.tails.numbers words.tails.told (history.opened is.rule start.settings.processors g [] now.0) harvester) begin_same
+              (subst (λ (l : List Look). HasTold words.tails.numbers words.tails.told (history.opened is.rule start.settings.processors is.begin l now.0) harvester) has.no_looks is.told))
+
+      not_over : (harvester : Harvester T) → IsOpenedFor words.tails start.settings (file_at slot listed now) tail harvester → harvester.reader.stage ≢ stage.Over
+      not_over harvester is over = let no : history.Over ≡ history.Reads = sym (ap stage_of over) ∙ is.told.held.holds.follows.stage in cc
+
+    -- it is followed
+    pub file_begun : (new : Beginning T W L) → BeginsFile words.tails start.settings (file_at slot listed now) old new → BeginsBelow (suc slot) new
+    file_begun new is =
+        let taken = is.follows.taken in
+        let key = taken.tells.key in
+        let key_is = taken.tells.key_is in
+        let opens = is.opened.opens.told in
+        let of = has is.mid.folder.told is.tail opens key key_is in
+        let harvester = is.follows.harvester in
+        let kept = is.follows.opened.tail_kept in
+        let tells = tells_it is.mid.folder.told is.tail opens key key_is is.mid.keeper new.keeper taken.tells.tells in
+        subst (λ (f : FolderSeen). Begins words start moments a b now f.told new.crew new.keeper (suc slot)) (sym taken.folder)
+        (begins_next words reads counts start moments a b now old.folder.told old.crew old.keeper slot begins of.one (so is.mid.folder.told is.tail opens key key_is) new.keeper
+        (subst (λ (k : Keeping). TellsNotes (noted_begin of.one.begin ∷ []) k new.keeper) is.opened.keeper tells) harvester
+        (turns is.mid.folder.told is.tail opens key key_is harvester is.follows.opened) (not_over is.mid.folder.told is.tail opens key key_is harvester is.follows.opened)
+        (slot % length old.crew.lanes.items) new.crew
+        (subst (λ (c : Crew T W L). AdmitsAt (slot % length c.lanes.items) harvester (lanings c.lanes.items) (lanings new.crew.lanes.items)) is.opened.crew taken.admits)
+        (subst (λ (c : Crew T W L). new.crew ≡ record c { lanes = new.crew.lanes }) is.opened.crew taken.others) is.mid.folder.told
+        (subst (λ (t : T). IsShown old.folder.told of.one (words.tails.told t) is.mid.folder.told) (sym kept) of.shown))
+
+    -- its tail was closed again
+    pub given_up : (new : Beginning T W L) → GivesFileUp words.tails (file_at slot listed now) old new → Leaves new
+    given_up new is = by_case is.gives_up.keeper
+      where
+        lanes_so : SameLanes old.crew new.crew
+        lanes_so = subst (λ (c : Crew T W L). SameLanes c new.crew) is.opened.crew is.gives_up.lanes
+
+        at_end : (keeper : Keeping) (so_far : SoFar) → new.keeper ≡ keeper → Stands words start (at_phase words start moments a b new.folder.told old.crew keeper Leaving) so_far → Leaves new
+        at_end keeper so_far keeper_is stands = record {
+          so_far = so_far;
+          stands = subst (λ (k : Keeping). Stands words start (at_phase words start moments a b new.folder.told new.crew k Leaving) so_far) (sym keeper_is)
+              (stands_same words start moments a b new.folder.told old.crew new.crew keeper Leaving so_far lanes_so stands);
+        }
+
+        by_case : (new.keeper ≡ is.mid.keeper) ⊎ TellsBegin (record { 0 = slot }) listed is.mid.keeper new.keeper → Leaves new
+        by_case (inl same) =
+            let of = opened_some is.mid.folder.told is.tail is.opened.opens.told in
+            at_end old.keeper begins.so_far (same ∙ is.opened.keeper)
+            (stands_at words start moments a b old.folder.told new.folder.told old.crew old.keeper Leaving begins.so_far (λ e. let no : Leaving ≡ Finished = e in cc)
+            (unread_shown begins.so_far of.one (words.tails.told is.tail) (words.tails.faults is.tail) start.shown old.folder.told is.mid.folder.told new.folder.told begins.stands.shown of.shown is.gives_up.closes.told)
+            begins.stands)
+          where
+            -- whatever its key
+            opened_some : (mid : Option FolderHistory) (tail : T) → TellsOpening words.tails.told words.tails.numbers old.folder.told old.folder.states old.folder.present listed.path (Ok (Some tail)) mid →
+                HasTail words.tails (begin_for (record { 0 = slot }) listed []) to.rule old.folder.told tail mid
+            opened_some mid tail opens = has_tail words.tails (begin_for (record { 0 = slot }) listed []) to.rule old.folder.states old.folder.present tail old.folder.told mid opens
+        by_case (inr told) =
+            let opens = is.opened.opens.told in
+            let of = has is.mid.folder.told is.tail opens told.key told.key_is in
+            let tells = tells_it is.mid.folder.told is.tail opens told.key told.key_is is.mid.keeper new.keeper told.tells in
+            at_end new.keeper (left_after words reads counts start moments a b now old.folder.told old.crew old.keeper slot begins of.one (so is.mid.folder.told is.tail opens told.key told.key_is) new.keeper
+            (subst (λ (k : Keeping). TellsNotes (noted_begin of.one.begin ∷ []) k new.keeper) is.opened.keeper tells)
+            (words.tails.told is.tail) of.no_looks of.tail_is of.tells (words.tails.faults is.tail) is.mid.folder.told new.folder.told of.shown is.gives_up.closes.told) refl
+            (stands_left words reads counts start moments a b now old.folder.told old.crew old.keeper slot begins of.one (so is.mid.folder.told is.tail opens told.key told.key_is) new.keeper
+            (subst (λ (k : Keeping). TellsNotes (noted_begin of.one.begin ∷ []) k new.keeper) is.opened.keeper tells)
+            (words.tails.told is.tail) of.no_looks of.tail_is of.tells (words.tails.faults is.tail) is.mid.folder.told new.folder.told of.shown is.gives_up.closes.told)
+
+    -- ---- whatever it came to
+
+    pub one_more : (found : Bool) (new : Beginning T W L) → BeginsOne words.tails start.settings (file_at slot listed now) (Ok found) old new → BeginsBelow (suc slot) new
+    one_more true new is = file_begun new is
+    one_more false new is = none_opened new is
+
+    pub one_ends : (what : Met) (new : Beginning T W L) → BeginsOne words.tails start.settings (file_at slot listed now) (Err what) old new → Leaves new
+    one_ends met.FolderFault new is = failed_opening new is
+    one_ends met.NoMemory new (inl none) = without_memory new none
+    one_ends met.NoMemory new (inr up) = given_up new up
+    one_ends met.Done new is = absurd is
+    one_ends met.Stopped new is = absurd is
+    one_ends met.DiskFault new is = absurd is
+    one_ends (met.Unreachable worker) new is = absurd is
+    one_ends (met.Epochs epoch) new is = absurd is
