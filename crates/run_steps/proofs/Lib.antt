@@ -3,6 +3,7 @@ pub mod Admitted
 pub mod Admitting
 pub mod Areas
 pub mod Attempts
+pub mod Beginning
 pub mod BeginningFiles
 pub mod BeginningOne
 pub mod BeginningSteps
@@ -37,5 +38,6 @@ pub mod Rounding
 pub mod Settling
 pub mod TailOpened
 pub mod Tails
+pub mod ToldMoments
 pub mod Turning
 pub mod Whole

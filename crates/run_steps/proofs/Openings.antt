@@ -61,7 +61,7 @@ closes_no_other opening of looks faults less = by_case (of == opening) refl
 
 -- ---- places
 
-got_at_end : {A : Type 0} (xs : List A) (x : A) (ys : List A) → slice_get (xs ++ x ∷ ys) (length xs) ≡ Some x
+pub got_at_end : {A : Type 0} (xs : List A) (x : A) (ys : List A) → slice_get (xs ++ x ∷ ys) (length xs) ≡ Some x
 got_at_end [] x ys = refl
 got_at_end (first ∷ xs) x ys = got_at_end xs x ys
 

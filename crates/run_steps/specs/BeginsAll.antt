@@ -1,8 +1,12 @@
 -- What beginning all listed files does (this project's profile): file by file, in the order of their slots, each is opened and
 -- followed, or passed over where none is there; and then the keeper is told when each was changed.
-use Rattle.std.specs.Prelude.{◌≡◌, ◌⊎◌, ℕ, suc, ◌<◌, Bool, true, false, List, [], ◌∷◌, ◌++◌, All, take, slice_get, Some, Ok, Err}
+use Rattle.std.specs.Prelude.{◌≡◌, ◌⊎◌, ℕ, suc, ◌<◌, Bool, true, false, List, [], ◌∷◌, ◌++◌, All, take, slice_get, Option, Some, Ok, Err}
+use Rattle.event_tree.specs.declared.input_rule.IdentityRule.TheVariants.{Path}
+use Rattle.event_tree.specs.declared.input_rule.InputRule.{InputRule}
 use Rattle.event_tree.specs.declared.settings.Settings.{Settings}
+use Rattle.file_identity.specs.Key.{named_key}
 use Rattle.lanes.specs.Laning.{Laning}
+use Rattle.multiline_core.specs.Rule.{IsGroupRule}
 use Rattle.prospect.specs.declared.listed.Listed.{Listed}
 use Rattle.report.specs.declared.passing.Passing.{Passing}
 use Rattle.report.specs.declared.passing.Why.TheVariants.{Gone}
@@ -74,6 +78,14 @@ module _ {T W L : Type 0} (tails : TailWords T) (settings : Settings) (now : Mom
 
     abbrev pub BeginsSome : Met → Beginning T W L → Beginning T W L → Type 0
     BeginsSome met old new = EndsInFile met old new ⊎ ((met ≡ NoMemory) × (EndsBehindFile old new ⊎ EndsInMoments old new))
+
+-- a listed file of an input that tells files by their paths: where the folder tells, its key is the one of its path
+pub record IsOfPathInput (settings : Settings) (Tells : Type 0) (listed : Listed) : Type 0 where
+  pub rule : InputRule
+  pub rule_is : slice_get settings.inputs listed.input ≡ Some rule
+  pub by_path : rule.file_identity ≡ Path
+  pub in_range : IsGroupRule rule.multiline
+  pub keyed : Tells → (numbers : Option (ℕ × ℕ)) × (listed.key ≡ named_key rule.id Path listed.path numbers)
 
 -- each harvester is of one of so many slots
 abbrev pub IsSlotBelow : ℕ → Begin → Type 0
