@@ -2,7 +2,7 @@
 use Rattle.std.specs.Bool.{OnFalse, OnTrue}
 use Rattle.std.specs.List.{AllByRecursion, flat_map}
 use Rattle.std.proofs.Common.{Bool, true, false, ◌≡◌, ◌≢◌, ℕ, suc, ◌+◌, ◌-◌, ◌%◌, max, All, List, [], ◌∷◌, ◌++◌, length, take, drop, slice_index_or, ◌<◌, Option, Some, None, map, slice_get, refl, sym, ap, subst, ◌∙◌, arith}
-use Rattle.std.proofs.lemmas.List.{append_assoc, map-append}
+use Rattle.std.proofs.lemmas.List.{append_assoc, append-nil, map-append}
 use Rattle.std.proofs.lemmas.List.Elements.{All-append, All-cons, All-from_recursion, All-nil, recursion_from_All}
 use Rattle.atomic_table.specs.Seated.{TableId}
 use Rattle.batch_worker.specs.Begun.{begun_with as worker_begun_with}
@@ -17,13 +17,16 @@ use Rattle.pass_sums.specs.Weight.{weigh}
 use Rattle.pass_sums.proofs.Shares.{halved-weighs, halving_scale, worth_itself}
 use Rattle.pass_sums.proofs.Views.{weigh-snoc}
 use Rattle.pass_sums.proofs.Weights.{weigh-append}
-use Rattle.settle_box.specs.Poster.{Poster, poster}
-use Rattle.settle_box.specs.Senders.{child_of, split_once}
+use Rattle.mem_queue.specs.declared.entry.Entry.{Entry}
+use Rattle.settle_box.specs.Poster.{Poster, poster, senders_of}
+use Rattle.settle_box.specs.Senders.{child_of, posted_by, split_once}
+use Rattle.settle_box.specs.declared.sender.Sender.{Sender}
+use Rattle.wire_base.specs.declared.note.Note.{Note}
 use Rattle.wire_base.specs.declared.host.Host.{Host}
 use Rattle.rounds.specs.CarrierTurns.{begun_carried}
 use Rattle.rounds.specs.Crewed.{carrier_passes, carriers_passes, lane_passes, lanes_passes, lanings}
-use Rattle.rounds.specs.Making.{AddsCarrier, AddsLane, HaveAll, HaveHosts, HaveParts, HaveWires, IsBegunCarrier, IsBegunLane, all_seen, wires_of}
-use Rattle.rounds.specs.Passes.{AreAllOf, AreOf, Passes, post_share_in, post_shares, share_in, shares}
+use Rattle.rounds.specs.Making.{AddsCarrier, AddsLane, HaveAll, HaveHosts, HaveParts, HaveWires, IsBegunCarrier, IsBegunLane, KnowAll, KnowWith, all_seen, wires_of}
+use Rattle.rounds.specs.Passes.{AreAllOf, AreOf, Passes, entries, entries_in, post_share_in, post_shares, senders, senders_in, share_in, shares}
 use Rattle.rounds.specs.Words.{WireWords}
 use Rattle.rounds.specs.declared.carrier.Carrier.{Carrier}
 
@@ -128,6 +131,49 @@ module _ (queue desk : TableId) where
       post_share = rest_of (λ (p : Passes). post_share_in p.post) all (both left left_post) left_post.share posts refl have.post_share;
     })
 
+-- ---- what they know
+
+snoc_given : {A V : Type 0} (f : V → List A) (views : List V) (v : V) → flat_map f (views ++ v ∷ []) ≡ flat_map f views ++ f v
+snoc_given f [] v = append-nil (f v)
+snoc_given f (x ∷ views) v = ap (λ l. f x ++ l) (snoc_given f views v) ∙ sym (append_assoc (f x) (flat_map f views) (f v))
+
+posted_both : (xs ys : List Sender) → posted_by (xs ++ ys) ≡ posted_by xs ++ posted_by ys
+posted_both [] ys = refl
+posted_both (x ∷ xs) ys = ap (λ (l : List Note). x.posted ++ l) (posted_both xs ys) ∙ sym (append_assoc x.posted (posted_by xs) (posted_by ys))
+
+module _ (all : List Passes) (its : Known) (its_post : Poster) where
+  entries_snoc : entries (all ++ both its its_post ∷ []) ≡ entries all ++ its.entries
+  entries_snoc = snoc_given (λ (p : Passes). entries_in p.moves) all (both its its_post)
+
+  posted_snoc : posted_by (senders (all ++ both its its_post ∷ [])) ≡ posted_by (senders all) ++ posted_by (senders_of its_post)
+  posted_snoc = ap posted_by (snoc_given (λ (p : Passes). senders_in p.post) all (both its its_post)) ∙ posted_both (senders all) (senders_of its_post)
+
+pub begin_known : (left : Known) (left_post : Poster) → KnowWith left.entries (posted_by (senders_of left_post)) left left_post []
+begin_known left left_post = record { entries_are = refl; notes_are = refl }
+
+module _ (moved : List Entry) (posted : List Note) (left : Known) (left_post : Poster) (all : List Passes) (know : KnowWith moved posted left left_post all) where
+  -- a part that was cut off knows of nothing yet
+  pub one_known : (left_new its : Known) (left_post_new its_post : Poster) (new : List Passes) → left_new ≡ known left.queue (kept_half left.share) left.entries → its ≡ known left.queue (cut_half left.share) []
+      → left_post_new ≡ poster left_post.desk (kept_half left_post.share) (split_once left_post.mine) left_post.joined → its_post ≡ poster left_post.desk (cut_half left_post.share) (child_of left_post.mine) []
+      → new ≡ all ++ both its its_post ∷ [] → KnowWith moved posted left_new left_post_new new
+  one_known left_new its left_post_new its_post new kept_is cut_is kept_by_is cut_by_is new_is = record {
+    entries_are = ap (λ (l : List Passes). entries l ++ left_new.entries) new_is ∙ ap (λ (l : List Entry). l ++ left_new.entries) (entries_snoc all its its_post)
+        ∙ ap (λ (k : Known). (entries all ++ k.entries) ++ left_new.entries) cut_is ∙ ap (λ (l : List Entry). l ++ left_new.entries) (append-nil (entries all))
+        ∙ ap (λ (k : Known). entries all ++ k.entries) kept_is ∙ know.entries_are;
+    notes_are = ap (λ (l : List Passes). posted_by (senders l) ++ posted_by (senders_of left_post_new)) new_is
+        ∙ ap (λ (l : List Note). l ++ posted_by (senders_of left_post_new)) (posted_snoc all its its_post)
+        ∙ ap (λ (p : Poster). (posted_by (senders all) ++ posted_by (senders_of p)) ++ posted_by (senders_of left_post_new)) cut_by_is
+        ∙ ap (λ (l : List Note). l ++ posted_by (senders_of left_post_new)) (append-nil (posted_by (senders all)))
+        ∙ ap (λ (p : Poster). posted_by (senders all) ++ posted_by (senders_of p)) kept_by_is ∙ know.notes_are;
+  }
+
+  -- with the rests, all is known
+  pub all_known : (new : List Passes) → new ≡ all ++ both left left_post ∷ [] → KnowAll moved posted new
+  all_known new new_is = record {
+    entries_are = ap entries new_is ∙ entries_snoc all left left_post ∙ know.entries_are;
+    notes_are = ap (λ (l : List Passes). posted_by (senders l)) new_is ∙ posted_snoc all left left_post ∙ know.notes_are;
+  }
+
 -- ---- lanes
 
 -- a lane of a list of lanes
@@ -148,6 +194,15 @@ module _ {T : Type 0} (put : Known) (post : Poster) (old new : List (Laning T)) 
       → HaveParts queue desk moves posts left left_post (lanes_passes old) → HaveParts queue desk moves posts left_new left_post_new (lanes_passes new)
   lane_parted queue desk moves posts left left_new left_post left_post_new kept_is cut_is kept_by_is cut_by_is have =
       one_parted queue desk moves posts left left_post (lanes_passes old) have left_new put left_post_new post (lanes_passes new) kept_is cut_is kept_by_is cut_by_is lane_passes_added
+
+  pub lane_known : (moved : List Entry) (posted : List Note) (left left_new : Known) (left_post left_post_new : Poster) → left_new ≡ known left.queue (kept_half left.share) left.entries → put ≡ known left.queue (cut_half left.share) []
+      → left_post_new ≡ poster left_post.desk (kept_half left_post.share) (split_once left_post.mine) left_post.joined → post ≡ poster left_post.desk (cut_half left_post.share) (child_of left_post.mine) []
+      → KnowWith moved posted left left_post (lanes_passes old) → KnowWith moved posted left_new left_post_new (lanes_passes new)
+  lane_known moved posted left left_new left_post left_post_new kept_is cut_is kept_by_is cut_by_is know =
+      one_known moved posted left left_post (lanes_passes old) know left_new put left_post_new post (lanes_passes new) kept_is cut_is kept_by_is cut_by_is lane_passes_added
+
+  pub last_lane_known : (moved : List Entry) (posted : List Note) → KnowWith moved posted put post (lanes_passes old) → KnowAll moved posted (lanes_passes new)
+  last_lane_known moved posted know = all_known moved posted put post (lanes_passes old) know (lanes_passes new) lane_passes_added
 
   pub last_lane_parted : (queue desk : TableId) (moves posts : List ℕ) → HaveParts queue desk moves posts put post (lanes_passes old) → HaveAll queue desk moves posts (lanes_passes new)
   last_lane_parted queue desk moves posts have = all_parted queue desk moves posts put post (lanes_passes old) have (lanes_passes new) lane_passes_added
@@ -191,6 +246,15 @@ module _ {W L : Type 0} (rule : OutputRule) (number : ℕ) (take : Known) (post 
       → HaveParts queue desk moves posts left left_post (carriers_passes old) → HaveParts queue desk moves posts left_new left_post_new (carriers_passes new)
   carrier_parted queue desk moves posts left left_new left_post left_post_new kept_is cut_is kept_by_is cut_by_is have =
       one_parted queue desk moves posts left left_post (carriers_passes old) have left_new take left_post_new post (carriers_passes new) kept_is cut_is kept_by_is cut_by_is carrier_passes_added
+
+  pub carrier_known : (moved : List Entry) (posted : List Note) (left left_new : Known) (left_post left_post_new : Poster) → left_new ≡ known left.queue (kept_half left.share) left.entries → take ≡ known left.queue (cut_half left.share) []
+      → left_post_new ≡ poster left_post.desk (kept_half left_post.share) (split_once left_post.mine) left_post.joined → post ≡ poster left_post.desk (cut_half left_post.share) (child_of left_post.mine) []
+      → KnowWith moved posted left left_post (carriers_passes old) → KnowWith moved posted left_new left_post_new (carriers_passes new)
+  carrier_known moved posted left left_new left_post left_post_new kept_is cut_is kept_by_is cut_by_is know =
+      one_known moved posted left left_post (carriers_passes old) know left_new take left_post_new post (carriers_passes new) kept_is cut_is kept_by_is cut_by_is carrier_passes_added
+
+  pub last_carrier_known : (moved : List Entry) (posted : List Note) → KnowWith moved posted take post (carriers_passes old) → KnowAll moved posted (carriers_passes new)
+  last_carrier_known moved posted know = all_known moved posted take post (carriers_passes old) know (carriers_passes new) carrier_passes_added
 
   pub last_carrier_parted : (queue desk : TableId) (moves posts : List ℕ) → HaveParts queue desk moves posts take post (carriers_passes old) → HaveAll queue desk moves posts (carriers_passes new)
   last_carrier_parted queue desk moves posts have = all_parted queue desk moves posts take post (carriers_passes old) have (carriers_passes new) carrier_passes_added

@@ -3,14 +3,20 @@ use Rattle.std.specs.Prelude.{◌≡◌, ◌≢◌, ◌%◌, ℕ, suc, List, [],
 use Rattle.atomic_table.specs.Seated.{TableId}
 use Rattle.batch_worker.specs.Begun.{begun_with as worker_begun_with}
 use Rattle.batch_worker.specs.Seen.{Seen, seen}
+use Rattle.batch_worker.specs.Standing.{StandsFor, length_of}
 use Rattle.event_tree.specs.declared.output_rule.OutputRule.{OutputRule}
 use Rattle.lanes.specs.Laning.{Laning, begun_with}
+use Rattle.mem_queue.specs.declared.entry.Entry.{Entry}
 use Rattle.mem_queue.specs.Known.{Known}
+use Rattle.outside.specs.Talks.{Talk}
+use Rattle.outside.specs.Wires.{Outcome}
 use Rattle.pass_sums.specs.Share.{IsWorth}
-use Rattle.settle_box.specs.Poster.{Poster}
+use Rattle.settle_box.specs.Poster.{Poster, senders_of}
+use Rattle.settle_box.specs.Senders.{posted_by}
+use Rattle.wire_base.specs.declared.note.Note.{Note}
 use Rattle.wire_base.specs.declared.host.Host.{Host}
 use Rattle.rounds.specs.CarrierTurns.{begun_carried}
-use Rattle.rounds.specs.Passes.{AreAllOf, Passes, post_shares, shares}
+use Rattle.rounds.specs.Passes.{AreAllOf, Passes, entries, post_shares, senders, shares}
 use Rattle.rounds.specs.Words.{WireWords}
 use Rattle.rounds.specs.declared.carrier.Carrier.{Carrier}
 
@@ -28,6 +34,16 @@ pub record HaveAll (queue desk : TableId) (moves posts : List ℕ) (all : List P
   pub are : AreAllOf queue desk all
   pub share : IsWorth (shares all) moves
   pub post_share : IsWorth (post_shares all) posts
+
+-- these passes, with two whose rests these are, know of all that was moved and posted
+pub record KnowWith (moved : List Entry) (posted : List Note) (left : Known) (left_post : Poster) (all : List Passes) : Type 0 where
+  pub entries_are : entries all ++ left.entries ≡ moved
+  pub notes_are : posted_by (senders all) ++ posted_by (senders_of left_post) ≡ posted
+
+-- these passes know of all that was moved and posted
+pub record KnowAll (moved : List Entry) (posted : List Note) (all : List Passes) : Type 0 where
+  pub entries_are : entries all ≡ moved
+  pub notes_are : posted_by (senders all) ≡ posted
 
 -- ---- lanes
 
@@ -49,6 +65,10 @@ pub record IsBegunCarrier {W L : Type 0} (rule : OutputRule) (carrier : Carrier 
   pub post : Poster
   pub is : carrier.worker ≡ worker_begun_with carrier.worker.host rule take post
   pub carried_is : carrier.carried ≡ begun_carried
+
+-- its wire's talks acknowledged nothing since it was made, whatever they were by then
+abbrev pub StandsForNothing : {W L : Type 0} → (L → Option Talk) → Carrier W L → Type 0
+StandsForNothing told carrier = (outcomes : Option (List Outcome)) → StandsFor told (length_of outcomes) carrier.worker outcomes []
 
 -- worker by worker from this number on, each has the host of its number modulo the number of hosts
 abbrev pub HaveHosts : {W L : Type 0} → List Host → ℕ → List (Carrier W L) → Type 0

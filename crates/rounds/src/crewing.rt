@@ -1,8 +1,12 @@
 ghost use Rattle.std.specs.Prelude.{◌≡◌, ◌∷◌, ◌<◌, ◌≤◌, ◌+◌, ◌++◌, [], All, IfOk, OnErr, List, ℕ, length, vec_len, vec_capacity};
 ghost use Rattle.std.specs.Bool.{OnFalse, OnTrue};
 ghost use Rattle.batch_worker.specs.Rule.{IsWorkable};
+ghost use Rattle.mem_queue.specs.declared.entry.Entry.{Entry};
+ghost use Rattle.settle_box.specs.Poster.{senders_of};
+ghost use Rattle.settle_box.specs.Senders.{posted_by};
+ghost use Rattle.wire_base.specs.declared.note.Note.{Note};
 ghost use Rattle.rounds.specs.Crewed.{carriers_passes, lanes_passes, lanings};
-ghost use Rattle.rounds.specs.Making.{AddsCarrier, AddsLane, HaveAll, HaveParts, HaveWires, IsBegunCarrier, IsBegunLane, all_seen, wires_of};
+ghost use Rattle.rounds.specs.Making.{AddsCarrier, AddsLane, HaveAll, HaveParts, HaveWires, IsBegunCarrier, IsBegunLane, KnowAll, KnowWith, StandsForNothing, all_seen, wires_of};
 ghost use Rattle.rounds.specs.Words.{wire_words};
 
 use crate::carrier::Carrier;
@@ -28,6 +32,8 @@ pub fn lanes_of<T: Tail>(
     requires of_this_box { post.desk ≡ outlets.desk.now.id }
     ensures all { IfOk result (λ lanes. HaveAll outlets.entry.queue.now.id
         outlets.entry.desk.now.id put.share post.share (lanes_passes (lanings lanes.items))) }
+    ensures known { IfOk result (λ lanes. KnowAll put.entries (posted_by (senders_of post))
+        (lanes_passes (lanings lanes.items))) }
     ensures begun { IfOk result (λ lanes. All IsBegunLane (lanings lanes.items)) }
     ensures many { IfOk result (λ lanes. length lanes.items ≡ count) }
 {
@@ -71,6 +77,9 @@ fn part_lane<T: Tail>(
         put.old post.old (lanes_passes (lanings lanes.old.items)) →
         HaveParts outlets.entry.queue.now.id outlets.entry.desk.now.id moves posts
         put.new post.new (lanes_passes (lanings lanes.new.items)) }
+    ensures known { (moved : List Entry) (posted : List Note) →
+        KnowWith moved posted put.old post.old (lanes_passes (lanings lanes.old.items)) →
+        KnowWith moved posted put.new post.new (lanes_passes (lanings lanes.new.items)) }
     ensures begun { All IsBegunLane (lanings lanes.old.items) →
         All IsBegunLane (lanings lanes.new.items) }
     ensures len { vec_len lanes.new ≡ vec_len lanes.old + 1 }
@@ -98,7 +107,10 @@ pub fn carriers_of<L: Link, W: Wire<Link = L>>(
     requires of_this_box { post.desk ≡ outlets.desk.now.id }
     ensures all { IfOk result (λ carriers. HaveAll outlets.entry.queue.now.id
         outlets.entry.desk.now.id take.share post.share (carriers_passes carriers.items)) }
+    ensures known { IfOk result (λ carriers. KnowAll take.entries (posted_by (senders_of post))
+        (carriers_passes carriers.items)) }
     ensures begun { IfOk result (λ carriers. All (IsBegunCarrier rule.entry.now) carriers.items) }
+    ensures stands { IfOk result (λ carriers. All (StandsForNothing L.told) carriers.items) }
     ensures wires { IfOk result (λ carriers.
         HaveWires rule.entry.now wires.old.items wires.new.items carriers.items) }
     ensures many { IfOk result (λ carriers. length carriers.items ≡ rule.entry.now.workers) }
@@ -145,7 +157,10 @@ fn fill<L: Link, W: Wire<Link = L>>(
     requires of_this_box { all.post.desk ≡ outlets.desk.now.id }
     ensures all { OnTrue result (HaveAll outlets.entry.queue.now.id outlets.entry.desk.now.id
         all.take.share all.post.share (carriers_passes carriers.new.items)) }
+    ensures known { OnTrue result (KnowAll all.take.entries (posted_by (senders_of all.post))
+        (carriers_passes carriers.new.items)) }
     ensures begun { All (IsBegunCarrier rule.entry.now) carriers.new.items }
+    ensures stands { All (StandsForNothing L.told) carriers.new.items }
     ensures wires { HaveWires rule.entry.now wires.old.items wires.new.items carriers.new.items }
     ensures many { OnTrue result (vec_len carriers.new ≡ rule.entry.now.workers) }
     ensures capacity { vec_capacity wires.new ≡ vec_capacity wires.old }
@@ -181,6 +196,8 @@ fn add_carrier<L: Link, W: Wire<Link = L>>(
     requires room { vec_len carriers.old < vec_capacity carriers.old }
     ensures adds { OnTrue result (AddsCarrier rule.entry.now number its.take its.post
         wires.old.items wires.new.items carriers.old.items carriers.new.items) }
+    ensures stands { All (StandsForNothing L.told) carriers.old.items →
+        All (StandsForNothing L.told) carriers.new.items }
     ensures kept { OnFalse result ((wires.new.items ≡ wires.old.items)
         × (carriers.new.items ≡ carriers.old.items)) }
     ensures len { OnTrue result (vec_len carriers.new ≡ vec_len carriers.old + 1) }

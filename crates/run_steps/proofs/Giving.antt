@@ -3,6 +3,7 @@ use Rattle.std.proofs.Common.{◌≡◌, ◌⊎◌, inl, inr, ℕ, zero, suc, �
 use Rattle.std.proofs.lemmas.List.{drop-append-le}
 use Rattle.accounts.proofs.Lists.{in_order_on}
 use Rattle.harvester.specs.Standing.{EndsAt}
+use Rattle.kept_rows.specs.Scans.{StandInOrder}
 use Rattle.outside.specs.Times.{EndsWith, GivesMoment}
 use Rattle.run_steps.specs.Shown.{HasGiven}
 
@@ -84,5 +85,49 @@ module _ (moment now : ℕ) (since : List ℕ) where
           );
           untold = λ none. absurd cc;
           among = in_order_on (moment ∷ []) since (now ∷ []) given.among;
+        };
+      }
+
+-- ---- the first one
+
+-- the moments that the clock gave, as the first was given
+pub record FirstGiven (before after : Option (List ℕ)) (moment : ℕ) : Type 0 where
+  pub since : List ℕ
+  pub ends : EndsAt since moment
+  pub given : HasGiven before after moment since
+
+module _ (moment : ℕ) where
+  last_among : (since : List ℕ) → EndsAt since moment → StandInOrder (moment ∷ []) since
+  last_among since ends = (ends.earlier, [], ends.are, tt)
+
+  pub first_given : (before after : Option (List ℕ)) → GivesMoment before moment after → FirstGiven before after moment
+  first_given None after gives = record {
+    since = moment ∷ [];
+    ends = record { earlier = []; are = refl };
+    given = record { told = tt; untold = λ _. gives; among = ([], [], refl, tt) };
+  }
+  first_given (Some earlier) after (inl same) =
+      let some = some_there earlier moment same.0 in
+      let ends = ends_behind earlier moment (length earlier - 1) (omega (arith, some)) (ends_at earlier moment same.0) in
+      record {
+        since = drop (length earlier - 1) earlier;
+        ends = ends;
+        given = record {
+          told = ([], same.1 ∙ ap (λ (l : List ℕ). Some l) (sym (append-nil earlier)), ap (drop (length earlier - 1)) (sym (append-nil earlier)));
+          untold = λ none. absurd cc;
+          among = last_among (drop (length earlier - 1) earlier) ends;
+        };
+      }
+  first_given (Some earlier) after (inr grows) =
+      let all = earlier ++ moment ∷ [] in
+      let long : length all ≡ length earlier + 1 = length-append earlier (moment ∷ []) in
+      let ends = ends_behind all moment (length earlier - 1) (omega (arith, long)) (record { earlier = earlier; are = refl }) in
+      record {
+        since = drop (length earlier - 1) all;
+        ends = ends;
+        given = record {
+          told = (moment ∷ [], grows.1, refl);
+          untold = λ none. absurd cc;
+          among = last_among (drop (length earlier - 1) all) ends;
         };
       }

@@ -17,6 +17,7 @@ pub mod Ended
 pub mod Epochs
 pub mod Filing
 pub mod Finishing
+pub mod First
 pub mod Giving
 pub mod Grounds
 pub mod Having

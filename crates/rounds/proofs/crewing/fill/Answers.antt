@@ -1,5 +1,7 @@
 use Rattle.std.proofs.Common.{arith, ◌-◌, ◌∙◌}
-use Rattle.rounds.proofs.Making.{added_carrier_begun, begun_either, carrier_parted, wires_either, wires_on}
+use Rattle.settle_box.specs.Poster.{senders_of}
+use Rattle.settle_box.specs.Senders.{posted_by}
+use Rattle.rounds.proofs.Making.{added_carrier_begun, begun_either, carrier_known, carrier_parted, last_carrier_known, on_true, wires_either, wires_on}
 use Rattle.rounds.proofs.crewing.fill.Goals as goal
 
 pub workers-preserved : goal.workers-preserved
@@ -9,6 +11,10 @@ workers-preserved g c =
       parts = carrier_parted c.args.rule.now (c.workers.made - 1) c.split_take.result c.split_post.result c.workers.wires.items c.add_carrier.new.wires.items c.workers.carriers.items c.add_carrier.new.carriers.items adds
           c.args.outlets.queue.now.id c.args.outlets.desk.now.id c.args.all.take.share c.args.all.post.share c.workers.take c.split_take.new.pass c.workers.post c.split_post.new.pass
           c.split_take.ensures.kept c.split_take.ensures.new c.split_post.ensures.kept c.split_post.ensures.new c.workers.invariant.parts;
+      known = carrier_known c.args.rule.now (c.workers.made - 1) c.split_take.result c.split_post.result c.workers.wires.items c.add_carrier.new.wires.items c.workers.carriers.items c.add_carrier.new.carriers.items adds
+          c.args.all.take.entries (posted_by (senders_of c.args.all.post)) c.workers.take c.split_take.new.pass c.workers.post c.split_post.new.pass
+          c.split_take.ensures.kept c.split_take.ensures.new c.split_post.ensures.kept c.split_post.ensures.new c.workers.invariant.known;
+      stands = c.add_carrier.ensures.stands c.workers.invariant.stands;
       begun = added_carrier_begun c.args.rule.now (c.workers.made - 1) c.split_take.result c.split_post.result c.workers.wires.items c.add_carrier.new.wires.items c.workers.carriers.items c.add_carrier.new.carriers.items adds c.workers.invariant.begun;
       wires = wires_on c.args.rule.now (c.workers.made - 1) c.split_take.result c.split_post.result c.workers.wires.items c.add_carrier.new.wires.items c.workers.carriers.items c.add_carrier.new.carriers.items adds
           c.args.wires.now.items (omega (arith, c.workers.carriers.ok, c.workers.invariant.many)) c.workers.invariant.wires;
