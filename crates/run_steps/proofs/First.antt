@@ -150,7 +150,7 @@ module _ {T W L D : Type 0} (words : Words T W L D) (start : Began D) (crew : Cr
     pub areas : BeganAtRest words.disks start → HaveHeldFronts words.disks [] start.a start.b a b
 
   module _ (made : IsMade) where
-    given : FirstGiven start.moments later start.moment
+    pub given : FirstGiven start.moments later start.moment
     given = first_given start.moment start.moments later made.gives
 
     none : AllByRecursion HasNone (lanings crew.lanes.items)
