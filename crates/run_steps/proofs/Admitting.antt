@@ -162,6 +162,6 @@ module _ {T : Type 0} (tails : TailWords T) (processors : List ProcessorRule) (o
   opened_later others (ts ∷ files) [] stand = absurd stand
   opened_later others (ts ∷ files) (lane ∷ lanes) stand = (
     subst (λ (l : List ℕ). AreTurnedIn tails processors (opened ++ others) l ts lane) (append-nil moments)
-    (each_stands_later tails.numbers tails.told processors opened moments others [] ts lane.harvesters stand.0),
+        (each_stands_later tails.numbers tails.told processors opened moments others [] ts lane.harvesters stand.0),
     opened_later others files lanes stand.1,
   )

@@ -1,10 +1,11 @@
 pub mod Able
 pub mod Admitted
 pub mod Admitting
+pub mod AllBegun
 pub mod Areas
 pub mod Attempts
-pub mod Beginning
 pub mod BeginningFiles
+pub mod BeginningLists
 pub mod BeginningOne
 pub mod BeginningSteps
 pub mod Begun

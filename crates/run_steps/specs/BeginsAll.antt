@@ -1,6 +1,6 @@
 -- What beginning all listed files does (this project's profile): file by file, in the order of their slots, each is opened and
 -- followed, or passed over where none is there; and then the keeper is told when each was changed.
-use Rattle.std.specs.Prelude.{◌≡◌, ◌⊎◌, ℕ, suc, ◌<◌, Bool, true, false, List, [], ◌∷◌, ◌++◌, All, take, slice_get, Option, Some, Ok, Err}
+use Rattle.std.specs.Prelude.{◌≡◌, ◌⊎◌, ℕ, suc, ◌<◌, ◌≤◌, Bool, true, false, List, [], ◌∷◌, ◌++◌, All, length, take, slice_get, Option, Some, Ok, Err}
 use Rattle.event_tree.specs.declared.input_rule.IdentityRule.TheVariants.{Path}
 use Rattle.event_tree.specs.declared.input_rule.InputRule.{InputRule}
 use Rattle.event_tree.specs.declared.settings.Settings.{Settings}
@@ -42,6 +42,16 @@ module _ {T W L : Type 0} (tails : TailWords T) (settings : Settings) (now : Mom
   BeginsFrom slot [] passed old new = (passed ≡ []) × (new ≡ old)
   BeginsFrom slot (one ∷ listed) passed old new = BeginsFirst slot one (λ later mid. BeginsFrom (suc slot) listed later mid new) passed old
 
+  -- a file was opened and followed, or passed over with this path
+  pub record BeginsOrPasses (file : ListedFile) (more : List Passing) (old new : Beginning T W L) : Type 0 where
+    pub found : Bool
+    pub begins : BeginsOne tails settings file (Ok found) old new
+    pub more_is : more ≡ passed_by found file.listed
+
+  -- the call ended in it, or as its path was to be passed over
+  abbrev pub EndsInOne : ListedFile → Met → Beginning T W L → Beginning T W L → Type 0
+  EndsInOne file met old new = BeginsOne tails settings file (Err met) old new ⊎ ((met ≡ NoMemory) × BeginsOne tails settings file (Ok false) old new)
+
   module _ (listed : List Listed) where
     -- each of them, and then the keeper was told when those were changed that are followed
     pub record BeginsAll (passed : List Passing) (old new : Beginning T W L) : Type 0 where
@@ -76,6 +86,9 @@ module _ {T W L : Type 0} (tails : TailWords T) (settings : Settings) (now : Mom
       pub tell : TellSomeMoments listed mid.keeper new.keeper
       pub others : new ≡ record mid { keeper = new.keeper }
 
+    abbrev pub EndsInFiles : Met → Beginning T W L → Beginning T W L → Type 0
+    EndsInFiles met old new = EndsInFile met old new ⊎ ((met ≡ NoMemory) × EndsBehindFile old new)
+
     abbrev pub BeginsSome : Met → Beginning T W L → Beginning T W L → Type 0
     BeginsSome met old new = EndsInFile met old new ⊎ ((met ≡ NoMemory) × (EndsBehindFile old new ⊎ EndsInMoments old new))
 
@@ -86,6 +99,18 @@ pub record IsOfPathInput (settings : Settings) (Tells : Type 0) (listed : Listed
   pub by_path : rule.file_identity ≡ Path
   pub in_range : IsGroupRule rule.multiline
   pub keyed : Tells → (numbers : Option (ℕ × ℕ)) × (listed.key ≡ named_key rule.id Path listed.path numbers)
+
+-- its input is one of the settings
+abbrev pub IsOfInputs : Settings → Listed → Type 0
+IsOfInputs settings listed = listed.input < length settings.inputs
+
+-- what stays, whatever beginning so many files came to
+pub record KeepsOthers {T W L : Type 0} (count : ℕ) (old new : Beginning T W L) : Type 0 where
+  pub carriers : new.crew.carriers ≡ old.crew.carriers
+  pub pace : new.crew.pace ≡ old.crew.pace
+  pub as_many_lanes : length new.crew.lanes.items ≡ length old.crew.lanes.items
+  pub keeper : new.keeper ≡ record old.keeper { tracked = new.keeper.tracked }
+  pub faults_never_fall : old.folder.faults ≤ new.folder.faults
 
 -- each harvester is of one of so many slots
 abbrev pub IsSlotBelow : ℕ → Begin → Type 0

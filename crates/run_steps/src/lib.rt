@@ -6,6 +6,7 @@
 #![tactic(auto)]
 
 mod begin;
+mod beginning;
 mod context;
 mod follow;
 mod laws;
@@ -20,7 +21,8 @@ mod telling;
 mod working;
 
 pub use begin::{begin_one, pass_over};
-pub use context::{Context, Surroundings};
+pub use beginning::{Scanned, begin_all};
+pub use context::{Context, Outside};
 pub use follow::{PAUSE, met_in, pause_where_still};
 pub use leave::{end_crew, end_lanes, release_all};
 pub use met::Met;

@@ -125,7 +125,7 @@ module _ {T W L D : Type 0} (words : Words T W L D) (reads : (disk : D) → IfSo
       keyed = each.0.keyed;
     },
     subst (λ (n : ℕ). AreToBegin n listed) (length-append before (one ∷ []) ∙ one_longer)
-    (are_to_begin (before ++ one ∷ []) listed (are ∙ sym (append_assoc before (one ∷ []) listed)) each.1),
+        (are_to_begin (before ++ one ∷ []) listed (are ∙ sym (append_assoc before (one ∷ []) listed)) each.1),
   )
     where
       one_longer : length before + 1 ≡ suc (length before)

@@ -1,0 +1,147 @@
+ghost use Rattle.std.specs.Prelude.{◌≡◌, ◌++◌, ◌+◌, ◌<◌, ◌≤◌, [], All, IfErr, IfOk, List, OnOk, length};
+ghost use Rattle.beat_config.specs.InRange.{AreInRange};
+ghost use Rattle.prospect.specs.ListedFiles.{IsListedInRange};
+ghost use Rattle.report.specs.declared.passing.Passing.{Passing};
+ghost use Rattle.rounds.specs.Words.{tail_words};
+ghost use Rattle.wire_base.specs.Ranges.{IsMoment};
+ghost use Rattle.run_steps.specs.Beginning.{beginning, listed_file};
+ghost use Rattle.run_steps.specs.BeginsAll.{BeginsAll, BeginsFrom, BeginsOrPasses, BeginsSome, EndsInFiles, EndsInOne, IsOfInputs, KeepsOthers};
+ghost use Rattle.run_steps.specs.FolderSeen.{folder_words};
+
+use crate::begin::{begin_one, pass_over};
+use crate::context::Context;
+use crate::met::Met;
+use crate::opening::Opening;
+use crate::telling::tell_moments;
+use keeper::Keeper;
+use outside::{Folder, Link, Wire};
+use prospect::Listed;
+use report::Passing;
+use rounds::Crew;
+use wire_base::{Moment, Slot};
+
+/// What a scan told, and its moment. A file's slot is its place in the list.
+#[derive(Debug, Drop)]
+pub struct Scanned {
+    pub listed: Vec<Listed>,
+    pub now: Moment,
+}
+
+/// Opens each listed file, tells the keeper how each begins, and then when each was changed. The paths that no file had any more.
+/// `Err` is `FolderFault` where the folder failed, and `NoMemory`; what was begun by then stays begun.
+pub fn begin_all<F: Folder, L: Link, W: Wire<Link = L>>(
+    context: Context<'_, '_>,
+    scanned: &Scanned,
+    folder: &mut F,
+    crew: &mut Crew<F::Tail, W, L>,
+    keeper: &mut Keeper,
+) -> Result<Vec<Passing>, Met>
+    requires settings { AreInRange context.settings.now }
+    requires in_range { All IsListedInRange scanned.now.listed.items }
+    requires of_inputs { All (IsOfInputs context.settings.now) scanned.now.listed.items }
+    requires few { length scanned.now.listed.items ≤ 65_536 }
+    requires moment { IsMoment scanned.now.now }
+    requires some_lanes { 0 < length crew.old.lanes.items }
+    requires nothing_told { keeper.old.tracked.notes ≡ [] }
+    requires no_rows { keeper.old.store.rows ≡ [] }
+    ensures begun { IfOk result (λ passed. BeginsAll
+        (tail_words F.Tail.numbers F.Tail.told F.Tail.faults) context.entry.settings.now
+        scanned.entry.now.now scanned.entry.now.listed.items passed.items
+        (beginning (folder_words F.told F.states F.present F.open_tails F.faults)
+        folder.old crew.old keeper.old)
+        (beginning (folder_words F.told F.states F.present F.open_tails F.faults)
+        folder.new crew.new keeper.new)) }
+    ensures ended { IfErr result (λ met. BeginsSome
+        (tail_words F.Tail.numbers F.Tail.told F.Tail.faults) context.entry.settings.now
+        scanned.entry.now.now scanned.entry.now.listed.items met
+        (beginning (folder_words F.told F.states F.present F.open_tails F.faults)
+        folder.old crew.old keeper.old)
+        (beginning (folder_words F.told F.states F.present F.open_tails F.faults)
+        folder.new crew.new keeper.new)) }
+{
+    let passed = begin_files(context, scanned, folder, crew, keeper)?;
+    tell_moments(context.alloc, scanned.listed.as_slice(), keeper)?;
+    Ok(passed)
+}
+
+// Opens each, from slot 0 on.
+fn begin_files<F: Folder, L: Link, W: Wire<Link = L>>(
+    context: Context<'_, '_>,
+    scanned: &Scanned,
+    folder: &mut F,
+    crew: &mut Crew<F::Tail, W, L>,
+    keeper: &mut Keeper,
+) -> Result<Vec<Passing>, Met>
+    requires settings { AreInRange context.settings.now }
+    requires in_range { All IsListedInRange scanned.now.listed.items }
+    requires of_inputs { All (IsOfInputs context.settings.now) scanned.now.listed.items }
+    requires few { length scanned.now.listed.items ≤ 65_536 }
+    requires moment { IsMoment scanned.now.now }
+    requires some_lanes { 0 < length crew.old.lanes.items }
+    requires nothing_told { keeper.old.tracked.notes ≡ [] }
+    requires no_rows { keeper.old.store.rows ≡ [] }
+    ensures begun { IfOk result (λ passed. BeginsFrom
+        (tail_words F.Tail.numbers F.Tail.told F.Tail.faults) context.entry.settings.now
+        scanned.entry.now.now 0 scanned.entry.now.listed.items passed.items
+        (beginning (folder_words F.told F.states F.present F.open_tails F.faults)
+        folder.old crew.old keeper.old)
+        (beginning (folder_words F.told F.states F.present F.open_tails F.faults)
+        folder.new crew.new keeper.new)) }
+    ensures ended { IfErr result (λ met. EndsInFiles
+        (tail_words F.Tail.numbers F.Tail.told F.Tail.faults) context.entry.settings.now
+        scanned.entry.now.now scanned.entry.now.listed.items met
+        (beginning (folder_words F.told F.states F.present F.open_tails F.faults)
+        folder.old crew.old keeper.old)
+        (beginning (folder_words F.told F.states F.present F.open_tails F.faults)
+        folder.new crew.new keeper.new)) }
+{
+    let mut passed = Vec::new(context.alloc);
+    let mut slot = 0;
+    'files: while slot < scanned.listed.len() {
+        let opening = Opening {
+            slot: Slot(slot as u32),
+            listed: &scanned.listed[slot],
+            now: scanned.now,
+        };
+        begin_or_pass(context, opening, folder, crew, keeper, &mut passed)?;
+        slot += 1;
+    }
+    Ok(passed)
+}
+
+// Opens and follows the file, or adds its path to those that were passed over.
+fn begin_or_pass<F: Folder, L: Link, W: Wire<Link = L>>(
+    context: Context<'_, '_>,
+    opening: Opening<'_>,
+    folder: &mut F,
+    crew: &mut Crew<F::Tail, W, L>,
+    keeper: &mut Keeper,
+    passed: &mut Vec<Passing>,
+) -> Result<(), Met>
+    requires settings { AreInRange context.settings.now }
+    requires in_range { IsListedInRange opening.listed.now }
+    requires input { opening.listed.now.input < length context.settings.now.inputs }
+    requires moment { IsMoment opening.now }
+    requires some_lanes { 0 < length crew.old.lanes.items }
+    requires few { length keeper.old.store.rows + length keeper.old.tracked.notes < 65_536 }
+    ensures begun { OnOk result ((more : List Passing) × (passed.new.items ≡ passed.old.items ++ more) × BeginsOrPasses
+        (tail_words F.Tail.numbers F.Tail.told F.Tail.faults) context.entry.settings.now
+        opening.entry.now (listed_file opening.entry.slot opening.entry.listed.now opening.entry.now) more
+        (beginning (folder_words F.told F.states F.present F.open_tails F.faults)
+        folder.old crew.old keeper.old)
+        (beginning (folder_words F.told F.states F.present F.open_tails F.faults)
+        folder.new crew.new keeper.new)) }
+    ensures ended { IfErr result (λ met. EndsInOne
+        (tail_words F.Tail.numbers F.Tail.told F.Tail.faults) context.entry.settings.now
+        opening.entry.now (listed_file opening.entry.slot opening.entry.listed.now opening.entry.now) met
+        (beginning (folder_words F.told F.states F.present F.open_tails F.faults)
+        folder.old crew.old keeper.old)
+        (beginning (folder_words F.told F.states F.present F.open_tails F.faults)
+        folder.new crew.new keeper.new)) }
+{
+    if begin_one(context, opening, folder, crew, keeper)? {
+        return Ok(());
+    }
+    pass_over(context.alloc, opening.listed, passed)?;
+    Ok(())
+}
