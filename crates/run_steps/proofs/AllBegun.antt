@@ -24,7 +24,7 @@ use Rattle.wire_base.specs.declared.parcel.Parcel.{Parcel}
 use Rattle.run_steps.specs.Began.{Began}
 use Rattle.run_steps.specs.Beginning.{Beginning}
 use Rattle.run_steps.specs.BeginsAll.{BeginsAll, BeginsFrom, BeginsSome, IsOfPathInput}
-use Rattle.run_steps.specs.Begun.{IsSeenOf, noted_begin}
+use Rattle.run_steps.specs.Begun.{AreAllSeen, IsSeenOf, noted_begin}
 use Rattle.run_steps.specs.RunState.{Finished, Leaving, Reading}
 use Rattle.run_steps.specs.SoFar.{SoFar, files_in}
 use Rattle.run_steps.specs.Stands.{Further, Stands}
@@ -33,6 +33,7 @@ use Rattle.run_steps.specs.declared.met.Met.{Met}
 use Rattle.run_steps.proofs.BeginningFiles.{BeginsBelow, IsToBegin, Leaves, leaves, one_ends, one_more}
 use Rattle.run_steps.proofs.BeginningOne.{AreBelow, Begins, at_phase, stands_at}
 use Rattle.run_steps.proofs.Openings.{got_at_end}
+use Rattle.run_steps.proofs.SeenMoments.{are_all_seen}
 use Rattle.run_steps.proofs.ToldMoments.{AreListedFrom, StandsUncollected, all_seen}
 
 none_long : {A : Type 0} (xs : List A) → length xs ≡ 0 → xs ≡ []
@@ -201,6 +202,16 @@ module _ {T W L D : Type 0} (words : Words T W L D) (reads : (disk : D) → IfSo
         let told = told_then (length start.listed + 0) start.listed is.mid new.keeper (behind_all passed is.mid is.begins) (listed_from 0 start.listed to_begin) is.tell in
         subst (λ (s : Beginning T W L). Further words start (at_phase words start moments a b s.folder.told s.crew s.keeper Reading)) (sym is.others)
         (record { so_far = told.0; stands = told.1 })
+
+    -- the keeper was told when each file was changed that was begun
+    pub all_are_seen : (passed : List Passing) (new : Beginning T W L) → BeginsAll words.tails start.settings now start.listed passed old new → AreAllSeen start.listed new.keeper.tracked.notes
+    all_are_seen passed new is =
+        let begins = behind_all passed is.mid is.begins in
+        let there = listed_from 0 start.listed to_begin in
+        let before : StandsUncollected words reads counts start moments a b is.mid.folder.told is.mid.crew Reading begins.so_far.opened is.mid.keeper =
+        record { so_far = begins.so_far; opened_are = refl; stands = begins.stands; none_collected = begins.none_collected } in
+        are_all_seen words reads counts start moments a b is.mid.folder.told is.mid.crew Reading begins.so_far.opened is.mid.keeper new.keeper there is.tell before
+        (all_seen words reads counts start moments a b is.mid.folder.told is.mid.crew Reading begins.so_far.opened 0 start.listed is.mid.keeper new.keeper there is.tell before)
 
     -- or the run is left
     pub some_begun : (what : Met) (new : Beginning T W L) → BeginsSome words.tails start.settings now start.listed what old new → Leaves words reads counts start moments a b now new

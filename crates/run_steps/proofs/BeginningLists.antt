@@ -1,20 +1,28 @@
 -- Files begun one behind the other, in the order of their slots: one more, and what stays over all of them.
-use Rattle.std.proofs.Common.{◌≡◌, ◌⊎◌, inl, inr, ℕ, zero, suc, ◌+◌, ◌≤◌, ◌<◌, Bool, true, false, List, [], ◌∷◌, ◌++◌, length, take, append-nil, append_assoc, Some, None, Result, Ok, Err, IfErr, IsErrAnd, refl, sym, ap, subst, ◌∙◌, arith}
+use Rattle.std.proofs.Common.{◌≡◌, ◌⊎◌, inl, inr, ℕ, zero, suc, ◌+◌, ◌-◌, ◌^◌, ◌≤◌, ◌<◌, Bool, true, false, List, [], ◌∷◌, ◌++◌, length, take, append-nil, append_assoc, Some, None, Result, Ok, Err, IfErr, IsErrAnd, refl, sym, ap, subst, ◌∙◌, arith}
+use Rattle.std.proofs.lemmas.Option.{slice_get_within}
 use Rattle.std.specs.Prelude.{slice_get}
 use Rattle.event_tree.specs.declared.settings.Settings.{Settings}
 use Rattle.keeper.specs.Keeping.{Keeping}
+use Rattle.outside.specs.Counts.{Rose}
 use Rattle.prospect.specs.declared.listed.Listed.{Listed}
 use Rattle.report.specs.declared.passing.Passing.{Passing}
+use Rattle.rounds.specs.Crewed.{lanings}
 use Rattle.rounds.specs.Words.{TailWords}
+use Rattle.wire_base.specs.declared.note.Begin.{Begin}
 use Rattle.wire_base.specs.declared.note.Note.{Note}
 use Rattle.wire_base.specs.declared.numbers.Moment.{Moment}
 use Rattle.wire_base.specs.declared.row.Row.{Row}
 use Rattle.run_steps.specs.Beginning.{Beginning, BeginsOne, ListedFile}
-use Rattle.run_steps.specs.BeginsAll.{BeginsAll, BeginsFrom, BeginsOrPasses, BeginsSome, EndsInFiles, EndsInOne, KeepsOthers, file_at, passed_by}
-use Rattle.run_steps.specs.Telling.{TellMoments, TellSomeMoments}
+use Rattle.run_steps.specs.BeginsAll.{AreSlotsBelow, BeginsAll, BeginsFrom, BeginsOrPasses, BeginsSome, EndsBeginning, EndsInFiles, EndsInOne, IsSlotBelow, KeepsOthers, file_at, many_harvesters, passed_by}
+use Rattle.run_steps.specs.Telling.{TellMoments, TellSomeMoments, TellsNotes}
 use Rattle.run_steps.specs.declared.met.Met.{Met}
+use Rattle.run_steps.specs.declared.met.Met.TheVariants as met
 use Rattle.run_steps.specs.declared.met.Met.TheVariants.{NoMemory}
-use Rattle.run_steps.proofs.Keeps.{as_many_lanes, begin_keeps, carriers_kept, keeper_others, one_note_more, pace_kept}
+use Rattle.run_steps.proofs.Admitting.{each_still}
+use Rattle.run_steps.proofs.Keeps.{BeginKeeps, TakesOne, as_many_lanes, begin_keeps, carriers_kept, keeper_others, one_note_more, pace_kept}
+use Rattle.run_steps.proofs.Notes.{moments_are_told}
+use Rattle.run_steps.proofs.Tails.{as_many_harvesters, as_many_open, followed_by}
 
 pub take_one : (listed : List Listed) (count : ℕ) (one : Listed) → slice_get listed count ≡ Some one → take (suc count) listed ≡ take count listed ++ one ∷ []
 take_one [] count one is = absurd cc
@@ -26,49 +34,174 @@ take_short zero listed = omega arith
 take_short (suc count) [] = omega arith
 take_short (suc count) (one ∷ listed) = let rest = take_short count listed in omega (arith, rest)
 
-module _ {T W L : Type 0} (tails : TailWords T) (settings : Settings) (now : Moment) where
-  -- at most so many notes more
-  pub record KeepsWithNotes (count : ℕ) (old new : Beginning T W L) : Type 0 where
-    pub others : KeepsOthers count old new
-    pub notes : length new.keeper.tracked.notes ≤ length old.keeper.tracked.notes + count
+rose_since : (first mid now : ℕ) → first ≤ mid → Rose mid now → Rose first now
+rose_since first mid now le (inl less) = inl (omega (arith, le, less))
+rose_since first mid now le (inr full) = inr full
 
-  none_keeps : (old new : Beginning T W L) → new ≡ old → KeepsWithNotes 0 old new
-  none_keeps old new same = subst (λ (s : Beginning T W L). KeepsWithNotes 0 old s) (sym same) (record {
-    others = record { carriers = refl; pace = refl; as_many_lanes = refl; keeper = refl; faults_never_fall = omega arith };
+take_shorter : (count : ℕ) (listed : List Listed) → length (take count listed) ≤ length listed
+take_shorter zero listed = omega arith
+take_shorter (suc count) [] = omega arith
+take_shorter (suc count) (one ∷ listed) = let rest = take_shorter count listed in omega (arith, rest)
+
+module _ {T W L : Type 0} (tails : TailWords T) (settings : Settings) (now : Moment) where
+  -- what some steps keep, in slots below this one, of which at most so many opened a file
+  pub record KeepsSteps (top count : ℕ) (old new : Beginning T W L) : Type 0 where
+    pub carriers : new.crew.carriers ≡ old.crew.carriers
+    pub pace : new.crew.pace ≡ old.crew.pace
+    pub as_many_lanes : length new.crew.lanes.items ≡ length old.crew.lanes.items
+    pub keeper : new.keeper ≡ record old.keeper { tracked = new.keeper.tracked }
+    pub faults_never_fall : old.folder.faults ≤ new.folder.faults
+    pub notes : length new.keeper.tracked.notes ≤ length old.keeper.tracked.notes + count
+    pub slots : (most : ℕ) → top ≤ most → AreSlotsBelow most (lanings old.crew.lanes.items) → AreSlotsBelow most (lanings new.crew.lanes.items)
+    pub few_open : old.folder.open_tails + count < 2 ^ 64 - 1 → new.folder.open_tails ≤ old.folder.open_tails + count
+    pub open_tails : old.folder.open_tails + count < 2 ^ 64 - 1 → new.folder.open_tails + many_harvesters old ≡ old.folder.open_tails + many_harvesters new
+
+  none_keeps : (top : ℕ) (old new : Beginning T W L) → new ≡ old → KeepsSteps top 0 old new
+  none_keeps top old new same = subst (λ (s : Beginning T W L). KeepsSteps top 0 old s) (sym same) (record {
+    carriers = refl;
+    pace = refl;
+    as_many_lanes = refl;
+    keeper = refl;
+    faults_never_fall = omega arith;
     notes = omega arith;
+    slots = λ most le below. below;
+    few_open = λ below. omega arith;
+    open_tails = λ below. refl;
   })
 
-  keeps_then : (count : ℕ) (old mid new : Beginning T W L) → KeepsWithNotes 1 old mid → KeepsWithNotes count mid new → KeepsWithNotes (suc count) old new
-  keeps_then count old mid new one two = record {
-    others = record {
-      carriers = two.others.carriers ∙ one.others.carriers;
-      pace = two.others.pace ∙ one.others.pace;
-      as_many_lanes = two.others.as_many_lanes ∙ one.others.as_many_lanes;
-      keeper = two.others.keeper ∙ ap (λ (k : Keeping). record k { tracked = new.keeper.tracked }) one.others.keeper;
-      faults_never_fall = omega (arith, one.others.faults_never_fall, two.others.faults_never_fall);
-    };
+  keeps_then : (top first then : ℕ) (old mid new : Beginning T W L) → KeepsSteps top first old mid → KeepsSteps top then mid new → KeepsSteps top (first + then) old new
+  keeps_then top first then old mid new one two = record {
+    carriers = two.carriers ∙ one.carriers;
+    pace = two.pace ∙ one.pace;
+    as_many_lanes = two.as_many_lanes ∙ one.as_many_lanes;
+    keeper = two.keeper ∙ ap (λ (k : Keeping). record k { tracked = new.keeper.tracked }) one.keeper;
+    faults_never_fall = omega (arith, one.faults_never_fall, two.faults_never_fall);
     notes = omega (arith, one.notes, two.notes);
+    slots = λ most le below. two.slots most le (one.slots most le below);
+    few_open = λ below. let few = one.few_open (omega (arith, below)) in let last = two.few_open (omega (arith, below, few)) in omega (arith, few, last);
+    open_tails = λ below. let few = one.few_open (omega (arith, below)) in let were = one.open_tails (omega (arith, below)) in let are = two.open_tails (omega (arith, below, few)) in omega (arith, were, are);
   }
 
-  one_keeps : (slot : ℕ) (listed : Listed) (found : Bool) (old new : Beginning T W L) → BeginsOne tails settings (file_at slot listed now) (Ok found) old new → KeepsWithNotes 1 old new
-  one_keeps slot listed found old new is =
-      let file = file_at slot listed now in
-      let keeps = begin_keeps tails settings file (Ok found) old new is in
-      record {
-        others = record {
-          carriers = carriers_kept tails settings file old new keeps;
-          pace = pace_kept tails settings file old new keeps;
-          as_many_lanes = as_many_lanes tails settings file old new keeps;
-          keeper = keeper_others tails settings file old new keeps;
-          faults_never_fall = keeps.faults_never_fall;
-        };
-        notes = one_note_more tails settings file old new keeps;
-      }
+  higher : (low top count : ℕ) (old new : Beginning T W L) → low ≤ top → KeepsSteps low count old new → KeepsSteps top count old new
+  higher low top count old new under keeps = record {
+    carriers = keeps.carriers;
+    pace = keeps.pace;
+    as_many_lanes = keeps.as_many_lanes;
+    keeper = keeps.keeper;
+    faults_never_fall = keeps.faults_never_fall;
+    notes = keeps.notes;
+    slots = λ most le below. keeps.slots most (omega (arith, under, le)) below;
+    few_open = keeps.few_open;
+    open_tails = keeps.open_tails;
+  }
 
-  pub from_keeps : (slot : ℕ) (listed : List Listed) (passed : List Passing) (old new : Beginning T W L) → BeginsFrom tails settings now slot listed passed old new → KeepsWithNotes (length listed) old new
-  from_keeps slot [] passed old new is = none_keeps old new is.1
+  one_keeps : (slot : ℕ) (listed : Listed) (result : Result Bool Met) (old new : Beginning T W L) → BeginsOne tails settings (file_at slot listed now) result old new → KeepsSteps (suc slot) 1 old new
+  one_keeps slot listed result old new is = record {
+    carriers = carriers_kept tails settings (file_at slot listed now) old new keeps;
+    pace = pace_kept tails settings (file_at slot listed now) old new keeps;
+    as_many_lanes = as_many_lanes tails settings (file_at slot listed now) old new keeps;
+    keeper = keeper_others tails settings (file_at slot listed now) old new keeps;
+    faults_never_fall = keeps.faults_never_fall;
+    notes = one_note_more tails settings (file_at slot listed now) old new keeps;
+    slots = λ most le below. by_lanes most le below keeps.lanes;
+    few_open = λ below. let opened = as_many_open tails settings (file_at slot listed now) result old new (omega (arith, below)) is in let few = at_most_one result in omega (arith, opened, few);
+    open_tails = λ below.
+        let opened = as_many_open tails settings (file_at slot listed now) result old new (omega (arith, below)) is in
+        let many = as_many_harvesters tails settings (file_at slot listed now) result old new is in
+        omega (arith, opened, many);
+  }
+    where
+      keeps : BeginKeeps tails settings (file_at slot listed now) old new
+      keeps = begin_keeps tails settings (file_at slot listed now) result old new is
+
+      at_most_one : (r : Result Bool Met) → followed_by r ≤ 1
+      at_most_one (Ok true) = omega arith
+      at_most_one (Ok false) = omega arith
+      at_most_one (Err what) = omega arith
+
+      by_lanes : (most : ℕ) → suc slot ≤ most → AreSlotsBelow most (lanings old.crew.lanes.items) →
+          (lanings new.crew.lanes.items ≡ lanings old.crew.lanes.items) ⊎ TakesOne tails settings (file_at slot listed now) (lanings old.crew.lanes.items) (lanings new.crew.lanes.items) → AreSlotsBelow most (lanings new.crew.lanes.items)
+      by_lanes most le below (inl same) = subst (AreSlotsBelow most) (sym same) below
+      by_lanes most le below (inr takes) =
+          let its = ap (λ (g : Begin). g.slot.0) (takes.opened.begun ∙ takes.opened.begins.is) in
+          each_still takes.harvester takes.number (lanings old.crew.lanes.items) (lanings new.crew.lanes.items) takes.admits (IsSlotBelow most) (omega (arith, its, le)) below
+
+  pub from_keeps : (slot : ℕ) (listed : List Listed) (passed : List Passing) (old new : Beginning T W L) → BeginsFrom tails settings now slot listed passed old new → KeepsSteps (length listed + slot) (length listed) old new
+  from_keeps slot [] passed old new is = none_keeps (0 + slot) old new is.1
   from_keeps slot (one ∷ listed) passed old new is =
-      keeps_then (length listed) old is.mid new (one_keeps slot one is.found old is.mid is.first) (from_keeps (suc slot) listed is.later is.mid new is.rest)
+      subst (λ (n : ℕ). KeepsSteps (suc (length listed) + slot) n old new) (one_first (length listed))
+      (keeps_then (suc (length listed) + slot) 1 (length listed) old is.mid new
+      (higher (suc slot) (suc (length listed) + slot) 1 old is.mid (omega arith) (one_keeps slot one (Ok is.found) old is.mid is.first))
+      (higher (length listed + suc slot) (suc (length listed) + slot) (length listed) is.mid new (omega arith) (from_keeps (suc slot) listed is.later is.mid new is.rest)))
+    where
+      one_first : (n : ℕ) → 1 + n ≡ suc n
+      one_first n = omega arith
+
+  keep_others : (most top count : ℕ) (old new : Beginning T W L) → top ≤ most → count ≤ most → KeepsSteps top count old new → KeepsOthers most old new
+  keep_others most top count old new under few keeps = record {
+    carriers = keeps.carriers;
+    pace = keeps.pace;
+    as_many_lanes = keeps.as_many_lanes;
+    keeper = keeps.keeper;
+    faults_never_fall = keeps.faults_never_fall;
+    slots = keeps.slots most under;
+    open_tails = λ below. keeps.open_tails (omega (arith, below, few));
+  }
+
+  -- the moments of files are told to the keeper alone
+  moments_keep : (most : ℕ) (more : List Note) (old mid new : Beginning T W L) → KeepsOthers most old mid → TellsNotes more mid.keeper new.keeper → new ≡ record mid { keeper = new.keeper } → KeepsOthers most old new
+  moments_keep most more old mid new keeps tells others = subst (KeepsOthers most old) (sym others) (record {
+    carriers = keeps.carriers;
+    pace = keeps.pace;
+    as_many_lanes = keeps.as_many_lanes;
+    keeper = tells.others_stay ∙ ap (λ (k : Keeping). record k { tracked = new.keeper.tracked }) keeps.keeper;
+    faults_never_fall = keeps.faults_never_fall;
+    slots = keeps.slots;
+    open_tails = keeps.open_tails;
+  })
+
+  module _ (listed : List Listed) (old new : Beginning T W L) where
+    some_keep : (count : ℕ) (passed : List Passing) (mid : Beginning T W L) → BeginsFrom tails settings now 0 (take count listed) passed old mid → KeepsOthers (length listed) old mid
+    some_keep count passed mid begins =
+        let few = take_shorter count listed in
+        keep_others (length listed) (length (take count listed) + 0) (length (take count listed)) old mid (omega (arith, few)) few (from_keeps 0 (take count listed) passed old mid begins)
+
+    pub files_keep : (what : Met) → EndsInFiles tails settings now listed what old new → KeepsOthers (length listed) old new
+    files_keep what (inl is) =
+        let inside = slice_get_within listed is.count is.one is.is in
+        let short = take_short is.count listed in
+        keep_others (length listed) (suc is.count) (length (take is.count listed) + 1) old new (omega (arith, inside)) (omega (arith, inside, short))
+        (keeps_then (suc is.count) (length (take is.count listed)) 1 old is.mid new
+        (higher (length (take is.count listed) + 0) (suc is.count) (length (take is.count listed)) old is.mid (omega (arith, short)) (from_keeps 0 (take is.count listed) is.passed old is.mid is.begins))
+        (one_keeps is.count is.one (Err what) is.mid new is.ended))
+    files_keep what (inr (memory, is)) = some_keep is.count is.passed new is.begins
+
+    pub all_keep : (passed : List Passing) → BeginsAll tails settings now listed passed old new → KeepsOthers (length listed) old new
+    all_keep passed is =
+        let more = moments_are_told 0 listed is.mid.keeper new.keeper is.tell in
+        moments_keep (length listed) more.more old is.mid new
+        (keep_others (length listed) (length listed + 0) (length listed) old is.mid (omega arith) (omega arith) (from_keeps 0 listed passed old is.mid is.begins)) more.tells is.others
+
+    pub some_keeps : (what : Met) → BeginsSome tails settings now listed what old new → KeepsOthers (length listed) old new
+    some_keeps what (inl is) = files_keep what (inl is)
+    some_keeps what (inr (memory, inl is)) = files_keep what (inr (memory, is))
+    some_keeps what (inr (memory, inr is)) =
+        let more = moments_are_told 0 (take is.tell.count listed) is.mid.keeper new.keeper is.tell.tell in
+        moments_keep (length listed) more.more old is.mid new
+        (keep_others (length listed) (length listed + 0) (length listed) old is.mid (omega arith) (omega arith) (from_keeps 0 listed is.passed old is.mid is.begins)) more.tells is.others
+
+    -- why it ended early
+    pub begin_ends : (what : Met) → BeginsSome tails settings now listed what old new → EndsBeginning what old new
+    begin_ends what (inr is) = subst (λ (m : Met). EndsBeginning m old new) (sym is.0) tt
+    begin_ends met.FolderFault (inl is) =
+        let keeps = from_keeps 0 (take is.count listed) is.passed old is.mid is.begins in
+        rose_since old.folder.faults is.mid.folder.faults new.folder.faults keeps.faults_never_fall (is.ended.opens.failed_only_where_faults_rose refl)
+    begin_ends met.NoMemory (inl is) = tt
+    begin_ends met.Done (inl is) = absurd is.ended
+    begin_ends met.Stopped (inl is) = absurd is.ended
+    begin_ends met.DiskFault (inl is) = absurd is.ended
+    begin_ends (met.Unreachable worker) (inl is) = absurd is.ended
+    begin_ends (met.Epochs epoch) (inl is) = absurd is.ended
 
   -- ---- one more
 
@@ -143,12 +276,12 @@ module _ {T W L : Type 0} (tails : TailWords T) (settings : Settings) (now : Mom
 
   module _ (count : ℕ) (listed : List Listed) (passed : List Passing) (old new : Beginning T W L) (begins : BeginsFrom tails settings now 0 (take count listed) passed old new) where
     pub lanes_still : 0 < length old.crew.lanes.items → 0 < length new.crew.lanes.items
-    lanes_still some = let keeps = from_keeps 0 (take count listed) passed old new begins in let many = keeps.others.as_many_lanes in omega (arith, some, many)
+    lanes_still some = let keeps = from_keeps 0 (take count listed) passed old new begins in let many = keeps.as_many_lanes in omega (arith, some, many)
 
     pub rows_still : old.keeper.store.rows ≡ [] → length new.keeper.store.rows ≡ 0
     rows_still none =
         let keeps = from_keeps 0 (take count listed) passed old new begins in
-        ap (λ (k : Keeping). length k.store.rows) keeps.others.keeper ∙ ap (λ (l : List Row). length l) none
+        ap (λ (k : Keeping). length k.store.rows) keeps.keeper ∙ ap (λ (l : List Row). length l) none
 
     pub notes_still : old.keeper.tracked.notes ≡ [] → length new.keeper.tracked.notes ≤ count
     notes_still none =
@@ -174,7 +307,7 @@ module _ {T W L : Type 0} (tails : TailWords T) (settings : Settings) (now : Mom
         BeginsFrom tails settings now 0 listed passed old mid → TellSomeMoments slice mid.keeper new.keeper → new ≡ record mid { keeper = new.keeper } →
         IfErr result (λ met. BeginsSome tails settings now listed met old new)
     ends_told (Ok value) passed slice memory same begins tell others = tt
-    ends_told (Err met) passed slice memory same begins tell others = inr (
+    ends_told (Err what) passed slice memory same begins tell others = inr (
       memory,
       inr (record {
         passed = passed;
@@ -184,6 +317,19 @@ module _ {T W L : Type 0} (tails : TailWords T) (settings : Settings) (now : Mom
         others = others;
       }),
     )
+
+    pub some_told_keep : (passed : List Passing) (slice : List Listed) → slice ≡ listed → BeginsFrom tails settings now 0 listed passed old mid → TellSomeMoments slice mid.keeper new.keeper →
+        new ≡ record mid { keeper = new.keeper } → KeepsOthers (length listed) old new
+    some_told_keep passed slice same begins tell others = some_keeps listed old new NoMemory (inr (
+      refl,
+      inr (record {
+        passed = passed;
+        mid = mid;
+        begins = begins;
+        tell = subst (λ (l : List Listed). TellSomeMoments l mid.keeper new.keeper) same tell;
+        others = others;
+      }),
+    ))
 
   -- ---- one
 

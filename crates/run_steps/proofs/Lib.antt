@@ -31,12 +31,14 @@ pub mod MetBy
 pub mod Moments
 pub mod Notes
 pub mod Noting
+pub mod OfInputs
 pub mod Onward
 pub mod Openings
 pub mod Ordering
 pub mod Released
 pub mod Releasing
 pub mod Rounding
+pub mod SeenMoments
 pub mod Settling
 pub mod TailOpened
 pub mod Tails

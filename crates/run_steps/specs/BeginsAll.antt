@@ -1,23 +1,27 @@
 -- What beginning all listed files does (this project's profile): file by file, in the order of their slots, each is opened and
 -- followed, or passed over where none is there; and then the keeper is told when each was changed.
-use Rattle.std.specs.Prelude.{◌≡◌, ◌⊎◌, ℕ, suc, ◌<◌, ◌≤◌, Bool, true, false, List, [], ◌∷◌, ◌++◌, All, length, take, slice_get, Option, Some, Ok, Err}
+use Rattle.std.specs.Prelude.{◌≡◌, ◌⊎◌, ℕ, suc, ◌+◌, ◌-◌, ◌^◌, ◌<◌, ◌≤◌, Bool, true, false, List, [], ◌∷◌, ◌++◌, length, take, slice_get, Option, Some, Ok, Err}
+use Rattle.std.specs.List.{AllByRecursion}
 use Rattle.event_tree.specs.declared.input_rule.IdentityRule.TheVariants.{Path}
 use Rattle.event_tree.specs.declared.input_rule.InputRule.{InputRule}
 use Rattle.event_tree.specs.declared.settings.Settings.{Settings}
 use Rattle.file_identity.specs.Key.{named_key}
+use Rattle.harvester.specs.HasTold.{begin_of}
+use Rattle.harvester.specs.declared.harvester.Harvester.{Harvester}
 use Rattle.lanes.specs.Laning.{Laning}
 use Rattle.multiline_core.specs.Rule.{IsGroupRule}
+use Rattle.outside.specs.Counts.{Rose}
 use Rattle.prospect.specs.declared.listed.Listed.{Listed}
 use Rattle.report.specs.declared.passing.Passing.{Passing}
 use Rattle.report.specs.declared.passing.Why.TheVariants.{Gone}
-use Rattle.rounds.specs.Staying.{begins_of}
+use Rattle.rounds.specs.Crewed.{lanings}
 use Rattle.rounds.specs.Words.{TailWords}
-use Rattle.wire_base.specs.declared.note.Begin.{Begin}
 use Rattle.wire_base.specs.declared.numbers.Moment.{Moment}
 use Rattle.run_steps.specs.Beginning.{Beginning, BeginsOne, ListedFile, listed_file}
+use Rattle.run_steps.specs.Releasing.{harvesters_of}
 use Rattle.run_steps.specs.Telling.{TellMoments, TellSomeMoments}
 use Rattle.run_steps.specs.declared.met.Met.{Met}
-use Rattle.run_steps.specs.declared.met.Met.TheVariants.{NoMemory}
+use Rattle.run_steps.specs.declared.met.Met.TheVariants.{DiskFault, Done, Epochs, FolderFault, NoMemory, Stopped, Unreachable}
 
 -- the path is passed over where its opening found no file
 abbrev pub passed_by : Bool → Listed → List Passing
@@ -104,17 +108,34 @@ pub record IsOfPathInput (settings : Settings) (Tells : Type 0) (listed : Listed
 abbrev pub IsOfInputs : Settings → Listed → Type 0
 IsOfInputs settings listed = listed.input < length settings.inputs
 
+-- beginning files ends early for want of memory, or where the folder failed
+abbrev pub EndsBeginning : {T W L : Type 0} → Met → Beginning T W L → Beginning T W L → Type 0
+EndsBeginning NoMemory old new = Unit {0}
+EndsBeginning FolderFault old new = Rose old.folder.faults new.folder.faults
+EndsBeginning Done old new = ⊥
+EndsBeginning Stopped old new = ⊥
+EndsBeginning DiskFault old new = ⊥
+EndsBeginning (Unreachable worker) old new = ⊥
+EndsBeginning (Epochs slot) old new = ⊥
+
+-- each harvester is of one of so many slots
+abbrev pub IsSlotBelow : {T : Type 0} → ℕ → Harvester T → Type 0
+IsSlotBelow count harvester = (begin_of harvester).slot.0 < count
+
+abbrev pub AreSlotsBelow : {T : Type 0} → ℕ → List (Laning T) → Type 0
+AreSlotsBelow count lanes = AllByRecursion (λ lane. AllByRecursion (IsSlotBelow count) lane.harvesters) lanes
+
+abbrev pub many_harvesters : {T W L : Type 0} → Beginning T W L → ℕ
+many_harvesters state = length (harvesters_of (lanings state.crew.lanes.items))
+
 -- what stays, whatever beginning so many files came to
 pub record KeepsOthers {T W L : Type 0} (count : ℕ) (old new : Beginning T W L) : Type 0 where
   pub carriers : new.crew.carriers ≡ old.crew.carriers
   pub pace : new.crew.pace ≡ old.crew.pace
   pub as_many_lanes : length new.crew.lanes.items ≡ length old.crew.lanes.items
+  -- of the keeper all but its notes
   pub keeper : new.keeper ≡ record old.keeper { tracked = new.keeper.tracked }
   pub faults_never_fall : old.folder.faults ≤ new.folder.faults
-
--- each harvester is of one of so many slots
-abbrev pub IsSlotBelow : ℕ → Begin → Type 0
-IsSlotBelow count begin = begin.slot.0 < count
-
-abbrev pub AreSlotsBelow : {T : Type 0} → ℕ → List (Laning T) → Type 0
-AreSlotsBelow count lanes = All (All (IsSlotBelow count)) (begins_of lanes)
+  pub slots : AreSlotsBelow count (lanings old.crew.lanes.items) → AreSlotsBelow count (lanings new.crew.lanes.items)
+  -- one tail for each harvester more
+  pub open_tails : old.folder.open_tails + count < 2 ^ 64 - 1 → new.folder.open_tails + many_harvesters old ≡ old.folder.open_tails + many_harvesters new

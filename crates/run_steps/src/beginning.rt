@@ -58,6 +58,11 @@ pub fn begin_all<F: Folder, L: Link, W: Wire<Link = L>>(
         folder.old crew.old keeper.old)
         (beginning (folder_words F.told F.states F.present F.open_tails F.faults)
         folder.new crew.new keeper.new)) }
+    ensures kept { KeepsOthers (length scanned.entry.now.listed.items)
+        (beginning (folder_words F.told F.states F.present F.open_tails F.faults)
+        folder.old crew.old keeper.old)
+        (beginning (folder_words F.told F.states F.present F.open_tails F.faults)
+        folder.new crew.new keeper.new) }
 {
     let passed = begin_files(context, scanned, folder, crew, keeper)?;
     tell_moments(context.alloc, scanned.listed.as_slice(), keeper)?;
