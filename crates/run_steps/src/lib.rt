@@ -22,7 +22,7 @@ mod working;
 
 pub use begin::{begin_one, pass_over};
 pub use beginning::{Scanned, begin_all};
-pub use context::{Context, Outside};
+pub use context::{Context, Surroundings};
 pub use follow::{PAUSE, met_in, pause_where_still};
 pub use leave::{end_crew, end_lanes, release_all};
 pub use met::Met;
