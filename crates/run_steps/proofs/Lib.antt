@@ -12,6 +12,7 @@ pub mod Begun
 pub mod BegunFolder
 pub mod BegunNotes
 pub mod Blank
+pub mod ByPath
 pub mod Causing
 pub mod Closing
 pub mod Ended
@@ -29,6 +30,7 @@ pub mod Letting
 pub mod Members
 pub mod MetBy
 pub mod Moments
+pub mod Named
 pub mod Notes
 pub mod Noting
 pub mod OfInputs
@@ -38,6 +40,8 @@ pub mod Ordering
 pub mod Released
 pub mod Releasing
 pub mod Rounding
+pub mod ScanOf
+pub mod Scanning
 pub mod SeenMoments
 pub mod Settling
 pub mod TailOpened

@@ -14,7 +14,9 @@ pub mod Onward
 pub mod Registry
 pub mod RegistryErrors
 pub mod Releasing
+pub mod RunOf
 pub mod RunState
+pub mod Scanned
 pub mod Settling
 pub mod Shown
 pub mod SoFar

@@ -1,0 +1,46 @@
+-- Inputs within the ranges of the settings, all by path, tell their files' keys apart.
+use Rattle.std.proofs.Common.{◌≡◌, ◌≢◌, ℕ, zero, suc, ◌<◌, Bool, true, false, All, AllPairs, List, [], ◌∷◌, Contains, length, map, IsTrue, refl, sym, ap, subst, ◌∙◌, arith}
+use Rattle.std.specs.List.{AllByRecursion}
+use Rattle.accounts.proofs.Grounded.{of_map}
+use Rattle.accounts.specs.OneScan.{AreByPath, IsByPath}
+use Rattle.beat_config.specs.InRange.{AreInRange, IsInputInRange}
+use Rattle.beat_config.specs.Name.{is_name_byte}
+use Rattle.event_tree.specs.declared.input_rule.IdentityRule.TheVariants.{Path}
+use Rattle.event_tree.specs.declared.input_rule.InputRule.{InputRule}
+use Rattle.event_tree.specs.declared.settings.Settings.{Settings}
+use Rattle.kept_rows.specs.Scans.{AreDistinct}
+
+-- of each item what is said of all
+pub each_of : {A : Type 0} (P : A → Type 0) (xs : List A) → All P xs → AllByRecursion P xs
+each_of P [] all = tt
+each_of P (x ∷ xs) all = (all 0 x (omega arith), each_of P xs (λ k d within. all (suc k) d (omega (arith, within))))
+
+-- no letter, digit or other byte of a name is a colon
+no_colon_there : (bytes : List ℕ) → AllByRecursion (λ byte. IsTrue (is_name_byte byte)) bytes → AllByRecursion (λ byte. byte ≢ 58) bytes
+no_colon_there [] each = tt
+no_colon_there (byte ∷ bytes) each = (
+  λ colon. let is : is_name_byte 58 ≡ true = subst (λ (n : ℕ). is_name_byte n ≡ true) colon each.0 in absurd (let q : false ≡ true = is in cc),
+  no_colon_there bytes each.1,
+)
+
+are_by_path : (inputs : List InputRule) → AllByRecursion IsInputInRange inputs → AllByRecursion (λ (input : InputRule). input.file_identity ≡ Path) inputs → AllByRecursion IsByPath inputs
+are_by_path [] each paths = tt
+are_by_path (input ∷ inputs) each paths = (
+  record { identity = paths.0; no_colon = no_colon_there input.id (each_of (λ byte. IsTrue (is_name_byte byte)) input.id each.0.id.bytes) },
+  are_by_path inputs each.1 paths.1,
+)
+
+ids_apart : (inputs : List InputRule) → AllPairs (λ (earlier later : InputRule). earlier.id ≢ later.id) inputs → AreDistinct (map (λ (input : InputRule). input.id) inputs)
+ids_apart [] differ = tt
+ids_apart (input ∷ inputs) differ = (
+  λ there.
+      let of = of_map (λ (other : InputRule). other.id) inputs input.id there in
+      differ 0 (suc of.among.0) of.item (omega arith) (let k = of.among.1 in omega (arith, k)) (sym (ap (λ (other : InputRule). other.id) of.among.2 ∙ of.is)),
+  ids_apart inputs (λ i j d before within. differ (suc i) (suc j) d (omega (arith, before)) (omega (arith, within))),
+)
+
+pub inputs_are_by_path : (settings : Settings) → AreInRange settings → All (λ (input : InputRule). input.file_identity ≡ Path) settings.inputs → AreByPath settings.inputs
+inputs_are_by_path settings in_range paths = record {
+  each = are_by_path settings.inputs (each_of IsInputInRange settings.inputs in_range.inputs) (each_of (λ (input : InputRule). input.file_identity ≡ Path) settings.inputs paths);
+  ids_apart = ids_apart settings.inputs in_range.ids_differ;
+}

@@ -1,0 +1,68 @@
+-- A run as its account sees it (this project's profile): it reads its files once, over a registry without rows, by one scan. What it
+-- listed, opened and closed stands in the folder's list, and of each wire's connections those behind the run's start are its own.
+use Rattle.std.specs.Prelude.{ℕ, true, List, [], ◌∷◌, ◌++◌, drop, length, map, Option, Some, None}
+use Rattle.batch_worker.specs.Standing.{length_of}
+use Rattle.kept_rows.specs.Run.{Asking, Run, Scan}
+use Rattle.kept_rows.specs.Scans.{listings_from}
+use Rattle.kept_rows.specs.Trace.{WireTold}
+use Rattle.outside.specs.Folders.{FolderHistory}
+use Rattle.outside.specs.Wires.{Outcome}
+use Rattle.prospect.specs.declared.listed.Listed.{Listed}
+use Rattle.rounds.specs.Words.{WireWords}
+use Rattle.run_steps.specs.Began.{Began}
+
+-- what the folder told as the run began, behind its scan and at its end
+pub record FolderTold : Type 0 where
+  pub earlier : FolderHistory
+  pub scanned : FolderHistory
+  pub ended : FolderHistory
+
+-- ---- its scan
+
+-- the input asked for the key of the path, by its entry alone
+abbrev pub asking_of : Listed → Asking
+asking_of listed = record { input = listed.input; path = listed.path; opening = None }
+
+-- its listings are those of the folder's list between the start and what stands behind the scan
+abbrev pub scan_of : {D : Type 0} → Began D → FolderTold → Scan
+scan_of start folder = record {
+  moment = start.moment;
+  listings = listings_from (length folder.earlier.events) (drop (length folder.earlier.events) folder.scanned.events);
+  askings = map asking_of start.listed;
+}
+
+-- ---- its wires
+
+-- the outcomes behind the first so many; each link is finished
+abbrev pub wire_behind : ℕ → Option (List Outcome) → WireTold
+wire_behind start None = record { outcomes = []; open_talk = None }
+wire_behind start (Some outcomes) = record { outcomes = drop start outcomes; open_talk = None }
+
+-- wire by wire, each behind so many
+abbrev pub wires_behind : {W : Type 0} → WireWords W → List ℕ → List W → List WireTold
+wires_behind words [] wires = []
+wires_behind words (start ∷ starts) [] = []
+wires_behind words (start ∷ starts) (wire ∷ wires) = wire_behind start (words.outcomes wire) ∷ wires_behind words starts wires
+
+-- how many outcomes each had as the run began: those of the workers, and those that no worker had and that are as they were
+abbrev pub starts_of : {W D : Type 0} → WireWords W → Began D → List W → List ℕ
+starts_of words start unused = start.heard ++ map (λ wire. length_of (words.outcomes wire)) unused
+
+-- ---- all of it
+
+-- with the moments that the clock gave in it
+abbrev pub run_of : {D : Type 0} → Began D → FolderTold → List ℕ → List WireTold → Run
+run_of start folder moments wires = record {
+  settings = start.settings;
+  once = true;
+  opening = [];
+  trace = record {
+    files = folder.ended.files;
+    events = folder.ended.events;
+    began = length folder.earlier.events;
+    open_tails = [];
+    moments = moments;
+    wires = wires;
+  };
+  scans = scan_of start folder ∷ [];
+}
