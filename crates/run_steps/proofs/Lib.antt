@@ -40,6 +40,10 @@ pub mod Ordering
 pub mod Released
 pub mod Releasing
 pub mod Rounding
+pub mod RunBooks
+pub mod RunFiles
+pub mod RunToldOf
+pub mod RunWires
 pub mod ScanOf
 pub mod Scanning
 pub mod SeenMoments

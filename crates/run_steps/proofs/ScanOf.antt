@@ -1,6 +1,7 @@
 -- The scan of a run by what the run listed: one scan, whose listings are all that the run made, and which shows each listed file.
 use Rattle.std.proofs.Common.{◌≡◌, ◌⊎◌, inl, inr, ℕ, zero, suc, ◌+◌, ◌≤◌, ◌<◌, All, Any, List, [], ◌∷◌, ◌++◌, Contains, drop, length, map, append_assoc, append-nil, length-append, Option, Some, None, refl, sym, ap, subst, ◌∙◌, arith}
 use Rattle.std.proofs.Math.Seq.{drop-append_seam}
+use Rattle.std.proofs.lemmas.Bool.{cases_lt}
 use Rattle.std.specs.Prelude.{slice_get}
 use Rattle.std.specs.List.{AllByRecursion}
 use Rattle.accounts.proofs.Backing.{mapped_there}
@@ -16,8 +17,9 @@ use Rattle.file_identity.specs.Key.{named_key, path_key}
 use Rattle.kept_rows.specs.Run.{Asking, Run, Scan}
 use Rattle.kept_rows.specs.Scans.{AreScans, IsBefore, IsCovered, IsNoFingerprint, ListGlobs, ShowsEntry, ShowsFileTo, globs_in, listings_from, listings_of}
 use Rattle.kept_rows.specs.Trace.{WireTold}
-use Rattle.outside.specs.Folders.{Event, FolderHistory}
+use Rattle.outside.specs.Folders.{Event, FolderHistory, Opened as OpenedAs}
 use Rattle.outside.specs.declared.history.Shown.{Shown}
+use Rattle.outside.specs.declared.history.Sight.{Sight}
 use Rattle.prospect.specs.ListedFiles.{AreOfShown, HasFile, IsCoveredBy, IsListedBy, place_at, shown_in}
 use Rattle.prospect.specs.Scan.{Listing, event_of, with_events}
 use Rattle.prospect.specs.declared.listed.Listed.{Listed}
@@ -29,10 +31,15 @@ use Rattle.run_steps.specs.Scanned.{HasScanned}
 use Rattle.run_steps.specs.Shown.{HasDone, IsNoListing}
 use Rattle.run_steps.specs.SoFar.{SoFar}
 use Rattle.run_steps.proofs.ByPath.{each_of, inputs_are_by_path}
-use Rattle.run_steps.proofs.Scanning.{AreAt, ShowsAt, are_at, as_many_listings, good_listings, list_globs, listings_before, no_more_listings, shown_by, shows_at}
+use Rattle.run_steps.proofs.Scanning.{AreAt, ShowsAt, are_at, as_many_listings, good_listings, list_globs, listings_before, no_more_listings, no_opening, shown_by, shows_at}
 
 some_is : {A : Type 0} (x y : A) → Some x ≡ Some y → x ≡ y
 some_is x y is = cc
+
+pub got_there : {A : Type 0} (xs : List A) (k : ℕ) (x : A) → slice_get xs k ≡ Some x → Contains xs x
+got_there [] k x at = absurd (let q : None ≡ Some x = at in cc)
+got_there (first ∷ xs) zero x at = let q : Some first ≡ Some x = at in let same : first ≡ x = cc in subst (λ y. Contains (first ∷ xs) y) same (first_there first xs)
+got_there (first ∷ xs) (suc k) x at = later_there first x xs (got_there xs k x at)
 
 -- ---- from the entry of which a listed file is
 
@@ -74,7 +81,7 @@ module _ {D : Type 0} (start : Began D) (folder : FolderTold) (has : HasScanned 
 
   -- ---- the folder's list
 
-  scanned_is : folder.scanned ≡ with_events folder.earlier listed_events
+  pub scanned_is : folder.scanned ≡ with_events folder.earlier listed_events
   scanned_is = some_is folder.scanned (with_events folder.earlier listed_events) (sym has.shown ∙ has.scans.listed_is.kept)
 
   scanned_events : folder.scanned.events ≡ folder.earlier.events ++ listed_events
@@ -95,6 +102,18 @@ module _ {D : Type 0} (start : Began D) (folder : FolderTold) (has : HasScanned 
       ap (λ (l : List Event). listings_from began (drop began l)) ended_events ∙ ap (listings_from began) (drop-append_seam folder.earlier.events (listed_events ++ done.more))
       ∙ no_more_listings listings done.more began done.no_listing
 
+  -- an opening of the run stands behind its scan
+  pub behind_scan : (opening : ℕ) (path : List ℕ) (number : ℕ) (begun : Sight) → began ≤ opening → slice_get folder.ended.events opening ≡ Some (OpenedAs path number begun) →
+      length folder.scanned.events ≤ opening
+  behind_scan opening path number begun since is = by_order (cases_lt opening (length folder.scanned.events))
+    where
+      by_order : (opening < length folder.scanned.events) ⊎ (length folder.scanned.events ≤ opening) → length folder.scanned.events ≤ opening
+      by_order (inr behind) = behind
+      by_order (inl within) =
+          let both = length-append folder.earlier.events listed_events in
+          let same : length folder.scanned.events ≡ length (folder.earlier.events ++ listed_events) = ap length scanned_events in
+          absurd (no_opening folder.ended.events listings began opening path number begun at since (omega (arith, within, both, same)) is)
+
   -- ---- it is one
 
   listed_globs : ListGlobs run.trace (globs_in inputs) scan.listings
@@ -110,7 +129,7 @@ module _ {D : Type 0} (start : Began D) (folder : FolderTold) (has : HasScanned 
     moments = (there.0, there.1, there.2, tt);
   }
 
-  entries : AllByRecursion (IsOfEntry inputs listings) start.listed
+  pub entries : AllByRecursion (IsOfEntry inputs listings) start.listed
   entries = each_of_entry inputs listings start.listed has.scans.only
 
   asked_by_entry : (some : List Listed) → AllByRecursion (IsOfEntry inputs listings) some → AllByRecursion (IsAskedByEntry inputs) (map asking_of some)

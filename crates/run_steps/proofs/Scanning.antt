@@ -1,5 +1,6 @@
 -- The listings of a scan stand one behind the other in the folder's list, one for each glob, and show just what was listed.
-use Rattle.std.proofs.Common.{◌≡◌, ◌⊎◌, inl, inr, ℕ, zero, suc, ◌+◌, ◌≤◌, ◌<◌, List, [], ◌∷◌, ◌++◌, Contains, length, map, append_assoc, length-append, Option, Some, None, refl, sym, ap, subst, ◌∙◌, arith}
+use Rattle.std.proofs.Common.{◌≡◌, ◌⊎◌, inl, inr, ⊎_elim, ℕ, zero, suc, ◌+◌, ◌≤◌, ◌<◌, List, [], ◌∷◌, ◌++◌, Contains, length, map, append_assoc, length-append, Option, Some, None, refl, sym, ap, subst, ◌∙◌, arith}
+use Rattle.std.proofs.Math.Nat.{eq-or-lt_of_le}
 use Rattle.std.proofs.lemmas.List.Elements.{Contains-append_cases, Contains-append_left, Contains-append_right}
 use Rattle.std.specs.Prelude.{slice_get}
 use Rattle.std.specs.List.{AllByRecursion}
@@ -8,6 +9,7 @@ use Rattle.kept_rows.specs.Scans.{IsGoodListing, ListGlobs, ShowsEntry, listings
 use Rattle.kept_rows.specs.Trace.{Trace}
 use Rattle.outside.specs.Folders.{Closed, Event, Listed, ListingFailed, NotThere, Opened, OpeningFailed}
 use Rattle.outside.specs.declared.history.Shown.{Shown}
+use Rattle.outside.specs.declared.history.Sight.{Sight}
 use Rattle.prospect.specs.ListedFiles.{shown_in}
 use Rattle.prospect.specs.Scan.{Listing, event_of}
 use Rattle.ship_core.proofs.Members.{first_there, later_there, none_there, there_cases}
@@ -75,6 +77,17 @@ module _ (trace : Trace) where
     record { root = _; depth = _; entries = listing.shown; listed = at.0 },
     good_listings listings (suc place) at.1,
   )
+
+-- none of them is an opening
+pub no_opening : (events : List Event) (listings : List Listing) (place opening : ℕ) (path : List ℕ) (number : ℕ) (begun : Sight) → AreAt events place (map event_of listings) →
+    place ≤ opening → opening < place + length (map event_of listings) → slice_get events opening ≡ Some (Opened path number begun) → ⊥
+no_opening events [] place opening path number begun at since within is = omega (arith, since, within)
+no_opening events (listing ∷ listings) place opening path number begun at since within is =
+    ⊎_elim (λ (here : place ≡ opening). no_listing (sym at.0 ∙ ap (slice_get events) here ∙ is))
+    (λ later. no_opening events listings (suc place) opening path number begun at.1 (omega (arith, later)) (omega (arith, within)) is) (eq-or-lt_of_le since)
+  where
+    no_listing : Some (event_of listing) ≡ Some (Opened path number begun) → ⊥
+    no_listing same = cc
 
 -- ---- what they show
 

@@ -14,6 +14,7 @@ pub mod Onward
 pub mod Registry
 pub mod RegistryErrors
 pub mod Releasing
+pub mod RunEnds
 pub mod RunOf
 pub mod RunState
 pub mod Scanned
@@ -22,4 +23,5 @@ pub mod Shown
 pub mod SoFar
 pub mod Stands
 pub mod Telling
+pub mod Tells
 pub mod Worked

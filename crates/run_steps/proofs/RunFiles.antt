@@ -1,0 +1,334 @@
+-- The files of a run, each with what its tail told as it was closed: listed by the run's scan, opened behind it, and begun once.
+use Rattle.std.proofs.Common.{◌≡◌, ◌⊎◌, inl, inr, ⊎_elim, ℕ, zero, suc, ◌+◌, ◌≤◌, ◌<◌, max, min, All, List, [], ◌∷◌, ◌++◌, Contains, drop, length, length-append, map, Option, Some, None, IsSome, IfSome, refl, sym, ap, subst, ◌∙◌, arith}
+use Rattle.std.specs.Prelude.{option_map, slice_get}
+use Rattle.std.specs.List.{AllByRecursion, flat_map}
+use Rattle.std.specs.Option.{option_map_or}
+use Rattle.accounts.proofs.Backing.{mapped_there}
+use Rattle.accounts.proofs.Following.{got_each}
+use Rattle.accounts.proofs.Grounded.{each_member, of_map}
+use Rattle.accounts.proofs.Joining.{AreJoined, AreOpenedInSlots, IsJoined, join, joined_in_slots, slots_in, slots_of, told_by_its_tail}
+use Rattle.accounts.proofs.Orderly.{same_item}
+use Rattle.accounts.specs.Filed.{Filed}
+use Rattle.accounts.specs.FollowedFile.{AreFollowedFiles, AreInSlots, EachOpeningIsOne, IsFollowedFile, IsListedAs, moment_by, opening_in, start_in, tail_of}
+use Rattle.accounts.specs.Opened.{Opened}
+use Rattle.accounts.specs.ToldFile.{IsToldFile}
+use Rattle.accounts.specs.Turned.{Turned}
+use Rattle.accounts.specs.Turning.{IsTurnedSo, Pairs}
+use Rattle.event_tree.specs.declared.input_rule.IdentityRule.{IdentityRule}
+use Rattle.event_tree.specs.declared.input_rule.IdentityRule.TheVariants.{Path}
+use Rattle.event_tree.specs.declared.processor_rule.ProcessorRule.{ProcessorRule}
+use Rattle.file_identity.specs.Key.{named_key, path_key}
+use Rattle.harvester.specs.declared.harvester.Harvester.{Harvester}
+use Rattle.kept_rows.specs.Followed.{OnlyReads, Start, start_by}
+use Rattle.kept_rows.specs.Run.{Run, Scan}
+use Rattle.kept_rows.specs.Scans.{AreDistinct, IsBefore, ShowsFileTo, moment_in}
+use Rattle.kept_rows.specs.Telling.{opening_moment}
+use Rattle.kept_rows.specs.Trace.{Closing, IsTail, WireTold, closing_in, first_of_two, looks_of, open_looks_in}
+use Rattle.lanes.specs.Laning.{Laning}
+use Rattle.outside.specs.Folders.{FolderHistory, Opened as OpenedAs}
+use Rattle.outside.specs.Tails.{TailHistory}
+use Rattle.outside.specs.declared.history.Look.{Look}
+use Rattle.outside.specs.declared.history.Shown.{Shown}
+use Rattle.outside.specs.declared.history.Sight.{Sight}
+use Rattle.prospect.specs.Scan.{event_of}
+use Rattle.prospect.specs.declared.listed.Listed.{Listed}
+use Rattle.rounds.specs.Crewed.{lanings}
+use Rattle.rounds.specs.Words.{TailWords, Words}
+use Rattle.ship_core.proofs.Members.{none_there, there_cases}
+use Rattle.wire_base.specs.declared.note.Begin.{Begin}
+use Rattle.wire_base.specs.declared.numbers.Moment.{Moment}
+use Rattle.wire_base.specs.declared.numbers.TheConstants.{MAX_MOMENT}
+use Rattle.run_steps.specs.Began.{Began}
+use Rattle.run_steps.specs.BeginFor.{begin_for}
+use Rattle.run_steps.specs.Begun.{AreSlotsFrom, IsKeyedByPath, IsOpenedAsListed, moment_noted}
+use Rattle.run_steps.specs.Releasing.{HasNoHarvesters}
+use Rattle.run_steps.specs.RunOf.{FolderTold, run_of, scan_of}
+use Rattle.run_steps.specs.RunState.{RunState}
+use Rattle.run_steps.specs.Scanned.{HasScanned}
+use Rattle.run_steps.specs.Shown.{HasDone, HasShown, WasClosedWith, WasOpenedSince, openings_of}
+use Rattle.run_steps.specs.SoFar.{Left, SoFar, files_in}
+use Rattle.run_steps.specs.Stands.{AreTurnedIn, IsLeftSo, Stands}
+use Rattle.run_steps.proofs.ByPath.{each_of}
+use Rattle.run_steps.proofs.Members.{member_is}
+use Rattle.run_steps.proofs.Named.{names_apart}
+use Rattle.run_steps.proofs.ScanOf.{IsOfEntry, behind_scan, entries, got_there, is_before, scanned_is, shows_file}
+
+-- ---- what stands of a file in the lists
+
+-- with what its tail was closed
+abbrev pub looks_in : FolderHistory → Opened → List Look
+looks_in told one = option_map_or (λ (closing : Closing). closing.looks) (closing_in one.opening (drop (suc one.opening) told.events)) []
+
+-- the moment with which it was listed
+abbrev pub moment_listed : List Listed → Opened → ℕ
+moment_listed listed one = option_map_or (λ (entry : Listed). (moment_noted entry).0) (slice_get listed one.begin.slot.0) 0
+
+abbrev slot_number : Opened → ℕ
+slot_number one = one.begin.slot.0
+
+slot_later : (least : ℕ) (opened : List Opened) (slot : ℕ) → AreSlotsFrom least opened → Contains (map slot_number opened) slot → least ≤ slot
+slot_later least [] slot rise there = absurd (none_there slot there)
+slot_later least (one ∷ opened) slot rise there = by_case (there_cases (slot_number one) slot (map slot_number opened) there) (slot_later (slot_number one + 1) opened slot rise.1)
+  where
+    by_case : (slot_number one ≡ slot) ⊎ Contains (map slot_number opened) slot → (Contains (map slot_number opened) slot → slot_number one + 1 ≤ slot) → least ≤ slot
+    by_case (inl same) later = let first = rise.0 in omega (arith, first, same)
+    by_case (inr behind) later = let first = rise.0 in let more = later behind in omega (arith, first, more)
+
+slots_distinct : (least : ℕ) (opened : List Opened) → AreSlotsFrom least opened → AreDistinct (map slot_number opened)
+slots_distinct least [] rise = tt
+slots_distinct least (one ∷ opened) rise = (
+  λ there. let more = slot_later (slot_number one + 1) opened (slot_number one) rise.1 there in omega (arith, more),
+  slots_distinct (slot_number one + 1) opened rise.1,
+)
+
+pub opened_in_slots : (least : ℕ) (opened : List Opened) → AreSlotsFrom least opened → AreOpenedInSlots least opened
+opened_in_slots least [] rise = tt
+opened_in_slots least (one ∷ opened) rise = (rise.0, opened_in_slots (slot_number one + 1) opened rise.1)
+
+-- ---- no lane has any more
+
+none_of_one : {A B : Type 0} (R : A → B → Type 0) (xs : List A) → Pairs R xs [] → xs ≡ []
+none_of_one R [] pairs = refl
+none_of_one R (x ∷ xs) pairs = absurd pairs
+
+module _ {T : Type 0} (tails : TailWords T) (processors : List ProcessorRule) (opened : List Opened) (moments : List ℕ) where
+  pub none_turned : (files : List (List Turned)) (lanes : List (Laning T)) → Pairs (AreTurnedIn tails processors opened moments) files lanes → AllByRecursion HasNoHarvesters lanes →
+      flat_map (λ (turned : List Turned). turned) files ≡ []
+  none_turned [] lanes pairs none = refl
+  none_turned (turned ∷ files) [] pairs none = absurd pairs
+  none_turned (turned ∷ files) (lane ∷ lanes) pairs none =
+      let here : turned ≡ [] =
+      none_of_one (IsTurnedSo tails.numbers tails.told processors opened moments) turned
+      (subst (λ (hs : List (Harvester T)). Pairs (IsTurnedSo tails.numbers tails.told processors opened moments) turned hs) none.0 pairs.0) in
+      ap (λ (l : List Turned). l ++ flat_map (λ (ts : List Turned). ts) files) here ∙ none_turned files lanes pairs.1 none.1
+
+-- ---- a tail that was closed
+
+-- what it told then
+pub record HasTail (processors : List ProcessorRule) (moments : List ℕ) (ended : FolderHistory) (opened : Opened) (turned : Turned) : Type 0 where
+  pub tail : TailHistory
+  pub told : IsToldFile processors opened moments turned (Some tail)
+  pub closed : WasClosedWith ended tail.opening tail.looks
+
+has_tail : (processors : List ProcessorRule) (moments : List ℕ) (ended : FolderHistory) (opened : Opened) (turned : Turned) (told : Option TailHistory) → IsSome told →
+    IsToldFile processors opened moments turned told → IfSome told (λ tail. WasClosedWith ended tail.opening tail.looks) → HasTail processors moments ended opened turned
+has_tail processors moments ended opened turned None tells is closed = absurd (cc)
+has_tail processors moments ended opened turned (Some tail) tells is closed = record { tail = tail; told = is; closed = closed }
+
+module _ {T W L D : Type 0} (words : Words T W L D) (start : Began D) (state : RunState T W L D) (so_far : SoFar) (stands : Stands words start state so_far)
+    (released : All HasNoHarvesters (lanings state.crew.lanes.items)) (folder : FolderTold) (has : HasScanned start folder) (shown : state.shown ≡ Some folder.ended)
+    (wires : List WireTold) where
+  abbrev run : Run
+  run = run_of start folder so_far.moments wires
+
+  abbrev scan : Scan
+  scan = scan_of start folder
+
+  abbrev processors : List ProcessorRule
+  processors = start.settings.processors
+
+  abbrev looks : Opened → List Look
+  looks = looks_in folder.ended
+
+  abbrev changed : Opened → ℕ
+  changed = moment_listed start.listed
+
+  pub done : HasDone folder.scanned folder.ended so_far
+  done = subst (λ (o : Option FolderHistory). HasShown (Some folder.scanned) o so_far) shown (subst (λ (o : Option FolderHistory). HasShown o state.shown so_far) has.shown stands.shown)
+
+  tells : IsSome start.shown
+  tells = subst (λ (o : Option FolderHistory). IsSome o) (sym has.shown) refl
+
+  pub files_are : files_in so_far ≡ map (λ (one : Left). one.turned) so_far.left
+  files_are =
+      ap (λ (l : List Turned). l ++ map (λ (one : Left). one.turned) so_far.left)
+      (none_turned words.tails processors so_far.opened so_far.moments so_far.lanes (lanings state.crew.lanes.items) stands.turned
+      (each_of HasNoHarvesters (lanings state.crew.lanes.items) released))
+
+  pub joined : AreJoined looks changed so_far.opened (files_in so_far)
+  joined = join looks changed so_far.opened (files_in so_far) stands.each_once.are
+
+  abbrev pub files : List Filed
+  files = joined.files
+
+  -- ---- each of them
+
+  module _ (file : Filed) (among : Contains files file) where
+    abbrev one : Opened
+    one = file.opened
+
+    pub is_joined : IsJoined looks changed (files_in so_far) file
+    is_joined = member_is (IsJoined looks changed (files_in so_far)) files file joined.each among
+
+    pub was_opened : Contains so_far.opened one
+    was_opened = subst (λ (l : List Opened). Contains l one) joined.opened_are (mapped_in files among)
+      where
+        mapped_in : (some : List Filed) → Contains some file → Contains (map (λ (f : Filed). f.opened) some) file.opened
+        mapped_in some there = mapped_there (λ (f : Filed). f.opened) some file there
+
+    pub as_listed : IsOpenedAsListed start.settings start.listed one
+    as_listed = member_is (IsOpenedAsListed start.settings start.listed) so_far.opened one stands.opened was_opened
+
+    left_there : Contains (map (λ (l : Left). l.turned) so_far.left) file.turned
+    left_there = subst (λ (l : List Turned). Contains l file.turned) files_are is_joined.among
+
+    -- what its tail told as it was closed
+    pub its_tail : HasTail processors so_far.moments folder.ended one file.turned
+    its_tail =
+        let of = of_map (λ (l : Left). l.turned) so_far.left file.turned left_there in
+        let so = member_is (IsLeftSo processors so_far.opened so_far.moments) so_far.left of.item stands.left of.among in
+        let same_number : slot_number so.file ≡ slot_number one =
+        sym (ap (λ s. s.0) so.is_told.slot) ∙ ap (λ (t : Turned). t.slot.0) of.is ∙ ap (λ s. s.0) is_joined.slot in
+        let same : so.file ≡ one =
+        same_item slot_number so_far.opened so.file one (slots_distinct 0 so_far.opened stands.each_once.rise) so.among was_opened same_number in
+        let told : IsToldFile processors one so_far.moments file.turned of.item.told =
+        subst (λ (t : Turned). IsToldFile processors one so_far.moments t of.item.told) of.is
+        (subst (λ (o : Opened). IsToldFile processors o so_far.moments of.item.turned of.item.told) same so.is_told) in
+        has_tail processors so_far.moments folder.ended one file.turned of.item.told
+        (member_is (λ (l : Left). IsSome l.told) so_far.left of.item (stands.left_tell tells) of.among) told
+        (member_is (λ (l : Left). IfSome l.told (λ tail. WasClosedWith folder.ended tail.opening tail.looks)) so_far.left of.item done.closed of.among)
+
+    closing_is : closing_in one.opening (drop (suc one.opening) folder.ended.events) ≡ Some (record { looks = its_tail.tail.looks; faults = its_tail.closed.faults })
+    closing_is =
+        subst (λ (n : ℕ). closing_in n (drop (suc n) folder.ended.events) ≡ Some (record { looks = its_tail.tail.looks; faults = its_tail.closed.faults })) its_tail.told.tail.opening
+        its_tail.closed.closing
+
+    looks_are : its_tail.tail.looks ≡ file.looks
+    looks_are = sym (is_joined.looks_are ∙ ap (λ (o : Option Closing). option_map_or (λ (c : Closing). c.looks) o []) closing_is)
+
+    tells_looks : looks_of run.trace one.opening ≡ Some file.looks
+    tells_looks =
+        ap (λ (o : Option Closing). first_of_two (option_map (λ (c : Closing). c.looks) o) (open_looks_in one.opening [])) closing_is
+        ∙ ap (λ (l : List Look). Some l) looks_are
+
+    opened_since : WasOpenedSince folder.scanned folder.ended one
+    opened_since = member_is (WasOpenedSince folder.scanned folder.ended) so_far.opened one done.opened was_opened
+
+    -- ---- as it was listed
+
+    abbrev entry : Listed
+    entry = as_listed.one
+
+    abbrev key : List ℕ
+    key = one.begin.key
+
+    pub entry_there : Contains start.listed entry
+    entry_there = got_there start.listed one.begin.slot.0 entry as_listed.listed_there
+
+    pub of_entry : IsOfEntry start.settings.inputs has.scans.listings entry
+    of_entry = member_is (IsOfEntry start.settings.inputs has.scans.listings) start.listed entry (entries start folder has so_far done wires) entry_there
+
+    abbrev its_entry : Shown
+    its_entry = of_entry.shown
+
+    pub input_is : one.begin.input ≡ entry.input
+    input_is = ap (λ (b : Begin). b.input) as_listed.begin_is
+
+    pub path_is : one.begin.path ≡ entry.path
+    path_is = ap (λ (b : Begin). b.path) as_listed.begin_is
+
+    rule_is : slice_get start.settings.inputs one.begin.input ≡ Some one.rule
+    rule_is = ap (slice_get start.settings.inputs) input_is ∙ as_listed.rule_is
+
+    shows : ShowsFileTo run scan one.begin.input key its_entry.file its_entry
+    shows =
+        subst (λ (i : ℕ). ShowsFileTo run scan i key its_entry.file its_entry) (sym input_is)
+        (shows_file start folder has so_far done wires entry entry_there of_entry key as_listed.keyed one.rule as_listed.rule_is as_listed.by_path)
+
+    starts : start_in one ≡ start_by None its_entry.entry.size
+    starts k = record { epoch = ap (λ (b : Begin). b.epoch.0) as_listed.begin_is k; base = ap (λ (b : Begin). b.base) as_listed.begin_is k }
+
+    is_listed : IsListedAs run scan one its_entry
+    is_listed = record {
+      number = its_entry.file;
+      shows = shows;
+      path_is = sym of_entry.by.path_is ∙ sym path_is;
+      before = is_before start folder has so_far done wires one.opening opened_since.since;
+      starts = starts;
+    }
+
+    -- the moment of its listing
+    pub moment_is : file.changed ≡ (moment_noted entry).0
+    moment_is = is_joined.changed_is ∙ ap (λ (o : Option Listed). option_map_or (λ (e : Listed). (moment_noted e).0) o 0) as_listed.listed_there
+
+    keyed_by_path : IsKeyedByPath one
+    keyed_by_path = member_is IsKeyedByPath so_far.opened one (stands.keyed tells) was_opened
+
+    key_by_path : key ≡ path_key one.rule.id one.begin.path
+    key_by_path = same_key key (path_key one.rule.id one.begin.path) (sym keyed_by_path)
+      where
+        same_key : (x y : List ℕ) → Some x ≡ Some y → x ≡ y
+        same_key x y is = cc
+
+    changed_by_entry : (moment_noted entry).0 ≡ moment_in its_entry
+    changed_by_entry = ap (λ (m : Moment). min m.0 MAX_MOMENT) of_entry.by.changed_is
+
+    -- no opening row has a greater one
+    over_no_row : (n : ℕ) → n ≡ max 0 n
+    over_no_row n = omega arith
+
+    pub moment_noted_is : file.changed ≡ moment_by run file its_entry
+    moment_noted_is = moment_is ∙ changed_by_entry ∙ over_no_row (moment_in its_entry)
+
+    pub is_followed : IsFollowedFile run scan file
+    is_followed = record {
+      rule_is = rule_is;
+      key_is = key_by_path;
+      in_range = as_listed.in_range;
+      file_is = opened_since.file_is;
+      tail = record {
+        in_this_run = since_began (ap (λ (h : FolderHistory). length h.events) (scanned_is start folder has so_far done wires));
+        begun = one.begun;
+        opened = opened_since.stands;
+        tells = tells_looks;
+      };
+      told = told_by_its_tail processors so_far.moments file its_tail.tail looks_are its_tail.told;
+      shown = its_entry;
+      listed = is_listed;
+      moment = inr moment_noted_is;
+    }
+      where
+        since_began : length folder.scanned.events ≡ length (folder.earlier.events ++ map event_of has.scans.listings) → length folder.earlier.events ≤ one.opening
+        since_began same =
+            let both = length-append folder.earlier.events (map event_of has.scans.listings) in
+            let since = opened_since.since in
+            omega (arith, same, both, since)
+
+  -- ---- all of them
+
+  in_slots : AreInSlots 0 files
+  in_slots = joined_in_slots 0 files so_far.opened joined.opened_are (opened_in_slots 0 so_far.opened stands.each_once.rise)
+
+  openings_are : map opening_in files ≡ openings_of so_far.opened
+  openings_are = mapped_twice files ∙ ap openings_of joined.opened_are
+    where
+      mapped_twice : (some : List Filed) → map opening_in some ≡ openings_of (map (λ (f : Filed). f.opened) some)
+      mapped_twice [] = refl
+      mapped_twice (f ∷ some) = ap (λ (l : List ℕ). f.opened.opening ∷ l) (mapped_twice some)
+
+  -- behind the scan: the run made no opening before
+  none_in_scan : (opening : ℕ) (path : List ℕ) (number : ℕ) (begun : Sight) → length folder.earlier.events ≤ opening →
+      slice_get folder.ended.events opening ≡ Some (OpenedAs path number begun) → length folder.scanned.events ≤ opening
+  none_in_scan opening path number begun since is = behind_scan start folder has so_far done wires opening path number begun since is
+
+  each_opening : EachOpeningIsOne run files
+  each_opening opening path number begun since is =
+      ⊎_elim (λ among. inl (subst (λ (l : List ℕ). Contains l opening) (sym openings_are) among)) (λ closed. inr (only_reads closed))
+      (done.serve opening path number begun (none_in_scan opening path number begun since is) is)
+    where
+      only_reads : WasClosedWith folder.ended opening [] → OnlyReads run.trace opening
+      only_reads closed = record {
+        looks = [];
+        tells = ap (λ (o : Option Closing). first_of_two (option_map (λ (c : Closing). c.looks) o) (open_looks_in opening [])) closed.closing;
+        none_at_length = tt;
+      }
+
+  pub are_followed_files : AreFollowedFiles run scan files
+  are_followed_files = record {
+    each = each_member (IsFollowedFile run scan) files is_followed;
+    slots = in_slots;
+    names_apart = names_apart start.settings start.listed has.scans.in_order 0 files in_slots
+        (each_member (λ (file : Filed). IsOpenedAsListed start.settings start.listed file.opened) files as_listed);
+    openings_apart = subst AreDistinct (sym openings_are) done.apart;
+    openings_serve = each_opening;
+  }

@@ -1,0 +1,10 @@
+-- What a run may be told by (this project's profile): its folder and each of its wires tell what was done, as it ends.
+use Rattle.std.specs.Prelude.{◌≡◌, List, Some, IsSome}
+use Rattle.std.specs.List.{AllByRecursion}
+use Rattle.rounds.specs.Words.{WireWords}
+use Rattle.run_steps.specs.Ends.{Ending}
+use Rattle.run_steps.specs.RunOf.{FolderTold}
+
+pub record DoTell {W D : Type 0} (words : WireWords W) (ending : Ending D) (folder : FolderTold) (wires : List W) : Type 0 where
+  pub shown : ending.shown ≡ Some folder.ended
+  pub wires_tell : AllByRecursion (λ wire. IsSome (words.outcomes wire)) wires
