@@ -1,6 +1,6 @@
--- Where each span that files told is settled and every note is collected, all that they told is acknowledged or dropped; and how the
--- books of rounds, list by list, fit what files told.
-use Rattle.std.proofs.Common.{◌≡◌, ℕ, ◌+◌, Bool, true, false, cond, List, [], ◌∷◌, ◌++◌, length, refl, ap, ◌∙◌, arith}
+-- Where as many spans are settled as files told and every note is collected, all that they told is acknowledged or dropped; and how
+-- the books of rounds, list by list, fit what files told.
+use Rattle.std.proofs.Common.{◌≡◌, ℕ, ◌+◌, ◌≤◌, Bool, true, false, cond, List, [], ◌∷◌, ◌++◌, length, refl, ap, ◌∙◌, arith}
 use Rattle.std.specs.Prelude.{count_by}
 use Rattle.std.specs.List.{flat_map}
 use Rattle.std.proofs.lemmas.List.Sums.{sum_by-cons}
@@ -108,7 +108,7 @@ settles_counted is_one is_other either (note ∷ notes) =
 -- ---- all is settled
 
 module _ (files : List Turned) (workers : List Taken) (collected : List Note) (fits : FitBooks files workers collected) (every : fits.notes ≡ [])
-    (counted : weigh settles collected ≡ spans_in files) where
+    (counted : spans_in files ≤ weigh settles collected) where
   collected_weigh : (h : Note → ℕ) → weigh h fits.noted + weigh h (notes_of (acknowledged_in workers)) ≡ weigh h collected
   collected_weigh h =
       let sums = fits.notes_are h in
