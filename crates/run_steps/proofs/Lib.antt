@@ -41,7 +41,11 @@ pub mod Released
 pub mod Releasing
 pub mod Rounding
 pub mod RunBooks
+pub mod RunCounts
+pub mod RunDoneOf
 pub mod RunFiles
+pub mod RunNotes
+pub mod RunServed
 pub mod RunToldOf
 pub mod RunWires
 pub mod ScanOf

@@ -2,6 +2,8 @@
 use Rattle.std.proofs.Common.{◌≡◌, ◌⊎◌, inl, inr, ℕ, zero, suc, ◌+◌, ◌≤◌, ◌<◌, All, Any, List, [], ◌∷◌, ◌++◌, Contains, drop, length, map, append_assoc, append-nil, length-append, Option, Some, None, refl, sym, ap, subst, ◌∙◌, arith}
 use Rattle.std.proofs.Math.Seq.{drop-append_seam}
 use Rattle.std.proofs.lemmas.Bool.{cases_lt}
+use Rattle.std.proofs.lemmas.List.{length-map}
+use Rattle.std.proofs.lemmas.Option.{slice_get-get_or}
 use Rattle.std.specs.Prelude.{slice_get}
 use Rattle.std.specs.List.{AllByRecursion}
 use Rattle.accounts.proofs.Backing.{mapped_there}
@@ -15,7 +17,7 @@ use Rattle.event_tree.specs.declared.input_rule.IdentityRule.TheVariants.{Path}
 use Rattle.event_tree.specs.declared.input_rule.InputRule.{InputRule}
 use Rattle.file_identity.specs.Key.{named_key, path_key}
 use Rattle.kept_rows.specs.Run.{Asking, Run, Scan}
-use Rattle.kept_rows.specs.Scans.{AreScans, IsBefore, IsCovered, IsNoFingerprint, ListGlobs, ShowsEntry, ShowsFileTo, globs_in, listings_from, listings_of}
+use Rattle.kept_rows.specs.Scans.{AreScans, IsBefore, IsCovered, IsGoodListing, IsNoFingerprint, ListGlobs, ShowsEntry, ShowsFileTo, globs_in, listings_from, listings_of}
 use Rattle.kept_rows.specs.Trace.{WireTold}
 use Rattle.outside.specs.Folders.{Event, FolderHistory, Opened as OpenedAs}
 use Rattle.outside.specs.declared.history.Shown.{Shown}
@@ -86,6 +88,9 @@ module _ {D : Type 0} (start : Began D) (folder : FolderTold) (has : HasScanned 
 
   scanned_events : folder.scanned.events ≡ folder.earlier.events ++ listed_events
   scanned_events = ap (λ (h : FolderHistory). h.events) scanned_is
+
+  pub scanned_length : length folder.scanned.events ≡ began + length listed_events
+  scanned_length = ap length scanned_events ∙ length-append folder.earlier.events listed_events
 
   ended_events : folder.ended.events ≡ folder.earlier.events ++ (listed_events ++ done.more)
   ended_events = done.events ∙ ap (λ (l : List Event). l ++ done.more) scanned_events ∙ append_assoc folder.earlier.events listed_events done.more
@@ -206,3 +211,43 @@ module _ {D : Type 0} (start : Began D) (folder : FolderTold) (has : HasScanned 
         gave = sym keyed ∙ of.by.key_is ∙ ap (λ (r : InputRule). named_key r.id r.file_identity of.shown.entry.path of.shown.entry.native) same_rule;
       };
     }
+
+  -- ---- it is full
+
+  -- a listed file has the entry's path and the input
+  pub record IsListedFor (shown : Shown) (input : ℕ) : Type 0 where
+    pub slot : ℕ
+    pub one : Listed
+    pub at : slice_get start.listed slot ≡ Some one
+    pub path_is : one.path ≡ shown.entry.path
+    pub input_is : one.input ≡ input
+
+  pub is_listed_for : (shown : Shown) (input : ℕ) (rule : InputRule) → ShowsEntry run.trace scan shown → slice_get inputs input ≡ Some rule →
+      IsCovered rule.paths shown.entry.path → IsListedFor shown input
+  is_listed_for shown input rule entry rule_is covered =
+      let found = has.scans.every shown input (record { among = entry_is_shown shown entry; rule = rule; rule_is = rule_is; covered = covered }) in
+      record {
+        slot = found.0;
+        one = found.1;
+        at = slice_get-get_or start.listed found.0 found.1 found.2 ∙ ap (λ (one : Listed). Some one) found.3;
+        path_is = found.4.0;
+        input_is = found.4.1;
+      }
+
+  pub is_full_scan : IsFullScan run scan
+  is_full_scan = record {
+    not_cut_off = ap length listings_are ∙ as_many_listings listings began ∙ sym (length-map listings (λ (listing : Listing). listing.glob)) ∙ ap length has.scans.listed_is.one_for_each_glob;
+    none_failed = subst (AllByRecursion (IsGoodListing run.trace)) (sym listings_are) (good_listings run.trace listings began at);
+    each_asked = λ shown input rule entry rule_is covered.
+        let of = is_listed_for shown input rule entry rule_is covered in
+        record {
+          asking = asking_of of.one;
+          asks = record {
+            entry = entry;
+            asked_in = tt;
+            of_scan = mapped_there asking_of start.listed of.one (got_there start.listed of.slot of.one of.at);
+            input_is = of.input_is;
+            path_is = of.path_is;
+          };
+        };
+  }

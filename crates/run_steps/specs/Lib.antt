@@ -18,6 +18,7 @@ pub mod RunEnds
 pub mod RunOf
 pub mod RunState
 pub mod Scanned
+pub mod Served
 pub mod Settling
 pub mod Shown
 pub mod SoFar
