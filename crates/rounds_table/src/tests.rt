@@ -1,3 +1,4 @@
+mod alone;
 mod carrier_parts;
 mod crews;
 mod events;

@@ -5,9 +5,9 @@ ghost use Rattle.rounds.specs.Words.{tail_words};
 ghost use Rattle.rounds_table.specs.Making.{IsCrew};
 ghost use Rattle.wire_base.specs.Ranges.{IsNote};
 
-use crate::tests::carrier_parts::all_carriers;
+use crate::tests::carrier_parts::carriers;
 use crate::tests::files::FILES;
-use crate::tests::lane_parts::all_lanes;
+use crate::tests::lane_parts::filled;
 use keeper::{Keeper, few_keys_by_length};
 use lanes::Outlets;
 use mem_queue::{PutPass, TakePass};
@@ -21,6 +21,24 @@ use std::test::Fail;
 use wire_base::{Epoch, Moment, NoMemory, Note, Slot, Text};
 
 pub type MemCrew<T> = Crew<T, MemWire, MemLink>;
+
+/// How a crew works.
+#[derive(Clone, Copy)]
+pub enum Way {
+    /// In rounds, in which the end of a file may be found or not.
+    Rounds { last: bool },
+    /// Each has its turns once, one after the other.
+    OneThread,
+}
+
+/// What a crew is made for.
+#[derive(Clone, Copy)]
+pub struct Sizes {
+    pub lanes: u32,
+    /// How many parcels the queue holds, and how many notes the box.
+    pub places: u32,
+    pub way: Way,
+}
 
 /// The passes of a queue and of a box, but for that which collects.
 #[derive(Drop)]
@@ -103,15 +121,16 @@ pub fn keeper(
     Ok(keeper)
 }
 
-/// A lane for the files of each, and a worker for each wire.
+/// So many lanes, among which these files are dealt out, and a worker for each wire. The box has as much room as is said.
 pub fn crew<T: Tail + Drop>(
     alloc: Global,
     outlets: Outlets<'_>,
     passes: Passes,
-    files: Vec<Vec<(u32, T)>>,
+    sizes: Sizes,
+    tails: Vec<T>,
     wires: Vec<MemWire>,
-    room: u32,
 ) -> Result<MemCrew<T>, Fail>
+    requires some { 0 < sizes.lanes }
     requires puts { passes.put.queue ≡ outlets.queue.now.id }
     requires takes { passes.take.queue ≡ outlets.queue.now.id }
     requires posts { passes.post.desk ≡ outlets.desk.now.id }
@@ -127,7 +146,7 @@ pub fn crew<T: Tail + Drop>(
         mut post,
     } = passes;
     let other_post = outlets.desk.split_post(&mut post);
-    let lanes = all_lanes(alloc, outlets, put, post, files)?;
-    let carriers = all_carriers(alloc, outlets, take, other_post, wires)?;
-    Ok(Crew::new(lanes, carriers, room))
+    let lanes = filled(alloc, outlets, (put, post), sizes.lanes, tails)?;
+    let carriers = carriers(alloc, outlets, take, other_post, wires)?;
+    Ok(Crew::new(lanes, carriers, sizes.places))
 }

@@ -1,6 +1,6 @@
-use crate::tests::crews::{Passes, crew, keeper};
-use crate::tests::files::{FILES, LINES, dealt};
-use crate::tests::outcome::{Outcome, finish, settles};
+use crate::tests::crews::{Passes, Sizes, Way, crew, keeper};
+use crate::tests::files::{FILES, LINES, tails};
+use crate::tests::outcome::{Outcome, finish, work};
 use lanes::Outlets;
 use mem_queue::EventQueue;
 use outside_mem::{MeetLink, MemDisk, MemTalk, MemWire};
@@ -13,21 +13,15 @@ use std::test::Fail;
 use std::thread::Threads;
 use wire_base::NoMemory;
 
-/// What a crew is made for.
-#[derive(Clone, Copy)]
-struct Sizes {
-    lanes: u32,
-    /// How many parcels the queue holds, and how many notes the box.
-    places: u32,
-    /// Whether the end of a file may be found.
-    last: bool,
+fn wire(alloc: Global) -> Result<MemWire, NoMemory> {
+    MemWire::new(alloc, Vec::new(alloc))
 }
 
 /// So many wires, whose peers acknowledge each window.
 fn wires(alloc: Global, count: u32) -> Result<Vec<MemWire>, NoMemory> {
     let mut wires = Vec::new(alloc);
     for _i in 0..count {
-        wires.push(MemWire::new(alloc, Vec::new(alloc))?)?;
+        wires.push(wire(alloc)?)?;
     }
     Ok(wires)
 }
@@ -72,18 +66,15 @@ fn check(rt: &impl Abort, alloc: Global, outcome: &Outcome) -> Result<(), Fail> 
     Ok(())
 }
 
-/// Rounds of a crew of these sizes over these wires until it is at rest, and one of each kind more, which moves nothing.
-fn run<R: Threads + Wait + Sync + Abort>(
+/// What a crew of these sizes over these wires comes to.
+fn run<R: Threads + Wait + Sync>(
     rt: &R,
     alloc: Global,
     sizes: Sizes,
     wires: Vec<MemWire>,
-) -> Result<(), Fail> {
-    if sizes.lanes == 0 {
-        return Err(Fail::new("no lane"));
-    }
-    if sizes.places == 0 {
-        return Err(Fail::new("no place"));
+) -> Result<Outcome, Fail> {
+    if sizes.lanes == 0 || sizes.places == 0 {
+        return Err(Fail::new("no lane or no place"));
     }
     let (queue, put, take) = EventQueue::new(alloc, sizes.places)?;
     let (desk, post, collect) = SettleBox::new(alloc, sizes.places)?;
@@ -93,25 +84,27 @@ fn run<R: Threads + Wait + Sync + Abort>(
     };
     let (mut a, mut b) = (MemDisk::new(alloc, b"")?, MemDisk::new(alloc, b"")?);
     let keeper = keeper(alloc, collect, &mut a, &mut b)?;
+    let passes = Passes { put, take, post };
+    let mut crew = crew(alloc, outlets, passes, sizes, tails(alloc)?, wires)?;
     let mut storing = Storing {
         keeper,
         a: &mut a,
         b: &mut b,
         stored: Stored::begun(),
     };
-    let passes = Passes { put, take, post };
-    let files = dealt(alloc, sizes.lanes)?;
-    let mut crew = crew(alloc, outlets, passes, files, wires, sizes.places)?;
-    let rests = settles(rt, alloc, outlets, &mut crew, &mut storing, sizes.last);
+    let went = work(rt, alloc, outlets, &mut crew, &mut storing, sizes.way);
     let Storing {
         keeper,
         a: _,
         b: _,
         stored: _,
     } = storing;
-    let outcome = finish(alloc, crew, &keeper, &mut a, &mut b)?;
-    assert!(rt; rests);
-    check(rt, alloc, &outcome)
+    let outcome = finish(alloc, outlets, crew, &keeper, (&mut a, &mut b))?;
+    if went {
+        Ok(outcome)
+    } else {
+        Err(Fail::new("the crew came to something else"))
+    }
 }
 
 #[test]
@@ -122,48 +115,43 @@ fn each_event_once(rt: HostRuntime) -> Result<(), Fail> {
             let sizes = Sizes {
                 lanes,
                 places: 8,
-                last,
+                way: Way::Rounds { last },
             };
-            run(&rt, alloc, sizes, wires(alloc, workers)?)?;
+            let outcome = run(&rt, alloc, sizes, wires(alloc, workers)?)?;
+            check(&rt, alloc, &outcome)?;
         }
     }
     Ok(())
 }
 
+// In a box of 64 places there is room for all notes twice, so the keeper has turns where nothing else moves, and nowhere else.
 #[test]
 fn queue_of_one_and_box_of_one(rt: HostRuntime) -> Result<(), Fail> {
     let alloc = rt.alloc();
-    for last in [false, true] {
+    for (places, last) in [(1, false), (1, true), (64, false)] {
         let sizes = Sizes {
             lanes: 2,
-            places: 1,
-            last,
+            places,
+            way: Way::Rounds { last },
         };
-        run(&rt, alloc, sizes, wires(alloc, 2)?)?;
+        let outcome = run(&rt, alloc, sizes, wires(alloc, 2)?)?;
+        check(&rt, alloc, &outcome)?;
     }
     Ok(())
 }
 
-// The box has room for all notes twice, so the keeper has turns where nothing else moves, and nowhere else.
-#[test]
-fn round_that_moves_nothing(rt: HostRuntime) -> Result<(), Fail> {
-    let alloc = rt.alloc();
-    let sizes = Sizes {
-        lanes: 2,
-        places: 64,
-        last: false,
-    };
-    run(&rt, alloc, sizes, wires(alloc, 2)?)
-}
-
-// Each of the two is acknowledged nothing before both have been asked at once.
+// Each of the two is acknowledged nothing before both have been asked at once, which one thread never does.
 #[test]
 fn two_workers_that_meet(rt: HostRuntime) -> Result<(), Fail> {
     let alloc = rt.alloc();
-    let sizes = Sizes {
-        lanes: 2,
-        places: 8,
-        last: false,
-    };
-    run(&rt, alloc, sizes, meeting_wires(alloc)?)
+    for (way, collected) in [(Way::Rounds { last: false }, LINES), (Way::OneThread, 0)] {
+        let sizes = Sizes {
+            lanes: 2,
+            places: 8,
+            way,
+        };
+        let outcome = run(&rt, alloc, sizes, meeting_wires(alloc)?)?;
+        assert_eq!(rt; outcome.collected, collected);
+    }
+    Ok(())
 }

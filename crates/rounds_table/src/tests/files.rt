@@ -1,5 +1,5 @@
 //! Files, and how they are followed.
-ghost use Rattle.std.specs.Prelude.{◌≡◌, ◌<◌, IfOk};
+ghost use Rattle.std.specs.Prelude.{IfOk};
 ghost use Rattle.harvester.specs.InRange.{IsReadable};
 ghost use Rattle.lanes.specs.Turned.{IsKnown};
 ghost use Rattle.wire_base.specs.Ranges.{IsBegin};
@@ -75,28 +75,11 @@ pub fn open<T: Tail>(alloc: Global, slot: u32, tail: T) -> Result<Harvester<T>, 
     Harvester::open(alloc, &rule, &[], begin, tail, Moment(0))
 }
 
-/// The files of the lane of this number among so many, with their slots.
-fn files_of(alloc: Global, number: u32, lanes: u32) -> Result<Vec<(u32, StillTail)>, NoMemory>
-    requires { 0 < lanes }
-{
-    let mut files = Vec::new(alloc);
-    let mut slot = 0_u32;
+/// The files of the slots from 0 on.
+pub fn tails(alloc: Global) -> Result<Vec<StillTail>, NoMemory> {
+    let mut tails = Vec::new(alloc);
     for text in FILES {
-        if slot % lanes == number {
-            files.push((slot, StillTail::new(text.as_bytes())))?;
-        }
-        slot = slot.wrapping_add(1);
+        tails.push(StillTail::new(text.as_bytes()))?;
     }
-    Ok(files)
-}
-
-/// All files, dealt out among so many lanes.
-pub fn dealt(alloc: Global, lanes: u32) -> Result<Vec<Vec<(u32, StillTail)>>, NoMemory>
-    requires { 0 < lanes }
-{
-    let mut all = Vec::new(alloc);
-    for number in 0..lanes {
-        all.push(files_of(alloc, number, lanes)?)?;
-    }
-    Ok(all)
+    Ok(tails)
 }

@@ -1,13 +1,14 @@
 //! Rounds until all is at rest, and what they came to.
-ghost use Rattle.std.specs.Prelude.{All, IfOk, OnSome};
+ghost use Rattle.std.specs.Prelude.{All, OnSome};
 ghost use Rattle.std.specs.Bool.{OnTrue};
 ghost use Rattle.rounds.specs.Crewing.{crewing};
-ghost use Rattle.rounds.specs.Rounds.{IsReady};
+ghost use Rattle.rounds.specs.Rounds.{IsAble, IsReady};
+ghost use Rattle.rounds.specs.Running.{IsCarrierReady};
 ghost use Rattle.rounds.specs.Words.{tail_words};
-ghost use Rattle.rounds_table.specs.Making.{CanEnd};
 
+use crate::tests::alone::alone;
 use crate::tests::carrier_parts::end_all;
-use crate::tests::crews::{MemCrew, key};
+use crate::tests::crews::{MemCrew, Way, key};
 use crate::tests::files::{FILES, LINES};
 use keeper::Keeper;
 use lanes::{Lane, Outlets, When};
@@ -48,9 +49,10 @@ fn round<T: Tail + Drop + Send, R: Threads + Wait + Sync>(
 ) -> Option<bool>
     requires ready { IsReady (tail_words T.numbers T.told T.faults) outlets.queue.now.id
         outlets.desk.now.id (crewing crew.old storing.old) }
+    ensures able { IsAble (tail_words T.numbers T.told T.faults) outlets.entry.queue.now.id
+        outlets.entry.desk.now.id (crewing crew.new storing.new) }
     ensures ready { OnSome result (IsReady (tail_words T.numbers T.told T.faults)
         outlets.entry.queue.now.id outlets.entry.desk.now.id (crewing crew.new storing.new)) }
-    ensures can_end { All CanEnd crew.new.carriers.items }
 {
     let when = When {
         now: Moment(1_000),
@@ -76,9 +78,10 @@ fn rest<T: Tail + Drop + Send, R: Threads + Wait + Sync>(
 ) -> bool
     requires ready { IsReady (tail_words T.numbers T.told T.faults) outlets.queue.now.id
         outlets.desk.now.id (crewing crew.old storing.old) }
+    ensures able { IsAble (tail_words T.numbers T.told T.faults) outlets.entry.queue.now.id
+        outlets.entry.desk.now.id (crewing crew.new storing.new) }
     ensures ready { OnTrue result (IsReady (tail_words T.numbers T.told T.faults)
         outlets.entry.queue.now.id outlets.entry.desk.now.id (crewing crew.new storing.new)) }
-    ensures can_end { All CanEnd crew.new.carriers.items }
 {
     'rounds: for _i in 0..MOST_ROUNDS {
         match round(rt, alloc, outlets, crew, storing, last) {
@@ -93,7 +96,7 @@ fn rest<T: Tail + Drop + Send, R: Threads + Wait + Sync>(
     false
 }
 
-/// Whether further rounds, of which the last may find the ends of files, move nothing.
+/// Whether a further round moves nothing, nor does one that may find the ends of files.
 fn stays_still<T: Tail + Drop + Send, R: Threads + Wait + Sync>(
     rt: &R,
     alloc: Global,
@@ -103,7 +106,10 @@ fn stays_still<T: Tail + Drop + Send, R: Threads + Wait + Sync>(
 ) -> bool
     requires ready { IsReady (tail_words T.numbers T.told T.faults) outlets.queue.now.id
         outlets.desk.now.id (crewing crew.old storing.old) }
-    ensures can_end { All CanEnd crew.new.carriers.items }
+    ensures able { IsAble (tail_words T.numbers T.told T.faults) outlets.entry.queue.now.id
+        outlets.entry.desk.now.id (crewing crew.new storing.new) }
+    ensures ready { OnTrue result (IsReady (tail_words T.numbers T.told T.faults)
+        outlets.entry.queue.now.id outlets.entry.desk.now.id (crewing crew.new storing.new)) }
 {
     match round(rt, alloc, outlets, crew, storing, false) {
         Some(false) => round(rt, alloc, outlets, crew, storing, true) == Some(false),
@@ -111,8 +117,30 @@ fn stays_still<T: Tail + Drop + Send, R: Threads + Wait + Sync>(
     }
 }
 
-/// Rounds until it is at rest, and one of each kind more; whether it rests then.
-pub fn settles<T: Tail + Drop + Send, R: Threads + Wait + Sync>(
+/// Whether all is done, and the last steps of a run find nothing that is left to be settled.
+fn is_through<T: Tail + Drop + Send, R: Wait>(
+    rt: &R,
+    alloc: Global,
+    outlets: Outlets<'_>,
+    crew: &mut MemCrew<T>,
+    storing: &mut Storing<'_, MemDisk>,
+) -> bool
+    requires ready { IsReady (tail_words T.numbers T.told T.faults) outlets.queue.now.id
+        outlets.desk.now.id (crewing crew.old storing.old) }
+    ensures able { IsAble (tail_words T.numbers T.told T.faults) outlets.entry.queue.now.id
+        outlets.entry.desk.now.id (crewing crew.new storing.new) }
+{
+    let done = crew.is_done(&storing.keeper);
+    let round = crew.settle(rt, alloc, outlets, storing);
+    done && !round.moved && crew.is_settled(&storing.keeper)
+}
+
+fn is_work_left<T: Tail>(crew: &MemCrew<T>, keeper: &Keeper) -> bool {
+    !crew.is_done(keeper) && !crew.is_settled(keeper)
+}
+
+/// Rounds until it is at rest, and one of each kind more; whether it rests then, and all is done and settled, as it was not before.
+fn settles<T: Tail + Drop + Send, R: Threads + Wait + Sync>(
     rt: &R,
     alloc: Global,
     outlets: Outlets<'_>,
@@ -122,9 +150,39 @@ pub fn settles<T: Tail + Drop + Send, R: Threads + Wait + Sync>(
 ) -> bool
     requires ready { IsReady (tail_words T.numbers T.told T.faults) outlets.queue.now.id
         outlets.desk.now.id (crewing crew.old storing.old) }
-    ensures can_end { All CanEnd crew.new.carriers.items }
+    ensures able { IsAble (tail_words T.numbers T.told T.faults) outlets.entry.queue.now.id
+        outlets.entry.desk.now.id (crewing crew.new storing.new) }
 {
-    rest(rt, alloc, outlets, crew, storing, last) && stays_still(rt, alloc, outlets, crew, storing)
+    if !is_work_left(crew, &storing.keeper) {
+        return false;
+    }
+    if !rest(rt, alloc, outlets, crew, storing, last) {
+        return false;
+    }
+    if !stays_still(rt, alloc, outlets, crew, storing) {
+        return false;
+    }
+    is_through(rt, alloc, outlets, crew, storing)
+}
+
+/// Lets the crew work; whether that came to what it was to come to.
+pub fn work<T: Tail + Drop + Send, R: Threads + Wait + Sync>(
+    rt: &R,
+    alloc: Global,
+    outlets: Outlets<'_>,
+    crew: &mut MemCrew<T>,
+    storing: &mut Storing<'_, MemDisk>,
+    way: Way,
+) -> bool
+    requires ready { IsReady (tail_words T.numbers T.told T.faults) outlets.queue.now.id
+        outlets.desk.now.id (crewing crew.old storing.old) }
+    ensures can_end { All (IsCarrierReady outlets.entry.queue.now.id outlets.entry.desk.now.id)
+        crew.new.carriers.items }
+{
+    match way {
+        Way::Rounds { last } => settles(rt, alloc, outlets, crew, storing, last),
+        Way::OneThread => alone(rt, alloc, outlets, crew, storing),
+    }
 }
 
 fn told<T: Tail>(lanes: &[Lane<T>]) -> u64 {
@@ -165,17 +223,19 @@ fn stored(alloc: Global, a: &mut MemDisk, b: &mut MemDisk) -> Result<usize, Fail
     Ok(stored)
 }
 
+/// Lets the crew go; what its rounds came to.
 pub fn finish<T: Tail + Drop>(
     alloc: Global,
+    outlets: Outlets<'_>,
     crew: MemCrew<T>,
     keeper: &Keeper,
-    a: &mut MemDisk,
-    b: &mut MemDisk,
+    disks: (&mut MemDisk, &mut MemDisk),
 ) -> Result<Outcome, Fail>
-    requires { All CanEnd crew.carriers.items }
+    requires { All (IsCarrierReady outlets.queue.now.id outlets.desk.now.id) crew.carriers.items }
 {
+    let (a, b) = disks;
     let (lanes, carriers) = crew.end();
-    let sent = end_all(alloc, carriers)?;
+    let sent = end_all(alloc, outlets, carriers)?;
     Ok(Outcome {
         told: told(lanes.as_slice()),
         collected: keeper.collected(),

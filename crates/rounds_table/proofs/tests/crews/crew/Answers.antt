@@ -2,7 +2,8 @@ use Rattle.std.proofs.Common.{List, ℕ, ap, subst, sym}
 use Rattle.rounds.specs.Crewed.{carriers_passes, lanes_passes, lanings}
 use Rattle.rounds.specs.Words.{tail_words}
 use Rattle.rounds.specs.declared.crew.Crew.{Crew}
-use Rattle.rounds_table.specs.Making.{HaveAll, IsCrew}
+use Rattle.rounds.specs.Making.{HaveAll}
+use Rattle.rounds_table.specs.Making.{IsCrew}
 use Rattle.rounds_table.proofs.Making.{crew_by_parts}
 use Rattle.settle_box.specs.Poster.{Poster}
 use Rattle.rounds_table.proofs.tests.crews.crew.Goals as goal
