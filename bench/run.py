@@ -3,7 +3,7 @@
 
 The program `bench_parts` makes one call as often as it is told. What is counted of it is the processor time of the
 whole program, less that of a run that makes no call. The program `bench_worker` has one worker ship events,
-and `bench_harvester` harvesters tell them.
+`bench_harvester` harvesters tell them, and `bench_rounds` rounds do both.
 """
 
 import datetime
@@ -16,6 +16,7 @@ from pathlib import Path
 
 from harvester import harvester_table
 from memory import memory_tables
+from rounds import rounds_tables
 from transport import peak_memory, transport_table
 from worker import worker_table
 
@@ -309,7 +310,7 @@ def main():
         fixed=fixed * 1e3,
     )
     leaves = [filter_table(), chain_table(fixed), harvester_table(), fingerprint_table(), scan_table()]
-    leaves += [queue_table(), memory_tables(), covers_table(fixed)]
+    leaves += [queue_table(), rounds_tables(), memory_tables(), covers_table(fixed)]
     RESULTS.write_text(
         head + transport_table() + worker_table() + cut_table(fixed) + payloads_table(fixed) + "".join(leaves)
     )
