@@ -40,11 +40,14 @@ pub mod Ordering
 pub mod Released
 pub mod Releasing
 pub mod Rounding
+pub mod RunAccounted
 pub mod RunBooks
 pub mod RunCounts
 pub mod RunDoneOf
 pub mod RunFiles
+pub mod RunFits
 pub mod RunNotes
+pub mod RunRows
 pub mod RunServed
 pub mod RunToldOf
 pub mod RunWires

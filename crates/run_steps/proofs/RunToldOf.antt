@@ -31,7 +31,7 @@ module _ {T W L D : Type 0} (words : Words T W L D) (start : Began D) (ending : 
   so_far = ends.so_far
 
   abbrev pub wires_told : List WireTold
-  wires_told = wires_behind words.wires (starts_of words.wires start unused) wires
+  wires_told = wires_behind (starts_of words.wires start unused) (map words.wires.outcomes wires)
 
   abbrev pub run : Run
   run = run_of start folder so_far.moments wires_told
@@ -47,8 +47,8 @@ module _ {T W L D : Type 0} (words : Words T W L D) (start : Began D) (ending : 
 
   pub talks : AreOfWorkers workers wires_told
   talks =
-      subst (λ (l : List W). AreOfWorkers workers (wires_behind words.wires (starts_of words.wires start unused) l)) (sym ends.ended.is)
-      (subst (λ (l : List ℕ). AreOfWorkers workers (wires_behind words.wires (l ++ map (λ wire. length_of (words.wires.outcomes wire)) unused) (ends.ended.ended ++ unused))) ends.stands.heard
+      subst (λ (l : List W). AreOfWorkers workers (wires_behind (starts_of words.wires start unused) (map words.wires.outcomes l))) (sym ends.ended.is)
+      (subst (λ (l : List ℕ). AreOfWorkers workers (wires_behind (l ++ map (λ wire. length_of (words.wires.outcomes wire)) unused) (map words.wires.outcomes (ends.ended.ended ++ unused)))) ends.stands.heard
       (of_workers words.links words.wires unused so_far.told.acknowledged ends.crew.carriers.items ends.ended.ended ends.stands.booked.acknowledged ends.ended.each
       (subst (AllByRecursion (λ wire. IsSome (words.wires.outcomes wire))) ends.ended.is tell.wires_tell)))
 

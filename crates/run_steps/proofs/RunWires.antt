@@ -68,7 +68,7 @@ module _ {W L : Type 0} (links : LinkWords L) (wires : WireWords W) (unused : Li
         none_open = refl;
       }
 
-  of_others : (some : List W) → AreOfWorkers (took_none some) (wires_behind wires (map (λ wire. length_of (wires.outcomes wire)) some) some)
+  of_others : (some : List W) → AreOfWorkers (took_none some) (wires_behind (map (λ wire. length_of (wires.outcomes wire)) some) (map wires.outcomes some))
   of_others [] = tt
   of_others (wire ∷ some) = (of_none wire, of_others some)
 
@@ -80,7 +80,7 @@ module _ {W L : Type 0} (links : LinkWords L) (wires : WireWords W) (unused : Li
   pub of_workers : (heard : List Heard) (carriers : List (Carrier W L)) (ended : List W) → RoundPairs (Acknowledges links wires) heard carriers →
       RoundPairs (EndsCarrier links wires) carriers ended → AllByRecursion (λ wire. IsSome (wires.outcomes wire)) (ended ++ unused) →
       AreOfWorkers (took_each heard carriers ++ took_none unused)
-      (wires_behind wires (map (λ (one : Heard). one.start) heard ++ map (λ wire. length_of (wires.outcomes wire)) unused) (ended ++ unused))
+      (wires_behind (map (λ (one : Heard). one.start) heard ++ map (λ wire. length_of (wires.outcomes wire)) unused) (map wires.outcomes (ended ++ unused)))
   of_workers [] [] [] stand ends tell = of_others unused
   of_workers [] [] (wire ∷ ended) stand ends tell = absurd ends
   of_workers [] (carrier ∷ carriers) ended stand ends tell = absurd stand

@@ -1,3 +1,4 @@
+pub mod AccountedFor
 pub mod Areas
 pub mod Began
 pub mod BeginFor

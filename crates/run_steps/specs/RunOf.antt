@@ -39,10 +39,10 @@ wire_behind start None = record { outcomes = []; open_talk = None }
 wire_behind start (Some outcomes) = record { outcomes = drop start outcomes; open_talk = None }
 
 -- wire by wire, each behind so many
-abbrev pub wires_behind : {W : Type 0} → WireWords W → List ℕ → List W → List WireTold
-wires_behind words [] wires = []
-wires_behind words (start ∷ starts) [] = []
-wires_behind words (start ∷ starts) (wire ∷ wires) = wire_behind start (words.outcomes wire) ∷ wires_behind words starts wires
+abbrev pub wires_behind : List ℕ → List (Option (List Outcome)) → List WireTold
+wires_behind [] told = []
+wires_behind (start ∷ starts) [] = []
+wires_behind (start ∷ starts) (outcomes ∷ told) = wire_behind start outcomes ∷ wires_behind starts told
 
 -- how many outcomes each had as the run began: those of the workers, and those that no worker had and that are as they were
 abbrev pub starts_of : {W D : Type 0} → WireWords W → Began D → List W → List ℕ

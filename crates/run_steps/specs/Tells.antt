@@ -1,4 +1,4 @@
--- What a run may be told by (this project's profile): its folder and each of its wires tell what was done, as it ends.
+-- By what a run can be told (this project's profile): as it ends, its folder, its clock and each of its wires tell what was done.
 use Rattle.std.specs.Prelude.{◌≡◌, List, Some, IsSome}
 use Rattle.std.specs.List.{AllByRecursion}
 use Rattle.rounds.specs.Words.{WireWords}
@@ -7,4 +7,5 @@ use Rattle.run_steps.specs.RunOf.{FolderTold}
 
 pub record DoTell {W D : Type 0} (words : WireWords W) (ending : Ending D) (folder : FolderTold) (wires : List W) : Type 0 where
   pub shown : ending.shown ≡ Some folder.ended
+  pub clock_tells : IsSome ending.moments
   pub wires_tell : AllByRecursion (λ wire. IsSome (words.outcomes wire)) wires

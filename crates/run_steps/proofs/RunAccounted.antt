@@ -1,0 +1,143 @@
+-- A run is accounted for, however it ends.
+use Rattle.std.proofs.Common.{◌≡◌, ℕ, List, [], ◌++◌, map, Option, Some, refl, sym, ap, subst, ◌∙◌}
+use Rattle.std.specs.List.{AllByRecursion}
+use Rattle.accounts.proofs.AccountingFor.{IsAccountedFor, is_accounted_for}
+use Rattle.accounts.proofs.Draining.{is_drained}
+use Rattle.accounts.specs.AccountedFor.{AccountsFor, followings_in}
+use Rattle.accounts.specs.Filed.{Filed, accounts_of}
+use Rattle.accounts.specs.RunTold.{RunTold}
+use Rattle.accounts.specs.Taken.{Taken}
+use Rattle.batch_worker.specs.Standing.{length_of}
+use Rattle.kept_rows.specs.Account.{Place, SlotAccount}
+use Rattle.kept_rows.specs.Backed.{AreRowsOverFronts}
+use Rattle.kept_rows.specs.Drained.{IsDrained}
+use Rattle.kept_rows.specs.Kept.{IsKeptInImage}
+use Rattle.kept_rows.specs.Premises.{Premises}
+use Rattle.kept_rows.specs.Run.{Run, Scan}
+use Rattle.kept_rows.specs.Trace.{WireTold}
+use Rattle.outside.specs.Folders.{FolderHistory}
+use Rattle.outside.specs.Wires.{Outcome}
+use Rattle.registry_store.specs.Choice.{GivesRows}
+use Rattle.rounds.specs.Words.{Words}
+use Rattle.ship_core.specs.Orderly.{AreOrderly}
+use Rattle.ship_core.specs.RowsOver.{AreRowsOver}
+use Rattle.wire_base.specs.declared.note.Note.{Note}
+use Rattle.wire_base.specs.declared.parcel.Parcel.{Parcel}
+use Rattle.wire_base.specs.declared.row.Row.{Row}
+use Rattle.run_steps.specs.AccountedFor.{AccountedFor, AreAccounted, AreaSince, FitsFolders, FitsObjects, HoldKeptRows, RowsBy, RunObjects}
+use Rattle.run_steps.specs.Areas.{BeganAtRest, HaveHeldFronts, HeldOnlyFronts}
+use Rattle.run_steps.specs.Began.{Began}
+use Rattle.run_steps.specs.Ends.{Ending, Ends}
+use Rattle.run_steps.specs.Met.{AreLeft}
+use Rattle.run_steps.specs.RunEnds.{AreLeftSo}
+use Rattle.run_steps.specs.RunOf.{FolderTold, starts_of, wires_behind}
+use Rattle.run_steps.specs.Scanned.{HasScanned}
+use Rattle.run_steps.specs.Served.{AreServed}
+use Rattle.run_steps.specs.Tells.{DoTell}
+use Rattle.run_steps.specs.declared.met.Met.{Met}
+use Rattle.run_steps.specs.declared.met.Met.TheVariants.{Done}
+use Rattle.run_steps.proofs.RunDoneOf.{run_done}
+use Rattle.run_steps.proofs.RunFits.{moments_since}
+use Rattle.run_steps.proofs.RunRows.{OneChoice, given_over_fronts, opened_over_fronts, rows_of_store}
+use Rattle.run_steps.proofs.RunToldOf.{run, run_files, run_told, scan, so_far, wires_told, workers}
+
+module _ {T W L D : Type 0} (words : Words T W L D) (start : Began D) (ending : Ending D) (met : Met) (unused wires : List W) (ends : Ends words start ending met unused wires)
+    (left : AreLeftSo words.disks start ending met ends.crew) (folder : FolderTold) (has : HasScanned start folder) (tell : DoTell words.wires ending folder wires) where
+  abbrev the_run : Run
+  the_run = run words start ending met unused wires ends left folder has tell
+
+  abbrev the_files : List Filed
+  the_files = run_files words start ending met unused wires ends left folder has tell
+
+  abbrev the_workers : List Taken
+  the_workers = workers words start ending met unused wires ends left folder has tell
+
+  abbrev the_scan : Scan
+  the_scan = scan words start ending met unused wires ends left folder has tell
+
+  abbrev begun : List Note
+  begun = ends.so_far.begun
+
+  abbrev collected : List Note
+  collected = ends.so_far.collected
+
+  abbrev notes : List Note
+  notes = ending.keeper.tracked.notes
+
+  the_run_told : RunTold the_run the_scan the_files the_workers begun collected
+  the_run_told = run_told words start ending met unused wires ends left folder has tell
+
+  accounted : IsAccountedFor the_run the_scan the_files the_workers begun collected the_run_told
+  accounted = is_accounted_for the_run the_scan the_files the_workers begun collected the_run_told
+
+  abbrev account : List SlotAccount
+  account = accounts_of accounted.placed the_files
+
+  module _ (one : OneChoice) (at_rest : BeganAtRest words.disks start) where
+    held : HaveHeldFronts words.disks notes start.a start.b ending.a ending.b
+    held = ends.stands.areas at_rest
+
+    kept_in_image : (rows : List Row) → AreRowsOverFronts [] notes rows → AllByRecursion (IsKeptInImage account [] the_run.trace.wires) rows
+    kept_in_image rows over = accounted.accounts.images rows (subst (λ (l : List Note). AreRowsOverFronts [] l rows) ends.stands.noted.are over)
+
+    -- where the last steps were made the areas give the rows over all notes
+    rows_over : AreLeft met → (first second : List ℕ) (rows : List Row) → words.disks.contents ending.a ≡ Some first → words.disks.contents ending.b ≡ Some second →
+        GivesRows first second rows → AreRowsOver [] (begun ++ collected) rows
+    rows_over are_left first second rows a_is b_is gives =
+        subst (AreRowsOver [] (begun ++ collected))
+        (rows_of_store one words.disks ending.a ending.b ending.keeper.store first second rows (left.at_rest are_left at_rest).settled a_is b_is gives)
+        (subst (λ (l : List Note). AreRowsOver [] l ending.keeper.store.rows) ((ends.stored are_left).stored.committed ∙ ends.stands.noted.are)
+        (subst (λ (l : List Row). AreRowsOver l ending.keeper.tracked.committed ending.keeper.store.rows) ends.stands.noted.opening
+        (ends.stands.stores (subst AreOrderly (sym ends.stands.noted.are) accounted.accounts.orderly) (left.is_open are_left))))
+
+    rows_by : (first second : List ℕ) (rows : List Row) → words.disks.contents ending.a ≡ Some first → words.disks.contents ending.b ≡ Some second →
+        GivesRows first second rows → RowsBy the_run account met rows
+    rows_by first second rows a_is b_is gives = record {
+      in_image = kept_in_image rows (given_over_fronts one notes first second rows (held.both first second a_is b_is) gives);
+      kept = λ are_left. accounted.accounts.ends rows (rows_over are_left first second rows a_is b_is gives);
+      begun = λ are_left. accounted.accounts.begun rows (rows_over are_left first second rows a_is b_is gives);
+    }
+
+    images_of : (began now : D) → HeldOnlyFronts words.disks notes began now → HoldKeptRows words.disks (record { began = began; now = now }) the_run account
+    images_of began now only image generation rows end since opened = kept_in_image rows (opened_over_fronts one notes image generation rows end (only.each image since) opened)
+
+  -- ---- what its objects told
+
+  module _ (outcomes : List (Option (List Outcome))) (starts : map length_of outcomes ≡ starts_of words.wires start unused) where
+    abbrev pub objects : RunObjects D
+    objects = record {
+      before = record { folder = Some folder.earlier; moments = start.moments; outcomes = outcomes; a = start.a; b = start.b };
+      after = record { folder = ending.shown; moments = ending.moments; outcomes = map words.wires.outcomes wires; a = ending.a; b = ending.b };
+    }
+
+    fits : FitsObjects objects the_run
+    fits = record {
+      once = refl;
+      opening = refl;
+      scan = the_scan;
+      one_scan = refl;
+      folder = subst (λ (o : Option FolderHistory). FitsFolders (Some folder.earlier) o the_run.trace) (sym tell.shown)
+          (record { files = refl; events = refl; began = refl; none_open = refl });
+      moments = moments_since start.moments ending.moments start.moment ends.so_far.moments ends.stands.given tell.clock_tells;
+      wires = ap (λ (l : List ℕ). wires_behind l (map words.wires.outcomes wires)) (sym starts);
+    }
+
+    module _ (one : OneChoice) (served : met ≡ Done → AreServed start.listed notes folder) where
+      drained : BeganAtRest words.disks start → met ≡ Done → Premises the_run (followings_in account) → (first second : List ℕ) (rows : List Row) →
+          words.disks.contents ending.a ≡ Some first → words.disks.contents ending.b ≡ Some second → GivesRows first second rows → IsDrained the_run account rows
+      drained at_rest is_done premises first second rows a_is b_is gives =
+          is_drained the_run the_scan the_files the_workers begun collected the_run_told
+          (run_done words start ending met unused wires ends left folder has tell is_done (served is_done)) accounted.placed premises rows
+          (rows_over one at_rest (subst AreLeft (sym is_done) tt) first second rows a_is b_is gives)
+
+      pub accounted_for : AccountedFor words.disks objects met
+      accounted_for = record {
+        run = the_run;
+        account = account;
+        fits = fits;
+        followed = accounted.accounts.followed;
+        sent = accounted.accounts.sent;
+        rows = rows_by one;
+        images = λ at_rest. record { of_a = images_of one at_rest start.a ending.a (held one at_rest).of_a; of_b = images_of one at_rest start.b ending.b (held one at_rest).of_b };
+        supposing = λ premises. record { is = accounted.accounts.is premises; drained = λ at_rest is_done. drained at_rest is_done premises };
+      }

@@ -1,0 +1,124 @@
+-- A run that is accounted for (this project's profile): a run that fits what its objects told before and after it, and an account of
+-- it. Its files are followed so, only told events were sent, the rows that its areas give are kept, and so is each row that any image
+-- of an area had since it began. Where files keep their identities and truncations are seen, the account is one of the run, and a
+-- run that is done drained its folder. It is said where the folder, the clock and each wire tell.
+use Rattle.std.specs.Prelude.{◌≡◌, ℕ, ◌-◌, true, List, [], ◌∷◌, drop, length, map, Option, Some, None}
+use Rattle.std.specs.List.{AllByRecursion}
+use Rattle.accounts.specs.AccountedFor.{HasItsRow, followings_in}
+use Rattle.batch_worker.specs.Standing.{length_of}
+use Rattle.kept_rows.specs.Account.{SlotAccount}
+use Rattle.kept_rows.specs.Drained.{IsDrained}
+use Rattle.kept_rows.specs.Followed.{AreFollowed}
+use Rattle.kept_rows.specs.Kept.{IsKept, IsKeptInImage}
+use Rattle.kept_rows.specs.Premises.{Premises}
+use Rattle.kept_rows.specs.Run.{Run, Scan}
+use Rattle.kept_rows.specs.Sent.{SendOnlyTold}
+use Rattle.kept_rows.specs.Telling.{IsAccount}
+use Rattle.kept_rows.specs.Trace.{Trace}
+use Rattle.outside.specs.Folders.{FolderHistory}
+use Rattle.outside.specs.Wires.{Outcome}
+use Rattle.registry_log.specs.State.{IsOpened}
+use Rattle.registry_store.specs.Choice.{GivesRows}
+use Rattle.registry_store.specs.Settled.{AreAtRest}
+use Rattle.rounds.specs.Words.{DiskWords}
+use Rattle.wire_base.specs.declared.row.Row.{Row}
+use Rattle.run_steps.specs.Met.{AreLeft}
+use Rattle.run_steps.specs.RunOf.{wires_behind}
+use Rattle.run_steps.specs.declared.met.Met.{Met}
+use Rattle.run_steps.specs.declared.met.Met.TheVariants.{Done}
+
+-- ---- the run that it is
+
+-- what the objects of a run tell at one moment: its folder, its clock, each wire of its outcomes, and the areas
+pub record Objects (D : Type 0) : Type 0 where
+  pub folder : Option FolderHistory
+  pub moments : Option (List ℕ)
+  pub outcomes : List (Option (List Outcome))
+  pub a : D
+  pub b : D
+
+-- as the run began and as it ended
+pub record RunObjects (D : Type 0) : Type 0 where
+  pub before : Objects D
+  pub after : Objects D
+
+-- the trace has what the folder told, and that the run began behind what it had told before
+pub record FitsFolder (before after : FolderHistory) (trace : Trace) : Type 0 where
+  pub files : trace.files ≡ after.files
+  pub events : trace.events ≡ after.events
+  pub began : trace.began ≡ length before.events
+  pub none_open : trace.open_tails ≡ []
+
+abbrev pub FitsFolders : Option FolderHistory → Option FolderHistory → Trace → Type 0
+FitsFolders None after trace = ⊥
+FitsFolders (Some before) None trace = ⊥
+FitsFolders (Some before) (Some after) trace = FitsFolder before after trace
+
+-- these are the moments that the clock gave since then, with the last one before
+abbrev pub AreMomentsSince : Option (List ℕ) → Option (List ℕ) → List ℕ → Type 0
+AreMomentsSince None after moments = ⊥
+AreMomentsSince (Some before) None moments = ⊥
+AreMomentsSince (Some before) (Some after) moments = moments ≡ drop (length before - 1) after
+
+-- the run reads its files once, over a registry without rows, by one scan, and is what its objects told
+pub record FitsObjects {D : Type 0} (objects : RunObjects D) (run : Run) : Type 0 where
+  pub once : run.once ≡ true
+  pub opening : run.opening ≡ []
+  pub scan : Scan
+  pub one_scan : run.scans ≡ scan ∷ []
+  pub folder : FitsFolders objects.before.folder objects.after.folder run.trace
+  pub moments : AreMomentsSince objects.before.moments objects.after.moments run.trace.moments
+  pub wires : run.trace.wires ≡ wires_behind (map length_of objects.before.outcomes) objects.after.outcomes
+
+-- ---- its rows
+
+-- the rows that the bytes of both areas give: kept as images keep them, whatever was met; where the last steps were made, kept
+-- as a run ends with them, one for each key that was begun
+pub record RowsBy (run : Run) (account : List SlotAccount) (met : Met) (rows : List Row) : Type 0 where
+  pub in_image : AllByRecursion (IsKeptInImage account run.opening run.trace.wires) rows
+  pub kept : AreLeft met → AllByRecursion (IsKept account run.opening run.trace.wires) rows
+  pub begun : AreLeft met → AllByRecursion (HasItsRow rows) account
+
+-- what both areas hold now gives such rows
+abbrev pub AreRowsBy : {D : Type 0} → DiskWords D → Objects D → (List Row → Type 0) → Type 0
+AreRowsBy disks objects P = (first second : List ℕ) (rows : List Row) → disks.contents objects.a ≡ Some first → disks.contents objects.b ≡ Some second →
+    GivesRows first second rows → P rows
+
+-- an area as the run began, and now
+pub record AreaSince (D : Type 0) : Type 0 where
+  pub began : D
+  pub now : D
+
+-- each image of the area since then that is opened has only kept rows
+abbrev pub HoldKeptRows : {D : Type 0} → DiskWords D → AreaSince D → Run → List SlotAccount → Type 0
+HoldKeptRows disks area run account = (image : List ℕ) (generation : ℕ) (rows : List Row) (end : ℕ) → disks.images_since area.now (disks.moment area.began) image →
+    IsOpened image generation rows end → AllByRecursion (IsKeptInImage account run.opening run.trace.wires) rows
+
+-- so it is of both areas
+pub record ImagesHoldKeptRows {D : Type 0} (disks : DiskWords D) (objects : RunObjects D) (run : Run) (account : List SlotAccount) : Type 0 where
+  pub of_a : HoldKeptRows disks (record { began = objects.before.a; now = objects.after.a }) run account
+  pub of_b : HoldKeptRows disks (record { began = objects.before.b; now = objects.after.b }) run account
+
+-- as the run began, both areas told what they held, and nothing was pending on them
+abbrev pub WereAtRest : {D : Type 0} → DiskWords D → RunObjects D → Type 0
+WereAtRest disks objects = AreAtRest disks.contents disks.images objects.before.a objects.before.b
+
+-- ---- under the premises
+
+-- where files keep their identities and truncations are seen
+pub record AreAccounted {D : Type 0} (disks : DiskWords D) (objects : RunObjects D) (met : Met) (run : Run) (account : List SlotAccount) : Type 0 where
+  pub is : IsAccount run account
+  -- a run that is done drained its folder
+  pub drained : WereAtRest disks objects → met ≡ Done → AreRowsBy disks objects.after (IsDrained run account)
+
+-- ---- together
+
+pub record AccountedFor {D : Type 0} (disks : DiskWords D) (objects : RunObjects D) (met : Met) : Type 0 where
+  pub run : Run
+  pub account : List SlotAccount
+  pub fits : FitsObjects objects run
+  pub followed : AreFollowed run (followings_in account)
+  pub sent : SendOnlyTold account run.trace.wires
+  pub rows : WereAtRest disks objects → AreRowsBy disks objects.after (RowsBy run account met)
+  pub images : WereAtRest disks objects → ImagesHoldKeptRows disks objects run account
+  pub supposing : Premises run (followings_in account) → AreAccounted disks objects met run account
