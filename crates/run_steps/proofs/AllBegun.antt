@@ -1,5 +1,5 @@
 -- Beginning all listed files keeps what stands of a run in which none was begun yet.
-use Rattle.std.proofs.Common.{◌≡◌, ◌⊎◌, inl, inr, ℕ, zero, suc, ◌+◌, ◌≤◌, ◌<◌, List, [], ◌∷◌, ◌++◌, Contains, length, map, take, append-nil, append_assoc, Option, Some, None, IsSome, IfSome, Ok, Err, refl, sym, ap, subst, ◌∙◌, arith}
+use Rattle.std.proofs.Common.{◌≡◌, ◌⊎◌, inl, inr, ℕ, zero, suc, ◌+◌, ◌≤◌, ◌<◌, List, [], ◌∷◌, ◌++◌, Contains, length, map, take, append-nil, append_assoc, Option, Some, None, IsSome, IfSome, Result, Ok, Err, IfOk, IfErr, Vec, Global, refl, sym, ap, subst, ◌∙◌, arith}
 use Rattle.std.proofs.lemmas.List.{length-append}
 use Rattle.std.specs.Prelude.{slice_get}
 use Rattle.std.specs.List.{AllByRecursion, flat_map}
@@ -29,6 +29,7 @@ use Rattle.run_steps.specs.RunState.{Finished, Leaving, Reading}
 use Rattle.run_steps.specs.SoFar.{SoFar, files_in}
 use Rattle.run_steps.specs.Stands.{Further, Stands}
 use Rattle.run_steps.specs.Telling.{TellMoments}
+use Rattle.run_steps.specs.Worked.{phase_begun}
 use Rattle.run_steps.specs.declared.met.Met.{Met}
 use Rattle.run_steps.proofs.BeginningFiles.{BeginsBelow, IsToBegin, Leaves, leaves, one_ends, one_more}
 use Rattle.run_steps.proofs.BeginningOne.{AreBelow, Begins, at_phase, stands_at}
@@ -232,3 +233,10 @@ module _ {T W L D : Type 0} (words : Words T W L D) (reads : (disk : D) → IfSo
           so_far = told.0;
           stands = stands_at words start moments a b is.mid.folder.told is.mid.folder.told is.mid.crew new.keeper Leaving told.0 (λ e. let no : Leaving ≡ Finished = e in cc) told.1.shown told.1;
         })
+
+    -- by what beginning them answered
+    pub stands_begun : (result : Result (Vec Passing Global) Met) (new : Beginning T W L) → IfOk result (λ passed. BeginsAll words.tails start.settings now start.listed passed.items old new) →
+        IfErr result (λ what. BeginsSome words.tails start.settings now start.listed what old new) →
+        Further words start (at_phase words start moments a b new.folder.told new.crew new.keeper (phase_begun result))
+    stands_begun (Ok passed) new begun ended = all_begun passed.items new begun
+    stands_begun (Err what) new begun ended = some_begun what new ended

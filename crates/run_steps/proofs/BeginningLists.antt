@@ -203,6 +203,16 @@ module _ {T W L : Type 0} (tails : TailWords T) (settings : Settings) (now : Mom
     begin_ends (met.Unreachable worker) (inl is) = absurd is.ended
     begin_ends (met.Epochs epoch) (inl is) = absurd is.ended
 
+    pub files_end : {A : Type 0} (result : Result A Met) (what : Met) → IsErrAnd result (λ other. other ≡ what) → EndsInFiles tails settings now listed what old new →
+        IfErr result (λ other. EndsBeginning other old new)
+    files_end (Ok value) what is ended = tt
+    files_end (Err other) what is (inl ended) = subst (λ (m : Met). EndsBeginning m old new) (sym is) (begin_ends what (inl ended))
+    files_end (Err other) what is (inr ended) = subst (λ (m : Met). EndsBeginning m old new) (sym (is ∙ ended.0)) tt
+
+    pub memory_ends : {A : Type 0} (result : Result A Met) → IsErrAnd result (λ other. other ≡ NoMemory) → IfErr result (λ other. EndsBeginning other old new)
+    memory_ends (Ok value) is = tt
+    memory_ends (Err other) is = subst (λ (m : Met). EndsBeginning m old new) (sym is) tt
+
   -- ---- one more
 
   pub from_then : (slot : ℕ) (listed : List Listed) (one : Listed) (passed more : List Passing) (old mid new : Beginning T W L) → BeginsFrom tails settings now slot listed passed old mid →

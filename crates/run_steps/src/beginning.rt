@@ -5,7 +5,7 @@ ghost use Rattle.report.specs.declared.passing.Passing.{Passing};
 ghost use Rattle.rounds.specs.Words.{tail_words};
 ghost use Rattle.wire_base.specs.Ranges.{IsMoment};
 ghost use Rattle.run_steps.specs.Beginning.{beginning, listed_file};
-ghost use Rattle.run_steps.specs.BeginsAll.{BeginsAll, BeginsFrom, BeginsOrPasses, BeginsSome, EndsInFiles, EndsInOne, IsOfInputs, KeepsOthers};
+ghost use Rattle.run_steps.specs.BeginsAll.{BeginsAll, BeginsFrom, BeginsOrPasses, BeginsSome, EndsBeginning, EndsInFiles, EndsInOne, IsOfInputs, KeepsOthers};
 ghost use Rattle.run_steps.specs.FolderSeen.{folder_words};
 
 use crate::begin::{begin_one, pass_over};
@@ -54,6 +54,11 @@ pub fn begin_all<F: Folder, L: Link, W: Wire<Link = L>>(
     ensures ended { IfErr result (λ met. BeginsSome
         (tail_words F.Tail.numbers F.Tail.told F.Tail.faults) context.entry.settings.now
         scanned.entry.now.now scanned.entry.now.listed.items met
+        (beginning (folder_words F.told F.states F.present F.open_tails F.faults)
+        folder.old crew.old keeper.old)
+        (beginning (folder_words F.told F.states F.present F.open_tails F.faults)
+        folder.new crew.new keeper.new)) }
+    ensures ends { IfErr result (λ met. EndsBeginning met
         (beginning (folder_words F.told F.states F.present F.open_tails F.faults)
         folder.old crew.old keeper.old)
         (beginning (folder_words F.told F.states F.present F.open_tails F.faults)
@@ -129,16 +134,19 @@ fn begin_or_pass<F: Folder, L: Link, W: Wire<Link = L>>(
     requires moment { IsMoment opening.now }
     requires some_lanes { 0 < length crew.old.lanes.items }
     requires few { length keeper.old.store.rows + length keeper.old.tracked.notes < 65_536 }
-    ensures begun { OnOk result ((more : List Passing) × (passed.new.items ≡ passed.old.items ++ more) × BeginsOrPasses
+    ensures begun { OnOk result ((more : List Passing) ×
+        (passed.new.items ≡ passed.old.items ++ more) × BeginsOrPasses
         (tail_words F.Tail.numbers F.Tail.told F.Tail.faults) context.entry.settings.now
-        opening.entry.now (listed_file opening.entry.slot opening.entry.listed.now opening.entry.now) more
+        opening.entry.now
+        (listed_file opening.entry.slot opening.entry.listed.now opening.entry.now) more
         (beginning (folder_words F.told F.states F.present F.open_tails F.faults)
         folder.old crew.old keeper.old)
         (beginning (folder_words F.told F.states F.present F.open_tails F.faults)
         folder.new crew.new keeper.new)) }
     ensures ended { IfErr result (λ met. EndsInOne
         (tail_words F.Tail.numbers F.Tail.told F.Tail.faults) context.entry.settings.now
-        opening.entry.now (listed_file opening.entry.slot opening.entry.listed.now opening.entry.now) met
+        opening.entry.now
+        (listed_file opening.entry.slot opening.entry.listed.now opening.entry.now) met
         (beginning (folder_words F.told F.states F.present F.open_tails F.faults)
         folder.old crew.old keeper.old)
         (beginning (folder_words F.told F.states F.present F.open_tails F.faults)

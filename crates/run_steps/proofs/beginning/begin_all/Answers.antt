@@ -2,7 +2,7 @@ use Rattle.std.proofs.Common.{refl}
 use Rattle.rounds.specs.Words.{tail_words}
 use Rattle.run_steps.specs.Beginning.{beginning}
 use Rattle.run_steps.specs.FolderSeen.{folder_words}
-use Rattle.run_steps.proofs.BeginningLists.{all_keep, all_so, ends_told, files_keep, some_told_keep}
+use Rattle.run_steps.proofs.BeginningLists.{all_keep, all_so, ends_told, files_end, files_keep, memory_ends, some_told_keep}
 use Rattle.run_steps.proofs.beginning.begin_all.Goals as goal
 
 pub returns-in_err-tell_moments-clause-ended : goal.returns-in_err-tell_moments-clause-ended
@@ -47,3 +47,17 @@ returns-clause-kept g c =
     (beginning (folder_words g.F.Folder.told g.F.Folder.states g.F.Folder.present g.F.Folder.open_tails g.F.Folder.faults) c.begin_files.new.folder c.begin_files.new.crew c.begin_files.new.keeper)
     (beginning (folder_words g.F.Folder.told g.F.Folder.states g.F.Folder.present g.F.Folder.open_tails g.F.Folder.faults) c.begin_files.new.folder c.begin_files.new.crew c.tell_moments.new.keeper)
     c.in_ok-passed.passed.items c.as_slice.result.now c.as_slice.ensures.value c.in_ok-passed.ensures.begun c.in_ok-tell_moments.ensures.told refl)
+
+pub returns-in_err-passed-clause-ends : goal.returns-in_err-passed-clause-ends
+returns-in_err-passed-clause-ends g c =
+    files_end (tail_words g.F.Tail.Tail.numbers g.F.Tail.Tail.told g.F.Tail.Tail.faults) c.args.context.settings.now c.args.scanned.now.now c.args.scanned.now.listed.items
+    (beginning (folder_words g.F.Folder.told g.F.Folder.states g.F.Folder.present g.F.Folder.open_tails g.F.Folder.faults) c.args.folder.now c.args.crew.now c.args.keeper.now)
+    (beginning (folder_words g.F.Folder.told g.F.Folder.states g.F.Folder.present g.F.Folder.open_tails g.F.Folder.faults) c.begin_files.new.folder c.begin_files.new.crew c.begin_files.new.keeper)
+    c.from_residual.result c.in_err-passed.field-0.0 c.from_residual.ensures.1 c.in_err-passed.ensures.ended
+
+pub returns-in_err-tell_moments-clause-ends : goal.returns-in_err-tell_moments-clause-ends
+returns-in_err-tell_moments-clause-ends g c =
+    memory_ends (tail_words g.F.Tail.Tail.numbers g.F.Tail.Tail.told g.F.Tail.Tail.faults) c.args.context.settings.now c.args.scanned.now.now c.args.scanned.now.listed.items
+    (beginning (folder_words g.F.Folder.told g.F.Folder.states g.F.Folder.present g.F.Folder.open_tails g.F.Folder.faults) c.args.folder.now c.args.crew.now c.args.keeper.now)
+    (beginning (folder_words g.F.Folder.told g.F.Folder.states g.F.Folder.present g.F.Folder.open_tails g.F.Folder.faults) c.begin_files.new.folder c.begin_files.new.crew c.tell_moments.new.keeper)
+    c.from_residual-in_err-tell_moments.result c.from_residual-in_err-tell_moments.ensures.1
