@@ -11,6 +11,7 @@ pub mod BeginningSteps
 pub mod Begun
 pub mod BegunFolder
 pub mod BegunNotes
+pub mod BegunReady
 pub mod Blank
 pub mod ByPath
 pub mod Causing
