@@ -9,6 +9,7 @@ pub mod BeginningLists
 pub mod BeginningOne
 pub mod BeginningSteps
 pub mod Begun
+pub mod BegunCrews
 pub mod BegunFolder
 pub mod BegunNotes
 pub mod BegunReady

@@ -5,6 +5,7 @@ pub mod BeginFor
 pub mod Beginning
 pub mod BeginsAll
 pub mod Begun
+pub mod BegunCrew
 pub mod CarriersEnd
 pub mod Ends
 pub mod FolderSeen

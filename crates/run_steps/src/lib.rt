@@ -8,6 +8,7 @@
 mod begin;
 mod beginning;
 mod context;
+mod crew;
 mod follow;
 mod laws;
 mod leave;
@@ -23,6 +24,7 @@ mod working;
 pub use begin::{begin_one, pass_over};
 pub use beginning::{Scanned, begin_all};
 pub use context::{Context, Surroundings};
+pub use crew::{BOX_NOTES, Passes, crew_of};
 pub use follow::{PAUSE, met_in, pause_where_still};
 pub use leave::{end_crew, end_lanes, release_all};
 pub use met::Met;
