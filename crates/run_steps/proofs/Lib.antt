@@ -56,6 +56,7 @@ pub mod RunWires
 pub mod ScanOf
 pub mod Scanning
 pub mod SeenMoments
+pub mod Serving
 pub mod Settling
 pub mod TailOpened
 pub mod Tails
