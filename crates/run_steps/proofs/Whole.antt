@@ -1,5 +1,5 @@
 -- What a run does behind the beginning of its files, step by step.
-use Rattle.std.proofs.Common.{◌≡◌, ◌≢◌, ◌⊎◌, inl, inr, ⊎_elim, ℕ, zero, suc, ◌+◌, ◌≤◌, ◌<◌, ◌^◌, ◌-◌, All, Any, List, [], ◌∷◌, ◌++◌, length, map, take, Option, Some, None, IfErr, IfOk, IfSome, Result, Ok, Err, Vec, refl, sym, ap, subst, ◌∙◌, arith}
+use Rattle.std.proofs.Common.{◌≡◌, ◌≢◌, ◌⊎◌, inl, inr, ⊎_elim, ℕ, zero, suc, ◌+◌, ◌≤◌, ◌<◌, ◌^◌, ◌-◌, false, All, Any, List, [], ◌∷◌, ◌++◌, length, map, take, Option, Some, None, IfErr, IfOk, IfSome, Result, Ok, Err, Vec, refl, sym, ap, subst, ◌∙◌, arith}
 use Rattle.std.proofs.lemmas.List.Elements.{All-from_recursion, recursion_from_All}
 use Rattle.std.specs.Prelude.{slice_get}
 use Rattle.std.specs.List.{AllByRecursion}
@@ -15,6 +15,7 @@ use Rattle.rounds.specs.Crewed.{lanings}
 use Rattle.rounds.specs.Crewing.{Crewing, crew_of, crewing}
 use Rattle.rounds.specs.Pairs.{SomeOf}
 use Rattle.rounds.specs.Settled.{AreSettledIn, IsDoneIn, IsEachSettled, spans_told}
+use Rattle.rounds.specs.Settling.{ArePostsCounted}
 use Rattle.rounds.specs.Staying.{AreAsMany, HaveSlot, begins_of}
 use Rattle.rounds.specs.Words.{DiskWords, TailWords, Words}
 use Rattle.rounds.specs.declared.carrier.Carrier.{Carrier}
@@ -26,12 +27,13 @@ use Rattle.wire_base.specs.declared.numbers.Slot.{Slot}
 use Rattle.run_steps.specs.Areas.{BeganAtRest, IsAtRest}
 use Rattle.run_steps.specs.Began.{Began}
 use Rattle.run_steps.specs.CarriersEnd.{EndsCarriers}
-use Rattle.run_steps.specs.Ends.{Ends, IsAllSettled}
+use Rattle.run_steps.specs.Ends.{IsAllSettled}
 use Rattle.run_steps.specs.Met.{AreLeft}
 use Rattle.run_steps.specs.MetBy.{HasFaults, IsMetBy, IsOverOf, Since, SomeHarvester, phase_met}
 use Rattle.run_steps.specs.MetIn.{HasFailed}
 use Rattle.run_steps.specs.Onward.{Onward}
-use Rattle.run_steps.specs.Releasing.{CountsFaults, all_closings, harvesters_of, released, with_events}
+use Rattle.run_steps.specs.Releasing.{CountsFaults, HasNoHarvesters, all_closings, harvesters_of, released, with_events}
+use Rattle.run_steps.specs.RunEnds.{HasEnded}
 use Rattle.run_steps.specs.RunState.{Finished, Phase, RunState, phase_left, within}
 use Rattle.run_steps.specs.Settling.{IsMetByStoring, Written}
 use Rattle.run_steps.specs.SoFar.{SoFar}
@@ -58,6 +60,17 @@ pub done_before : {D : Type 0} (disks : DiskWords D) (written : Written D) (met 
 done_before disks written met now (inl same) is = sym same ∙ is
 done_before disks written met now (inr by) is = absurd (subst (IsMetByStoring disks written) is by)
 
+-- what the last steps met leaves none to be made
+pub left_still : {D : Type 0} (disks : DiskWords D) (written : Written D) (met now : Met) → (now ≡ met) ⊎ IsMetByStoring disks written now → AreLeft now → AreLeft met
+left_still disks written met now (inl same) left = subst AreLeft same left
+left_still disks written met Done (inr by) left = absurd by
+left_still disks written met Stopped (inr by) left = absurd by
+left_still disks written met NoMemory (inr by) left = absurd left
+left_still disks written met DiskFault (inr by) left = absurd left
+left_still disks written met FolderFault (inr by) left = absurd by
+left_still disks written met (Unreachable worker) (inr by) left = absurd by
+left_still disks written met (Epochs slot) (inr by) left = absurd by
+
 pub finished_by : (begun : Result (Vec Passing Global) Met) (met : Met) → IfErr begun IsBeginEnd → (IfErr begun (λ first. met ≡ first)) → met ≡ Done →
     phase_left (phase_worked begun met) ≡ Finished
 finished_by (Ok passed) met ends first is = ap (λ (m : Met). phase_left (phase_met m)) is
@@ -76,7 +89,12 @@ module _ {T W L D : Type 0} (words : Words T W L D) (start : Began D) (begun : R
     pub shows : later ≡ with_events (all_closings words.tails.told words.tails.faults (lanings one.lanes.items)) shown
     pub settled : (at : Option FolderHistory) (given : Option (List ℕ)) (phase : Phase) → Onward words (within at given two first phase) (within at given three second phase)
     pub still : (¬ AreLeft met) → (three ≡ two) × (second ≡ first)
+    pub left_before : AreLeft now → AreLeft met
     pub stored : AreLeft now → AreSettledIn three second.keeper
+    pub counted : AreLeft now → ArePostsCounted three
+    pub is_open : AreLeft now → second.keeper.store.closed ≡ false
+    pub then_at_rest : AreLeft now → IsAtRest words.disks first.keeper first.a.now first.b.now → IsAtRest words.disks second.keeper second.a.now second.b.now
+    pub none_left : All HasNoHarvesters (lanings three.lanes.items)
     pub all_settled : IsAllSettled (lanings two.lanes.items) first.keeper → IsAllSettled (lanings three.lanes.items) second.keeper
     pub ended : EndsCarriers words.links words.wires three.carriers.items old new
     pub done : now ≡ Done → IsDoneIn one first.keeper
@@ -109,15 +127,23 @@ module _ {T W L D : Type 0} (words : Words T W L D) (start : Began D) (begun : R
         let each = done.spans.settled in
         record { below = omega (arith, same, few); settled = omega (arith, same, each) }
 
-    pub ends : Ends words start (record { shown = later; moments = then; keeper = second.keeper; a = second.a.now; b = second.b.now; phase = phase }) now old new
-    ends = record {
-      crew = three;
-      so_far = after_all.so_far;
-      stands = after_all.stands;
-      ended = steps.ended;
-      finished = steps.finished;
-      all_settled = λ is. steps.all_settled (told_all is);
-      stored = steps.stored;
+    pub has_ended : HasEnded words start (record { shown = later; moments = then; keeper = second.keeper; a = second.a.now; b = second.b.now; phase = phase }) now old new
+    has_ended = record {
+      ends = record {
+        crew = three;
+        so_far = after_all.so_far;
+        stands = after_all.stands;
+        ended = steps.ended;
+        finished = steps.finished;
+        all_settled = λ is. steps.all_settled (told_all is);
+        stored = steps.stored;
+      };
+      left = record {
+        released = steps.none_left;
+        posts = steps.counted;
+        is_open = steps.is_open;
+        at_rest = λ left at_start. steps.then_at_rest left (steps.at_rest (steps.left_before left) (began at_start));
+      };
     }
 
 -- ---- why

@@ -1,10 +1,11 @@
-ghost use Rattle.std.specs.Prelude.{◌≡◌, ◌⊎◌, ◌≤◌, All, ℕ, List, Option};
+ghost use Rattle.std.specs.Prelude.{◌≡◌, ◌⊎◌, ◌≤◌, All, ℕ, List, Option, false};
 ghost use Rattle.outside.specs.Folders.{FolderHistory};
 ghost use Rattle.rounds.specs.Crewed.{lanings};
 ghost use Rattle.rounds.specs.Crewing.{crewing};
 ghost use Rattle.rounds.specs.KeeperTurns.{SameAreas};
 ghost use Rattle.rounds.specs.Rounds.{IsAble, IsReady};
 ghost use Rattle.rounds.specs.Settled.{AreSettledIn};
+ghost use Rattle.rounds.specs.Settling.{ArePostsCounted};
 ghost use Rattle.rounds.specs.Staying.{AreAsMany};
 ghost use Rattle.rounds.specs.Words.{disk_words, link_words, tail_words, wire_words, words};
 ghost use Rattle.run_steps.specs.Areas.{IsAtRest};
@@ -54,9 +55,15 @@ pub fn settle_all<
         storing.new.keeper storing.new.a.now storing.new.b.now }
     ensures met { (result ≡ met) ⊎ IsMetByStoring
         (disk_words D.contents D.images D.moment D.images_since D.faults)
-        (record { a = storing.old.a.now; b = storing.old.b.now; new_a = storing.new.a.now;
-        new_b = storing.new.b.now }) result }
+        (record {
+          a = storing.old.a.now;
+          b = storing.old.b.now;
+          new_a = storing.new.a.now;
+          new_b = storing.new.b.now;
+        }) result }
     ensures settled { AreLeft result → AreSettledIn crew.new storing.new.keeper }
+    ensures counted { AreLeft result → ArePostsCounted crew.new }
+    ensures is_open { AreLeft result → storing.new.keeper.store.closed ≡ false }
     ensures able { IsAble (tail_words T.numbers T.told T.faults)
         context.entry.outlets.queue.now.id context.entry.outlets.desk.now.id
         (crewing crew.new storing.new) }
@@ -71,11 +78,11 @@ pub fn settle_all<
 {
     disk_images_are_counted::<D>();
     for _ in rt.forever() {
-        if crew.is_settled(&storing.keeper) {
-            return met;
-        }
         let round = crew.settle(rt, context.alloc, context.outlets, storing);
         if let Some(met) = stored_by(round) {
+            return met;
+        }
+        if crew.is_settled(&storing.keeper) {
             return met;
         }
     }

@@ -1,4 +1,4 @@
-ghost use Rattle.std.specs.Prelude.{◌≡◌, ◌≢◌, ◌⊎◌, ◌+◌, ◌-◌, ◌^◌, ◌≤◌, All, ℕ, IfErr, IfOk, List, Option, Result, length, vec_capacity, vec_len};
+ghost use Rattle.std.specs.Prelude.{◌≡◌, ◌≢◌, ◌⊎◌, ◌+◌, ◌-◌, ◌^◌, ◌≤◌, All, ℕ, IfErr, IfOk, List, Option, Result, false, length, vec_capacity, vec_len};
 ghost use Rattle.outside.specs.Counts.{Rose};
 ghost use Rattle.outside.specs.Folders.{FolderHistory};
 ghost use Rattle.rounds.specs.Crewed.{lanings};
@@ -6,15 +6,17 @@ ghost use Rattle.rounds.specs.Crewing.{crewing};
 ghost use Rattle.rounds.specs.KeeperTurns.{SameAreas};
 ghost use Rattle.rounds.specs.Rounds.{IsAble, IsReady};
 ghost use Rattle.rounds.specs.Settled.{AreSettledIn};
+ghost use Rattle.rounds.specs.Settling.{ArePostsCounted};
 ghost use Rattle.rounds.specs.Staying.{AreAsMany, begins_of};
 ghost use Rattle.rounds.specs.Words.{disk_words, link_words, tail_words, wire_words, words};
 ghost use Rattle.run_steps.specs.Areas.{BeganAtRest, IsAtRest};
 ghost use Rattle.run_steps.specs.Began.{Began};
-ghost use Rattle.run_steps.specs.Ends.{Ends, IsAllSettled};
+ghost use Rattle.run_steps.specs.Ends.{IsAllSettled};
 ghost use Rattle.run_steps.specs.Met.{AreLeft};
 ghost use Rattle.run_steps.specs.MetBy.{IsMetBy};
 ghost use Rattle.run_steps.specs.Onward.{Onward};
 ghost use Rattle.run_steps.specs.Releasing.{HasNoHarvesters};
+ghost use Rattle.run_steps.specs.RunEnds.{HasEnded};
 ghost use Rattle.run_steps.specs.RunState.{Phase, within};
 ghost use Rattle.run_steps.specs.Settling.{IsMetByStoring};
 ghost use Rattle.run_steps.specs.SoFar.{SoFar};
@@ -77,29 +79,46 @@ where
         (BeganAtRest (disk_words D.contents D.images D.moment D.images_since D.faults) start →
         IsAtRest (disk_words D.contents D.images D.moment D.images_since D.faults)
         storing.old.keeper storing.old.a.now storing.old.b.now) →
-        (phase : Phase) × Ends (words (tail_words F.Tail.numbers F.Tail.told F.Tail.faults)
+        (phase : Phase) × HasEnded (words (tail_words F.Tail.numbers F.Tail.told F.Tail.faults)
         (link_words L.told L.faults L.idles)
         (wire_words W.outcomes W.open_links W.faults W.idles)
         (disk_words D.contents D.images D.moment D.images_since D.faults))
-        start (record { shown = F.told around.new.folder.now;
-        moments = K.moments around.new.clock.now; keeper = storing.new.keeper;
-        a = storing.new.a.now; b = storing.new.b.now; phase = phase }) result.met
+        start (record {
+          shown = F.told around.new.folder.now;
+          moments = K.moments around.new.clock.now;
+          keeper = storing.new.keeper;
+          a = storing.new.a.now;
+          b = storing.new.b.now;
+          phase = phase;
+        }) result.met
         around.old.wires.now.items around.new.wires.now.items }
     ensures passed { HasPassed begun result.passed.items }
     ensures cause { IsBegunWith begun result.met ⊎ IsWorkedBy crew
-        (record { a_faults = D.faults storing.old.a.now;
-        b_faults = D.faults storing.old.b.now; folder_faults = F.faults around.old.folder.now;
-        rings = B.rings around.old.bell.now })
-        (record { a_faults = D.faults storing.new.a.now;
-        b_faults = D.faults storing.new.b.now; folder_faults = F.faults around.new.folder.now;
-        rings = B.rings around.new.bell.now }) result.met }
+        (record {
+          a_faults = D.faults storing.old.a.now;
+          b_faults = D.faults storing.old.b.now;
+          folder_faults = F.faults around.old.folder.now;
+          rings = B.rings around.old.bell.now;
+        })
+        (record {
+          a_faults = D.faults storing.new.a.now;
+          b_faults = D.faults storing.new.b.now;
+          folder_faults = F.faults around.new.folder.now;
+          rings = B.rings around.new.bell.now;
+        }) result.met }
     ensures never_fall { NeverFall
-        (record { a_faults = D.faults storing.old.a.now;
-        b_faults = D.faults storing.old.b.now; folder_faults = F.faults around.old.folder.now;
-        rings = B.rings around.old.bell.now })
-        (record { a_faults = D.faults storing.new.a.now;
-        b_faults = D.faults storing.new.b.now; folder_faults = F.faults around.new.folder.now;
-        rings = B.rings around.new.bell.now }) }
+        (record {
+          a_faults = D.faults storing.old.a.now;
+          b_faults = D.faults storing.old.b.now;
+          folder_faults = F.faults around.old.folder.now;
+          rings = B.rings around.old.bell.now;
+        })
+        (record {
+          a_faults = D.faults storing.new.a.now;
+          b_faults = D.faults storing.new.b.now;
+          folder_faults = F.faults around.new.folder.now;
+          rings = B.rings around.new.bell.now;
+        }) }
     ensures same_areas { SameAreas storing.old storing.new }
     ensures same_folder { around.new.folder.ghost_name ≡ around.old.folder.ghost_name }
     ensures same_wires { around.new.wires.ghost_name ≡ around.old.wires.ghost_name }
@@ -160,8 +179,11 @@ pub fn follow_begun<
     ensures met { IsFollowedBy (tail_words T.numbers T.told T.faults)
         (disk_words D.contents D.images D.moment D.images_since D.faults)
         context.entry.settings.now.output.attempts
-        (record { a = storing.old.a.now; b = storing.old.b.now;
-        now = crewing crew.new storing.new }) begun result.met }
+        (record {
+          a = storing.old.a.now;
+          b = storing.old.b.now;
+          now = crewing crew.new storing.new;
+        }) begun result.met }
     ensures stopped { IfOk begun (λ _. result.met ≡ Stopped →
         Rose (B.rings signals.old.bell.now) (B.rings signals.new.bell.now)) }
     ensures as_many { AreAsMany (crewing crew.old storing.old) (crewing crew.new storing.new) }
@@ -215,10 +237,21 @@ pub fn settle_after<
     ensures passed { result.passed ≡ worked.passed }
     ensures met { (result.met ≡ worked.met) ⊎ IsMetByStoring
         (disk_words D.contents D.images D.moment D.images_since D.faults)
-        (record { a = storing.old.a.now; b = storing.old.b.now; new_a = storing.new.a.now;
-        new_b = storing.new.b.now }) result.met }
+        (record {
+          a = storing.old.a.now;
+          b = storing.old.b.now;
+          new_a = storing.new.a.now;
+          new_b = storing.new.b.now;
+        }) result.met }
     ensures still { ¬ AreLeft worked.met → (crew.new ≡ crew.old) × (storing.new ≡ storing.old) }
     ensures settled { AreLeft result.met → AreSettledIn crew.new storing.new.keeper }
+    ensures counted { AreLeft result.met → ArePostsCounted crew.new }
+    ensures is_open { AreLeft result.met → storing.new.keeper.store.closed ≡ false }
+    ensures at_rest { AreLeft result.met →
+        IsAtRest (disk_words D.contents D.images D.moment D.images_since D.faults)
+        storing.old.keeper storing.old.a.now storing.old.b.now →
+        IsAtRest (disk_words D.contents D.images D.moment D.images_since D.faults)
+        storing.new.keeper storing.new.a.now storing.new.b.now }
     ensures able { IsAble (tail_words T.numbers T.told T.faults)
         context.entry.outlets.queue.now.id context.entry.outlets.desk.now.id
         (crewing crew.new storing.new) }
@@ -264,10 +297,21 @@ fn settle_where_left<
         (within shown moments crew.new storing.new phase) }
     ensures met { (result ≡ met) ⊎ IsMetByStoring
         (disk_words D.contents D.images D.moment D.images_since D.faults)
-        (record { a = storing.old.a.now; b = storing.old.b.now; new_a = storing.new.a.now;
-        new_b = storing.new.b.now }) result }
+        (record {
+          a = storing.old.a.now;
+          b = storing.old.b.now;
+          new_a = storing.new.a.now;
+          new_b = storing.new.b.now;
+        }) result }
     ensures still { ¬ AreLeft met → (crew.new ≡ crew.old) × (storing.new ≡ storing.old) }
     ensures settled { AreLeft result → AreSettledIn crew.new storing.new.keeper }
+    ensures counted { AreLeft result → ArePostsCounted crew.new }
+    ensures is_open { AreLeft result → storing.new.keeper.store.closed ≡ false }
+    ensures at_rest { AreLeft result →
+        IsAtRest (disk_words D.contents D.images D.moment D.images_since D.faults)
+        storing.old.keeper storing.old.a.now storing.old.b.now →
+        IsAtRest (disk_words D.contents D.images D.moment D.images_since D.faults)
+        storing.new.keeper storing.new.a.now storing.new.b.now }
     ensures able { IsAble (tail_words T.numbers T.told T.faults)
         context.entry.outlets.queue.now.id context.entry.outlets.desk.now.id
         (crewing crew.new storing.new) }

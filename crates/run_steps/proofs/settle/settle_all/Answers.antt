@@ -10,8 +10,8 @@ use Rattle.run_steps.proofs.settle.settle_all.Goals as goal
 pub loop-init : goal.loop-init
 loop-init g c =
     let all = words (tail_words g.T.Tail.numbers g.T.Tail.told g.T.Tail.faults) (link_words g.L.Link.told g.L.Link.faults g.L.Link.idles)
-        (wire_words g.W.Wire.outcomes g.W.Wire.open_links g.W.Wire.faults g.W.Wire.idles)
-        (disk_words g.D.Disk.contents g.D.Disk.images g.D.Disk.moment g.D.Disk.images_since g.D.Disk.faults) in
+    (wire_words g.W.Wire.outcomes g.W.Wire.open_links g.W.Wire.faults g.W.Wire.idles)
+    (disk_words g.D.Disk.contents g.D.Disk.images g.D.Disk.moment g.D.Disk.images_since g.D.Disk.faults) in
     record {
       goes_on = tt;
       ends = tt;
@@ -29,8 +29,8 @@ loop-init g c =
 pub returns-in-Some-stored_by-clause-onward : goal.returns-in-Some-stored_by-clause-onward
 returns-in-Some-stored_by-clause-onward g c shown moments phase =
     let all = words (tail_words g.T.Tail.numbers g.T.Tail.told g.T.Tail.faults) (link_words g.L.Link.told g.L.Link.faults g.L.Link.idles)
-        (wire_words g.W.Wire.outcomes g.W.Wire.open_links g.W.Wire.faults g.W.Wire.idles)
-        (disk_words g.D.Disk.contents g.D.Disk.images g.D.Disk.moment g.D.Disk.images_since g.D.Disk.faults) in
+    (wire_words g.W.Wire.outcomes g.W.Wire.open_links g.W.Wire.faults g.W.Wire.idles)
+    (disk_words g.D.Disk.contents g.D.Disk.images g.D.Disk.moment g.D.Disk.images_since g.D.Disk.faults) in
     onward_by_two all (within shown moments c.args.crew.now c.args.storing.now phase) (within shown moments c.loop.crew c.loop.storing phase)
     (within shown moments c.settle-round.new.self c.settle-round.new.storing phase) c.loop.invariant.at_rest (c.loop.invariant.onward shown moments phase)
     (settle_onward all c.disk_images_are_counted.ensures.reads c.disk_images_are_counted.ensures.counts c.args.context.outlets.queue.now c.args.context.outlets.desk.now
@@ -45,11 +45,30 @@ returns-in-Some-stored_by-clause-all_settled g c settled =
     settled_still (lanings c.loop.crew.lanes.items) (lanings c.settle-round.new.self.lanes.items) c.loop.storing.keeper c.settle-round.new.storing.keeper
     c.settle-round.ensures.keeps.lanes c.settle-round.ensures.keeps.collects (c.loop.invariant.all_settled settled)
 
+pub returns-then-is_settled-clause-onward : goal.returns-then-is_settled-clause-onward
+returns-then-is_settled-clause-onward g c shown moments phase =
+    let all = words (tail_words g.T.Tail.numbers g.T.Tail.told g.T.Tail.faults) (link_words g.L.Link.told g.L.Link.faults g.L.Link.idles)
+    (wire_words g.W.Wire.outcomes g.W.Wire.open_links g.W.Wire.faults g.W.Wire.idles)
+    (disk_words g.D.Disk.contents g.D.Disk.images g.D.Disk.moment g.D.Disk.images_since g.D.Disk.faults) in
+    onward_by_two all (within shown moments c.args.crew.now c.args.storing.now phase) (within shown moments c.loop.crew c.loop.storing phase)
+    (within shown moments c.settle-round.new.self c.settle-round.new.storing phase) c.loop.invariant.at_rest (c.loop.invariant.onward shown moments phase)
+    (settle_onward all c.disk_images_are_counted.ensures.reads c.disk_images_are_counted.ensures.counts c.args.context.outlets.queue.now c.args.context.outlets.desk.now
+    c.loop.crew c.settle-round.new.self c.loop.storing c.settle-round.new.storing c.settle-round.result shown moments phase c.settle-round.ensures.keeps)
+
+pub returns-then-is_settled-clause-no_harvesters : goal.returns-then-is_settled-clause-no_harvesters
+returns-then-is_settled-clause-no_harvesters g c none =
+    none_still (lanings c.loop.crew.lanes.items) (lanings c.settle-round.new.self.lanes.items) c.settle-round.ensures.keeps.lanes (c.loop.invariant.no_harvesters none)
+
+pub returns-then-is_settled-clause-all_settled : goal.returns-then-is_settled-clause-all_settled
+returns-then-is_settled-clause-all_settled g c settled =
+    settled_still (lanings c.loop.crew.lanes.items) (lanings c.settle-round.new.self.lanes.items) c.loop.storing.keeper c.settle-round.new.storing.keeper
+    c.settle-round.ensures.keeps.lanes c.settle-round.ensures.keeps.collects (c.loop.invariant.all_settled settled)
+
 pub loop-preserved : goal.loop-preserved
 loop-preserved g c =
     let all = words (tail_words g.T.Tail.numbers g.T.Tail.told g.T.Tail.faults) (link_words g.L.Link.told g.L.Link.faults g.L.Link.idles)
-        (wire_words g.W.Wire.outcomes g.W.Wire.open_links g.W.Wire.faults g.W.Wire.idles)
-        (disk_words g.D.Disk.contents g.D.Disk.images g.D.Disk.moment g.D.Disk.images_since g.D.Disk.faults) in
+    (wire_words g.W.Wire.outcomes g.W.Wire.open_links g.W.Wire.faults g.W.Wire.idles)
+    (disk_words g.D.Disk.contents g.D.Disk.images g.D.Disk.moment g.D.Disk.images_since g.D.Disk.faults) in
     let kept = c.loop.invariant in
     let keeps = c.settle-round.ensures.keeps in
     let well = c.in_default.ensures in
@@ -60,7 +79,7 @@ loop-preserved g c =
       onward = λ shown moments phase. onward_by_two all (within shown moments c.args.crew.now c.args.storing.now phase) (within shown moments c.loop.crew c.loop.storing phase)
           (within shown moments c.settle-round.new.self c.settle-round.new.storing phase) kept.at_rest (kept.onward shown moments phase)
           (settle_onward all c.disk_images_are_counted.ensures.reads c.disk_images_are_counted.ensures.counts c.args.context.outlets.queue.now c.args.context.outlets.desk.now
-    c.loop.crew c.settle-round.new.self c.loop.storing c.settle-round.new.storing c.settle-round.result shown moments phase c.settle-round.ensures.keeps);
+          c.loop.crew c.settle-round.new.self c.loop.storing c.settle-round.new.storing c.settle-round.result shown moments phase c.settle-round.ensures.keeps);
       at_rest = λ rest. let before = kept.at_rest rest in
           let after = keeps.at_rest well.0 well.1 (record { settled = before.settled; committed = before.committed }) in
           record { settled = after.settled; committed = after.committed };

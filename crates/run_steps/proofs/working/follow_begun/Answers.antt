@@ -12,7 +12,7 @@ use Rattle.run_steps.proofs.working.follow_begun.Goals as goal
 pub returns-in-Err-clause-onward : goal.returns-in-Err-clause-onward
 returns-in-Err-clause-onward g c shown =
     let all = words (tail_words g.T.Tail.numbers g.T.Tail.told g.T.Tail.faults) (link_words g.L.Link.told g.L.Link.faults g.L.Link.idles)
-        (wire_words g.W.Wire.outcomes g.W.Wire.open_links g.W.Wire.faults g.W.Wire.idles)
-        (disk_words g.D.Disk.contents g.D.Disk.images g.D.Disk.moment g.D.Disk.images_since g.D.Disk.faults) in
+    (wire_words g.W.Wire.outcomes g.W.Wire.open_links g.W.Wire.faults g.W.Wire.idles)
+    (disk_words g.D.Disk.contents g.D.Disk.images g.D.Disk.moment g.D.Disk.images_since g.D.Disk.faults) in
     let at = λ (phase : Phase). within shown (g.K.Clock.moments c.args.signals.now.clock.now) c.args.crew.now c.args.storing.now phase in
     subst (λ (b : Result (Vec Passing Global) Met). Onward all (at (phase_begun b)) (at (phase_worked b c.in-Err.met))) (sym c.in-Err.is) (onward_by_nothing all (at Leaving))

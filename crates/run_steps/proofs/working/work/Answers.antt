@@ -10,7 +10,7 @@ use Rattle.run_steps.specs.RunState.{phase_left}
 use Rattle.run_steps.specs.Worked.{phase_worked}
 use Rattle.run_steps.specs.declared.met.Met.TheVariants.{Done}
 use Rattle.run_steps.proofs.Letting.{able_released, carriers_have_passes, lanes_have_passes, none_left, released_in}
-use Rattle.run_steps.proofs.Whole.{cause, done_before, done_in, ends, finished_by, first_met}
+use Rattle.run_steps.proofs.Whole.{cause, done_before, done_in, finished_by, first_met, has_ended, left_still}
 use Rattle.run_steps.proofs.working.work.Goals as goal
 
 pub settle_after-worked-requires-clause-ready : goal.settle_after-worked-requires-clause-ready
@@ -52,43 +52,50 @@ end_crew-requires-clause-carriers g c =
 pub returns-clause-ends : goal.returns-clause-ends
 returns-clause-ends g c start so_far stands began =
     let all = words (tail_words g.F.Tail.Tail.numbers g.F.Tail.Tail.told g.F.Tail.Tail.faults) (link_words g.L.Link.told g.L.Link.faults g.L.Link.idles)
-        (wire_words g.W.Wire.outcomes g.W.Wire.open_links g.W.Wire.faults g.W.Wire.idles)
-        (disk_words g.D.Disk.contents g.D.Disk.images g.D.Disk.moment g.D.Disk.images_since g.D.Disk.faults) in
+    (wire_words g.W.Wire.outcomes g.W.Wire.open_links g.W.Wire.faults g.W.Wire.idles)
+    (disk_words g.D.Disk.contents g.D.Disk.images g.D.Disk.moment g.D.Disk.images_since g.D.Disk.faults) in
     let one = c.follow_begun-worked.new.crew in
     let first = c.follow_begun-worked.new.storing in
     let met = c.follow_begun-worked.result.met in
     let now = c.settle_after-worked.result.met in
     let since : Since g.row.F-Tail.Denot g.row.W.Denot g.row.L.Denot g.row.D.Denot = record { a = c.args.storing.now.a.now; b = c.args.storing.now.b.now; now = crewing one first } in
     let is_done = λ (is : now ≡ Done). done_before all.disks (record { a = first.a.now; b = first.b.now; new_a = c.settle_after-worked.new.storing.a.now; new_b = c.settle_after-worked.new.storing.b.now }) met now
-        c.settle_after-worked.ensures.met is in
-    (
+    c.settle_after-worked.ensures.met is in (
       phase_left (phase_worked c.args.begun met),
-      ends all start c.args.begun (g.F.Folder.told c.args.around.now.folder.now) (g.F.Folder.told c.release_all.new.folder) (g.K.Clock.moments c.args.around.now.clock.now)
-      (g.K.Clock.moments c.follow_begun-worked.new.signals.clock.now) c.args.crew one (record one { lanes = with_items one.lanes c.release_all.new.lanes }) c.settle_after-worked.new.crew
-      c.args.storing.now first c.settle_after-worked.new.storing met now c.args.around.now.wires.now.items c.end_crew.new.wires.items
-      (record {
-        followed = c.follow_begun-worked.ensures.onward;
-        at_rest = c.follow_begun-worked.ensures.at_rest;
-        lanes_are = released_in one.lanes c.release_all.new.lanes (subst (λ (l : List (Lane g.row.F-Tail.Denot)). lanings c.release_all.new.lanes ≡ map released (lanings l)) c.as_mut_slice.ensures.value c.release_all.ensures.released);
-        carriers_are = refl;
-        shows = subst (λ (l : List (Lane g.row.F-Tail.Denot)). g.F.Folder.told c.release_all.new.folder ≡ with_events (all_closings g.F.Tail.Tail.told g.F.Tail.Tail.faults (lanings l)) (g.F.Folder.told c.args.around.now.folder.now))
-            c.as_mut_slice.ensures.value c.release_all.ensures.told;
-        settled = c.settle_after-worked.ensures.onward;
-        still = c.settle_after-worked.ensures.still;
-        stored = c.settle_after-worked.ensures.settled;
-        all_settled = c.settle_after-worked.ensures.all_settled;
-        ended = c.end_crew.ensures.ended;
-        done = λ is. done_in all c.args.context.settings.now.output.attempts since c.args.begun met c.requires.begins c.follow_begun-worked.ensures.met (is_done is);
-        finished = λ is. finished_by c.args.begun met c.requires.begins (first_met all c.args.context.settings.now.output.attempts since c.args.begun met c.follow_begun-worked.ensures.met) (is_done is);
-      })
-      so_far stands began,
+      has_ended all start c.args.begun (g.F.Folder.told c.args.around.now.folder.now) (g.F.Folder.told c.release_all.new.folder) (g.K.Clock.moments c.args.around.now.clock.now)
+          (g.K.Clock.moments c.follow_begun-worked.new.signals.clock.now) c.args.crew one (record one { lanes = with_items one.lanes c.release_all.new.lanes }) c.settle_after-worked.new.crew
+          c.args.storing.now first c.settle_after-worked.new.storing met now c.args.around.now.wires.now.items c.end_crew.new.wires.items
+          (record {
+            followed = c.follow_begun-worked.ensures.onward;
+            at_rest = c.follow_begun-worked.ensures.at_rest;
+            lanes_are = released_in one.lanes c.release_all.new.lanes (subst (λ (l : List (Lane g.row.F-Tail.Denot)). lanings c.release_all.new.lanes ≡ map released (lanings l)) c.as_mut_slice.ensures.value c.release_all.ensures.released);
+            carriers_are = refl;
+            shows = subst (λ (l : List (Lane g.row.F-Tail.Denot)). g.F.Folder.told c.release_all.new.folder ≡ with_events (all_closings g.F.Tail.Tail.told g.F.Tail.Tail.faults (lanings l)) (g.F.Folder.told c.args.around.now.folder.now))
+                c.as_mut_slice.ensures.value c.release_all.ensures.told;
+            settled = c.settle_after-worked.ensures.onward;
+            still = c.settle_after-worked.ensures.still;
+            left_before = left_still all.disks (record { a = first.a.now; b = first.b.now; new_a = c.settle_after-worked.new.storing.a.now; new_b = c.settle_after-worked.new.storing.b.now }) met now
+                c.settle_after-worked.ensures.met;
+            stored = c.settle_after-worked.ensures.settled;
+            counted = c.settle_after-worked.ensures.counted;
+            is_open = c.settle_after-worked.ensures.is_open;
+            then_at_rest = c.settle_after-worked.ensures.at_rest;
+            none_left = c.settle_after-worked.ensures.no_harvesters (subst (All HasNoHarvesters)
+                (sym (released_in one.lanes c.release_all.new.lanes (subst (λ (l : List (Lane g.row.F-Tail.Denot)). lanings c.release_all.new.lanes ≡ map released (lanings l)) c.as_mut_slice.ensures.value c.release_all.ensures.released)))
+                (none_left (lanings one.lanes.items)));
+            all_settled = c.settle_after-worked.ensures.all_settled;
+            ended = c.end_crew.ensures.ended;
+            done = λ is. done_in all c.args.context.settings.now.output.attempts since c.args.begun met c.requires.begins c.follow_begun-worked.ensures.met (is_done is);
+            finished = λ is. finished_by c.args.begun met c.requires.begins (first_met all c.args.context.settings.now.output.attempts since c.args.begun met c.follow_begun-worked.ensures.met) (is_done is);
+          })
+          so_far stands began,
     )
 
 pub returns-clause-cause : goal.returns-clause-cause
 returns-clause-cause g c =
     let all = words (tail_words g.F.Tail.Tail.numbers g.F.Tail.Tail.told g.F.Tail.Tail.faults) (link_words g.L.Link.told g.L.Link.faults g.L.Link.idles)
-        (wire_words g.W.Wire.outcomes g.W.Wire.open_links g.W.Wire.faults g.W.Wire.idles)
-        (disk_words g.D.Disk.contents g.D.Disk.images g.D.Disk.moment g.D.Disk.images_since g.D.Disk.faults) in
+    (wire_words g.W.Wire.outcomes g.W.Wire.open_links g.W.Wire.faults g.W.Wire.idles)
+    (disk_words g.D.Disk.contents g.D.Disk.images g.D.Disk.moment g.D.Disk.images_since g.D.Disk.faults) in
     let one = c.follow_begun-worked.new.crew in
     let first = c.follow_begun-worked.new.storing in
     let second = c.settle_after-worked.new.storing in
