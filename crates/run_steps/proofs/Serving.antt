@@ -27,6 +27,7 @@ use Rattle.run_steps.specs.BeginFor.{begin_for}
 use Rattle.run_steps.specs.Beginning.{Beginning, BeginsFile, BeginsOne, OpensNone}
 use Rattle.run_steps.specs.BeginsAll.{BeginsAll, BeginsFrom, file_at}
 use Rattle.run_steps.specs.Begun.{AreAllSeen, moment_noted, noted_begin}
+use Rattle.run_steps.specs.Releasing.{with_events}
 use Rattle.run_steps.specs.RunOf.{FolderTold}
 use Rattle.run_steps.specs.Served.{AreServed, HasBegin, IsEachServed, WasNotThere}
 use Rattle.run_steps.specs.Telling.{TellMoments, TellsFirst, TellsMoment}
@@ -258,3 +259,25 @@ module _ (listed : List Listed) (folder : FolderTold) (old new : Keeping) (event
           IfSome o (λ one. 0 < (moment_noted one).0 → Contains new.tracked.notes (Seen begin.slot (moment_noted one)))
       seen_still begin None seen = tt
       seen_still begin (Some one) seen = λ later. still_noted (Seen begin.slot (moment_noted one)) (seen later)
+
+-- ---- from the beginning of files to the end of the run
+
+-- as the folder tells at the end, and by what its keeper noted then
+pub record IsServedAtEnd (listed : List Listed) (noted : List Note) (folder : FolderTold) (shown : Option FolderHistory) : Type 0 where
+  pub ended : FolderHistory
+  pub is : shown ≡ Some ended
+  pub served : AreServed listed noted (record folder { ended = ended })
+
+pub served_at_end : {T W L : Type 0} (tails : TailWords T) (settings : Settings) (now : Moment) (listed : List Listed) (passed : List Passing) (folder : FolderTold)
+    (old new : Beginning T W L) → old.folder.told ≡ Some folder.scanned → BeginsAll tails settings now listed passed old new → AreAllSeen listed new.keeper.tracked.notes →
+    (keeper : Keeping) → Collects new.keeper keeper → new.keeper.held ≡ None → (events : List Event) (shown : Option FolderHistory) → shown ≡ with_events events new.folder.told →
+    IsServedAtEnd listed keeper.tracked.notes folder shown
+served_at_end tails settings now listed passed folder old new is begins seen keeper collects none_held events shown then =
+    by_beginning (each_is_served tails settings now listed passed folder old new is begins)
+  where
+    by_beginning : IsServedBehind tails settings now listed passed folder old new is begins → IsServedAtEnd listed keeper.tracked.notes folder shown
+    by_beginning behind = record {
+      ended = (folder_on (folder_begun folder behind.events) events).ended;
+      is = then ∙ ap (with_events events) behind.told;
+      served = still_served listed (folder_begun folder behind.events) new.keeper keeper events collects none_held (record { each = behind.each; seen = seen });
+    }

@@ -1,4 +1,5 @@
 ghost use Rattle.std.specs.Prelude.{◌≡◌, ◌≢◌, ◌^◌, ◌-◌, ◌≤◌, IfSome, Option, Some, length};
+ghost use Rattle.keeper.specs.Collecting.{Collects};
 ghost use Rattle.outside.specs.Counts.{Rose};
 ghost use Rattle.outside.specs.Folders.{FolderHistory};
 ghost use Rattle.rounds.specs.Crewed.{lanings};
@@ -72,13 +73,17 @@ pub fn make_round<
     ensures met { IfSome result (IsMetBy (tail_words T.numbers T.told T.faults)
         (disk_words D.contents D.images D.moment D.images_since D.faults)
         context.entry.settings.now.output.attempts
-        (record { a = storing.old.a.now; b = storing.old.b.now;
-        now = crewing crew.new storing.new })) }
+        (record {
+          a = storing.old.a.now;
+          b = storing.old.b.now;
+          now = crewing crew.new storing.new;
+        })) }
     ensures as_many { AreAsMany (crewing crew.old storing.old) (crewing crew.new storing.new) }
     ensures slots { begins_of (lanings crew.new.lanes.items)
         ≡ begins_of (lanings crew.old.lanes.items) }
     ensures a_faults_never_fall { D.faults storing.old.a.now ≤ D.faults storing.new.a.now }
     ensures b_faults_never_fall { D.faults storing.old.b.now ≤ D.faults storing.new.b.now }
+    ensures collects { Collects storing.old.keeper storing.new.keeper }
     ensures same_areas { SameAreas storing.old storing.new }
 {
     disk_images_are_counted::<D>();
@@ -134,8 +139,11 @@ pub fn follow_all<
     ensures met { result ≢ Stopped → IsMetBy (tail_words T.numbers T.told T.faults)
         (disk_words D.contents D.images D.moment D.images_since D.faults)
         context.entry.settings.now.output.attempts
-        (record { a = storing.old.a.now; b = storing.old.b.now;
-        now = crewing crew.new storing.new }) result }
+        (record {
+          a = storing.old.a.now;
+          b = storing.old.b.now;
+          now = crewing crew.new storing.new;
+        }) result }
     ensures stopped { result ≡ Stopped →
         Rose (B.rings signals.old.bell.now) (B.rings signals.new.bell.now) }
     ensures as_many { AreAsMany (crewing crew.old storing.old) (crewing crew.new storing.new) }
@@ -144,6 +152,7 @@ pub fn follow_all<
     ensures a_faults_never_fall { D.faults storing.old.a.now ≤ D.faults storing.new.a.now }
     ensures b_faults_never_fall { D.faults storing.old.b.now ≤ D.faults storing.new.b.now }
     ensures rings_never_fall { B.rings signals.old.bell.now ≤ B.rings signals.new.bell.now }
+    ensures collects { Collects storing.old.keeper storing.new.keeper }
     ensures same_areas { SameAreas storing.old storing.new }
     ensures same_clock { signals.new.clock.ghost_name ≡ signals.old.clock.ghost_name }
     ensures same_bell { signals.new.bell.ghost_name ≡ signals.old.bell.ghost_name }

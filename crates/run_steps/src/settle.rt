@@ -1,4 +1,5 @@
 ghost use Rattle.std.specs.Prelude.{◌≡◌, ◌⊎◌, ◌≤◌, All, ℕ, List, Option, false};
+ghost use Rattle.keeper.specs.Collecting.{Collects};
 ghost use Rattle.outside.specs.Folders.{FolderHistory};
 ghost use Rattle.rounds.specs.Crewed.{lanings};
 ghost use Rattle.rounds.specs.Crewing.{crewing};
@@ -74,6 +75,7 @@ pub fn settle_all<
     ensures as_many { AreAsMany (crewing crew.old storing.old) (crewing crew.new storing.new) }
     ensures a_faults_never_fall { D.faults storing.old.a.now ≤ D.faults storing.new.a.now }
     ensures b_faults_never_fall { D.faults storing.old.b.now ≤ D.faults storing.new.b.now }
+    ensures collects { Collects storing.old.keeper storing.new.keeper }
     ensures same_areas { SameAreas storing.old storing.new }
 {
     disk_images_are_counted::<D>();

@@ -1,6 +1,7 @@
 ghost use Rattle.std.specs.Prelude.{◌≡◌, ◌≢◌, ◌⊎◌, ◌+◌, ◌-◌, ◌^◌, ◌≤◌, All, ℕ, IfErr, IfOk, List, Option, Result, false, length, vec_capacity, vec_len};
+ghost use Rattle.keeper.specs.Collecting.{Collects};
 ghost use Rattle.outside.specs.Counts.{Rose};
-ghost use Rattle.outside.specs.Folders.{FolderHistory};
+ghost use Rattle.outside.specs.Folders.{Event, FolderHistory};
 ghost use Rattle.rounds.specs.Crewed.{lanings};
 ghost use Rattle.rounds.specs.Crewing.{crewing};
 ghost use Rattle.rounds.specs.KeeperTurns.{SameAreas};
@@ -15,7 +16,7 @@ ghost use Rattle.run_steps.specs.Ends.{IsAllSettled};
 ghost use Rattle.run_steps.specs.Met.{AreLeft};
 ghost use Rattle.run_steps.specs.MetBy.{IsMetBy};
 ghost use Rattle.run_steps.specs.Onward.{Onward};
-ghost use Rattle.run_steps.specs.Releasing.{HasNoHarvesters};
+ghost use Rattle.run_steps.specs.Releasing.{HasNoHarvesters, with_events};
 ghost use Rattle.run_steps.specs.RunEnds.{HasEnded};
 ghost use Rattle.run_steps.specs.RunState.{Phase, within};
 ghost use Rattle.run_steps.specs.Settling.{IsMetByStoring};
@@ -92,6 +93,9 @@ where
           phase = phase;
         }) result.met
         around.old.wires.now.items around.new.wires.now.items }
+    // The folder's list grows.
+    ensures told { (events : List Event) ×
+        (F.told around.new.folder.now ≡ with_events events (F.told around.old.folder.now)) }
     ensures passed { HasPassed begun result.passed.items }
     ensures cause { IsBegunWith begun result.met ⊎ IsWorkedBy crew
         (record {
@@ -119,6 +123,7 @@ where
           folder_faults = F.faults around.new.folder.now;
           rings = B.rings around.new.bell.now;
         }) }
+    ensures collects { Collects storing.old.keeper storing.new.keeper }
     ensures same_areas { SameAreas storing.old storing.new }
     ensures same_folder { around.new.folder.ghost_name ≡ around.old.folder.ghost_name }
     ensures same_wires { around.new.wires.ghost_name ≡ around.old.wires.ghost_name }
@@ -192,6 +197,7 @@ pub fn follow_begun<
     ensures a_faults_never_fall { D.faults storing.old.a.now ≤ D.faults storing.new.a.now }
     ensures b_faults_never_fall { D.faults storing.old.b.now ≤ D.faults storing.new.b.now }
     ensures rings_never_fall { B.rings signals.old.bell.now ≤ B.rings signals.new.bell.now }
+    ensures collects { Collects storing.old.keeper storing.new.keeper }
     ensures same_areas { SameAreas storing.old storing.new }
     ensures same_clock { signals.new.clock.ghost_name ≡ signals.old.clock.ghost_name }
     ensures same_bell { signals.new.bell.ghost_name ≡ signals.old.bell.ghost_name }
@@ -262,6 +268,7 @@ pub fn settle_after<
     ensures as_many { AreAsMany (crewing crew.old storing.old) (crewing crew.new storing.new) }
     ensures a_faults_never_fall { D.faults storing.old.a.now ≤ D.faults storing.new.a.now }
     ensures b_faults_never_fall { D.faults storing.old.b.now ≤ D.faults storing.new.b.now }
+    ensures collects { Collects storing.old.keeper storing.new.keeper }
     ensures same_areas { SameAreas storing.old storing.new }
 {
     let Worked { passed, met } = worked;
@@ -322,6 +329,7 @@ fn settle_where_left<
     ensures as_many { AreAsMany (crewing crew.old storing.old) (crewing crew.new storing.new) }
     ensures a_faults_never_fall { D.faults storing.old.a.now ≤ D.faults storing.new.a.now }
     ensures b_faults_never_fall { D.faults storing.old.b.now ≤ D.faults storing.new.b.now }
+    ensures collects { Collects storing.old.keeper storing.new.keeper }
     ensures same_areas { SameAreas storing.old storing.new }
 {
     match met {

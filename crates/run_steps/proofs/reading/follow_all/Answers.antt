@@ -1,5 +1,6 @@
 use Rattle.std.proofs.Common.{◌≡◌, ◌≤◌, ℕ, Option, refl, ◌∙◌, arith}
 use Rattle.outside.specs.Folders.{FolderHistory}
+use Rattle.keeper.proofs.InARow.{collects_more, collects_none}
 use Rattle.rounds.specs.Words.{Words, disk_words, link_words, tail_words, wire_words, words}
 use Rattle.run_steps.specs.RunState.{Reading, within}
 use Rattle.run_steps.proofs.Onward.{onward_by_nothing, onward_by_two}
@@ -9,8 +10,8 @@ use Rattle.run_steps.specs.MetBy.{phase_met}
 pub loop-init : goal.loop-init
 loop-init g c =
     let all = words (tail_words g.T.Tail.numbers g.T.Tail.told g.T.Tail.faults) (link_words g.L.Link.told g.L.Link.faults g.L.Link.idles)
-        (wire_words g.W.Wire.outcomes g.W.Wire.open_links g.W.Wire.faults g.W.Wire.idles)
-        (disk_words g.D.Disk.contents g.D.Disk.images g.D.Disk.moment g.D.Disk.images_since g.D.Disk.faults) in
+    (wire_words g.W.Wire.outcomes g.W.Wire.open_links g.W.Wire.faults g.W.Wire.idles)
+    (disk_words g.D.Disk.contents g.D.Disk.images g.D.Disk.moment g.D.Disk.images_since g.D.Disk.faults) in
     record {
       goes_on = tt;
       ends = tt;
@@ -22,6 +23,7 @@ loop-init g c =
       a_faults = omega arith;
       b_faults = omega arith;
       rings = omega arith;
+      collects = collects_none c.args.storing.now.keeper;
       same_areas = record { a = refl; b = refl };
       same_clock = refl;
       same_bell = refl;
@@ -30,18 +32,22 @@ loop-init g c =
 pub returns-in-Some-make_round-clause-onward : goal.returns-in-Some-make_round-clause-onward
 returns-in-Some-make_round-clause-onward g c shown =
     let all = words (tail_words g.T.Tail.numbers g.T.Tail.told g.T.Tail.faults) (link_words g.L.Link.told g.L.Link.faults g.L.Link.idles)
-        (wire_words g.W.Wire.outcomes g.W.Wire.open_links g.W.Wire.faults g.W.Wire.idles)
-        (disk_words g.D.Disk.contents g.D.Disk.images g.D.Disk.moment g.D.Disk.images_since g.D.Disk.faults) in
+    (wire_words g.W.Wire.outcomes g.W.Wire.open_links g.W.Wire.faults g.W.Wire.idles)
+    (disk_words g.D.Disk.contents g.D.Disk.images g.D.Disk.moment g.D.Disk.images_since g.D.Disk.faults) in
     onward_by_two all (within shown (g.K.Clock.moments c.args.signals.now.clock.now) c.args.crew.now c.args.storing.now Reading)
     (within shown (g.K.Clock.moments c.loop.signals.clock.now) c.loop.crew c.loop.storing Reading)
     (within shown (g.K.Clock.moments c.make_round.new.clock) c.make_round.new.crew c.make_round.new.storing (phase_met c.in-Some-make_round.met))
     c.loop.invariant.at_rest (c.loop.invariant.onward shown) (c.in-Some-make_round.ensures.onward shown)
 
+pub returns-in-Some-make_round-clause-collects : goal.returns-in-Some-make_round-clause-collects
+returns-in-Some-make_round-clause-collects g c =
+    collects_more c.args.storing.now.keeper c.loop.storing.keeper c.make_round.new.storing.keeper c.loop.invariant.collects c.in-Some-make_round.ensures.collects
+
 pub loop-preserved : goal.loop-preserved
 loop-preserved g c =
     let all = words (tail_words g.T.Tail.numbers g.T.Tail.told g.T.Tail.faults) (link_words g.L.Link.told g.L.Link.faults g.L.Link.idles)
-        (wire_words g.W.Wire.outcomes g.W.Wire.open_links g.W.Wire.faults g.W.Wire.idles)
-        (disk_words g.D.Disk.contents g.D.Disk.images g.D.Disk.moment g.D.Disk.images_since g.D.Disk.faults) in
+    (wire_words g.W.Wire.outcomes g.W.Wire.open_links g.W.Wire.faults g.W.Wire.idles)
+    (disk_words g.D.Disk.contents g.D.Disk.images g.D.Disk.moment g.D.Disk.images_since g.D.Disk.faults) in
     let kept = c.loop.invariant in
     let made = c.in_default.ensures in
     record {
@@ -58,6 +64,7 @@ loop-preserved g c =
       a_faults = let more = made.a_faults_never_fall in let were = kept.a_faults in omega (arith, more, were);
       b_faults = let more = made.b_faults_never_fall in let were = kept.b_faults in omega (arith, more, were);
       rings = let more = c.asked.ensures.rings_never_fall in let were = kept.rings in omega (arith, more, were);
+      collects = collects_more c.args.storing.now.keeper c.loop.storing.keeper c.make_round.new.storing.keeper kept.collects made.collects;
       same_areas = record { a = made.same_areas.a ∙ kept.same_areas.a; b = made.same_areas.b ∙ kept.same_areas.b };
       same_clock = kept.same_clock;
       same_bell = kept.same_bell;

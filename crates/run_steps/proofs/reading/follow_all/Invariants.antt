@@ -1,4 +1,5 @@
 use Rattle.std.proofs.Common.{◌≡◌, ◌≤◌, ◌^◌, ◌-◌, ℕ, List, Option, length}
+use Rattle.keeper.specs.Collecting.{Collects}
 use Rattle.outside.specs.Folders.{FolderHistory}
 use Rattle.rounds.specs.Crewed.{lanings}
 use Rattle.rounds.specs.Crewing.{crewing}
@@ -30,6 +31,7 @@ invariant-loop g l = record {
   a_faults : g.D.Disk.faults l.initial.storing.a.now ≤ g.D.Disk.faults l.storing.a.now;
   b_faults : g.D.Disk.faults l.initial.storing.b.now ≤ g.D.Disk.faults l.storing.b.now;
   rings : g.B.Bell.rings l.initial.signals.bell.now ≤ g.B.Bell.rings l.signals.bell.now;
+  collects : Collects l.initial.storing.keeper l.storing.keeper;
   same_areas : SameAreas l.initial.storing l.storing;
   same_clock : l.signals.clock.ghost_name ≡ l.initial.signals.clock.ghost_name;
   same_bell : l.signals.bell.ghost_name ≡ l.initial.signals.bell.ghost_name;

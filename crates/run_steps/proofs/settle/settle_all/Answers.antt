@@ -1,5 +1,6 @@
 use Rattle.std.proofs.Common.{◌≡◌, ◌≤◌, ℕ, List, Option, refl, ◌∙◌, arith}
 use Rattle.outside.specs.Folders.{FolderHistory}
+use Rattle.keeper.proofs.InARow.{collects_more, collects_none}
 use Rattle.rounds.specs.Crewed.{lanings}
 use Rattle.rounds.specs.Words.{disk_words, link_words, tail_words, wire_words, words}
 use Rattle.run_steps.specs.RunState.{Phase, within}
@@ -23,6 +24,7 @@ loop-init g c =
       as_many = record { lanes = refl; carriers = refl };
       a_faults = omega arith;
       b_faults = omega arith;
+      collects = collects_none c.args.storing.now.keeper;
       same_areas = record { a = refl; b = refl };
     }
 
@@ -64,6 +66,14 @@ returns-then-is_settled-clause-all_settled g c settled =
     settled_still (lanings c.loop.crew.lanes.items) (lanings c.settle-round.new.self.lanes.items) c.loop.storing.keeper c.settle-round.new.storing.keeper
     c.settle-round.ensures.keeps.lanes c.settle-round.ensures.keeps.collects (c.loop.invariant.all_settled settled)
 
+pub returns-in-Some-stored_by-clause-collects : goal.returns-in-Some-stored_by-clause-collects
+returns-in-Some-stored_by-clause-collects g c =
+    collects_more c.args.storing.now.keeper c.loop.storing.keeper c.settle-round.new.storing.keeper c.loop.invariant.collects c.settle-round.ensures.keeps.collects
+
+pub returns-then-is_settled-clause-collects : goal.returns-then-is_settled-clause-collects
+returns-then-is_settled-clause-collects g c =
+    collects_more c.args.storing.now.keeper c.loop.storing.keeper c.settle-round.new.storing.keeper c.loop.invariant.collects c.settle-round.ensures.keeps.collects
+
 pub loop-preserved : goal.loop-preserved
 loop-preserved g c =
     let all = words (tail_words g.T.Tail.numbers g.T.Tail.told g.T.Tail.faults) (link_words g.L.Link.told g.L.Link.faults g.L.Link.idles)
@@ -89,5 +99,6 @@ loop-preserved g c =
       as_many = record { lanes = keeps.as_many.lanes ∙ kept.as_many.lanes; carriers = keeps.as_many.carriers ∙ kept.as_many.carriers };
       a_faults = let more = keeps.causes.a_faults in let were = kept.a_faults in omega (arith, more, were);
       b_faults = let more = keeps.causes.b_faults in let were = kept.b_faults in omega (arith, more, were);
+      collects = collects_more c.args.storing.now.keeper c.loop.storing.keeper c.settle-round.new.storing.keeper kept.collects keeps.collects;
       same_areas = record { a = keeps.same_areas.a ∙ kept.same_areas.a; b = keeps.same_areas.b ∙ kept.same_areas.b };
     }

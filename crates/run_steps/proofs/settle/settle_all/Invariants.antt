@@ -1,4 +1,5 @@
 use Rattle.std.proofs.Common.{◌≡◌, ◌≤◌, ℕ, All, List, Option}
+use Rattle.keeper.specs.Collecting.{Collects}
 use Rattle.outside.specs.Folders.{FolderHistory}
 use Rattle.rounds.specs.Crewed.{lanings}
 use Rattle.rounds.specs.Crewing.{crewing}
@@ -31,5 +32,6 @@ invariant-loop g l = record {
   as_many : AreAsMany (crewing l.initial.crew l.initial.storing) (crewing l.crew l.storing);
   a_faults : g.D.Disk.faults l.initial.storing.a.now ≤ g.D.Disk.faults l.storing.a.now;
   b_faults : g.D.Disk.faults l.initial.storing.b.now ≤ g.D.Disk.faults l.storing.b.now;
+  collects : Collects l.initial.storing.keeper l.storing.keeper;
   same_areas : SameAreas l.initial.storing l.storing;
 }

@@ -1,5 +1,6 @@
 use Rattle.std.proofs.Common.{Result, Vec, subst, sym}
 use Rattle.std.specs.declared.alloc.Global.{Global}
+use Rattle.keeper.proofs.InARow.{collects_none}
 use Rattle.report.specs.declared.passing.Passing.{Passing}
 use Rattle.rounds.specs.Words.{disk_words, link_words, tail_words, wire_words, words}
 use Rattle.run_steps.specs.Onward.{Onward}
@@ -16,3 +17,6 @@ returns-in-Err-clause-onward g c shown =
     (disk_words g.D.Disk.contents g.D.Disk.images g.D.Disk.moment g.D.Disk.images_since g.D.Disk.faults) in
     let at = λ (phase : Phase). within shown (g.K.Clock.moments c.args.signals.now.clock.now) c.args.crew.now c.args.storing.now phase in
     subst (λ (b : Result (Vec Passing Global) Met). Onward all (at (phase_begun b)) (at (phase_worked b c.in-Err.met))) (sym c.in-Err.is) (onward_by_nothing all (at Leaving))
+
+pub returns-in-Err-clause-collects : goal.returns-in-Err-clause-collects
+returns-in-Err-clause-collects g c = collects_none c.args.storing.now.keeper

@@ -1,4 +1,5 @@
 use Rattle.std.proofs.Common.{◌≡◌, ℕ, All, map, List, Option, refl, sym, ap, subst, ◌∙◌}
+use Rattle.keeper.proofs.InARow.{collects_more}
 use Rattle.lanes.specs.declared.lane.Lane.{Lane}
 use Rattle.rounds.specs.Crewed.{lanings}
 use Rattle.rounds.specs.Crewing.{crewing}
@@ -117,3 +118,16 @@ returns-clause-cause g c =
       slots = c.follow_begun-worked.ensures.slots;
     })
     c.args.begun c.follow_begun-worked.result.met c.settle_after-worked.result.met c.follow_begun-worked.ensures.met c.follow_begun-worked.ensures.stopped c.settle_after-worked.ensures.met
+
+pub returns-clause-collects : goal.returns-clause-collects
+returns-clause-collects g c =
+    collects_more c.args.storing.now.keeper c.follow_begun-worked.new.storing.keeper c.settle_after-worked.new.storing.keeper c.follow_begun-worked.ensures.collects
+    c.settle_after-worked.ensures.collects
+
+pub returns-clause-told : goal.returns-clause-told
+returns-clause-told g c =
+    let one = c.follow_begun-worked.new.crew in (
+      all_closings g.F.Tail.Tail.told g.F.Tail.Tail.faults (lanings one.lanes.items),
+      subst (λ (l : List (Lane g.row.F-Tail.Denot)). g.F.Folder.told c.release_all.new.folder ≡ with_events (all_closings g.F.Tail.Tail.told g.F.Tail.Tail.faults (lanings l)) (g.F.Folder.told c.args.around.now.folder.now))
+          c.as_mut_slice.ensures.value c.release_all.ensures.told,
+    )
