@@ -156,7 +156,7 @@ module _ {T W L D : Type 0} (words : Words T W L D) (start : Began D) (crew : Cr
     none : AllByRecursion HasNone (lanings crew.lanes.items)
     none = has_none (lanings crew.lanes.items) made.lanes
 
-    abbrev so_far : SoFar
+    abbrev pub so_far : SoFar
     so_far = record {
       moments = given.since;
       opened = [];

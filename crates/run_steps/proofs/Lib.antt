@@ -57,6 +57,7 @@ pub mod ScanOf
 pub mod Scanning
 pub mod SeenMoments
 pub mod Serving
+pub mod SettingOut
 pub mod Settling
 pub mod TailOpened
 pub mod Tails

@@ -13,6 +13,7 @@ pub mod Met
 pub mod MetBy
 pub mod MetIn
 pub mod Onward
+pub mod Outset
 pub mod Registry
 pub mod RegistryErrors
 pub mod Releasing

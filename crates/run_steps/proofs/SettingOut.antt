@@ -1,0 +1,142 @@
+-- A crew as it is made may make rounds, and what stands of a run stands as it sets out and once its files are begun.
+use Rattle.std.proofs.Common.{◌≡◌, ◌≢◌, ℕ, ◌≤◌, ◌+◌, All, List, [], ◌∷◌, ◌++◌, length, map, take, drop, Option, Some, None, IfSome, IsSome, Result, IfOk, IfErr, Vec, Global, refl, sym, ap, subst, ◌∙◌, arith}
+use Rattle.std.specs.List.{AllByRecursion}
+use Rattle.std.proofs.Math.Seq.{take-append_seam}
+use Rattle.std.proofs.lemmas.List.{length-map, length-append}
+use Rattle.std.proofs.lemmas.List.Elements.{All-from_recursion, All-nil, recursion_from_All}
+use Rattle.atomic_table.specs.Seated.{TableId}
+use Rattle.batch_worker.specs.Standing.{length_of}
+use Rattle.beat_config.specs.InRange.{AreInRange}
+use Rattle.event_tree.specs.declared.settings.Settings.{Settings}
+use Rattle.keeper.specs.Keeping.{Keeping}
+use Rattle.lanes.specs.Giving.{IsInRange}
+use Rattle.lanes.specs.Laning.{Laning}
+use Rattle.lanes.specs.Turned.{IsKnown}
+use Rattle.outside.specs.Talks.{Talk}
+use Rattle.prospect.specs.declared.listed.Listed.{Listed}
+use Rattle.report.specs.declared.passing.Passing.{Passing}
+use Rattle.rounds.specs.Crewed.{lane_passes, lanes_passes, lanings}
+use Rattle.rounds.specs.Crewing.{crewing}
+use Rattle.rounds.specs.Making.{IsBegunCarrier, IsBegunLane, StandsForNothing, wires_of}
+use Rattle.rounds.specs.Passes.{AreAllOf, AreOf}
+use Rattle.rounds.specs.Rounds.{IsReady}
+use Rattle.rounds.specs.Running.{IsLaneReady}
+use Rattle.rounds.specs.Words.{TailWords, Words}
+use Rattle.rounds.specs.declared.carrier.Carrier.{Carrier}
+use Rattle.rounds.specs.declared.crew.Crew.{Crew}
+use Rattle.rounds.specs.declared.storing.Storing.{Storing}
+use Rattle.wire_base.specs.declared.numbers.Moment.{Moment}
+use Rattle.run_steps.specs.Areas.{BeganAtRest, IsAtRest}
+use Rattle.run_steps.specs.Began.{Began}
+use Rattle.run_steps.specs.Beginning.{Beginning}
+use Rattle.run_steps.specs.BeginsAll.{BeginsAll, BeginsSome}
+use Rattle.run_steps.specs.BegunCrew.{IsBegunCrew}
+use Rattle.run_steps.specs.Outset.{Earlier, IsFirstKeeper, Outset, SetsOut, began_with}
+use Rattle.run_steps.specs.RunState.{Reading}
+use Rattle.run_steps.specs.Stands.{Further, Stands}
+use Rattle.run_steps.specs.Worked.{phase_begun}
+use Rattle.run_steps.specs.declared.met.Met.{Met}
+use Rattle.run_steps.proofs.AllBegun.{stands_begun}
+use Rattle.run_steps.proofs.BeginningOne.{at_phase}
+use Rattle.run_steps.proofs.BegunReady.{rest_begun}
+use Rattle.run_steps.proofs.First.{IsMade, given, so_far, stands_first}
+
+-- ---- lists
+
+drop_front : {A : Type 0} (xs ys : List A) → drop (length xs) (xs ++ ys) ≡ ys
+drop_front [] ys = refl
+drop_front (x ∷ xs) ys = drop_front xs ys
+
+map_twice : {A B C : Type 0} (f : B → C) (g : A → B) (xs : List A) → map f (map g xs) ≡ map (λ (x : A). f (g x)) xs
+map_twice f g [] = refl
+map_twice f g (x ∷ xs) = ap (λ (l : List _). f (g x) ∷ l) (map_twice f g xs)
+
+-- ---- lanes as they are made
+
+module _ {T : Type 0} (tails : TailWords T) (queue desk : TableId) where
+  begun_ready : (lane : Laning T) → AreOf queue desk (lane_passes lane) → IsBegunLane lane → IsLaneReady tails queue desk lane
+  begun_ready lane of begun = record {
+    passes = of;
+    in_range = subst (λ (l : Laning T). IsInRange l.held) (sym begun.is) tt;
+    known = subst (λ (l : Laning T). All (IsKnown tails.numbers tails.told) l.harvesters) (sym begun.is) (All-nil (IsKnown tails.numbers tails.told));
+  }
+
+  each_begun : (lanes : List (Laning T)) → AreAllOf queue desk (lanes_passes lanes) → AllByRecursion IsBegunLane lanes → AllByRecursion (IsLaneReady tails queue desk) lanes
+  each_begun [] of begun = tt
+  each_begun (l ∷ ls) of begun = (begun_ready l of.0 begun.0, each_begun ls of.1 begun.1)
+
+-- ---- a crew as it is made
+
+module _ {T W L : Type 0} (told : L → Option Talk) (queue desk : TableId) (settings : Settings) (wires left : List W) (crew : Crew T W L) (begun : IsBegunCrew told queue desk settings wires left crew) where
+  pub first_ready : {D : Type 0} (tails : TailWords T) (storing : Storing D) → AreInRange settings → IsFirstKeeper desk storing.keeper → IsReady tails queue desk (crewing crew storing)
+  first_ready tails storing in_range first = record {
+    able = record {
+      some_lanes = λ none. absurd (let long = ap (λ (l : List _). length l) none in let many = begun.many_lanes in let some = in_range.lanes in omega (arith, long, many, some));
+      some_carriers = λ none. absurd (let long = ap (λ (l : List _). length l) none in let many = begun.many_carriers in let some = in_range.output.workers in omega (arith, long, many, some));
+      have = begun.have;
+      lanes = All-from_recursion (IsLaneReady tails queue desk) (lanings crew.lanes.items)
+          (each_begun tails queue desk (lanings crew.lanes.items) begun.have.lanes_have (recursion_from_All IsBegunLane (lanings crew.lanes.items) begun.lanes));
+      pass = ap (λ (k : Keeping). k.pass.desk) first.is ∙ first.of_box;
+    };
+    is_open = ap (λ (k : Keeping). k.store.closed) first.is ∙ first.is_open;
+  }
+
+  front_is : wires ≡ wires_of crew.carriers.items ++ left
+  front_is = begun.wires_are.in_order
+
+  as_many : length (wires_of crew.carriers.items) ≡ settings.output.workers
+  as_many = length-map crew.carriers.items (λ (c : Carrier W L). c.wire) ∙ begun.many_carriers
+
+  pub first_wires : take settings.output.workers wires ≡ wires_of crew.carriers.items
+  first_wires = ap (λ (n : ℕ). take n wires) (sym as_many) ∙ ap (take (length (wires_of crew.carriers.items))) front_is ∙ take-append_seam (wires_of crew.carriers.items) left
+
+  pub wires_left : drop settings.output.workers wires ≡ left
+  wires_left = ap (λ (n : ℕ). drop n wires) (sym as_many) ∙ ap (drop (length (wires_of crew.carriers.items))) front_is ∙ drop_front (wires_of crew.carriers.items) left
+
+  pub wires_fit : length crew.carriers.items + length left ≡ length wires
+  wires_fit =
+      let all = ap (λ (l : List W). length l) front_is in
+      let both = length-append (wires_of crew.carriers.items) left in
+      let front = length-map crew.carriers.items (λ (c : Carrier W L). c.wire) in
+      omega (arith, all, both, front)
+
+-- ---- what stands
+
+module _ {T W L D : Type 0} (words : Words T W L D) (reads : (disk : D) → IfSome (words.disks.contents disk) (words.disks.images disk))
+    (counts : (disk : D) (at : ℕ) (image : List ℕ) → at ≤ words.disks.moment disk → words.disks.images disk image → words.disks.images_since disk at image)
+    (queue desk : TableId) (settings : Settings) (listed : List Listed) (now : Moment) (moments : Option (List ℕ)) (wires left : List W) (a b : D) (old : Beginning T W L) (earlier : Earlier D) where
+  abbrev outset : Outset W D
+  outset = record { settings = settings; listed = listed; moment = now.0; shown = old.folder.told; moments = moments; wires = wires; keeper = old.keeper; a = a; b = b }
+
+  abbrev start : Began D
+  start = began_with words.wires outset earlier
+
+  module _ (begun : IsBegunCrew words.links.told queue desk settings wires left old.crew) (first : IsFirstKeeper desk old.keeper) (sets : SetsOut words.disks start outset) where
+    made : IsMade words start old.crew first.store first.pass a b moments settings.output
+    made = record {
+      lanes = recursion_from_All IsBegunLane (lanings old.crew.lanes.items) begun.lanes;
+      carriers = recursion_from_All (IsBegunCarrier settings.output) old.crew.carriers.items begun.carriers;
+      stand = recursion_from_All (StandsForNothing words.links.told) old.crew.carriers.items begun.stand;
+      lanes_know = begun.lanes_know;
+      carriers_know = begun.carriers_know;
+      heard = ap (map (λ (w : W). length_of (words.wires.outcomes w))) (first_wires words.links.told queue desk settings wires left old.crew begun)
+          ∙ map_twice (λ (w : W). length_of (words.wires.outcomes w)) (λ (c : Carrier W L). c.wire) old.crew.carriers.items;
+      no_rows = first.no_rows;
+      none_got = first.none_got;
+      gives = sets.gives;
+      areas = sets.areas;
+    }
+
+    stands_out : Stands words start (at_phase words start moments a b old.folder.told old.crew old.keeper Reading) (so_far words start old.crew first.store first.pass a b moments settings.output made)
+    stands_out = subst (λ (k : Keeping). Stands words start (at_phase words start moments a b old.folder.told old.crew k Reading) (so_far words start old.crew first.store first.pass a b moments settings.output made))
+        (sym first.is) (stands_first words start old.crew first.store first.pass a b moments settings.output made)
+
+    -- once files are begun
+    module _ (result : Result (Vec Passing Global) Met) (new : Beginning T W L) (begins : IfOk result (λ passed. BeginsAll words.tails settings now listed passed.items old new))
+        (ended : IfErr result (λ what. BeginsSome words.tails settings now listed what old new)) where
+      pub further : Further words start (at_phase words start moments a b new.folder.told new.crew new.keeper (phase_begun result))
+      further = stands_begun words reads counts start moments a b now old (so_far words start old.crew first.store first.pass a b moments settings.output made) stands_out refl
+          (given words start old.crew first.store first.pass a b moments settings.output made).ends sets.of_inputs result new begins ended
+
+      pub rests : BeganAtRest words.disks start → IsAtRest words.disks new.keeper a b
+      rests began = rest_begun words.tails settings now words.disks a b listed result old new begins ended (sets.at_rest began)

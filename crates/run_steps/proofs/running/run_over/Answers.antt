@@ -1,0 +1,64 @@
+use Rattle.std.proofs.Common.{ℕ, List, ◌+◌, length, subst, sym, ap, arith}
+use Rattle.rounds.specs.Words.{disk_words, link_words, tail_words, wire_words, words, Words}
+use Rattle.rounds.specs.declared.carrier.Carrier.{Carrier}
+use Rattle.run_steps.specs.Beginning.{beginning}
+use Rattle.run_steps.specs.FolderSeen.{folder_words}
+use Rattle.run_steps.specs.Outset.{began_with}
+use Rattle.run_steps.specs.RunEnds.{HasEnded}
+use Rattle.run_steps.specs.RunState.{Phase}
+use Rattle.run_steps.proofs.BegunReady.{ready_begun}
+use Rattle.run_steps.proofs.SettingOut.{first_ready, further, rests, wires_fit, wires_left}
+use Rattle.run_steps.proofs.running.run_over.Goals as goal
+
+pub work-requires-clause-ready : goal.work-requires-clause-ready
+work-requires-clause-ready g c κs within =
+    let queue = c.args.context.outlets.queue.now.id in
+    let desk = c.args.context.outlets.desk.now.id in
+    let tails = tail_words g.F.Tail.Tail.numbers g.F.Tail.Tail.told g.F.Tail.Tail.faults in
+    let names = folder_words g.F.Folder.told g.F.Folder.states g.F.Folder.present g.F.Folder.open_tails g.F.Folder.faults in
+    let old = beginning names c.args.around.now.folder.now c.in_ok-crew.crew c.args.storing.now.keeper in
+    let new = beginning names c.begin_all-begun.new.folder c.begin_all-begun.new.crew c.begin_all-begun.new.keeper in
+    let first = first_ready g.L.Link.told queue desk c.args.context.settings.now c.args.around.now.wires.now.items c.crew_of.new.wires.items c.in_ok-crew.crew c.in_ok-crew.ensures.begun
+        tails c.args.storing.now c.requires.settings c.requires.keeper in
+    let ready = ready_begun tails c.args.context.settings.now c.args.scanned.now.now queue desk c.args.storing.now.a c.args.storing.now.b c.args.scanned.now.listed.items c.begin_all-begun.result old new
+        c.begin_all-begun.ensures.begun c.begin_all-begun.ensures.ended
+        (record { able = record { some_lanes = first.able.some_lanes; some_carriers = first.able.some_carriers; have = first.able.have; lanes = first.able.lanes; pass = first.able.pass }; is_open = first.is_open }) in
+    record {
+      able = record { some_lanes = ready.able.some_lanes; some_carriers = ready.able.some_carriers; have = ready.able.have; lanes = ready.able.lanes; pass = ready.able.pass };
+      is_open = ready.is_open;
+    }
+
+pub work-requires-clause-room : goal.work-requires-clause-room
+work-requires-clause-room g c κs within =
+    let fit = wires_fit g.L.Link.told c.args.context.outlets.queue.now.id c.args.context.outlets.desk.now.id c.args.context.settings.now c.args.around.now.wires.now.items c.crew_of.new.wires.items
+        c.in_ok-crew.crew c.in_ok-crew.ensures.begun in
+    let carriers = ap (λ (v : _). length v.items) c.begin_all-begun.ensures.kept.carriers in
+    omega (arith, fit, carriers, c.begin_all-begun.new.crew.carriers.ok, c.in_ok-crew.crew.carriers.ok, c.crew_of.new.wires.ok, c.args.around.now.wires.now.ok, c.crew_of.ensures.capacity)
+
+pub returns-clause-ends : goal.returns-clause-ends
+returns-clause-ends g c earlier sets =
+    let queue = c.args.context.outlets.queue.now.id in
+    let desk = c.args.context.outlets.desk.now.id in
+    let all = words (tail_words g.F.Tail.Tail.numbers g.F.Tail.Tail.told g.F.Tail.Tail.faults) (link_words g.L.Link.told g.L.Link.faults g.L.Link.idles)
+        (wire_words g.W.Wire.outcomes g.W.Wire.open_links g.W.Wire.faults g.W.Wire.idles)
+        (disk_words g.D.Disk.contents g.D.Disk.images g.D.Disk.moment g.D.Disk.images_since g.D.Disk.faults) in
+    let names = folder_words g.F.Folder.told g.F.Folder.states g.F.Folder.present g.F.Folder.open_tails g.F.Folder.faults in
+    let old = beginning names c.args.around.now.folder.now c.in_ok-crew.crew c.args.storing.now.keeper in
+    let new = beginning names c.begin_all-begun.new.folder c.begin_all-begun.new.crew c.begin_all-begun.new.keeper in
+    let stood = further all c.disk_images_are_counted.ensures.reads c.disk_images_are_counted.ensures.counts queue desk c.args.context.settings.now c.args.scanned.now.listed.items c.args.scanned.now.now
+        (g.K.Clock.moments c.args.around.now.clock.now) c.args.around.now.wires.now.items c.crew_of.new.wires.items c.args.storing.now.a.now c.args.storing.now.b.now old earlier
+        c.in_ok-crew.ensures.begun c.requires.keeper sets c.begin_all-begun.result new c.begin_all-begun.ensures.begun c.begin_all-begun.ensures.ended in
+    let at_rest = rests all c.disk_images_are_counted.ensures.reads c.disk_images_are_counted.ensures.counts queue desk c.args.context.settings.now c.args.scanned.now.listed.items c.args.scanned.now.now
+        (g.K.Clock.moments c.args.around.now.clock.now) c.args.around.now.wires.now.items c.crew_of.new.wires.items c.args.storing.now.a.now c.args.storing.now.b.now old earlier
+        c.in_ok-crew.ensures.begun c.requires.keeper sets c.begin_all-begun.result new c.begin_all-begun.ensures.begun c.begin_all-begun.ensures.ended in
+    let left = wires_left g.L.Link.told queue desk c.args.context.settings.now c.args.around.now.wires.now.items c.crew_of.new.wires.items c.in_ok-crew.crew c.in_ok-crew.ensures.begun in
+    let start = began_with all.wires (record {
+        settings = c.args.context.settings.now; listed = c.args.scanned.now.listed.items; moment = c.args.scanned.now.now.0; shown = g.F.Folder.told c.args.around.now.folder.now;
+        moments = g.K.Clock.moments c.args.around.now.clock.now; wires = c.args.around.now.wires.now.items; keeper = c.args.storing.now.keeper;
+        a = c.args.storing.now.a.now; b = c.args.storing.now.b.now }) earlier in
+    subst
+    (λ (unused : List g.row.W.Denot). (phase : Phase) × HasEnded all start
+    (record { shown = g.F.Folder.told c.work.new.around.folder.now; moments = g.K.Clock.moments c.work.new.around.clock.now; keeper = c.work.new.storing.keeper;
+        a = c.work.new.storing.a.now; b = c.work.new.storing.b.now; phase = phase })
+    c.work.result.met unused c.work.new.around.wires.now.items)
+    (sym left) (c.work.ensures.ends start stood.so_far stood.stands at_rest)

@@ -1,0 +1,65 @@
+-- How a run sets out (this project's profile): its settings, what its one scan listed and at which moment, what its objects told by
+-- then, and a keeper to which nothing was told over a store without rows.
+use Rattle.std.specs.Prelude.{◌≡◌, ℕ, List, [], IsSome, Option, false, map, take}
+use Rattle.std.specs.List.{AllByRecursion}
+use Rattle.atomic_table.specs.Seated.{TableId}
+use Rattle.batch_worker.specs.Standing.{length_of}
+use Rattle.event_tree.specs.declared.settings.Settings.{Settings}
+use Rattle.keeper.specs.Keeping.{Keeping, begun_with}
+use Rattle.outside.specs.Folders.{FolderHistory}
+use Rattle.outside.specs.Times.{GivesMoment}
+use Rattle.prospect.specs.declared.listed.Listed.{Listed}
+use Rattle.registry_store.specs.Standing.{Standing}
+use Rattle.rounds.specs.Words.{DiskWords, WireWords}
+use Rattle.settle_box.specs.Collector.{Collector}
+use Rattle.run_steps.specs.Areas.{BeganAtRest, HaveHeldFronts, IsAtRest}
+use Rattle.run_steps.specs.Began.{Began}
+use Rattle.run_steps.specs.BeginsAll.{IsOfPathInput}
+
+pub record Outset (W D : Type 0) : Type 0 where
+  pub settings : Settings
+  pub listed : List Listed
+  pub moment : ℕ
+  pub shown : Option FolderHistory
+  pub moments : Option (List ℕ)
+  pub wires : List W
+  pub keeper : Keeping
+  pub a : D
+  pub b : D
+
+-- before the clock gave the run's first moment, and before its areas were opened
+pub record Earlier (D : Type 0) : Type 0 where
+  pub moments : Option (List ℕ)
+  pub a : D
+  pub b : D
+
+-- the first wires are those of the workers
+abbrev pub began_with : {W D : Type 0} → WireWords W → Outset W D → Earlier D → Began D
+began_with {W} wires outset earlier = record {
+  settings = outset.settings;
+  listed = outset.listed;
+  moment = outset.moment;
+  shown = outset.shown;
+  moments = earlier.moments;
+  heard = map (λ (w : W). length_of (wires.outcomes w)) (take outset.settings.output.workers outset.wires);
+  a = earlier.a;
+  b = earlier.b;
+}
+
+-- the clock gave its moment, its areas may hold no row where they were at rest and blank, and each listed file is of an input that
+-- tells files by their paths
+pub record SetsOut {W D : Type 0} (disks : DiskWords D) (start : Began D) (outset : Outset W D) : Type 0 where
+  pub gives : GivesMoment start.moments start.moment outset.moments
+  pub areas : BeganAtRest disks start → HaveHeldFronts disks [] start.a start.b outset.a outset.b
+  pub at_rest : BeganAtRest disks start → IsAtRest disks outset.keeper outset.a outset.b
+  pub of_inputs : AllByRecursion (IsOfPathInput start.settings (IsSome start.shown)) start.listed
+
+-- it was made over an open store without rows, and its pass collected nothing
+pub record IsFirstKeeper (desk : TableId) (keeper : Keeping) : Type 0 where
+  pub store : Standing
+  pub pass : Collector
+  pub is : keeper ≡ begun_with store pass
+  pub no_rows : store.rows ≡ []
+  pub is_open : store.closed ≡ false
+  pub none_got : pass.got ≡ []
+  pub of_box : pass.desk ≡ desk

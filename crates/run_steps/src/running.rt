@@ -1,0 +1,126 @@
+ghost use Rattle.std.specs.Prelude.{◌≡◌, ◌≤◌, All, IfOk, OnErr, drop, length, vec_len};
+ghost use Rattle.beat_config.specs.InRange.{AreInRange};
+ghost use Rattle.prospect.specs.ListedFiles.{IsListedInRange};
+ghost use Rattle.rounds.specs.KeeperTurns.{SameAreas};
+ghost use Rattle.rounds.specs.Making.{all_seen};
+ghost use Rattle.rounds.specs.Words.{disk_words, link_words, tail_words, wire_words, words};
+ghost use Rattle.wire_base.specs.Ranges.{IsMoment};
+ghost use Rattle.run_steps.specs.BegunCrew.{AreFirstPasses};
+ghost use Rattle.run_steps.specs.BeginsAll.{IsOfInputs};
+ghost use Rattle.run_steps.specs.Outset.{Earlier, IsFirstKeeper, SetsOut, began_with};
+ghost use Rattle.run_steps.specs.RunEnds.{HasEnded};
+ghost use Rattle.run_steps.specs.RunState.{Phase};
+
+use crate::beginning::{Scanned, begin_all};
+use crate::context::{Context, Surroundings};
+use crate::crew::{Passes, crew_of};
+use crate::laws::disk_images_are_counted;
+use crate::working::{Worked, work};
+use outside::{Bell, Clock, Disk, Folder, Link, Wire};
+use rounds::Storing;
+use std::sync::Wait;
+use std::thread::Threads;
+use wire_base::NoMemory;
+
+/// Follows the listed files by a crew, and lets all go. `Err` is want of memory for the crew; then nothing was done, and all wires
+/// are back in their order. Takes as long as the files, the peers and the disk do.
+pub fn run_over<
+    X: Threads + Wait + Sync,
+    F: Folder,
+    L: Link + Send,
+    W: Wire<Link = L> + Send,
+    D: Disk + Send,
+    K: Clock,
+    B: Bell,
+>(
+    rt: &X,
+    context: Context<'_, '_>,
+    passes: Passes,
+    scanned: &Scanned,
+    storing: &mut Storing<'_, D>,
+    around: &mut Surroundings<F, W, K, B>,
+) -> Result<Worked, NoMemory>
+where
+    F::Tail: Send,
+    requires settings { AreInRange context.settings.now }
+    requires passes { AreFirstPasses context.outlets.queue.now.id context.outlets.desk.now.id
+        passes.put passes.take passes.post }
+    requires in_range { All IsListedInRange scanned.now.listed.items }
+    requires of_inputs { All (IsOfInputs context.settings.now) scanned.now.listed.items }
+    requires few { length scanned.now.listed.items ≤ 65_536 }
+    requires moment { IsMoment scanned.now.now }
+    requires keeper { IsFirstKeeper context.outlets.desk.now.id storing.old.keeper }
+    requires wires { vec_len around.old.wires.now ≡ 16 }
+    // What stood as the run set out stands at the end.
+    ensures ends { (earlier : Earlier D) →
+        SetsOut (disk_words D.contents D.images D.moment D.images_since D.faults)
+        (began_with (wire_words W.outcomes W.open_links W.faults W.idles) (record {
+          settings = context.entry.settings.now;
+          listed = scanned.entry.now.listed.items;
+          moment = scanned.entry.now.now.0;
+          shown = F.told around.old.folder.now;
+          moments = K.moments around.old.clock.now;
+          wires = around.old.wires.now.items;
+          keeper = storing.old.keeper;
+          a = storing.old.a.now;
+          b = storing.old.b.now;
+        }) earlier) (record {
+          settings = context.entry.settings.now;
+          listed = scanned.entry.now.listed.items;
+          moment = scanned.entry.now.now.0;
+          shown = F.told around.old.folder.now;
+          moments = K.moments around.old.clock.now;
+          wires = around.old.wires.now.items;
+          keeper = storing.old.keeper;
+          a = storing.old.a.now;
+          b = storing.old.b.now;
+        }) → IfOk result (λ worked. (phase : Phase) × HasEnded
+        (words (tail_words F.Tail.numbers F.Tail.told F.Tail.faults)
+        (link_words L.told L.faults L.idles)
+        (wire_words W.outcomes W.open_links W.faults W.idles)
+        (disk_words D.contents D.images D.moment D.images_since D.faults))
+        (began_with (wire_words W.outcomes W.open_links W.faults W.idles) (record {
+          settings = context.entry.settings.now;
+          listed = scanned.entry.now.listed.items;
+          moment = scanned.entry.now.now.0;
+          shown = F.told around.old.folder.now;
+          moments = K.moments around.old.clock.now;
+          wires = around.old.wires.now.items;
+          keeper = storing.old.keeper;
+          a = storing.old.a.now;
+          b = storing.old.b.now;
+        }) earlier)
+        (record {
+          shown = F.told around.new.folder.now;
+          moments = K.moments around.new.clock.now;
+          keeper = storing.new.keeper;
+          a = storing.new.a.now;
+          b = storing.new.b.now;
+          phase = phase;
+        }) worked.met
+        (drop context.entry.settings.now.output.workers around.old.wires.now.items)
+        around.new.wires.now.items) }
+    ensures untouched { OnErr result ((storing.new ≡ storing.old)
+        × (around.new.folder.now ≡ around.old.folder.now)
+        × (around.new.clock.now ≡ around.old.clock.now)
+        × (around.new.bell.now ≡ around.old.bell.now)) }
+    ensures back { OnErr result
+        (all_seen (wire_words W.outcomes W.open_links W.faults W.idles) around.new.wires.now.items
+        ≡ all_seen (wire_words W.outcomes W.open_links W.faults W.idles) around.old.wires.now.items) }
+    ensures same_areas { SameAreas storing.old storing.new }
+    ensures same_folder { around.new.folder.ghost_name ≡ around.old.folder.ghost_name }
+    ensures same_wires { around.new.wires.ghost_name ≡ around.old.wires.ghost_name }
+    ensures same_clock { around.new.clock.ghost_name ≡ around.old.clock.ghost_name }
+    ensures same_bell { around.new.bell.ghost_name ≡ around.old.bell.ghost_name }
+{
+    disk_images_are_counted::<D>();
+    let mut crew = crew_of(context, passes, around.wires)?;
+    let begun = begin_all(
+        context,
+        scanned,
+        around.folder,
+        &mut crew,
+        &mut storing.keeper,
+    );
+    Ok(work(rt, context, begun, crew, storing, around))
+}
