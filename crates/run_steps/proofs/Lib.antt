@@ -46,6 +46,7 @@ pub mod RunAccounted
 pub mod RunBooks
 pub mod RunCounts
 pub mod RunDoneOf
+pub mod RunEarly
 pub mod RunFiles
 pub mod RunFits
 pub mod RunNotes

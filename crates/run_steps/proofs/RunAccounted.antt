@@ -1,5 +1,5 @@
 -- A run is accounted for, however it ends.
-use Rattle.std.proofs.Common.{◌≡◌, ℕ, List, [], ◌++◌, map, Option, Some, refl, sym, ap, subst, ◌∙◌}
+use Rattle.std.proofs.Common.{◌≡◌, ℕ, List, [], ◌++◌, map, Option, Some, refl, sym, ap, subst, ◌∙◌, arith}
 use Rattle.std.specs.List.{AllByRecursion}
 use Rattle.accounts.proofs.AccountingFor.{IsAccountedFor, is_accounted_for}
 use Rattle.accounts.proofs.Draining.{is_drained}
@@ -114,8 +114,7 @@ module _ {T W L D : Type 0} (words : Words T W L D) (start : Began D) (ending : 
     fits = record {
       once = refl;
       opening = refl;
-      scan = the_scan;
-      one_scan = refl;
+      one_scan = omega arith;
       folder = subst (λ (o : Option FolderHistory). FitsFolders (Some folder.earlier) o the_run.trace) (sym tell.shown)
           (record { files = refl; events = refl; began = refl; none_open = refl });
       moments = moments_since start.moments ending.moments start.moment ends.so_far.moments ends.stands.given tell.clock_tells;

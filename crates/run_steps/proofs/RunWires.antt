@@ -28,15 +28,27 @@ took_each [] carriers = []
 took_each (heard ∷ others) [] = []
 took_each (heard ∷ others) (carrier ∷ carriers) = took heard carrier ∷ took_each others carriers
 
+abbrev pub nothing_taken : Taken
+nothing_taken = record { acknowledged = []; carried = [] }
+
 -- no worker had these wires
 abbrev pub took_none : {W : Type 0} → List W → List Taken
-took_none wires = map (λ _. record { acknowledged = []; carried = [] }) wires
+took_none wires = map (λ _. nothing_taken) wires
 
-acknowledged_none : {W : Type 0} (unused : List W) → acknowledged_in (took_none unused) ≡ []
+-- a wire that no worker had made no connection
+pub of_no_worker : (o : Option (List Outcome)) → IsOfWorker nothing_taken (wire_behind (length_of o) o)
+of_no_worker None = record { most = 0; talks = record { acknowledges = refl; sent = tt }; none_open = refl }
+of_no_worker (Some outcomes) = record {
+  most = 0;
+  talks = subst (HasTalks 0 [] []) (sym (drop-length outcomes)) (record { acknowledges = refl; sent = tt });
+  none_open = refl;
+}
+
+pub acknowledged_none : {W : Type 0} (unused : List W) → acknowledged_in (took_none unused) ≡ []
 acknowledged_none [] = refl
 acknowledged_none (wire ∷ unused) = acknowledged_none unused
 
-carried_none : {W : Type 0} (unused : List W) → carried_in (took_none unused) ≡ []
+pub carried_none : {W : Type 0} (unused : List W) → carried_in (took_none unused) ≡ []
 carried_none [] = refl
 carried_none (wire ∷ unused) = carried_none unused
 
@@ -57,16 +69,8 @@ module _ {W L : Type 0} (links : LinkWords L) (wires : WireWords W) (unused : Li
 
   -- ---- their wires
 
-  of_none : (wire : W) → IsOfWorker (record { acknowledged = []; carried = [] }) (wire_behind (length_of (wires.outcomes wire)) (wires.outcomes wire))
-  of_none wire = by_outcomes (wires.outcomes wire)
-    where
-      by_outcomes : (o : Option (List Outcome)) → IsOfWorker (record { acknowledged = []; carried = [] }) (wire_behind (length_of o) o)
-      by_outcomes None = record { most = 0; talks = record { acknowledges = refl; sent = tt }; none_open = refl }
-      by_outcomes (Some outcomes) = record {
-        most = 0;
-        talks = subst (HasTalks 0 [] []) (sym (drop-length outcomes)) (record { acknowledges = refl; sent = tt });
-        none_open = refl;
-      }
+  of_none : (wire : W) → IsOfWorker nothing_taken (wire_behind (length_of (wires.outcomes wire)) (wires.outcomes wire))
+  of_none wire = of_no_worker (wires.outcomes wire)
 
   of_others : (some : List W) → AreOfWorkers (took_none some) (wires_behind (map (λ wire. length_of (wires.outcomes wire)) some) (map wires.outcomes some))
   of_others [] = tt

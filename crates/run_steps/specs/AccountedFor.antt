@@ -2,7 +2,7 @@
 -- it. Its files are followed so, only told events were sent, the rows that its areas give are kept, and so is each row that any image
 -- of an area had since it began. Where files keep their identities and truncations are seen, the account is one of the run, and a
 -- run that is done drained its folder. It is said where the folder, the clock and each wire tell.
-use Rattle.std.specs.Prelude.{◌≡◌, ℕ, ◌-◌, true, List, [], ◌∷◌, drop, length, map, Option, Some, None}
+use Rattle.std.specs.Prelude.{◌≡◌, ℕ, ◌-◌, ◌≤◌, true, List, [], drop, length, map, Option, Some, None}
 use Rattle.std.specs.List.{AllByRecursion}
 use Rattle.accounts.specs.AccountedFor.{HasItsRow, followings_in}
 use Rattle.batch_worker.specs.Standing.{length_of}
@@ -11,7 +11,7 @@ use Rattle.kept_rows.specs.Drained.{IsDrained}
 use Rattle.kept_rows.specs.Followed.{AreFollowed}
 use Rattle.kept_rows.specs.Kept.{IsKept, IsKeptInImage}
 use Rattle.kept_rows.specs.Premises.{Premises}
-use Rattle.kept_rows.specs.Run.{Run, Scan}
+use Rattle.kept_rows.specs.Run.{Run}
 use Rattle.kept_rows.specs.Sent.{SendOnlyTold}
 use Rattle.kept_rows.specs.Telling.{IsAccount}
 use Rattle.kept_rows.specs.Trace.{Trace}
@@ -60,12 +60,11 @@ AreMomentsSince None after moments = ⊥
 AreMomentsSince (Some before) None moments = ⊥
 AreMomentsSince (Some before) (Some after) moments = moments ≡ drop (length before - 1) after
 
--- the run reads its files once, over a registry without rows, by one scan, and is what its objects told
+-- the run reads its files once, over a registry without rows, by one scan if it made one, and is what its objects told
 pub record FitsObjects {D : Type 0} (objects : RunObjects D) (run : Run) : Type 0 where
   pub once : run.once ≡ true
   pub opening : run.opening ≡ []
-  pub scan : Scan
-  pub one_scan : run.scans ≡ scan ∷ []
+  pub one_scan : length run.scans ≤ 1
   pub folder : FitsFolders objects.before.folder objects.after.folder run.trace
   pub moments : AreMomentsSince objects.before.moments objects.after.moments run.trace.moments
   pub wires : run.trace.wires ≡ wires_behind (map length_of objects.before.outcomes) objects.after.outcomes

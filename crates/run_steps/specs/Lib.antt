@@ -21,6 +21,7 @@ pub mod RunEnds
 pub mod RunOf
 pub mod RunState
 pub mod Scanned
+pub mod ScannedSome
 pub mod Served
 pub mod Settling
 pub mod Shown

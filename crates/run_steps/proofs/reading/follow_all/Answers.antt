@@ -1,7 +1,6 @@
-use Rattle.std.proofs.Common.{◌≡◌, ◌≤◌, ℕ, Option, refl, ◌∙◌, arith}
-use Rattle.outside.specs.Folders.{FolderHistory}
+use Rattle.std.proofs.Common.{refl, ◌∙◌, arith}
 use Rattle.keeper.proofs.InARow.{collects_more, collects_none}
-use Rattle.rounds.specs.Words.{Words, disk_words, link_words, tail_words, wire_words, words}
+use Rattle.rounds.specs.Words.{disk_words, link_words, tail_words, wire_words, words}
 use Rattle.run_steps.specs.RunState.{Reading, within}
 use Rattle.run_steps.proofs.Onward.{onward_by_nothing, onward_by_two}
 use Rattle.run_steps.proofs.reading.follow_all.Goals as goal

@@ -1,10 +1,10 @@
-use Rattle.std.proofs.Common.{◌≡◌, ◌≤◌, ◌^◌, ◌-◌, ℕ, List, Option, length}
+use Rattle.std.proofs.Common.{◌≡◌, ◌≤◌, Option}
 use Rattle.keeper.specs.Collecting.{Collects}
 use Rattle.outside.specs.Folders.{FolderHistory}
 use Rattle.rounds.specs.Crewed.{lanings}
 use Rattle.rounds.specs.Crewing.{crewing}
 use Rattle.rounds.specs.KeeperTurns.{SameAreas}
-use Rattle.rounds.specs.Rounds.{IsAble, IsReady}
+use Rattle.rounds.specs.Rounds.{IsReady}
 use Rattle.rounds.specs.Staying.{AreAsMany, begins_of}
 use Rattle.rounds.specs.Words.{disk_words, link_words, tail_words, wire_words, words}
 use Rattle.run_steps.specs.Areas.{IsAtRest}

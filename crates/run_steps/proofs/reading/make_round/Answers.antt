@@ -1,12 +1,8 @@
 use Rattle.std.proofs.Common.{ℕ, true, List, Option, refl, sym, subst, arith}
-use Rattle.outside.specs.Folders.{FolderHistory}
 use Rattle.outside.specs.Times.{GivesMoment}
 use Rattle.rounds.specs.Crewing.{crewing}
 use Rattle.rounds.specs.Words.{disk_words, link_words, tail_words, wire_words, words}
-use Rattle.run_steps.specs.Areas.{IsAtRest}
-use Rattle.run_steps.specs.MetBy.{GoesOn, IsMetBy, phase_of}
-use Rattle.run_steps.specs.MetIn.{IsMetIn}
-use Rattle.run_steps.specs.declared.met.Met.{Met}
+use Rattle.run_steps.specs.MetBy.{phase_of}
 use Rattle.run_steps.proofs.MetBy.{all_done, each_met, none_out, stored_well}
 use Rattle.run_steps.proofs.Onward.{round_onward}
 use Rattle.run_steps.proofs.reading.make_round.Goals as goal

@@ -1,9 +1,8 @@
-use Rattle.std.proofs.Common.{◌≡◌, ◌≤◌, ℕ, List, Option, refl, ◌∙◌, arith}
-use Rattle.outside.specs.Folders.{FolderHistory}
+use Rattle.std.proofs.Common.{refl, ◌∙◌, arith}
 use Rattle.keeper.proofs.InARow.{collects_more, collects_none}
 use Rattle.rounds.specs.Crewed.{lanings}
 use Rattle.rounds.specs.Words.{disk_words, link_words, tail_words, wire_words, words}
-use Rattle.run_steps.specs.RunState.{Phase, within}
+use Rattle.run_steps.specs.RunState.{within}
 use Rattle.run_steps.proofs.Onward.{onward_by_nothing, onward_by_two, settle_onward}
 use Rattle.run_steps.proofs.Settling.{none_still, settled_still}
 use Rattle.run_steps.proofs.settle.settle_all.Goals as goal

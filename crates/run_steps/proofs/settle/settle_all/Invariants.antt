@@ -1,4 +1,4 @@
-use Rattle.std.proofs.Common.{◌≡◌, ◌≤◌, ℕ, All, List, Option}
+use Rattle.std.proofs.Common.{◌≤◌, ℕ, All, List, Option}
 use Rattle.keeper.specs.Collecting.{Collects}
 use Rattle.outside.specs.Folders.{FolderHistory}
 use Rattle.rounds.specs.Crewed.{lanings}

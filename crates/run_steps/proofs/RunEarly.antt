@@ -1,0 +1,315 @@
+-- A run that ended before it opened a file is accounted for, too: it follows nothing and sent nothing, and its areas give no rows.
+use Rattle.std.proofs.Common.{◌≡◌, ◌≢◌, ◌⊎◌, inl, inr, ⊎_elim, ℕ, zero, suc, ◌+◌, ◌-◌, ◌≤◌, true, List, [], ◌∷◌, ◌++◌, drop, length, map, append-nil, Option, Some, None, IsSome, refl, sym, ap, subst, ◌∙◌, arith}
+use Rattle.std.proofs.Math.Seq.{drop-append_seam, drop-length}
+use Rattle.std.proofs.lemmas.Option.{slice_get_past}
+use Rattle.std.specs.Prelude.{slice_get}
+use Rattle.std.specs.List.{AllByRecursion}
+use Rattle.accounts.proofs.AccountingFor.{is_accounted_for}
+use Rattle.accounts.proofs.Unscanned.{unscanned_is_accounted_for}
+use Rattle.accounts.specs.AccountedFor.{AccountsFor}
+use Rattle.accounts.specs.FollowedFile.{EachOpeningIsOne}
+use Rattle.accounts.specs.OneScan.{IsByOneScan}
+use Rattle.accounts.specs.Places.{AreOfWorkers}
+use Rattle.accounts.specs.RunTold.{RunTold}
+use Rattle.accounts.specs.Taken.{taken_in}
+use Rattle.accounts.specs.Unscanned.{IsSilent, IsUnscanned}
+use Rattle.batch_worker.specs.Held.{notes_of}
+use Rattle.batch_worker.specs.Standing.{length_of}
+use Rattle.event_tree.specs.declared.input_rule.InputRule.{InputRule}
+use Rattle.event_tree.specs.declared.settings.Settings.{Settings}
+use Rattle.kept_rows.specs.Backed.{AreRowsOverFronts}
+use Rattle.kept_rows.specs.Run.{Run, Scan}
+use Rattle.kept_rows.specs.Scans.{ListGlobs, globs_in, listings_from, listings_of}
+use Rattle.kept_rows.specs.Trace.{Trace, WireTold}
+use Rattle.outside.specs.Folders.{Event, FolderHistory, Listed, ListingFailed, Opened}
+use Rattle.outside.specs.Wires.{Outcome}
+use Rattle.outside.specs.declared.history.Sight.{Sight}
+use Rattle.pass_sums.specs.Weight.{AsOften, weigh}
+use Rattle.prospect.specs.ListedFiles.{EndsAs}
+use Rattle.prospect.specs.Members.{globs_of}
+use Rattle.prospect.specs.Scan.{AreListed, Listing, event_of}
+use Rattle.prospect.specs.Unfinished.{ListSome, ListsSome}
+use Rattle.prospect.specs.declared.scan_error.ScanError.{ScanError}
+use Rattle.prospect.specs.declared.scan_error.ScanError.TheVariants.{Failed, NoMemory, TooMany}
+use Rattle.registry_store.specs.Settled.{AreAtRest}
+use Rattle.rounds.specs.Words.{DiskWords}
+use Rattle.ship_core.specs.Rows.{find}
+use Rattle.ship_core.specs.RowsOver.{AreRowsOver, row_for}
+use Rattle.wire_base.specs.declared.note.Note.{Note}
+use Rattle.wire_base.specs.declared.row.Row.{Row}
+use Rattle.run_steps.specs.AccountedFor.{AccountedFor, HoldKeptRows, RowsBy, RunObjects}
+use Rattle.run_steps.specs.Areas.{BeganAtRest, HaveHeldFronts, HeldOnlyFronts}
+use Rattle.run_steps.specs.Began.{Began}
+use Rattle.run_steps.specs.RunOf.{FolderTold, run_of, scan_of, wires_behind}
+use Rattle.run_steps.specs.ScannedSome.{HasScannedSome}
+use Rattle.run_steps.specs.Shown.{HasGiven}
+use Rattle.run_steps.specs.declared.met.Met.{Met}
+use Rattle.run_steps.specs.declared.met.Met.TheVariants.{Done}
+use Rattle.run_steps.proofs.ByPath.{inputs_are_by_path}
+use Rattle.run_steps.proofs.RunFits.{moments_since}
+use Rattle.run_steps.proofs.RunRows.{OneChoice, given_over_fronts, opened_over_fronts}
+use Rattle.run_steps.proofs.RunWires.{acknowledged_none, of_no_worker, took_none}
+use Rattle.run_steps.proofs.Scanning.{AreAt, are_at}
+
+-- ---- its listings
+
+pub some_globs : (trace : Trace) (globs : List (List ℕ)) (place : ℕ) (more : List Event) → AreAt trace.events place more → ListSome globs more → ListGlobs trace globs (listings_from place more)
+some_globs trace globs place [] at some = tt
+some_globs trace [] place (event ∷ more) at some = absurd some
+some_globs trace (glob ∷ globs) place (event ∷ more) at (inl one) =
+    subst (λ (e : Event). ListGlobs trace (glob ∷ globs) (listings_from place (e ∷ more))) (sym one.0.1)
+    (inl (one.0.0, at.0 ∙ ap (λ (e : Event). Some e) one.0.1), some_globs trace globs (suc place) more at.1 one.1)
+some_globs trace (glob ∷ globs) place (event ∷ more) at (inr failed) =
+    subst (λ (e : Event). ListGlobs trace (glob ∷ globs) (listings_from place (e ∷ more))) (sym failed.0)
+    (subst (λ (l : List Event). ListGlobs trace (glob ∷ globs) (place ∷ listings_from (suc place) l)) (sym failed.1)
+    (inr (at.0 ∙ ap (λ (e : Event). Some e) failed.0), tt))
+
+lists_each : (listings : List Listing) → ListSome (map (λ listing. listing.glob) listings) (map event_of listings)
+lists_each [] = tt
+lists_each (listing ∷ listings) = inl ((listing.shown, refl), lists_each listings)
+
+-- all listings of a scan are some
+pub listed_all : (globs : List (List ℕ)) (told : FolderHistory) (listings : List Listing) (after : Option FolderHistory) → AreListed globs told listings after → ListsSome globs told after
+listed_all globs told listings after are = record {
+  more = map event_of listings;
+  in_order = subst (λ (g : List (List ℕ)). ListSome g (map event_of listings)) are.one_for_each_glob (lists_each listings);
+  kept = are.kept;
+}
+
+-- however a scan ended that tells no files
+pub ended_some : (inputs : List InputRule) (told : FolderHistory) (error : ScanError) (after : Option FolderHistory) → EndsAs inputs told error after → ListsSome (globs_of inputs) told after
+ended_some inputs told Failed after ends = ends
+ended_some inputs told NoMemory after ends = ends
+ended_some inputs told (TooMany path) after ends = listed_all (globs_of inputs) told ends.listings after ends.listed_is
+
+-- none of them is an opening
+none_is_opening : (globs : List (List ℕ)) (more : List Event) (k : ℕ) (path : List ℕ) (number : ℕ) (begun : Sight) → ListSome globs more → slice_get more k ≡ Some (Opened path number begun) → ⊥
+none_is_opening globs [] k path number begun some at = let q : None ≡ Some (Opened path number begun) = at in cc
+none_is_opening [] (event ∷ more) k path number begun some at = some
+none_is_opening (glob ∷ globs) (event ∷ more) zero path number begun (inl one) at =
+    let q : Some event ≡ Some (Opened path number begun) = at in let listed = one.0.1 in cc
+none_is_opening (glob ∷ globs) (event ∷ more) (suc k) path number begun (inl one) at = none_is_opening globs more k path number begun one.1 at
+none_is_opening (glob ∷ globs) (event ∷ more) zero path number begun (inr failed) at =
+    let q : Some event ≡ Some (Opened path number begun) = at in let is = failed.0 in cc
+none_is_opening (glob ∷ globs) (event ∷ more) (suc k) path number begun (inr failed) at =
+    let q : None ≡ Some (Opened path number begun) = sym (ap (λ (l : List Event). slice_get l k) failed.1) ∙ at in cc
+
+-- what stands behind the front stands in the rest
+got_in_rest : {A : Type 0} (front rest : List A) (place : ℕ) (x : A) → length front ≤ place → slice_get (front ++ rest) place ≡ Some x → (k : ℕ) × (slice_get rest k ≡ Some x)
+got_in_rest [] rest place x since at = (place, at)
+got_in_rest (y ∷ front) rest zero x since at = absurd (omega (arith, since))
+got_in_rest (y ∷ front) rest (suc place) x since at = got_in_rest front rest place x (omega (arith, since)) at
+
+some_is : {A : Type 0} (x y : A) → Some x ≡ Some y → x ≡ y
+some_is x y is = cc
+
+-- ---- its wires and its books
+
+silent_wires : (outcomes : List (Option (List Outcome))) → AreOfWorkers (took_none outcomes) (wires_behind (map length_of outcomes) outcomes)
+silent_wires [] = tt
+silent_wires (o ∷ outcomes) = (of_no_worker o, silent_wires outcomes)
+
+none_taken : {A : Type 0} (wires : List A) → taken_in (took_none wires) ≡ []
+none_taken [] = refl
+none_taken (wire ∷ wires) = none_taken wires
+
+-- ---- its rows
+
+nil_front : {A : Type 0} (front rest : List A) → [] ≡ front ++ rest → front ≡ []
+nil_front [] rest are = refl
+nil_front (x ∷ front) rest are = absurd cc
+
+over_no_notes : (rows : List Row) → AreRowsOverFronts [] [] rows → AreRowsOver [] [] rows
+over_no_notes rows over = record {
+  in_order = over.in_order;
+  each = λ key. let of = over.each key in of.is ∙ ap (λ (l : List Note). row_for [] l key) (nil_front of.front of.rest of.notes_are);
+}
+
+-- ---- the run
+
+-- listed nothing that it kept
+abbrev pub scanned_some : {D : Type 0} → Began D → Began D
+scanned_some start = record start { listed = [] }
+
+-- and did nothing more with the folder
+abbrev pub folder_scanned : FolderTold → FolderTold
+folder_scanned folder = record folder { ended = folder.scanned }
+
+module _ {D : Type 0} (disks : DiskWords D) (start : Began D) (folder : FolderTold) (has : HasScannedSome start.settings folder) (moments : List ℕ) (later : Option (List ℕ))
+    (given : HasGiven start.moments later start.moment moments) (clock_tells : IsSome later) (outcomes : List (Option (List Outcome))) where
+  abbrev wires : List WireTold
+  wires = wires_behind (map length_of outcomes) outcomes
+
+  abbrev pub early_run : Run
+  early_run = run_of (scanned_some start) (folder_scanned folder) moments wires
+
+  abbrev pub early_scan : Scan
+  early_scan = scan_of (scanned_some start) (folder_scanned folder)
+
+  abbrev began : ℕ
+  began = length folder.earlier.events
+
+  events_are : folder.scanned.events ≡ folder.earlier.events ++ has.lists.more
+  events_are = ap (λ (h : FolderHistory). h.events) (some_is folder.scanned (record folder.earlier { events = folder.earlier.events ++ has.lists.more }) has.lists.kept)
+
+  listings_are : early_scan.listings ≡ listings_from began has.lists.more
+  listings_are = ap (λ (l : List Event). listings_from began (drop began l)) events_are ∙ ap (listings_from began) (drop-append_seam folder.earlier.events has.lists.more)
+
+  at : AreAt early_run.trace.events began has.lists.more
+  at = subst (λ (l : List Event). AreAt l began has.lists.more) (sym (events_are ∙ ap (λ (l : List Event). folder.earlier.events ++ l) (sym (append-nil has.lists.more))))
+      (are_at has.lists.more folder.earlier.events [])
+
+  by_one_scan : IsByOneScan early_run early_scan
+  by_one_scan = record {
+    once = refl;
+    only = refl;
+    scans = record {
+      together = append-nil early_scan.listings;
+      by_globs = (
+        subst (λ (l : List ℕ). ListGlobs early_run.trace (globs_in start.settings.inputs) l) (sym listings_are)
+            (some_globs early_run.trace (globs_in start.settings.inputs) began has.lists.more at has.lists.in_order),
+        tt,
+      );
+      full = tt;
+      moments = (given.among.0, given.among.1, given.among.2, tt);
+    };
+    askings = tt;
+    inputs = inputs_are_by_path start.settings has.in_range has.by_path;
+  }
+
+  no_opening : EachOpeningIsOne early_run []
+  no_opening opening path number begun since is =
+      let of = got_in_rest folder.earlier.events has.lists.more opening (Opened path number begun) since (sym (ap (λ (l : List Event). slice_get l opening) events_are) ∙ is) in
+      absurd (none_is_opening (globs_in start.settings.inputs) has.lists.more of.0 path number begun has.lists.in_order of.1)
+
+  early_told : RunTold early_run early_scan [] (took_none outcomes) [] []
+  early_told = record {
+    by = by_one_scan;
+    followed = record { each = tt; slots = tt; names_apart = tt; openings_apart = tt; openings_serve = no_opening };
+    talks = silent_wires outcomes;
+    noted = record { begins = []; seens = []; notes_are = refl; each_begin = tt; each_seen = tt };
+    fits = record {
+      issued = [];
+      noted = [];
+      issued_are = λ h. refl;
+      noted_are = λ h. refl;
+      parcels = [];
+      parcels_are = λ h. sym (ap (weigh h) (none_taken outcomes));
+      notes = [];
+      notes_are = λ h. ap (λ l. weigh h (notes_of l)) (acknowledged_none outcomes);
+    };
+  }
+
+  early_accounts : AccountsFor early_run [] []
+  early_accounts = (is_accounted_for early_run early_scan [] (took_none outcomes) [] [] early_told).accounts
+
+  module _ (a b : D) (one : OneChoice) (areas : BeganAtRest disks start → HaveHeldFronts disks [] start.a start.b a b) where
+    abbrev pub early_objects : RunObjects D
+    early_objects = record {
+      before = record { folder = Some folder.earlier; moments = start.moments; outcomes = outcomes; a = start.a; b = start.b };
+      after = record { folder = Some folder.scanned; moments = later; outcomes = outcomes; a = a; b = b };
+    }
+
+    images_of : (from now : D) → HeldOnlyFronts disks [] from now → HoldKeptRows disks (record { began = from; now = now }) early_run []
+    images_of from now only image generation rows end since opened = early_accounts.images rows (opened_over_fronts one [] image generation rows end (only.each image since) opened)
+
+    rows_by : (met : Met) (rows : List Row) → AreRowsOverFronts [] [] rows → RowsBy early_run [] met rows
+    rows_by met rows over = record {
+      in_image = early_accounts.images rows over;
+      kept = λ left. early_accounts.ends rows (over_no_notes rows over);
+      begun = λ left. early_accounts.begun rows (over_no_notes rows over);
+    }
+
+    pub early_is_accounted_for : (met : Met) → met ≢ Done → AccountedFor disks early_objects met
+    early_is_accounted_for met not_done = record {
+      run = early_run;
+      account = [];
+      fits = record {
+        once = refl;
+        opening = refl;
+        one_scan = omega arith;
+        folder = record { files = refl; events = refl; began = refl; none_open = refl };
+        moments = moments_since start.moments later start.moment moments given clock_tells;
+        wires = refl;
+      };
+      followed = early_accounts.followed;
+      sent = early_accounts.sent;
+      rows = λ at_rest first second rows a_is b_is gives. rows_by met rows (given_over_fronts one [] first second rows ((areas at_rest).both first second a_is b_is) gives);
+      images = λ at_rest. record { of_a = images_of start.a a (areas at_rest).of_a; of_b = images_of start.b b (areas at_rest).of_b };
+      supposing = λ premises. record { is = early_accounts.is premises; drained = λ at_rest is_done. absurd (not_done is_done) };
+    }
+
+-- ---- a run that made no scan
+
+-- it ended before: its folder, its clock and its wires tell what they told before
+abbrev pub unscanned_run : Settings → FolderHistory → List ℕ → List (Option (List Outcome)) → Run
+unscanned_run settings told before outcomes = record {
+  settings = settings;
+  once = true;
+  opening = [];
+  trace = record {
+    files = told.files;
+    events = told.events;
+    began = length told.events;
+    open_tails = [];
+    moments = drop (length before - 1) before;
+    wires = wires_behind (map length_of outcomes) outcomes;
+  };
+  scans = [];
+}
+
+silent_each : (outcomes : List (Option (List Outcome))) → AllByRecursion IsSilent (wires_behind (map length_of outcomes) outcomes)
+silent_each [] = tt
+silent_each (None ∷ outcomes) = (record { none_made = refl; none_open = refl }, silent_each outcomes)
+silent_each (Some list ∷ outcomes) = (record { none_made = drop-length list; none_open = refl }, silent_each outcomes)
+
+module _ {D : Type 0} (disks : DiskWords D) (settings : Settings) (told : FolderHistory) (before : List ℕ) (outcomes : List (Option (List Outcome))) where
+  abbrev pub still_run : Run
+  still_run = unscanned_run settings told before outcomes
+
+  is_unscanned : IsUnscanned still_run
+  is_unscanned = record {
+    no_scan = refl;
+    no_listing = ap (listings_from (length told.events)) (drop-length told.events);
+    no_opening = λ opening path number begun since at. let q : None ≡ Some (Opened path number begun) = sym (slice_get_past told.events opening since) ∙ at in cc;
+    silent = silent_each outcomes;
+  }
+
+  still_accounts : AccountsFor still_run [] []
+  still_accounts = unscanned_is_accounted_for still_run is_unscanned
+
+  module _ (from_a from_b a b : D) (one : OneChoice) (areas : AreAtRest disks.contents disks.images from_a from_b → HaveHeldFronts disks [] from_a from_b a b) where
+    abbrev pub still_objects : RunObjects D
+    still_objects = record {
+      before = record { folder = Some told; moments = Some before; outcomes = outcomes; a = from_a; b = from_b };
+      after = record { folder = Some told; moments = Some before; outcomes = outcomes; a = a; b = b };
+    }
+
+    still_images : (from now : D) → HeldOnlyFronts disks [] from now → HoldKeptRows disks (record { began = from; now = now }) still_run []
+    still_images from now only image generation rows end since opened = still_accounts.images rows (opened_over_fronts one [] image generation rows end (only.each image since) opened)
+
+    still_rows : (met : Met) (rows : List Row) → AreRowsOverFronts [] [] rows → RowsBy still_run [] met rows
+    still_rows met rows over = record {
+      in_image = still_accounts.images rows over;
+      kept = λ left. still_accounts.ends rows (over_no_notes rows over);
+      begun = λ left. still_accounts.begun rows (over_no_notes rows over);
+    }
+
+    pub still_is_accounted_for : (met : Met) → met ≢ Done → AccountedFor disks still_objects met
+    still_is_accounted_for met not_done = record {
+      run = still_run;
+      account = [];
+      fits = record {
+        once = refl;
+        opening = refl;
+        one_scan = omega arith;
+        folder = record { files = refl; events = refl; began = refl; none_open = refl };
+        moments = refl;
+        wires = refl;
+      };
+      followed = still_accounts.followed;
+      sent = still_accounts.sent;
+      rows = λ at_rest first second rows a_is b_is gives. still_rows met rows (given_over_fronts one [] first second rows ((areas at_rest).both first second a_is b_is) gives);
+      images = λ at_rest. record { of_a = still_images from_a a (areas at_rest).of_a; of_b = still_images from_b b (areas at_rest).of_b };
+      supposing = λ premises. record { is = still_accounts.is premises; drained = λ at_rest is_done. absurd (not_done is_done) };
+    }
