@@ -1,12 +1,16 @@
 -- What a run has done once its rounds are made (this project's profile): where files could not all be begun, none is.
 use Rattle.std.specs.Prelude.{◌≡◌, ◌≢◌, ◌⊎◌, ◌≤◌, ◌<◌, ℕ, List, [], length, Result, Ok, Err, Vec}
+use Rattle.std.specs.Borrow.{MutBor}
 use Rattle.std.specs.declared.alloc.Global.{Global}
+use Rattle.keeper.specs.Keeping.{Keeping}
 use Rattle.outside.specs.Counts.{Rose}
 use Rattle.report.specs.declared.passing.Passing.{Passing}
 use Rattle.rounds.specs.Crewed.{lanings}
+use Rattle.rounds.specs.KeeperTurns.{begun_stored}
 use Rattle.rounds.specs.Staying.{HaveSlot}
 use Rattle.rounds.specs.Words.{DiskWords, TailWords}
 use Rattle.rounds.specs.declared.crew.Crew.{Crew}
+use Rattle.rounds.specs.declared.storing.Storing.{Storing}
 use Rattle.run_steps.specs.MetBy.{IsMetBy, Since, phase_met}
 use Rattle.run_steps.specs.RunState.{Leaving, Phase, Reading}
 use Rattle.run_steps.specs.declared.met.Met.{Met}
@@ -68,3 +72,7 @@ IsWorkedBy crew before after DiskFault = Rose before.a_faults after.a_faults ⊎
 IsWorkedBy crew before after FolderFault = Rose before.folder_faults after.folder_faults
 IsWorkedBy crew before after (Unreachable worker) = worker < length crew.carriers.items
 IsWorkedBy crew before after (Epochs slot) = HaveSlot slot (lanings crew.lanes.items)
+
+-- the keeper with its areas, as they are lent to the rounds
+abbrev pub lent : {D : Type 0} → Keeping → MutBor D → MutBor D → Storing D
+lent keeper a b = record { keeper = keeper; a = a; b = b; stored = begun_stored }
