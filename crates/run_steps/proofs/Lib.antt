@@ -47,6 +47,7 @@ pub mod RunBooks
 pub mod RunCounts
 pub mod RunDoneOf
 pub mod RunEarly
+pub mod RunEnded
 pub mod RunFiles
 pub mod RunFits
 pub mod RunNotes
