@@ -1,5 +1,5 @@
 -- Inputs within the ranges of the settings, all by path, tell their files' keys apart.
-use Rattle.std.proofs.Common.{◌≡◌, ◌≢◌, ℕ, zero, suc, ◌<◌, Bool, true, false, All, AllPairs, List, [], ◌∷◌, Contains, length, map, IsTrue, refl, sym, ap, subst, ◌∙◌, arith}
+use Rattle.std.proofs.Common.{◌≡◌, ◌≢◌, ℕ, suc, true, false, All, AllPairs, List, [], ◌∷◌, map, IsTrue, sym, ap, subst, ◌∙◌, arith}
 use Rattle.std.specs.List.{AllByRecursion}
 use Rattle.accounts.proofs.Grounded.{of_map}
 use Rattle.accounts.specs.OneScan.{AreByPath, IsByPath}

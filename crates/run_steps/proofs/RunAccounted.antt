@@ -3,18 +3,17 @@ use Rattle.std.proofs.Common.{◌≡◌, ℕ, List, [], ◌++◌, map, Option, S
 use Rattle.std.specs.List.{AllByRecursion}
 use Rattle.accounts.proofs.AccountingFor.{IsAccountedFor, is_accounted_for}
 use Rattle.accounts.proofs.Draining.{is_drained}
-use Rattle.accounts.specs.AccountedFor.{AccountsFor, followings_in}
+use Rattle.accounts.specs.AccountedFor.{followings_in}
 use Rattle.accounts.specs.Filed.{Filed, accounts_of}
 use Rattle.accounts.specs.RunTold.{RunTold}
 use Rattle.accounts.specs.Taken.{Taken}
 use Rattle.batch_worker.specs.Standing.{length_of}
-use Rattle.kept_rows.specs.Account.{Place, SlotAccount}
+use Rattle.kept_rows.specs.Account.{SlotAccount}
 use Rattle.kept_rows.specs.Backed.{AreRowsOverFronts}
 use Rattle.kept_rows.specs.Drained.{IsDrained}
 use Rattle.kept_rows.specs.Kept.{IsKeptInImage}
 use Rattle.kept_rows.specs.Premises.{Premises}
 use Rattle.kept_rows.specs.Run.{Run, Scan}
-use Rattle.kept_rows.specs.Trace.{WireTold}
 use Rattle.outside.specs.Folders.{FolderHistory}
 use Rattle.outside.specs.Wires.{Outcome}
 use Rattle.registry_store.specs.Choice.{GivesRows}
@@ -22,9 +21,8 @@ use Rattle.rounds.specs.Words.{Words}
 use Rattle.ship_core.specs.Orderly.{AreOrderly}
 use Rattle.ship_core.specs.RowsOver.{AreRowsOver}
 use Rattle.wire_base.specs.declared.note.Note.{Note}
-use Rattle.wire_base.specs.declared.parcel.Parcel.{Parcel}
 use Rattle.wire_base.specs.declared.row.Row.{Row}
-use Rattle.run_steps.specs.AccountedFor.{AccountedFor, AreAccounted, AreaSince, FitsFolders, FitsObjects, HoldKeptRows, RowsBy, RunObjects}
+use Rattle.run_steps.specs.AccountedFor.{AccountedFor, FitsFolders, FitsObjects, HoldKeptRows, RowsBy, RunObjects}
 use Rattle.run_steps.specs.Areas.{BeganAtRest, HaveHeldFronts, HeldOnlyFronts}
 use Rattle.run_steps.specs.Began.{Began}
 use Rattle.run_steps.specs.Ends.{Ending, Ends}
@@ -39,7 +37,7 @@ use Rattle.run_steps.specs.declared.met.Met.TheVariants.{Done}
 use Rattle.run_steps.proofs.RunDoneOf.{run_done}
 use Rattle.run_steps.proofs.RunFits.{moments_since}
 use Rattle.run_steps.proofs.RunRows.{OneChoice, given_over_fronts, opened_over_fronts, rows_of_store}
-use Rattle.run_steps.proofs.RunToldOf.{run, run_files, run_told, scan, so_far, wires_told, workers}
+use Rattle.run_steps.proofs.RunToldOf.{run, run_files, run_told, scan, workers}
 
 module _ {T W L D : Type 0} (words : Words T W L D) (start : Began D) (ending : Ending D) (met : Met) (unused wires : List W) (ends : Ends words start ending met unused wires)
     (left : AreLeftSo words.disks start ending met ends.crew) (folder : FolderTold) (has : HasScanned start folder) (tell : DoTell words.wires ending folder wires) where

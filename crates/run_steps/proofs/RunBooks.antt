@@ -1,12 +1,10 @@
 -- The first notes of a run, by its files, and how the books of its rounds fit what files told.
-use Rattle.std.proofs.Common.{◌≡◌, ℕ, ◌+◌, ◌≤◌, List, [], ◌∷◌, ◌++◌, map, append_assoc, Option, Some, refl, sym, ap, subst, ◌∙◌, arith}
-use Rattle.std.specs.Prelude.{slice_get}
-use Rattle.std.specs.List.{AllByRecursion, flat_map}
+use Rattle.std.proofs.Common.{◌≡◌, ℕ, ◌+◌, ◌≤◌, List, [], ◌∷◌, ◌++◌, map, append_assoc, Option, refl, sym, ap, subst, ◌∙◌, arith}
+use Rattle.std.specs.List.{AllByRecursion}
 use Rattle.std.specs.Option.{option_map_or}
 use Rattle.accounts.specs.FirstNotes.{AreFirstNotesAs, IsBeginAs, IsMomentAs}
 use Rattle.accounts.specs.Opened.{Opened}
 use Rattle.accounts.specs.Taken.{FitBooks, Taken, acknowledged_in, carried_in, taken_by, taken_in}
-use Rattle.accounts.specs.Turned.{notes_told, parcels_told}
 use Rattle.accounts.specs.Turning.{Pairs}
 use Rattle.batch_worker.specs.Held.{notes_of}
 use Rattle.keeper.specs.Keeping.{Keeping, held_in}

@@ -1,6 +1,5 @@
 -- Where a run is done by its counts, no note is elsewhere than with its keeper, and as many are settled as its files told.
-use Rattle.std.proofs.Common.{◌≡◌, ℕ, ◌+◌, ◌-◌, ◌^◌, ◌≤◌, ◌<◌, min, Bool, true, false, List, [], ◌∷◌, ◌++◌, length, length-append, map, Option, None, refl, sym, ap, subst, ◌∙◌, arith}
-use Rattle.std.specs.Prelude.{count_by}
+use Rattle.std.proofs.Common.{◌≡◌, ◌+◌, ◌≤◌, List, [], ◌∷◌, ◌++◌, length, length-append, Option, refl, ap, ◌∙◌, arith}
 use Rattle.std.proofs.lemmas.List.{length-map, nil_from_length}
 use Rattle.accounts.proofs.Often.{often_back, often_counted, often_then}
 use Rattle.accounts.proofs.Settling.{settles_counted}
@@ -10,17 +9,15 @@ use Rattle.accounts.specs.Turned.{spans_in}
 use Rattle.batch_worker.specs.Held.{notes_of}
 use Rattle.keeper.specs.Collecting.{is_acked, is_by_rule, is_dropped, is_shipped}
 use Rattle.keeper.specs.Keeping.{Keeping, held_in}
-use Rattle.lanes.specs.Laning.{Laning}
 use Rattle.pass_sums.proofs.Weights.{weigh-append}
 use Rattle.pass_sums.specs.Weight.{AsOften, weigh}
 use Rattle.rounds.proofs.LastSteps.{posts_collected}
 use Rattle.rounds.specs.Books.{AreBooked, ArePlaced, flat, held_notes, owed_notes}
 use Rattle.rounds.specs.Crewed.{carriers_passes, lanes_passes, lanings}
 use Rattle.rounds.specs.Passes.{senders}
-use Rattle.rounds.specs.Settled.{AreSettledIn, spans_told}
+use Rattle.rounds.specs.Settled.{AreSettledIn}
 use Rattle.rounds.specs.Settling.{ArePostsCounted}
 use Rattle.rounds.specs.Words.{LinkWords, WireWords}
-use Rattle.rounds.specs.declared.carrier.Carrier.{Carrier}
 use Rattle.rounds.specs.declared.crew.Crew.{Crew}
 use Rattle.settle_box.specs.Senders.{notes, posted_by, posts_of}
 use Rattle.settle_box.specs.declared.sender.Sender.{Sender}

@@ -1,17 +1,15 @@
 -- From what stands of a run that is done to what accounts ask of it.
-use Rattle.std.proofs.Common.{◌≡◌, List, [], ◌++◌, IsSome, refl, sym, subst, ◌∙◌}
-use Rattle.std.specs.List.{AllByRecursion, flat_map}
+use Rattle.std.proofs.Common.{◌≡◌, List, IsSome, refl, sym, subst, ◌∙◌}
+use Rattle.std.specs.List.{AllByRecursion}
 use Rattle.accounts.proofs.Joining.{AreJoined, told_as_often}
 use Rattle.accounts.proofs.Often.{often_both, often_same, often_then}
 use Rattle.accounts.proofs.Settling.{all_collected}
 use Rattle.accounts.specs.Filed.{Filed, turned_of}
 use Rattle.accounts.specs.RunDone.{AreAllCollected, RunDone}
-use Rattle.accounts.specs.Taken.{Taken, acknowledged_in}
+use Rattle.accounts.specs.Taken.{Taken}
 use Rattle.kept_rows.specs.Trace.{WireTold}
 use Rattle.accounts.specs.ToldFile.{IsToldToItsEnd}
 use Rattle.accounts.specs.Turned.{Turned, notes_told, parcels_told}
-use Rattle.batch_worker.specs.Held.{notes_of}
-use Rattle.rounds.specs.Crewed.{lanings}
 use Rattle.rounds.specs.Settled.{AreSettledIn}
 use Rattle.rounds.specs.Words.{Words}
 use Rattle.run_steps.specs.Began.{Began}
@@ -28,7 +26,7 @@ use Rattle.run_steps.specs.declared.met.Met.TheVariants.{Done}
 use Rattle.run_steps.proofs.RunCounts.{all_counted, no_others}
 use Rattle.run_steps.proofs.RunFiles.{done, joined, looks_in, moment_listed}
 use Rattle.run_steps.proofs.RunServed.{each_entry, each_whole}
-use Rattle.run_steps.proofs.RunToldOf.{fit, run, run_files, scan, so_far, wires_told, workers}
+use Rattle.run_steps.proofs.RunToldOf.{fit, run, run_files, scan, wires_told, workers}
 use Rattle.run_steps.proofs.ScanOf.{is_full_scan}
 
 module _ {T W L D : Type 0} (words : Words T W L D) (start : Began D) (ending : Ending D) (met : Met) (unused wires : List W) (ends : Ends words start ending met unused wires)

@@ -1,5 +1,5 @@
 -- A run that ended before it opened a file is accounted for, too: it follows nothing and sent nothing, and its areas give no rows.
-use Rattle.std.proofs.Common.{◌≡◌, ◌≢◌, ◌⊎◌, inl, inr, ⊎_elim, ℕ, zero, suc, ◌+◌, ◌-◌, ◌≤◌, true, List, [], ◌∷◌, ◌++◌, drop, length, map, append-nil, Option, Some, None, IsSome, refl, sym, ap, subst, ◌∙◌, arith}
+use Rattle.std.proofs.Common.{◌≡◌, ◌≢◌, inl, inr, ℕ, zero, suc, ◌-◌, ◌≤◌, true, List, [], ◌∷◌, ◌++◌, drop, length, map, append-nil, Option, Some, None, IsSome, refl, sym, ap, subst, ◌∙◌, arith}
 use Rattle.std.proofs.Math.Seq.{drop-append_seam, drop-length}
 use Rattle.std.proofs.lemmas.Option.{slice_get_past}
 use Rattle.std.specs.Prelude.{slice_get}
@@ -19,12 +19,12 @@ use Rattle.event_tree.specs.declared.input_rule.InputRule.{InputRule}
 use Rattle.event_tree.specs.declared.settings.Settings.{Settings}
 use Rattle.kept_rows.specs.Backed.{AreRowsOverFronts}
 use Rattle.kept_rows.specs.Run.{Run, Scan}
-use Rattle.kept_rows.specs.Scans.{ListGlobs, globs_in, listings_from, listings_of}
+use Rattle.kept_rows.specs.Scans.{ListGlobs, globs_in, listings_from}
 use Rattle.kept_rows.specs.Trace.{Trace, WireTold}
-use Rattle.outside.specs.Folders.{Event, FolderHistory, Listed, ListingFailed, Opened}
+use Rattle.outside.specs.Folders.{Event, FolderHistory, Opened}
 use Rattle.outside.specs.Wires.{Outcome}
 use Rattle.outside.specs.declared.history.Sight.{Sight}
-use Rattle.pass_sums.specs.Weight.{AsOften, weigh}
+use Rattle.pass_sums.specs.Weight.{weigh}
 use Rattle.prospect.specs.ListedFiles.{EndsAs}
 use Rattle.prospect.specs.Members.{globs_of}
 use Rattle.prospect.specs.Scan.{AreListed, Listing, event_of}
@@ -33,7 +33,6 @@ use Rattle.prospect.specs.declared.scan_error.ScanError.{ScanError}
 use Rattle.prospect.specs.declared.scan_error.ScanError.TheVariants.{Failed, NoMemory, TooMany}
 use Rattle.registry_store.specs.Settled.{AreAtRest}
 use Rattle.rounds.specs.Words.{DiskWords}
-use Rattle.ship_core.specs.Rows.{find}
 use Rattle.ship_core.specs.RowsOver.{AreRowsOver, row_for}
 use Rattle.wire_base.specs.declared.note.Note.{Note}
 use Rattle.wire_base.specs.declared.row.Row.{Row}
@@ -46,6 +45,7 @@ use Rattle.run_steps.specs.Shown.{HasGiven}
 use Rattle.run_steps.specs.declared.met.Met.{Met}
 use Rattle.run_steps.specs.declared.met.Met.TheVariants.{Done}
 use Rattle.run_steps.proofs.ByPath.{inputs_are_by_path}
+use Rattle.run_steps.proofs.Members.{some_is}
 use Rattle.run_steps.proofs.RunFits.{moments_since}
 use Rattle.run_steps.proofs.RunRows.{OneChoice, given_over_fronts, opened_over_fronts}
 use Rattle.run_steps.proofs.RunWires.{acknowledged_none, of_no_worker, took_none}
@@ -99,9 +99,6 @@ got_in_rest : {A : Type 0} (front rest : List A) (place : ℕ) (x : A) → lengt
 got_in_rest [] rest place x since at = (place, at)
 got_in_rest (y ∷ front) rest zero x since at = absurd (omega (arith, since))
 got_in_rest (y ∷ front) rest (suc place) x since at = got_in_rest front rest place x (omega (arith, since)) at
-
-some_is : {A : Type 0} (x y : A) → Some x ≡ Some y → x ≡ y
-some_is x y is = cc
 
 -- ---- its wires and its books
 

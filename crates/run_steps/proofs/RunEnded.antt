@@ -1,6 +1,6 @@
 -- From what is known of a run as it has ended, and of its scan, to its account: what its folder and its clock tell then is known by
 -- what they told before.
-use Rattle.std.proofs.Common.{◌≡◌, ℕ, List, map, Option, Some, None, IsSome, refl, sym, ap, subst, ◌∙◌}
+use Rattle.std.proofs.Common.{◌≡◌, ℕ, List, map, Option, Some, None, IsSome, refl, sym, subst, ◌∙◌}
 use Rattle.std.specs.List.{AllByRecursion}
 use Rattle.batch_worker.specs.Standing.{length_of}
 use Rattle.outside.specs.Folders.{FolderHistory}
@@ -18,12 +18,10 @@ use Rattle.run_steps.specs.SoFar.{SoFar}
 use Rattle.run_steps.specs.Tells.{DoTell}
 use Rattle.run_steps.specs.declared.met.Met.{Met}
 use Rattle.run_steps.specs.declared.met.Met.TheVariants.{Done}
+use Rattle.run_steps.proofs.Members.{some_is}
 use Rattle.run_steps.proofs.RunAccounted.{accounted_for}
 use Rattle.run_steps.proofs.RunRows.{OneChoice}
 use Rattle.run_steps.proofs.Serving.{IsServedAtEnd}
-
-some_is : {A : Type 0} (x y : A) → Some x ≡ Some y → x ≡ y
-some_is x y is = cc
 
 -- it tells still
 shown_after : (scanned : FolderHistory) (shown : Option FolderHistory) (so_far : SoFar) → HasShown (Some scanned) shown so_far → (ended : FolderHistory) × (shown ≡ Some ended)

@@ -1,29 +1,25 @@
 -- The files of a run, each with what its tail told as it was closed: listed by the run's scan, opened behind it, and begun once.
-use Rattle.std.proofs.Common.{◌≡◌, ◌⊎◌, inl, inr, ⊎_elim, ℕ, zero, suc, ◌+◌, ◌≤◌, ◌<◌, max, min, All, List, [], ◌∷◌, ◌++◌, Contains, drop, length, length-append, map, Option, Some, None, IsSome, IfSome, refl, sym, ap, subst, ◌∙◌, arith}
+use Rattle.std.proofs.Common.{◌≡◌, ◌⊎◌, inl, inr, ⊎_elim, ℕ, suc, ◌+◌, ◌≤◌, max, min, All, List, [], ◌∷◌, ◌++◌, Contains, drop, length, length-append, map, Option, Some, None, IsSome, IfSome, refl, sym, ap, subst, ◌∙◌, arith}
 use Rattle.std.specs.Prelude.{option_map, slice_get}
 use Rattle.std.specs.List.{AllByRecursion, flat_map}
 use Rattle.std.specs.Option.{option_map_or}
 use Rattle.accounts.proofs.Backing.{mapped_there}
-use Rattle.accounts.proofs.Following.{got_each}
 use Rattle.accounts.proofs.Grounded.{each_member, of_map}
-use Rattle.accounts.proofs.Joining.{AreJoined, AreOpenedInSlots, IsJoined, join, joined_in_slots, slots_in, slots_of, told_by_its_tail}
+use Rattle.accounts.proofs.Joining.{AreJoined, AreOpenedInSlots, IsJoined, join, joined_in_slots, told_by_its_tail}
 use Rattle.accounts.proofs.Orderly.{same_item}
 use Rattle.accounts.specs.Filed.{Filed}
-use Rattle.accounts.specs.FollowedFile.{AreFollowedFiles, AreInSlots, EachOpeningIsOne, IsFollowedFile, IsListedAs, moment_by, opening_in, start_in, tail_of}
+use Rattle.accounts.specs.FollowedFile.{AreFollowedFiles, AreInSlots, EachOpeningIsOne, IsFollowedFile, IsListedAs, moment_by, opening_in, start_in}
 use Rattle.accounts.specs.Opened.{Opened}
 use Rattle.accounts.specs.ToldFile.{IsToldFile}
 use Rattle.accounts.specs.Turned.{Turned}
 use Rattle.accounts.specs.Turning.{IsTurnedSo, Pairs}
-use Rattle.event_tree.specs.declared.input_rule.IdentityRule.{IdentityRule}
-use Rattle.event_tree.specs.declared.input_rule.IdentityRule.TheVariants.{Path}
 use Rattle.event_tree.specs.declared.processor_rule.ProcessorRule.{ProcessorRule}
-use Rattle.file_identity.specs.Key.{named_key, path_key}
+use Rattle.file_identity.specs.Key.{path_key}
 use Rattle.harvester.specs.declared.harvester.Harvester.{Harvester}
-use Rattle.kept_rows.specs.Followed.{OnlyReads, Start, start_by}
+use Rattle.kept_rows.specs.Followed.{OnlyReads, start_by}
 use Rattle.kept_rows.specs.Run.{Run, Scan}
-use Rattle.kept_rows.specs.Scans.{AreDistinct, IsBefore, ShowsFileTo, moment_in}
-use Rattle.kept_rows.specs.Telling.{opening_moment}
-use Rattle.kept_rows.specs.Trace.{Closing, IsTail, WireTold, closing_in, first_of_two, looks_of, open_looks_in}
+use Rattle.kept_rows.specs.Scans.{AreDistinct, ShowsFileTo, moment_in}
+use Rattle.kept_rows.specs.Trace.{Closing, WireTold, closing_in, first_of_two, looks_of, open_looks_in}
 use Rattle.lanes.specs.Laning.{Laning}
 use Rattle.outside.specs.Folders.{FolderHistory, Opened as OpenedAs}
 use Rattle.outside.specs.Tails.{TailHistory}
@@ -39,7 +35,6 @@ use Rattle.wire_base.specs.declared.note.Begin.{Begin}
 use Rattle.wire_base.specs.declared.numbers.Moment.{Moment}
 use Rattle.wire_base.specs.declared.numbers.TheConstants.{MAX_MOMENT}
 use Rattle.run_steps.specs.Began.{Began}
-use Rattle.run_steps.specs.BeginFor.{begin_for}
 use Rattle.run_steps.specs.Begun.{AreSlotsFrom, IsKeyedByPath, IsOpenedAsListed, moment_noted}
 use Rattle.run_steps.specs.Releasing.{HasNoHarvesters}
 use Rattle.run_steps.specs.RunOf.{FolderTold, run_of, scan_of}

@@ -1,10 +1,8 @@
 -- The run that is made of what objects told fits them.
-use Rattle.std.proofs.Common.{◌≡◌, ℕ, ◌-◌, List, ◌++◌, drop, length, Option, Some, None, IsSome, refl, sym, ap, subst, ◌∙◌}
+use Rattle.std.proofs.Common.{◌≡◌, ℕ, ◌-◌, List, ◌++◌, drop, length, Option, Some, None, IsSome, refl, sym, ap, ◌∙◌}
 use Rattle.run_steps.specs.AccountedFor.{AreMomentsSince}
 use Rattle.run_steps.specs.Shown.{HasGiven}
-
-some_is : {A : Type 0} (x y : A) → Some x ≡ Some y → x ≡ y
-some_is x y is = cc
+use Rattle.run_steps.proofs.Members.{some_is}
 
 pub moments_since : (before after : Option (List ℕ)) (moment : ℕ) (since : List ℕ) → HasGiven before after moment since → IsSome after → AreMomentsSince before after since
 moments_since None None moment since given tells = absurd cc

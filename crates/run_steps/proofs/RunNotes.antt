@@ -1,10 +1,10 @@
 -- Which of a run's notes tell how files begin and when they were changed: just those that the run told its keeper itself.
-use Rattle.std.proofs.Common.{◌≡◌, ◌⊎◌, inl, inr, ⊎_elim, ℕ, List, [], ◌∷◌, ◌++◌, Contains, map, refl, sym, ap, subst, ◌∙◌}
+use Rattle.std.proofs.Common.{◌≡◌, ◌⊎◌, inl, inr, ⊎_elim, List, ◌++◌, Contains, map, sym, subst}
 use Rattle.std.proofs.lemmas.List.Elements.{Contains-append_cases, Contains-append_left}
 use Rattle.std.specs.List.{AllByRecursion}
 use Rattle.accounts.proofs.Backing.{mapped_there}
 use Rattle.accounts.proofs.Grounded.{of_map}
-use Rattle.accounts.specs.Ground.{HasGround, IsAcknowledgement, IsNoteBy, IsNoteOf, IsSettlementOf}
+use Rattle.accounts.specs.Ground.{HasGround, IsNoteBy}
 use Rattle.accounts.specs.Opened.{Opened}
 use Rattle.accounts.specs.Turned.{Turned}
 use Rattle.harvester.specs.History.{Telling}
@@ -27,7 +27,7 @@ IsOfEvents (Rename slot scan path) = Unit {0}
 IsOfEvents (Seen slot changed) = ⊥
 IsOfEvents (Forget slot epoch end) = Unit {0}
 
-abbrev IsNoBegin : Note → Type 0
+abbrev pub IsNoBegin : Note → Type 0
 IsNoBegin (Begin slot key path epoch base changed) = ⊥
 IsNoBegin (Announce slot epoch) = Unit {0}
 IsNoBegin (Settle slot epoch span cause) = Unit {0}

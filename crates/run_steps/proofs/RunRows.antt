@@ -1,25 +1,23 @@
 -- The rows that areas and their images give are over the notes of the keeper that wrote them.
-use Rattle.std.proofs.Common.{◌≡◌, ◌≢◌, ◌⊎◌, inl, inr, ⊎_elim, ℕ, ◌+◌, ◌≤◌, ◌<◌, List, [], ◌∷◌, ◌++◌, length, Option, Some, None, refl, sym, ap, subst, ◌∙◌, arith, lit≤}
+use Rattle.std.proofs.Common.{◌≡◌, inl, inr, ℕ, List, [], ◌∷◌, Some, refl, sym, ap, subst, ◌∙◌, arith}
 use Rattle.std.specs.Prelude.{slice_get}
 use Rattle.kept_rows.specs.Backed.{AreRowsOverFronts}
-use Rattle.registry_log.specs.Starting.{IsBlank, IsClosed}
+use Rattle.registry_log.specs.Starting.{IsClosed}
 use Rattle.registry_log.specs.State.{Blank, IsOpened, Opened}
 use Rattle.registry_store.specs.Choice.{Choice, Chosen, GivesRows, IsChoice, rows_of}
 use Rattle.registry_store.specs.Settled.{AreSettled}
 use Rattle.registry_store.specs.Standing.{Standing, chosen_by}
-use Rattle.rounds.specs.Images.{GivesFronts, IsOpenedOverFronts}
+use Rattle.rounds.specs.Images.{GivesFronts}
 use Rattle.rounds.specs.Words.{DiskWords}
 use Rattle.wire_base.specs.declared.limits.Which.TheVariants.{A}
 use Rattle.wire_base.specs.declared.note.Note.{Note}
 use Rattle.wire_base.specs.declared.row.Row.{Row}
-use Rattle.run_steps.specs.Areas.{HeldOnlyFronts, HoldsFronts}
+use Rattle.run_steps.specs.Areas.{HoldsFronts}
+use Rattle.run_steps.proofs.Members.{some_is}
 
 -- whatever bytes two areas have, they make one choice at most, which is a law of the store
 abbrev pub OneChoice : Type 0
 OneChoice = (first second : List ℕ) (choice other : Choice) → IsChoice first second choice → IsChoice first second other → choice ≡ other
-
-some_is : {A : Type 0} (x y : A) → Some x ≡ Some y → x ≡ y
-some_is x y is = cc
 
 module _ (one : OneChoice) where
   pub same_rows : (first second : List ℕ) (rows others : List Row) → GivesRows first second rows → GivesRows first second others → rows ≡ others

@@ -1,23 +1,20 @@
 -- Of a run that is done each listed file was begun or was not there any more, and each that was begun is told to its end, with the
 -- moment of its change.
-use Rattle.std.proofs.Common.{◌≡◌, ◌⊎◌, inl, inr, ⊎_elim, ℕ, ◌+◌, ◌≤◌, ◌<◌, All, List, [], ◌∷◌, ◌++◌, Contains, length, map, Option, Some, IfSome, refl, sym, ap, subst, ◌∙◌, arith}
+use Rattle.std.proofs.Common.{◌≡◌, inl, inr, ⊎_elim, ℕ, ◌<◌, All, List, Contains, Option, Some, IfSome, refl, sym, ap, subst, ◌∙◌, arith}
 use Rattle.std.proofs.lemmas.Bool.{cases_lt}
 use Rattle.std.specs.Prelude.{slice_get}
 use Rattle.std.specs.List.{AllByRecursion}
 use Rattle.accounts.proofs.Grounded.{each_has_ground, each_member, of_map}
 use Rattle.accounts.specs.Filed.{Filed, slot_in}
-use Rattle.accounts.specs.FollowedFile.{moment_by, name_in}
 use Rattle.accounts.specs.Ground.{HasGround}
 use Rattle.accounts.specs.Opened.{Opened}
-use Rattle.accounts.specs.RunDone.{EachEntryIsServed, HasItsMoment, IsAmongFiles, IsToldWhole, WasPassed, name_of}
+use Rattle.accounts.specs.RunDone.{EachEntryIsServed, IsAmongFiles, IsToldWhole, WasPassed}
 use Rattle.accounts.specs.Taken.{FitBooks, Taken, acknowledged_in}
 use Rattle.accounts.specs.ToldFile.{IsToldToItsEnd}
 use Rattle.accounts.specs.Turned.{Turned}
-use Rattle.event_tree.specs.declared.input_rule.InputRule.{InputRule}
 use Rattle.kept_rows.specs.Run.{Run, Scan}
-use Rattle.kept_rows.specs.Scans.{IsCovered, ShowsEntry}
 use Rattle.kept_rows.specs.Trace.{WireTold}
-use Rattle.outside.specs.Folders.{Event, FolderHistory, NotThere}
+use Rattle.outside.specs.Folders.{NotThere}
 use Rattle.outside.specs.declared.history.Shown.{Shown}
 use Rattle.prospect.specs.declared.listed.Listed.{Listed}
 use Rattle.rounds.specs.Crewed.{lanings}
@@ -36,13 +33,10 @@ use Rattle.run_steps.specs.Served.{AreServed, HasBegin, WasNotThere}
 use Rattle.run_steps.specs.Shown.{HasDone}
 use Rattle.run_steps.specs.SoFar.{SoFar, files_in}
 use Rattle.run_steps.specs.Stands.{Stands}
-use Rattle.run_steps.proofs.Members.{member_is}
+use Rattle.run_steps.proofs.Members.{member_is, some_is}
 use Rattle.run_steps.proofs.RunFiles.{as_listed, done, files, is_joined, joined, moment_is, moment_noted_is, of_entry, path_is, input_is, was_opened}
-use Rattle.run_steps.proofs.RunNotes.{WasOpenedAs, begin_opened, opened_is_in_notes, opened_is_noted, own_seen}
+use Rattle.run_steps.proofs.RunNotes.{begin_opened, opened_is_in_notes, opened_is_noted, own_seen}
 use Rattle.run_steps.proofs.ScanOf.{IsListedFor, is_listed_for, scanned_length, shows_entry}
-
-some_is : {A : Type 0} (x y : A) → Some x ≡ Some y → x ≡ y
-some_is x y is = cc
 
 got_some : {A : Type 0} (P : A → Type 0) (o : Option A) (x : A) → o ≡ Some x → IfSome o P → P x
 got_some P o x is all = subst (λ (q : Option _). IfSome q P) is all

@@ -1,5 +1,5 @@
 -- From what stands of a run as it ends to what accounts ask of it.
-use Rattle.std.proofs.Common.{◌≡◌, ℕ, All, List, [], ◌∷◌, ◌++◌, map, Option, IsSome, refl, sym, ap, subst, ◌∙◌}
+use Rattle.std.proofs.Common.{ℕ, List, ◌++◌, map, IsSome, sym, subst}
 use Rattle.std.specs.List.{AllByRecursion}
 use Rattle.accounts.proofs.SoFar.{joined_first_notes, joined_fit}
 use Rattle.accounts.specs.Filed.{Filed}
@@ -9,7 +9,6 @@ use Rattle.accounts.specs.Taken.{Taken}
 use Rattle.batch_worker.specs.Standing.{length_of}
 use Rattle.kept_rows.specs.Run.{Run, Scan}
 use Rattle.kept_rows.specs.Trace.{WireTold}
-use Rattle.rounds.specs.Books.{Heard}
 use Rattle.rounds.specs.Crewed.{lanings}
 use Rattle.rounds.specs.Words.{Words}
 use Rattle.run_steps.specs.Began.{Began}
@@ -21,7 +20,7 @@ use Rattle.run_steps.specs.SoFar.{SoFar}
 use Rattle.run_steps.specs.Tells.{DoTell}
 use Rattle.run_steps.specs.declared.met.Met.{Met}
 use Rattle.run_steps.proofs.RunBooks.{FitWith, books_fit, first_notes}
-use Rattle.run_steps.proofs.RunFiles.{are_followed_files, done, files, joined, looks_in, moment_listed}
+use Rattle.run_steps.proofs.RunFiles.{are_followed_files, done, files, joined}
 use Rattle.run_steps.proofs.RunWires.{acknowledged_are, carried_are, of_workers, took_each, took_none}
 use Rattle.run_steps.proofs.ScanOf.{is_by_one_scan}
 

@@ -1,14 +1,12 @@
 -- What the workers of a run took, and what the talks of its wires acknowledge: wire by wire, also of those that no worker had.
-use Rattle.std.proofs.Common.{◌≡◌, ℕ, List, [], ◌∷◌, ◌++◌, drop, length, map, append_assoc, Option, Some, None, IsSome, IfSome, refl, sym, ap, subst, ◌∙◌}
+use Rattle.std.proofs.Common.{◌≡◌, ℕ, List, [], ◌∷◌, ◌++◌, drop, map, Option, Some, None, IsSome, IfSome, refl, sym, ap, subst}
 use Rattle.std.proofs.Math.Seq.{drop-length}
-use Rattle.std.specs.List.{AllByRecursion, flat_map}
+use Rattle.std.specs.List.{AllByRecursion}
 use Rattle.accounts.specs.Places.{AreOfWorkers, IsOfWorker}
 use Rattle.accounts.specs.Taken.{Taken, acknowledged_in, carried_in, taken_by}
-use Rattle.accounts.specs.Turning.{Pairs}
 use Rattle.batch_worker.specs.Ending.{HasTalks}
 use Rattle.batch_worker.specs.Held.{carried_in as carried_by_window}
 use Rattle.batch_worker.specs.Standing.{length_of}
-use Rattle.kept_rows.specs.Trace.{WireTold}
 use Rattle.outside.specs.Wires.{Outcome}
 use Rattle.rounds.specs.Books.{Acknowledges, Heard, carried_by, flat}
 use Rattle.rounds.specs.Pairs.{Pairs as RoundPairs}

@@ -1,5 +1,5 @@
 -- The scan of a run by what the run listed: one scan, whose listings are all that the run made, and which shows each listed file.
-use Rattle.std.proofs.Common.{◌≡◌, ◌⊎◌, inl, inr, ℕ, zero, suc, ◌+◌, ◌≤◌, ◌<◌, All, Any, List, [], ◌∷◌, ◌++◌, Contains, drop, length, map, append_assoc, append-nil, length-append, Option, Some, None, refl, sym, ap, subst, ◌∙◌, arith}
+use Rattle.std.proofs.Common.{◌≡◌, ◌⊎◌, inl, inr, ℕ, zero, suc, ◌+◌, ◌≤◌, ◌<◌, Any, List, [], ◌∷◌, ◌++◌, Contains, drop, length, map, append_assoc, append-nil, length-append, Some, None, refl, sym, ap, subst, ◌∙◌, arith}
 use Rattle.std.proofs.Math.Seq.{drop-append_seam}
 use Rattle.std.proofs.lemmas.Bool.{cases_lt}
 use Rattle.std.proofs.lemmas.List.{length-map}
@@ -7,36 +7,29 @@ use Rattle.std.proofs.lemmas.Option.{slice_get-get_or}
 use Rattle.std.specs.Prelude.{slice_get}
 use Rattle.std.specs.List.{AllByRecursion}
 use Rattle.accounts.proofs.Backing.{mapped_there}
-use Rattle.accounts.proofs.Following.{got_each}
-use Rattle.accounts.specs.FollowedFile.{IsListedAs}
 use Rattle.accounts.specs.OneScan.{IsAskedByEntry, IsByOneScan}
-use Rattle.accounts.specs.Opened.{Opened}
 use Rattle.accounts.specs.RunDone.{IsFullScan}
-use Rattle.event_tree.specs.declared.input_rule.IdentityRule.{IdentityRule}
 use Rattle.event_tree.specs.declared.input_rule.IdentityRule.TheVariants.{Path}
 use Rattle.event_tree.specs.declared.input_rule.InputRule.{InputRule}
-use Rattle.file_identity.specs.Key.{named_key, path_key}
-use Rattle.kept_rows.specs.Run.{Asking, Run, Scan}
+use Rattle.file_identity.specs.Key.{named_key}
+use Rattle.kept_rows.specs.Run.{Run, Scan}
 use Rattle.kept_rows.specs.Scans.{AreScans, IsBefore, IsCovered, IsGoodListing, IsNoFingerprint, ListGlobs, ShowsEntry, ShowsFileTo, globs_in, listings_from, listings_of}
 use Rattle.kept_rows.specs.Trace.{WireTold}
 use Rattle.outside.specs.Folders.{Event, FolderHistory, Opened as OpenedAs}
 use Rattle.outside.specs.declared.history.Shown.{Shown}
 use Rattle.outside.specs.declared.history.Sight.{Sight}
-use Rattle.prospect.specs.ListedFiles.{AreOfShown, HasFile, IsCoveredBy, IsListedBy, place_at, shown_in}
+use Rattle.prospect.specs.ListedFiles.{AreOfShown, IsListedBy, shown_in}
 use Rattle.prospect.specs.Scan.{Listing, event_of, with_events}
 use Rattle.prospect.specs.declared.listed.Listed.{Listed}
 use Rattle.ship_core.proofs.Members.{first_there, later_there}
 use Rattle.run_steps.specs.Began.{Began}
-use Rattle.run_steps.specs.Begun.{IsOpenedAsListed}
 use Rattle.run_steps.specs.RunOf.{FolderTold, asking_of, run_of, scan_of}
 use Rattle.run_steps.specs.Scanned.{HasScanned}
-use Rattle.run_steps.specs.Shown.{HasDone, IsNoListing}
+use Rattle.run_steps.specs.Shown.{HasDone}
 use Rattle.run_steps.specs.SoFar.{SoFar}
 use Rattle.run_steps.proofs.ByPath.{each_of, inputs_are_by_path}
-use Rattle.run_steps.proofs.Scanning.{AreAt, ShowsAt, are_at, as_many_listings, good_listings, list_globs, listings_before, no_more_listings, no_opening, shown_by, shows_at}
-
-some_is : {A : Type 0} (x y : A) → Some x ≡ Some y → x ≡ y
-some_is x y is = cc
+use Rattle.run_steps.proofs.Members.{some_is}
+use Rattle.run_steps.proofs.Scanning.{AreAt, are_at, as_many_listings, good_listings, list_globs, listings_before, no_more_listings, no_opening, shown_by, shows_at}
 
 pub got_there : {A : Type 0} (xs : List A) (k : ℕ) (x : A) → slice_get xs k ≡ Some x → Contains xs x
 got_there [] k x at = absurd (let q : None ≡ Some x = at in cc)

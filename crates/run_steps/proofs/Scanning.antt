@@ -1,11 +1,10 @@
 -- The listings of a scan stand one behind the other in the folder's list, one for each glob, and show just what was listed.
-use Rattle.std.proofs.Common.{◌≡◌, ◌⊎◌, inl, inr, ⊎_elim, ℕ, zero, suc, ◌+◌, ◌≤◌, ◌<◌, List, [], ◌∷◌, ◌++◌, Contains, length, map, append_assoc, length-append, Option, Some, None, refl, sym, ap, subst, ◌∙◌, arith}
+use Rattle.std.proofs.Common.{◌≡◌, ◌⊎◌, inl, inr, ⊎_elim, ℕ, suc, ◌+◌, ◌≤◌, ◌<◌, List, [], ◌∷◌, ◌++◌, Contains, length, map, append_assoc, length-append, Some, refl, sym, ap, subst, ◌∙◌, arith}
 use Rattle.std.proofs.Math.Nat.{eq-or-lt_of_le}
 use Rattle.std.proofs.lemmas.List.Elements.{Contains-append_cases, Contains-append_left, Contains-append_right}
 use Rattle.std.specs.Prelude.{slice_get}
 use Rattle.std.specs.List.{AllByRecursion}
-use Rattle.kept_rows.specs.Run.{Scan}
-use Rattle.kept_rows.specs.Scans.{IsGoodListing, ListGlobs, ShowsEntry, listings_from}
+use Rattle.kept_rows.specs.Scans.{IsGoodListing, ListGlobs, listings_from}
 use Rattle.kept_rows.specs.Trace.{Trace}
 use Rattle.outside.specs.Folders.{Closed, Event, Listed, ListingFailed, NotThere, Opened, OpeningFailed}
 use Rattle.outside.specs.declared.history.Shown.{Shown}

@@ -1,6 +1,6 @@
 -- Beginning all listed files begins or passes over each; and what is known of it stays known as the run goes on, since the folder's
 -- list grows, and of notes only those are collected that lanes and workers post.
-use Rattle.std.proofs.Common.{◌≡◌, ◌⊎◌, inl, inr, ⊎_elim, ℕ, zero, suc, ◌+◌, ◌≤◌, ◌<◌, Bool, true, false, All, List, [], ◌∷◌, ◌++◌, Contains, length, append_assoc, append-nil, Option, Some, None, IfSome, Ok, refl, sym, ap, subst, ◌∙◌, arith}
+use Rattle.std.proofs.Common.{◌≡◌, ◌⊎◌, inl, inr, ⊎_elim, ℕ, zero, suc, ◌+◌, ◌<◌, Bool, true, false, List, [], ◌∷◌, ◌++◌, Contains, length, append_assoc, append-nil, Option, Some, None, IfSome, Ok, refl, sym, ap, subst, ◌∙◌, arith}
 use Rattle.std.proofs.lemmas.List.Elements.{Contains-append_cases, Contains-append_left, Contains-append_right}
 use Rattle.std.proofs.lemmas.Option.{slice_get-get_or}
 use Rattle.std.specs.Prelude.{slice_get}
@@ -9,7 +9,6 @@ use Rattle.event_tree.specs.declared.settings.Settings.{Settings}
 use Rattle.keeper.specs.Collecting.{Collects}
 use Rattle.keeper.specs.Keeping.{Keeping, held_in}
 use Rattle.outside.specs.Folders.{Event, FolderHistory, FindsNone, NotThere, Opened, OpensFile, TellsOpening, with_event}
-use Rattle.outside.specs.Tails.{TailHistory}
 use Rattle.outside.specs.declared.history.Shown.{Shown}
 use Rattle.outside.specs.declared.history.Sight.{Sight}
 use Rattle.prospect.specs.declared.listed.Listed.{Listed}
@@ -17,22 +16,22 @@ use Rattle.report.specs.declared.passing.Passing.{Passing}
 use Rattle.rounds.specs.Words.{TailWords}
 use Rattle.settle_box.specs.Notes.{IsPostable}
 use Rattle.settle_box.specs.Senders.{notes}
-use Rattle.ship_core.proofs.Members.{first_there, later_there, there_cases}
+use Rattle.ship_core.proofs.Members.{first_there, later_there}
 use Rattle.wire_base.specs.declared.note.Begin.{Begin as Beginning_of_file}
 use Rattle.wire_base.specs.declared.note.Note.{Note}
 use Rattle.wire_base.specs.declared.note.Note.TheVariants.{Announce, Begin, Forget, Rename, Seen, Settle}
 use Rattle.wire_base.specs.declared.numbers.Moment.{Moment}
-use Rattle.wire_base.specs.declared.numbers.Slot.{Slot}
 use Rattle.run_steps.specs.BeginFor.{begin_for}
-use Rattle.run_steps.specs.Beginning.{Beginning, BeginsFile, BeginsOne, OpensNone}
+use Rattle.run_steps.specs.Beginning.{Beginning, BeginsOne}
 use Rattle.run_steps.specs.BeginsAll.{BeginsAll, BeginsFrom, file_at}
 use Rattle.run_steps.specs.Begun.{AreAllSeen, moment_noted, noted_begin}
 use Rattle.run_steps.specs.Releasing.{with_events}
 use Rattle.run_steps.specs.RunOf.{FolderTold}
 use Rattle.run_steps.specs.Served.{AreServed, HasBegin, IsEachServed, WasNotThere}
-use Rattle.run_steps.specs.Telling.{TellMoments, TellsFirst, TellsMoment}
+use Rattle.run_steps.specs.Telling.{TellMoments, TellsMoment}
 use Rattle.run_steps.proofs.ByPath.{each_of}
 use Rattle.run_steps.proofs.Members.{member_is}
+use Rattle.run_steps.proofs.RunNotes.{IsNoBegin}
 
 -- ---- one file
 
@@ -205,14 +204,6 @@ module _ {T W L : Type 0} (tails : TailWords T) (settings : Settings) (now : Mom
 -- the folder's list has these things more
 abbrev pub folder_on : FolderTold → List Event → FolderTold
 folder_on folder events = record folder { ended = record folder.ended { events = folder.ended.events ++ events } }
-
-abbrev IsNoBegin : Note → Type 0
-IsNoBegin (Begin slot key path epoch base changed) = ⊥
-IsNoBegin (Announce slot epoch) = Unit {0}
-IsNoBegin (Settle slot epoch span cause) = Unit {0}
-IsNoBegin (Rename slot scan path) = Unit {0}
-IsNoBegin (Seen slot changed) = Unit {0}
-IsNoBegin (Forget slot epoch end) = Unit {0}
 
 posted_begins_none : (note : Note) → IsPostable note → IsNoBegin note
 posted_begins_none (Begin slot key path epoch base changed) is = is
