@@ -1,17 +1,19 @@
 -- A crew as it is made may make rounds, and what stands of a run stands as it sets out and once its files are begun.
-use Rattle.std.proofs.Common.{◌≡◌, ◌≢◌, ℕ, ◌≤◌, ◌+◌, All, List, [], ◌∷◌, ◌++◌, length, map, take, drop, Option, Some, None, IfSome, IsSome, Result, IfOk, IfErr, Vec, Global, refl, sym, ap, subst, ◌∙◌, arith}
+use Rattle.std.proofs.Common.{◌≡◌, ◌≢◌, ℕ, ◌≤◌, ◌+◌, All, List, [], ◌∷◌, ◌++◌, length, map, take, drop, Option, Some, None, IfSome, IsSome, Result, Ok, Err, IfOk, IfErr, Vec, Global, refl, sym, ap, subst, ◌∙◌, arith}
 use Rattle.std.specs.List.{AllByRecursion}
 use Rattle.std.proofs.Math.Seq.{take-append_seam}
-use Rattle.std.proofs.lemmas.List.{length-map, length-append}
+use Rattle.std.proofs.lemmas.List.{length-map, length-append, take-append-drop}
 use Rattle.std.proofs.lemmas.List.Elements.{All-from_recursion, All-nil, recursion_from_All}
 use Rattle.atomic_table.specs.Seated.{TableId}
 use Rattle.batch_worker.specs.Standing.{length_of}
 use Rattle.beat_config.specs.InRange.{AreInRange}
 use Rattle.event_tree.specs.declared.settings.Settings.{Settings}
+use Rattle.keeper.specs.Collecting.{Collects}
 use Rattle.keeper.specs.Keeping.{Keeping}
 use Rattle.lanes.specs.Giving.{IsInRange}
 use Rattle.lanes.specs.Laning.{Laning}
 use Rattle.lanes.specs.Turned.{IsKnown}
+use Rattle.outside.specs.Folders.{Event}
 use Rattle.outside.specs.Talks.{Talk}
 use Rattle.prospect.specs.declared.listed.Listed.{Listed}
 use Rattle.report.specs.declared.passing.Passing.{Passing}
@@ -26,20 +28,30 @@ use Rattle.rounds.specs.declared.carrier.Carrier.{Carrier}
 use Rattle.rounds.specs.declared.crew.Crew.{Crew}
 use Rattle.rounds.specs.declared.storing.Storing.{Storing}
 use Rattle.wire_base.specs.declared.numbers.Moment.{Moment}
+use Rattle.run_steps.specs.AccountedFor.{AccountedFor}
 use Rattle.run_steps.specs.Areas.{BeganAtRest, IsAtRest}
 use Rattle.run_steps.specs.Began.{Began}
 use Rattle.run_steps.specs.Beginning.{Beginning}
 use Rattle.run_steps.specs.BeginsAll.{BeginsAll, BeginsSome}
 use Rattle.run_steps.specs.BegunCrew.{IsBegunCrew}
 use Rattle.run_steps.specs.Outset.{Earlier, IsFirstKeeper, Outset, SetsOut, began_with}
+use Rattle.run_steps.specs.Ends.{Ending}
+use Rattle.run_steps.specs.Releasing.{with_events}
+use Rattle.run_steps.specs.RunEnds.{HasEnded}
+use Rattle.run_steps.specs.RunOf.{FolderTold, starts_of}
 use Rattle.run_steps.specs.RunState.{Reading}
+use Rattle.run_steps.specs.Scanned.{HasScanned}
 use Rattle.run_steps.specs.Stands.{Further, Stands}
 use Rattle.run_steps.specs.Worked.{phase_begun}
 use Rattle.run_steps.specs.declared.met.Met.{Met}
-use Rattle.run_steps.proofs.AllBegun.{stands_begun}
+use Rattle.run_steps.specs.declared.met.Met.TheVariants.{Done}
+use Rattle.run_steps.proofs.AllBegun.{all_are_seen, stands_begun}
 use Rattle.run_steps.proofs.BeginningOne.{at_phase}
 use Rattle.run_steps.proofs.BegunReady.{rest_begun}
 use Rattle.run_steps.proofs.First.{IsMade, given, so_far, stands_first}
+use Rattle.run_steps.proofs.RunEnded.{ended_is_accounted_for, ended_objects}
+use Rattle.run_steps.proofs.RunRows.{OneChoice}
+use Rattle.run_steps.proofs.Serving.{IsServedAtEnd, served_at_end}
 
 -- ---- lists
 
@@ -50,6 +62,10 @@ drop_front (x ∷ xs) ys = drop_front xs ys
 map_twice : {A B C : Type 0} (f : B → C) (g : A → B) (xs : List A) → map f (map g xs) ≡ map (λ (x : A). f (g x)) xs
 map_twice f g [] = refl
 map_twice f g (x ∷ xs) = ap (λ (l : List _). f (g x) ∷ l) (map_twice f g xs)
+
+map_both : {A B : Type 0} (f : A → B) (xs ys : List A) → map f (xs ++ ys) ≡ map f xs ++ map f ys
+map_both f [] ys = refl
+map_both f (x ∷ xs) ys = ap (λ (l : List _). f x ∷ l) (map_both f xs ys)
 
 -- ---- lanes as they are made
 
@@ -140,3 +156,32 @@ module _ {T W L D : Type 0} (words : Words T W L D) (reads : (disk : D) → IfSo
 
       pub rests : BeganAtRest words.disks start → IsAtRest words.disks new.keeper a b
       rests began = rest_begun words.tails settings now words.disks a b listed result old new begins ended (sets.at_rest began)
+
+      -- ---- at the end
+
+      module _ (ending : Ending D) (met : Met) (after : List W) (has_ended : HasEnded words start ending met left after) (folder : FolderTold) (has : HasScanned start folder)
+          (clock_tells : IsSome earlier.moments) (wires_tell : AllByRecursion (λ wire. IsSome (words.wires.outcomes wire)) after) where
+        parted : wires ≡ take settings.output.workers wires ++ left
+        parted = sym (take-append-drop settings.output.workers wires) ∙ ap (λ (l : List W). take settings.output.workers wires ++ l) (wires_left words.links.told queue desk settings wires left old.crew begun)
+
+        pub starts : map length_of (map words.wires.outcomes wires) ≡ starts_of words.wires start left
+        starts = map_twice length_of words.wires.outcomes wires ∙ ap (map (λ (w : W). length_of (words.wires.outcomes w))) parted
+            ∙ map_both (λ (w : W). length_of (words.wires.outcomes w)) (take settings.output.workers wires) left
+
+        served : met ≡ Done → IfErr result (λ _. met ≢ Done) → Collects new.keeper ending.keeper → new.keeper.held ≡ None → (events : List Event) → ending.shown ≡ with_events events new.folder.told →
+            IsServedAtEnd listed ending.keeper.tracked.notes folder ending.shown
+        served is_done not_done collects none_held events then = by_result result begins not_done
+          where
+            by_result : (r : Result (Vec Passing Global) Met) → IfOk r (λ passed. BeginsAll words.tails settings now listed passed.items old new) → IfErr r (λ _. met ≢ Done) →
+                IsServedAtEnd listed ending.keeper.tracked.notes folder ending.shown
+            by_result (Ok passed) all not = served_at_end words.tails settings now listed passed.items folder old new has.shown all
+                (all_are_seen words reads counts start moments a b now old (so_far words start old.crew first.store first.pass a b moments settings.output made) stands_out refl
+                (given words start old.crew first.store first.pass a b moments settings.output made).ends sets.of_inputs passed.items new all)
+                ending.keeper collects none_held events ending.shown then
+            by_result (Err what) all not = absurd (not is_done)
+
+        pub accounted : OneChoice → IfErr result (λ _. met ≢ Done) → Collects new.keeper ending.keeper → new.keeper.held ≡ None → (events : List Event) → ending.shown ≡ with_events events new.folder.told →
+            AccountedFor words.disks (ended_objects words start ending met left after has_ended folder has clock_tells wires_tell (map words.wires.outcomes wires) starts) met
+        accounted one not_done collects none_held events then =
+            ended_is_accounted_for words start ending met left after has_ended folder has clock_tells wires_tell (map words.wires.outcomes wires) starts one
+            (λ is_done. served is_done not_done collects none_held events then)

@@ -76,6 +76,11 @@ pub finished_by : (begun : Result (Vec Passing Global) Met) (met : Met) → IfEr
 finished_by (Ok passed) met ends first is = ap (λ (m : Met). phase_left (phase_met m)) is
 finished_by (Err other) met ends first is = absurd (subst IsBeginEnd (sym first ∙ is) ends)
 
+-- what ended the beginning of files is not that all is done
+pub not_done_by : (begun : Result (Vec Passing Global) Met) (met now : Met) → IfErr begun IsBeginEnd → (IfErr begun (λ first. met ≡ first)) → (now ≡ Done → met ≡ Done) → IfErr begun (λ _. now ≢ Done)
+not_done_by (Ok passed) met now ends first was = tt
+not_done_by (Err other) met now ends first was = λ is. subst IsBeginEnd (sym first ∙ was is) ends
+
 -- ---- the end
 
 module _ {T W L D : Type 0} (words : Words T W L D) (start : Began D) (begun : Result (Vec Passing Global) Met)

@@ -1,15 +1,19 @@
-ghost use Rattle.std.specs.Prelude.{◌≡◌, ◌≤◌, All, IfOk, OnErr, drop, length, vec_len};
+ghost use Rattle.std.specs.Prelude.{◌≡◌, ◌≤◌, All, IfOk, IsSome, OnErr, Some, drop, length, map, vec_len};
+ghost use Rattle.std.specs.List.{AllByRecursion};
 ghost use Rattle.beat_config.specs.InRange.{AreInRange};
 ghost use Rattle.prospect.specs.ListedFiles.{IsListedInRange};
 ghost use Rattle.rounds.specs.KeeperTurns.{SameAreas};
 ghost use Rattle.rounds.specs.Making.{all_seen};
 ghost use Rattle.rounds.specs.Words.{disk_words, link_words, tail_words, wire_words, words};
 ghost use Rattle.wire_base.specs.Ranges.{IsMoment};
+ghost use Rattle.run_steps.specs.AccountedFor.{AccountedFor};
 ghost use Rattle.run_steps.specs.BegunCrew.{AreFirstPasses};
 ghost use Rattle.run_steps.specs.BeginsAll.{IsOfInputs};
 ghost use Rattle.run_steps.specs.Outset.{Earlier, IsFirstKeeper, SetsOut, began_with};
 ghost use Rattle.run_steps.specs.RunEnds.{HasEnded};
+ghost use Rattle.run_steps.specs.RunOf.{FolderTold};
 ghost use Rattle.run_steps.specs.RunState.{Phase};
+ghost use Rattle.run_steps.specs.Scanned.{HasScanned};
 
 use crate::beginning::{Scanned, begin_all};
 use crate::context::{Context, Surroundings};
@@ -17,6 +21,7 @@ use crate::crew::{Passes, crew_of};
 use crate::laws::disk_images_are_counted;
 use crate::working::{Worked, work};
 use outside::{Bell, Clock, Disk, Folder, Link, Wire};
+use registry_store::one_choice;
 use rounds::Storing;
 use std::sync::Wait;
 use std::thread::Threads;
@@ -100,6 +105,59 @@ where
         }) worked.met
         (drop context.entry.settings.now.output.workers around.old.wires.now.items)
         around.new.wires.now.items) }
+    // Where the scan is known, and folder, clock and wires tell, the run is accounted for.
+    ensures accounted { (earlier : Earlier D) (folder : FolderTold) →
+        SetsOut (disk_words D.contents D.images D.moment D.images_since D.faults)
+        (began_with (wire_words W.outcomes W.open_links W.faults W.idles) (record {
+          settings = context.entry.settings.now;
+          listed = scanned.entry.now.listed.items;
+          moment = scanned.entry.now.now.0;
+          shown = F.told around.old.folder.now;
+          moments = K.moments around.old.clock.now;
+          wires = around.old.wires.now.items;
+          keeper = storing.old.keeper;
+          a = storing.old.a.now;
+          b = storing.old.b.now;
+        }) earlier) (record {
+          settings = context.entry.settings.now;
+          listed = scanned.entry.now.listed.items;
+          moment = scanned.entry.now.now.0;
+          shown = F.told around.old.folder.now;
+          moments = K.moments around.old.clock.now;
+          wires = around.old.wires.now.items;
+          keeper = storing.old.keeper;
+          a = storing.old.a.now;
+          b = storing.old.b.now;
+        }) → HasScanned
+        (began_with (wire_words W.outcomes W.open_links W.faults W.idles) (record {
+          settings = context.entry.settings.now;
+          listed = scanned.entry.now.listed.items;
+          moment = scanned.entry.now.now.0;
+          shown = F.told around.old.folder.now;
+          moments = K.moments around.old.clock.now;
+          wires = around.old.wires.now.items;
+          keeper = storing.old.keeper;
+          a = storing.old.a.now;
+          b = storing.old.b.now;
+        }) earlier) folder → IsSome earlier.moments →
+        AllByRecursion (λ wire. IsSome (W.outcomes wire)) around.new.wires.now.items →
+        IfOk result (λ worked. AccountedFor
+        (disk_words D.contents D.images D.moment D.images_since D.faults) (record {
+          before = record {
+            folder = Some folder.earlier;
+            moments = earlier.moments;
+            outcomes = map W.outcomes around.old.wires.now.items;
+            a = earlier.a;
+            b = earlier.b;
+          };
+          after = record {
+            folder = F.told around.new.folder.now;
+            moments = K.moments around.new.clock.now;
+            outcomes = map W.outcomes around.new.wires.now.items;
+            a = storing.new.a.now;
+            b = storing.new.b.now;
+          };
+        }) worked.met) }
     ensures untouched { OnErr result ((storing.new ≡ storing.old)
         × (around.new.folder.now ≡ around.old.folder.now)
         × (around.new.clock.now ≡ around.old.clock.now)
@@ -114,6 +172,7 @@ where
     ensures same_bell { around.new.bell.ghost_name ≡ around.old.bell.ghost_name }
 {
     disk_images_are_counted::<D>();
+    one_choice();
     let mut crew = crew_of(context, passes, around.wires)?;
     let begun = begin_all(
         context,

@@ -23,7 +23,7 @@ ghost use Rattle.run_steps.specs.Settling.{IsMetByStoring};
 ghost use Rattle.run_steps.specs.SoFar.{SoFar};
 ghost use Rattle.run_steps.specs.Stands.{Stands};
 ghost use Rattle.run_steps.specs.Worked.{HasPassed, IsBeginEnd, IsBegunWith, IsFollowedBy, IsWorkedBy, NeverFall, phase_begun, phase_worked};
-ghost use Rattle.run_steps.specs.declared.met.Met.TheVariants.{Stopped};
+ghost use Rattle.run_steps.specs.declared.met.Met.TheVariants.{Done, Stopped};
 
 use crate::context::{Context, Surroundings};
 use crate::leave::{end_crew, release_all};
@@ -96,6 +96,7 @@ where
     // The folder's list grows.
     ensures told { (events : List Event) ×
         (F.told around.new.folder.now ≡ with_events events (F.told around.old.folder.now)) }
+    ensures done_only_where_begun { IfErr begun (λ _. result.met ≢ Done) }
     ensures passed { HasPassed begun result.passed.items }
     ensures cause { IsBegunWith begun result.met ⊎ IsWorkedBy crew
         (record {

@@ -1,4 +1,5 @@
-use Rattle.std.proofs.Common.{ℕ, List, ◌+◌, length, subst, sym, ap, arith}
+use Rattle.std.proofs.Common.{ℕ, List, ◌+◌, length, subst, sym, ap, arith, ◌∙◌}
+use Rattle.keeper.specs.Keeping.{Keeping}
 use Rattle.rounds.specs.Words.{disk_words, link_words, tail_words, wire_words, words, Words}
 use Rattle.rounds.specs.declared.carrier.Carrier.{Carrier}
 use Rattle.run_steps.specs.Beginning.{beginning}
@@ -7,7 +8,7 @@ use Rattle.run_steps.specs.Outset.{began_with}
 use Rattle.run_steps.specs.RunEnds.{HasEnded}
 use Rattle.run_steps.specs.RunState.{Phase}
 use Rattle.run_steps.proofs.BegunReady.{ready_begun}
-use Rattle.run_steps.proofs.SettingOut.{first_ready, further, rests, wires_fit, wires_left}
+use Rattle.run_steps.proofs.SettingOut.{accounted, first_ready, further, rests, wires_fit, wires_left}
 use Rattle.run_steps.proofs.running.run_over.Goals as goal
 
 pub work-requires-clause-ready : goal.work-requires-clause-ready
@@ -62,3 +63,32 @@ returns-clause-ends g c earlier sets =
         a = c.work.new.storing.a.now; b = c.work.new.storing.b.now; phase = phase })
     c.work.result.met unused c.work.new.around.wires.now.items)
     (sym left) (c.work.ensures.ends start stood.so_far stood.stands at_rest)
+
+pub returns-clause-accounted : goal.returns-clause-accounted
+returns-clause-accounted g c earlier folder sets has clock_tells wires_tell =
+    let queue = c.args.context.outlets.queue.now.id in
+    let desk = c.args.context.outlets.desk.now.id in
+    let all = words (tail_words g.F.Tail.Tail.numbers g.F.Tail.Tail.told g.F.Tail.Tail.faults) (link_words g.L.Link.told g.L.Link.faults g.L.Link.idles)
+        (wire_words g.W.Wire.outcomes g.W.Wire.open_links g.W.Wire.faults g.W.Wire.idles)
+        (disk_words g.D.Disk.contents g.D.Disk.images g.D.Disk.moment g.D.Disk.images_since g.D.Disk.faults) in
+    let names = folder_words g.F.Folder.told g.F.Folder.states g.F.Folder.present g.F.Folder.open_tails g.F.Folder.faults in
+    let old = beginning names c.args.around.now.folder.now c.in_ok-crew.crew c.args.storing.now.keeper in
+    let new = beginning names c.begin_all-begun.new.folder c.begin_all-begun.new.crew c.begin_all-begun.new.keeper in
+    let stood = further all c.disk_images_are_counted.ensures.reads c.disk_images_are_counted.ensures.counts queue desk c.args.context.settings.now c.args.scanned.now.listed.items c.args.scanned.now.now
+        (g.K.Clock.moments c.args.around.now.clock.now) c.args.around.now.wires.now.items c.crew_of.new.wires.items c.args.storing.now.a.now c.args.storing.now.b.now old earlier
+        c.in_ok-crew.ensures.begun c.requires.keeper sets c.begin_all-begun.result new c.begin_all-begun.ensures.begun c.begin_all-begun.ensures.ended in
+    let at_rest = rests all c.disk_images_are_counted.ensures.reads c.disk_images_are_counted.ensures.counts queue desk c.args.context.settings.now c.args.scanned.now.listed.items c.args.scanned.now.now
+        (g.K.Clock.moments c.args.around.now.clock.now) c.args.around.now.wires.now.items c.crew_of.new.wires.items c.args.storing.now.a.now c.args.storing.now.b.now old earlier
+        c.in_ok-crew.ensures.begun c.requires.keeper sets c.begin_all-begun.result new c.begin_all-begun.ensures.begun c.begin_all-begun.ensures.ended in
+    let start = began_with all.wires (record {
+        settings = c.args.context.settings.now; listed = c.args.scanned.now.listed.items; moment = c.args.scanned.now.now.0; shown = g.F.Folder.told c.args.around.now.folder.now;
+        moments = g.K.Clock.moments c.args.around.now.clock.now; wires = c.args.around.now.wires.now.items; keeper = c.args.storing.now.keeper;
+        a = c.args.storing.now.a.now; b = c.args.storing.now.b.now }) earlier in
+    let is = c.work.ensures.ends start stood.so_far stood.stands at_rest in
+    accounted all c.disk_images_are_counted.ensures.reads c.disk_images_are_counted.ensures.counts queue desk c.args.context.settings.now c.args.scanned.now.listed.items c.args.scanned.now.now
+    (g.K.Clock.moments c.args.around.now.clock.now) c.args.around.now.wires.now.items c.crew_of.new.wires.items c.args.storing.now.a.now c.args.storing.now.b.now old earlier
+    c.in_ok-crew.ensures.begun c.requires.keeper sets c.begin_all-begun.result new c.begin_all-begun.ensures.begun c.begin_all-begun.ensures.ended
+    (record { shown = g.F.Folder.told c.work.new.around.folder.now; moments = g.K.Clock.moments c.work.new.around.clock.now; keeper = c.work.new.storing.keeper;
+        a = c.work.new.storing.a.now; b = c.work.new.storing.b.now; phase = is.0 })
+    c.work.result.met c.work.new.around.wires.now.items is.1 folder has clock_tells wires_tell c.one_choice.ensures c.work.ensures.done_only_where_begun c.work.ensures.collects
+    (ap (λ (k : Keeping). k.held) c.begin_all-begun.ensures.kept.keeper ∙ ap (λ (k : Keeping). k.held) c.requires.keeper.is) c.work.ensures.told.0 c.work.ensures.told.1

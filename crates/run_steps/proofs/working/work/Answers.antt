@@ -11,7 +11,7 @@ use Rattle.run_steps.specs.RunState.{phase_left}
 use Rattle.run_steps.specs.Worked.{phase_worked}
 use Rattle.run_steps.specs.declared.met.Met.TheVariants.{Done}
 use Rattle.run_steps.proofs.Letting.{able_released, carriers_have_passes, lanes_have_passes, none_left, released_in}
-use Rattle.run_steps.proofs.Whole.{cause, done_before, done_in, finished_by, first_met, has_ended, left_still}
+use Rattle.run_steps.proofs.Whole.{cause, done_before, done_in, finished_by, first_met, has_ended, left_still, not_done_by}
 use Rattle.run_steps.proofs.working.work.Goals as goal
 
 pub settle_after-worked-requires-clause-ready : goal.settle_after-worked-requires-clause-ready
@@ -91,6 +91,20 @@ returns-clause-ends g c start so_far stands began =
           })
           so_far stands began,
     )
+
+pub returns-clause-done_only_where_begun : goal.returns-clause-done_only_where_begun
+returns-clause-done_only_where_begun g c =
+    let all = words (tail_words g.F.Tail.Tail.numbers g.F.Tail.Tail.told g.F.Tail.Tail.faults) (link_words g.L.Link.told g.L.Link.faults g.L.Link.idles)
+        (wire_words g.W.Wire.outcomes g.W.Wire.open_links g.W.Wire.faults g.W.Wire.idles)
+        (disk_words g.D.Disk.contents g.D.Disk.images g.D.Disk.moment g.D.Disk.images_since g.D.Disk.faults) in
+    let one = c.follow_begun-worked.new.crew in
+    let first = c.follow_begun-worked.new.storing in
+    let met = c.follow_begun-worked.result.met in
+    let now = c.settle_after-worked.result.met in
+    let since : Since g.row.F-Tail.Denot g.row.W.Denot g.row.L.Denot g.row.D.Denot = record { a = c.args.storing.now.a.now; b = c.args.storing.now.b.now; now = crewing one first } in
+    not_done_by c.args.begun met now c.requires.begins (first_met all c.args.context.settings.now.output.attempts since c.args.begun met c.follow_begun-worked.ensures.met)
+    (λ is. done_before all.disks (record { a = first.a.now; b = first.b.now; new_a = c.settle_after-worked.new.storing.a.now; new_b = c.settle_after-worked.new.storing.b.now }) met now
+        c.settle_after-worked.ensures.met is)
 
 pub returns-clause-cause : goal.returns-clause-cause
 returns-clause-cause g c =
