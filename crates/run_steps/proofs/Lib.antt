@@ -44,6 +44,7 @@ pub mod Releasing
 pub mod Rounding
 pub mod RunAccounted
 pub mod RunBooks
+pub mod RunCauses
 pub mod RunCounts
 pub mod RunDoneOf
 pub mod RunEarly

@@ -73,6 +73,16 @@ IsWorkedBy crew before after FolderFault = Rose before.folder_faults after.folde
 IsWorkedBy crew before after (Unreachable worker) = worker < length crew.carriers.items
 IsWorkedBy crew before after (Epochs slot) = HaveSlot slot (lanings crew.lanes.items)
 
+-- why a run with so many workers over so many listed files met this
+abbrev pub IsMetByRun : ℕ → ℕ → Tolls → Tolls → Met → Type 0
+IsMetByRun workers files before after Done = Unit {0}
+IsMetByRun workers files before after Stopped = Rose before.rings after.rings
+IsMetByRun workers files before after NoMemory = Unit {0}
+IsMetByRun workers files before after DiskFault = Rose before.a_faults after.a_faults ⊎ Rose before.b_faults after.b_faults
+IsMetByRun workers files before after FolderFault = Rose before.folder_faults after.folder_faults
+IsMetByRun workers files before after (Unreachable worker) = worker < workers
+IsMetByRun workers files before after (Epochs slot) = slot.0 < files
+
 -- the keeper with its areas, as they are lent to the rounds
 abbrev pub lent : {D : Type 0} → Keeping → MutBor D → MutBor D → Storing D
 lent keeper a b = record { keeper = keeper; a = a; b = b; stored = begun_stored }

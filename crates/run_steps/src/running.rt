@@ -14,6 +14,7 @@ ghost use Rattle.run_steps.specs.RunEnds.{HasEnded};
 ghost use Rattle.run_steps.specs.RunOf.{FolderTold};
 ghost use Rattle.run_steps.specs.RunState.{Phase};
 ghost use Rattle.run_steps.specs.Scanned.{HasScanned};
+ghost use Rattle.run_steps.specs.Worked.{IsMetByRun};
 
 use crate::beginning::{Scanned, begin_all};
 use crate::context::{Context, Surroundings};
@@ -157,6 +158,20 @@ where
             a = storing.new.a.now;
             b = storing.new.b.now;
           };
+        }) worked.met) }
+    ensures cause { IfOk result (λ worked. IsMetByRun context.entry.settings.now.output.workers
+        (length scanned.entry.now.listed.items)
+        (record {
+          a_faults = D.faults storing.old.a.now;
+          b_faults = D.faults storing.old.b.now;
+          folder_faults = F.faults around.old.folder.now;
+          rings = B.rings around.old.bell.now;
+        })
+        (record {
+          a_faults = D.faults storing.new.a.now;
+          b_faults = D.faults storing.new.b.now;
+          folder_faults = F.faults around.new.folder.now;
+          rings = B.rings around.new.bell.now;
         }) worked.met) }
     ensures untouched { OnErr result ((storing.new ≡ storing.old)
         × (around.new.folder.now ≡ around.old.folder.now)

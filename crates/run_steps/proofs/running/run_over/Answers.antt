@@ -1,5 +1,8 @@
-use Rattle.std.proofs.Common.{ℕ, List, ◌+◌, length, subst, sym, ap, arith, ◌∙◌}
+use Rattle.std.proofs.Common.{ℕ, List, ◌+◌, length, Vec, Global, subst, sym, ap, arith, ◌∙◌}
+use Rattle.std.proofs.lemmas.List.Elements.{recursion_from_All}
 use Rattle.keeper.specs.Keeping.{Keeping}
+use Rattle.rounds.specs.Crewed.{lanings}
+use Rattle.rounds.specs.Making.{IsBegunLane}
 use Rattle.rounds.specs.Words.{disk_words, link_words, tail_words, wire_words, words, Words}
 use Rattle.rounds.specs.declared.carrier.Carrier.{Carrier}
 use Rattle.run_steps.specs.Beginning.{beginning}
@@ -8,6 +11,7 @@ use Rattle.run_steps.specs.Outset.{began_with}
 use Rattle.run_steps.specs.RunEnds.{HasEnded}
 use Rattle.run_steps.specs.RunState.{Phase}
 use Rattle.run_steps.proofs.BegunReady.{ready_begun}
+use Rattle.run_steps.proofs.RunCauses.{met_by_run, no_slots}
 use Rattle.run_steps.proofs.SettingOut.{accounted, first_ready, further, rests, wires_fit, wires_left}
 use Rattle.run_steps.proofs.running.run_over.Goals as goal
 
@@ -92,3 +96,23 @@ returns-clause-accounted g c earlier folder sets has clock_tells wires_tell =
         a = c.work.new.storing.a.now; b = c.work.new.storing.b.now; phase = is.0 })
     c.work.result.met c.work.new.around.wires.now.items is.1 folder has clock_tells wires_tell c.one_choice.ensures c.work.ensures.done_only_where_begun c.work.ensures.collects
     (ap (λ (k : Keeping). k.held) c.begin_all-begun.ensures.kept.keeper ∙ ap (λ (k : Keeping). k.held) c.requires.keeper.is) c.work.ensures.told.0 c.work.ensures.told.1
+
+pub returns-clause-cause : goal.returns-clause-cause
+returns-clause-cause g c =
+    let names = folder_words g.F.Folder.told g.F.Folder.states g.F.Folder.present g.F.Folder.open_tails g.F.Folder.faults in
+    let old = beginning names c.args.around.now.folder.now c.in_ok-crew.crew c.args.storing.now.keeper in
+    let new = beginning names c.begin_all-begun.new.folder c.begin_all-begun.new.crew c.begin_all-begun.new.keeper in
+    let kept = c.begin_all-begun.ensures.kept in
+    let begun = c.in_ok-crew.ensures.begun in
+    let carriers = ap (λ (v : Vec (Carrier g.row.W.Denot g.row.L.Denot) Global). length v.items) kept.carriers in
+    met_by_run c.args.context.settings.now.output.workers (length c.args.scanned.now.listed.items) c.begin_all-begun.new.crew (g.D.Disk.faults c.args.storing.now.a.now) (g.D.Disk.faults c.args.storing.now.b.now)
+    (g.B.Bell.rings c.args.around.now.bell.now) old new
+    (record {
+      a_faults = g.D.Disk.faults c.work.new.storing.a.now;
+      b_faults = g.D.Disk.faults c.work.new.storing.b.now;
+      folder_faults = g.F.Folder.faults c.work.new.around.folder.now;
+      rings = g.B.Bell.rings c.work.new.around.bell.now;
+    })
+    kept.faults_never_fall (carriers ∙ begun.many_carriers)
+    (kept.slots (no_slots (length c.args.scanned.now.listed.items) (lanings c.in_ok-crew.crew.lanes.items) (recursion_from_All IsBegunLane (lanings c.in_ok-crew.crew.lanes.items) begun.lanes)))
+    c.begin_all-begun.result c.work.result.met c.begin_all-begun.ensures.ends c.work.ensures.never_fall.folder_faults c.work.ensures.cause
