@@ -1,5 +1,5 @@
 -- Beginning all listed files keeps what stands of a run in which none was begun yet.
-use Rattle.std.proofs.Common.{◌≡◌, ◌⊎◌, inl, inr, ℕ, zero, suc, ◌+◌, ◌≤◌, ◌<◌, List, [], ◌∷◌, ◌++◌, Contains, length, map, take, append-nil, append_assoc, Option, Some, None, IsSome, IfSome, Result, Ok, Err, IfOk, IfErr, Vec, Global, refl, sym, ap, subst, ◌∙◌, arith}
+use Rattle.std.proofs.Common.{◌≡◌, inl, inr, ℕ, zero, suc, ◌+◌, ◌≤◌, List, [], ◌∷◌, ◌++◌, Contains, length, map, take, append-nil, append_assoc, Option, Some, None, IsSome, IfSome, Result, Ok, Err, IfOk, IfErr, Vec, Global, refl, sym, ap, subst, ◌∙◌, arith}
 use Rattle.std.proofs.lemmas.List.{length-append}
 use Rattle.std.specs.Prelude.{slice_get}
 use Rattle.std.specs.List.{AllByRecursion, flat_map}
@@ -9,7 +9,6 @@ use Rattle.accounts.proofs.Often.{often_counted}
 use Rattle.batch_worker.specs.Held.{notes_of}
 use Rattle.harvester.specs.Standing.{EndsAt}
 use Rattle.keeper.specs.Keeping.{Keeping, held_in}
-use Rattle.pass_sums.specs.Weight.{AsOften}
 use Rattle.prospect.specs.declared.listed.Listed.{Listed}
 use Rattle.report.specs.declared.passing.Passing.{Passing}
 use Rattle.rounds.specs.Books.{carried_by, flat, held_notes, held_parcels, owed_notes}
@@ -19,7 +18,6 @@ use Rattle.settle_box.specs.Senders.{notes}
 use Rattle.ship_core.proofs.Members.{none_there}
 use Rattle.wire_base.specs.declared.note.Note.{Note}
 use Rattle.wire_base.specs.declared.numbers.Moment.{Moment}
-use Rattle.wire_base.specs.declared.numbers.Slot.{Slot}
 use Rattle.wire_base.specs.declared.parcel.Parcel.{Parcel}
 use Rattle.run_steps.specs.Began.{Began}
 use Rattle.run_steps.specs.Beginning.{Beginning}

@@ -1,8 +1,8 @@
 -- What the areas may have held at any moment, over several turns of the keeper.
-use Rattle.std.proofs.Common.{◌≡◌, ◌⊎◌, inl, inr, ⊎_elim, ℕ, zero, suc, ◌≤◌, List, [], ◌++◌, Option, Some, IfSome, refl, sym, ap, subst, ◌∙◌, arith}
+use Rattle.std.proofs.Common.{◌≡◌, inl, inr, ⊎_elim, ℕ, zero, suc, ◌≤◌, List, [], ◌++◌, Option, Some, IfSome, sym, subst, arith}
 use Rattle.kept_rows.proofs.Images.{fronts_go_on}
 use Rattle.outside.specs.DiskImages.{LeavesOnly}
-use Rattle.rounds.specs.Images.{GivesFronts, MayHoldFronts, TurnLeaves, TurnsLeave}
+use Rattle.rounds.specs.Images.{GivesFronts, MayHoldFronts, TurnsLeave}
 use Rattle.rounds.specs.KeeperTurns.{StoringState}
 use Rattle.rounds.specs.Words.{DiskWords}
 use Rattle.wire_base.specs.declared.note.Note.{Note}

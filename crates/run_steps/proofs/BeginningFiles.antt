@@ -1,5 +1,5 @@
 -- Each file that is opened keeps what stands of a run: as its steps say what they changed.
-use Rattle.std.proofs.Common.{◌≡◌, ◌≢◌, ◌⊎◌, inl, inr, ℕ, suc, ◌≤◌, Bool, true, false, List, [], ◌∷◌, ◌++◌, Contains, Option, Some, None, IsSome, IfSome, Result, Ok, Err, length, ◌<◌, ◌%◌, arith, refl, sym, ap, subst, ◌∙◌}
+use Rattle.std.proofs.Common.{◌≡◌, ◌≢◌, ◌⊎◌, inl, inr, ℕ, suc, ◌≤◌, Bool, true, false, List, [], ◌∷◌, ◌++◌, Option, Some, None, IsSome, IfSome, Ok, Err, length, ◌<◌, ◌%◌, arith, refl, sym, ap, subst, ◌∙◌}
 use Rattle.std.proofs.lemmas.List.Elements.{Contains-append_right}
 use Rattle.std.specs.Prelude.{slice_get}
 use Rattle.accounts.specs.Opened.{IsTailOf, Opened}
@@ -10,7 +10,7 @@ use Rattle.event_tree.specs.declared.input_rule.IdentityRule.TheVariants.{Path}
 use Rattle.event_tree.specs.declared.input_rule.InputRule.{InputRule}
 use Rattle.file_looks.specs.Looks.{TellsLooks}
 use Rattle.file_identity.specs.Key.{named_key, path_key}
-use Rattle.harvester.specs.HasTold.{HasTold, looks_so_far}
+use Rattle.harvester.specs.HasTold.{HasTold}
 use Rattle.harvester.specs.History as history
 use Rattle.harvester.specs.Standing.{stage_of}
 use Rattle.harvester.specs.declared.harvester.Harvester.{Harvester}
@@ -26,14 +26,13 @@ use Rattle.rounds.specs.Words.{Words}
 use Rattle.rounds.specs.declared.crew.Crew.{Crew}
 use Rattle.ship_core.proofs.Members.{first_there}
 use Rattle.wire_base.specs.declared.note.Begin.{Begin}
-use Rattle.wire_base.specs.declared.note.Note.{Note}
 use Rattle.wire_base.specs.declared.numbers.Moment.{Moment}
 use Rattle.run_steps.specs.Began.{Began}
 use Rattle.run_steps.specs.BeginFor.{begin_for}
 use Rattle.run_steps.specs.Beginning.{AdmitsAt, Beginning, BeginsFile, BeginsOne, GivesFileUp, IsOpenedFor, OpensNone, SameLanes}
 use Rattle.run_steps.specs.BeginsAll.{file_at}
 use Rattle.run_steps.specs.Begun.{noted_begin}
-use Rattle.run_steps.specs.FolderSeen.{FolderSeen, OpensBy}
+use Rattle.run_steps.specs.FolderSeen.{FolderSeen}
 use Rattle.run_steps.specs.RunState.{Finished, Leaving, Reading}
 use Rattle.run_steps.specs.Shown.{HasShown}
 use Rattle.run_steps.specs.SoFar.{SoFar}
@@ -42,7 +41,7 @@ use Rattle.run_steps.specs.Telling.{TellsBegin, TellsNotes}
 use Rattle.run_steps.specs.declared.met.Met.{Met}
 use Rattle.run_steps.specs.declared.met.Met.TheVariants as met
 use Rattle.run_steps.proofs.BegunFolder.{error_shown, none_shown, unread_shown}
-use Rattle.run_steps.proofs.BeginningOne.{AreBelow, Begins, IsBegunSo, at_phase, stands_at, stands_same}
+use Rattle.run_steps.proofs.BeginningOne.{Begins, IsBegunSo, at_phase, stands_at, stands_same}
 use Rattle.run_steps.proofs.BeginningSteps.{begins_next, left_after, stands_left}
 use Rattle.run_steps.proofs.TailOpened.{HasTail, IsShown, has_tail, opened_now}
 

@@ -1,62 +1,37 @@
 -- A file that is opened keeps what stands of a run, whether it is followed, passed over or given up.
-use Rattle.std.proofs.Common.{◌≡◌, ◌≢◌, ◌⊎◌, inl, inr, ⊎_elim, ℕ, zero, suc, ◌+◌, ◌%◌, ◌<◌, ◌≤◌, ◌^◌, ◌-◌, Bool, true, false, List, [], ◌∷◌, ◌++◌, Contains, length, map, append-nil, append_assoc, Option, Some, None, IsSome, IfSome, Result, Ok, Err, refl, sym, ap, subst, ◌∙◌, arith}
+use Rattle.std.proofs.Common.{◌≡◌, ◌≢◌, ◌⊎◌, inl, inr, ℕ, suc, ◌+◌, ◌<◌, ◌≤◌, List, [], ◌∷◌, ◌++◌, Contains, map, append-nil, Option, IsSome, refl, sym, ap, subst, ◌∙◌, arith}
 use Rattle.std.proofs.lemmas.List.{map-append}
-use Rattle.std.proofs.lemmas.List.Elements.{Contains-append_right}
-use Rattle.std.specs.Prelude.{slice_get}
 use Rattle.std.specs.List.{AllByRecursion, flat_map}
-use Rattle.accounts.specs.Opened.{IsTailOf, Opened}
-use Rattle.accounts.specs.ToldFile.{IsToldToItsEnd}
+use Rattle.accounts.specs.Opened.{Opened}
 use Rattle.accounts.specs.Turned.{Turned, notes_told, parcels_told, spans_in}
-use Rattle.accounts.specs.Turning.{IsTurnedSo, Pairs}
+use Rattle.accounts.specs.Turning.{Pairs}
 use Rattle.accounts.proofs.Lists.{each_last, each_then}
-use Rattle.accounts.proofs.Often.{often_back, often_both, often_contains, often_same, often_then}
-use Rattle.accounts.proofs.Onward.{stands_opened}
-use Rattle.event_tree.specs.declared.input_rule.IdentityRule.TheVariants.{Path}
-use Rattle.event_tree.specs.declared.input_rule.InputRule.{InputRule}
-use Rattle.event_tree.specs.declared.processor_rule.ProcessorRule.{ProcessorRule}
-use Rattle.file_identity.specs.Key.{named_key}
-use Rattle.file_looks.specs.Looks.{TellsLooks}
-use Rattle.harvester.specs.HasTold.{HasTold, looks_so_far}
-use Rattle.harvester.specs.History as history
-use Rattle.harvester.specs.Standing.{EndsAt, stage_of}
-use Rattle.harvester.specs.declared.harvester.Harvester.{Harvester}
-use Rattle.harvester.specs.declared.stage.Stage.{Stage}
-use Rattle.harvester.specs.declared.stage.Stage.TheVariants as stage
+use Rattle.accounts.proofs.Often.{often_back, often_contains, often_then}
+use Rattle.harvester.specs.Standing.{EndsAt}
 use Rattle.keeper.specs.Keeping.{Keeping}
 use Rattle.lanes.specs.Laning.{Laning}
-use Rattle.multiline_core.specs.Rule.{IsGroupRule}
 use Rattle.outside.specs.Folders.{FolderHistory}
-use Rattle.outside.specs.Tails.{TailHistory}
 use Rattle.pass_sums.specs.Weight.{AsOften, weigh}
 use Rattle.pass_sums.proofs.Weights.{weigh-append}
-use Rattle.prospect.specs.declared.listed.Listed.{Listed}
 use Rattle.rounds.specs.Books.{held_notes, held_parcels}
 use Rattle.rounds.specs.Crewed.{lanes_passes, lanings}
-use Rattle.rounds.specs.Settled.{spans_told}
-use Rattle.rounds.specs.Words.{TailWords, Words}
+use Rattle.rounds.specs.Words.{Words}
 use Rattle.rounds.specs.declared.crew.Crew.{Crew}
 use Rattle.settle_box.specs.Senders.{notes}
 use Rattle.ship_core.proofs.Members.{first_there, later_there, none_there, there_cases}
-use Rattle.wire_base.specs.declared.note.Begin.{Begin}
 use Rattle.wire_base.specs.declared.note.Note.{Note}
 use Rattle.wire_base.specs.declared.numbers.Moment.{Moment}
 use Rattle.wire_base.specs.declared.numbers.Slot.{Slot}
-use Rattle.run_steps.specs.Areas.{BeganAtRest}
 use Rattle.run_steps.specs.Began.{Began}
-use Rattle.run_steps.specs.BeginFor.{begin_for}
-use Rattle.run_steps.specs.Beginning.{AdmitsAt, IsOpenedFor, SameLanes, listed_file}
-use Rattle.run_steps.specs.Begun.{AreBeginNotes, AreSlotsFrom, IsKeyedByPath, IsOpenedAsListed, IsSeenOf, noted_begin}
-use Rattle.run_steps.specs.Releasing.{closing_of, with_events}
-use Rattle.run_steps.specs.RunState.{Finished, Leaving, Phase, Reading, RunState}
+use Rattle.run_steps.specs.Beginning.{SameLanes}
+use Rattle.run_steps.specs.Begun.{AreBeginNotes, AreSlotsFrom, IsKeyedByPath, IsOpenedAsListed, noted_begin}
+use Rattle.run_steps.specs.RunState.{Finished, Phase, Reading, RunState}
 use Rattle.run_steps.specs.Shown.{HasShown, IsTurnedIn}
 use Rattle.run_steps.specs.SoFar.{Left, SoFar, files_in}
-use Rattle.run_steps.specs.Stands.{AreCounted, AreEachOnce, AreTurnedIn, HaveGiven, IsLeftSo, IsReading, Stands, TellIn}
-use Rattle.run_steps.specs.Telling.{TellsBegin, TellsNotes}
-use Rattle.run_steps.proofs.Admitting.{TurnedWith, all_of, booked_by, each_still, last_as_first, notes_same, often_mapped, opened_later, parcels_same, passes_same, placed_by, spans_often, spans_same, turned_at}
-use Rattle.run_steps.proofs.BegunFolder.{followed_shown, left_shown, unread_shown}
-use Rattle.run_steps.proofs.BegunNotes.{areas_more, got_same, noted_more, stores_more}
+use Rattle.run_steps.specs.Stands.{AreCounted, AreEachOnce, AreTurnedIn, IsReading, Stands, TellIn}
+use Rattle.run_steps.proofs.Admitting.{all_of, booked_by, often_mapped, placed_by, spans_often}
 use Rattle.run_steps.proofs.Filing.{given_as_often, same_slot, tells_slots}
-use Rattle.run_steps.proofs.TailOpened.{HasTail, IsShown, opened_now, told_unread}
+use Rattle.run_steps.proofs.TailOpened.{opened_now}
 
 -- ---- lists
 

@@ -1,5 +1,5 @@
 -- What a run did with the folder once a file was begun, passed over or given up.
-use Rattle.std.proofs.Common.{◌≡◌, ◌⊎◌, inl, inr, ⊎_elim, ℕ, ◌<◌, List, [], ◌∷◌, ◌++◌, Contains, length, append-nil, append_assoc, Option, Some, None, IsSome, IfSome, Ok, Err, refl, sym, ap, subst, ◌∙◌, arith}
+use Rattle.std.proofs.Common.{◌≡◌, ⊎_elim, ℕ, List, [], ◌∷◌, ◌++◌, Contains, length, append-nil, append_assoc, Option, Some, None, Ok, Err, sym, ap, subst, ◌∙◌}
 use Rattle.std.proofs.lemmas.List.Elements.{Contains-append_cases}
 use Rattle.std.specs.List.{AllByRecursion}
 use Rattle.accounts.specs.Opened.{Opened as OpenedFile}
@@ -15,7 +15,7 @@ use Rattle.rounds.specs.Words.{TailWords}
 use Rattle.ship_core.proofs.Members.{none_there, there_cases}
 use Rattle.run_steps.specs.Releasing.{closing_of, with_events}
 use Rattle.run_steps.specs.Shown.{HasDone, HasShown, IsStillOpen, IsTurnedIn}
-use Rattle.run_steps.specs.SoFar.{Left, SoFar}
+use Rattle.run_steps.specs.SoFar.{SoFar}
 use Rattle.run_steps.proofs.Openings.{Adds, IsClosedIn, adds_failed, adds_left, adds_none_there, adds_opening, adds_unread, apart_with, apart_without, below_all, closed_at_once, done_on, left_stays, still_open_now, still_stays, with_more}
 use Rattle.run_steps.proofs.TailOpened.{IsShown}
 

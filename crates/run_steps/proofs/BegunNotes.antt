@@ -1,5 +1,5 @@
 -- What stands of a keeper that was told some notes.
-use Rattle.std.proofs.Common.{◌≡◌, ℕ, ◌≤◌, ◌<◌, ◌^◌, ◌-◌, min, List, [], ◌∷◌, ◌++◌, length, append-nil, append_assoc, IfSome, refl, sym, ap, subst, ◌∙◌}
+use Rattle.std.proofs.Common.{◌≡◌, ℕ, ◌≤◌, ◌<◌, ◌^◌, ◌-◌, min, List, [], ◌∷◌, ◌++◌, length, append-nil, append_assoc, IfSome, sym, ap, subst, ◌∙◌}
 use Rattle.std.specs.List.{count_by}
 use Rattle.accounts.specs.Turned.{spans_in}
 use Rattle.keeper.specs.Collecting.{is_dropped, is_shipped}

@@ -1,16 +1,15 @@
 -- Once files were begun, rounds may follow as before, and the areas are at rest still.
-use Rattle.std.proofs.Common.{◌≡◌, ◌⊎◌, inl, inr, ℕ, suc, Bool, false, List, [], ◌∷◌, ◌++◌, take, Vec, Global, Result, Ok, Err, IfOk, IfErr, refl, sym, ap, subst, ◌∙◌, append_assoc}
+use Rattle.std.proofs.Common.{◌≡◌, ◌⊎◌, inl, inr, ℕ, suc, Bool, List, [], ◌∷◌, ◌++◌, take, Vec, Global, Result, Ok, Err, IfOk, IfErr, sym, ap, subst, ◌∙◌, append_assoc}
 use Rattle.std.specs.Borrow.{MutBor}
 use Rattle.atomic_table.specs.Seated.{TableId}
 use Rattle.event_tree.specs.declared.settings.Settings.{Settings}
 use Rattle.keeper.specs.Keeping.{Keeping}
 use Rattle.prospect.specs.declared.listed.Listed.{Listed}
 use Rattle.registry_store.specs.Settled.{AreSettled}
-use Rattle.registry_store.specs.Standing.{Standing, chosen_by}
+use Rattle.registry_store.specs.Standing.{chosen_by}
 use Rattle.report.specs.declared.passing.Passing.{Passing}
 use Rattle.rounds.specs.Crewing.{crewing}
-use Rattle.rounds.specs.Images.{IsFront}
-use Rattle.rounds.specs.Rounds.{IsAble, IsReady}
+use Rattle.rounds.specs.Rounds.{IsReady}
 use Rattle.rounds.specs.Words.{DiskWords, TailWords}
 use Rattle.wire_base.specs.declared.note.Note.{Note}
 use Rattle.wire_base.specs.declared.numbers.Moment.{Moment}

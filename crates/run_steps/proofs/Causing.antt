@@ -1,13 +1,11 @@
 -- What a turn of a round found shows in a harvester as the round ends.
-use Rattle.std.proofs.Common.{◌≡◌, ◌≢◌, ◌⊎◌, inl, inr, ⊎_elim, ℕ, zero, suc, ◌+◌, ◌<◌, ◌≤◌, ◌||◌, List, [], ◌∷◌, ◌++◌, All, map, Option, Some, None, refl, sym, ap, subst, ◌∙◌, arith}
-use Rattle.std.proofs.lemmas.List.Elements.{All-contains, All-nil, All-cons}
+use Rattle.std.proofs.Common.{◌≡◌, ◌⊎◌, inl, inr, ⊎_elim, ℕ, zero, suc, ◌<◌, ◌||◌, List, [], ◌∷◌, ◌++◌, Option, Some, refl, sym, ap, subst, ◌∙◌, arith}
 use Rattle.std.specs.Prelude.{slice_get, slice_set}
 use Rattle.std.specs.List.{AllByRecursion}
-use Rattle.harvester.specs.HasTold.{HasTold, IsChanged, begin_of}
-use Rattle.harvester.specs.History.{History, Over}
+use Rattle.harvester.specs.History.{Over}
 use Rattle.harvester.specs.Standing.{stage_of}
 use Rattle.harvester.specs.Turned.{with_turn}
-use Rattle.harvester.specs.Turns.{Goes, IsCaused, after_did}
+use Rattle.harvester.specs.Turns.{IsCaused, after_did}
 use Rattle.harvester.specs.declared.harvester.Harvester.{Harvester}
 use Rattle.harvester.specs.declared.stage.Stage.{Stage as ReaderStage}
 use Rattle.harvester.specs.declared.stage.Stage.TheVariants as stage
@@ -26,7 +24,7 @@ use Rattle.rounds.specs.Placed.{AreStepsOf}
 use Rattle.rounds.specs.Words.{TailWords}
 use Rattle.wire_base.specs.declared.note.Begin.{Begin}
 use Rattle.wire_base.specs.declared.numbers.Slot.{Slot}
-use Rattle.run_steps.specs.MetBy.{HasFaults, IsOverOf, SomeHarvester}
+use Rattle.run_steps.specs.MetBy.{IsOverOf, SomeHarvester}
 
 -- ---- one of several
 

@@ -1,9 +1,8 @@
 -- What the folder's list tells of tails as they are closed, one behind the other.
-use Rattle.std.proofs.Common.{◌≡◌, ◌≢◌, ◌⊎◌, inl, inr, ⊎_elim, ℕ, zero, suc, ◌+◌, ◌≤◌, ◌<◌, ◌==◌, Bool, true, false, drop, List, [], ◌∷◌, ◌++◌, Contains, length, map, append_assoc, length-append, Option, Some, None, IsSome, IfSome, refl, sym, ap, subst, ◌∙◌, arith, if◌then◌else◌}
+use Rattle.std.proofs.Common.{◌≡◌, ◌⊎◌, inl, inr, ⊎_elim, ℕ, suc, ◌<◌, ◌==◌, Bool, true, false, drop, List, [], ◌∷◌, ◌++◌, Contains, length, Option, Some, None, IfSome, refl, sym, ap, ◌∙◌, arith, if◌then◌else◌}
 use Rattle.std.proofs.lemmas.Bool.{eq-eqb, eqb-true}
 use Rattle.std.proofs.lemmas.List.{drop-append-le}
-use Rattle.std.proofs.lemmas.List.Elements.{Contains-append_left, Contains-append_right, Contains-append_cases}
-use Rattle.std.specs.Prelude.{slice_get}
+use Rattle.std.proofs.lemmas.List.Elements.{Contains-append_left, Contains-append_right}
 use Rattle.std.specs.List.{AllByRecursion}
 use Rattle.harvester.specs.declared.harvester.Harvester.{Harvester}
 use Rattle.accounts.specs.Turned.{Turned}
@@ -13,12 +12,11 @@ use Rattle.lanes.specs.Laning.{Laning}
 use Rattle.outside.specs.Folders.{Closed, Event, FolderHistory, Listed, ListingFailed, NotThere, Opened, OpeningFailed}
 use Rattle.outside.specs.Tails.{TailHistory}
 use Rattle.outside.specs.declared.history.Look.{Look}
-use Rattle.outside.specs.declared.history.Sight.{Sight}
 use Rattle.rounds.specs.Pairs.{SomeOf}
-use Rattle.ship_core.proofs.Members.{first_there, later_there, none_there, there_cases}
+use Rattle.ship_core.proofs.Members.{first_there, later_there}
 use Rattle.run_steps.specs.Releasing.{all_closings, closing_of, closings_of}
 use Rattle.run_steps.specs.SoFar.{Left}
-use Rattle.run_steps.specs.Shown.{IsNoListing, IsStillOpen, WasClosedWith}
+use Rattle.run_steps.specs.Shown.{IsStillOpen, WasClosedWith}
 use Rattle.run_steps.proofs.Releasing.{left_of, left_of_all}
 
 -- ---- the first closing of an opening
@@ -213,8 +211,7 @@ module _ {T : Type 0} (told : T → Option TailHistory) (faults : T → ℕ) whe
   each_has (turned ∷ files) [] = tt
   each_has (turned ∷ files) (harvester ∷ harvesters) =
       let later = closings_of told faults harvesters in
-      let here = closing_of (told harvester.tail) (faults harvester.tail) in
-      (
+      let here = closing_of (told harvester.tail) (faults harvester.tail) in (
         if_some (HasClosing here) (HasClosing (later ++ here)) (told harvester.tail) (λ tail some. some_behind (ClosesWith tail.opening tail.looks) later here some) (has_one harvester),
         has_still later (later ++ here) (left_of told files harvesters) (λ tail some. some_first (ClosesWith tail.opening tail.looks) later here some) (each_has files harvesters),
       )

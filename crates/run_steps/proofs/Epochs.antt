@@ -1,5 +1,5 @@
 -- Where a round answers that no file is out of epochs, no turn of it answered so.
-use Rattle.std.proofs.Common.{◌≡◌, ◌≢◌, ⊎_elim, ℕ, true, List, [], ◌∷◌, ◌++◌, map, Option, Some, None, refl, sym, ap, subst, ◌∙◌}
+use Rattle.std.proofs.Common.{◌≡◌, ◌≢◌, ℕ, List, [], ◌∷◌, ◌++◌, Option, Some, None, refl, sym, ap, subst, ◌∙◌}
 use Rattle.std.specs.List.{AllByRecursion}
 use Rattle.harvester.specs.declared.turn.Turn.{Turn}
 use Rattle.harvester.specs.declared.turn.Turn.TheVariants as turn
@@ -8,7 +8,6 @@ use Rattle.lanes.specs.Step.{Step, tallied}
 use Rattle.lanes.specs.Tallies.{begun_tally, first_slot, tally_with}
 use Rattle.lanes.specs.declared.run.When.{When}
 use Rattle.lanes.specs.declared.tally.Tally.{Tally}
-use Rattle.outside.specs.Tails.{TailHistory}
 use Rattle.run_steps.proofs.Turning.{NotOut}
 use Rattle.wire_base.specs.declared.numbers.Slot.{Slot}
 use Rattle.rounds.specs.Answer.{first_of, of_stored, round_of, with_carried, with_carriers, with_lanes, with_tally}

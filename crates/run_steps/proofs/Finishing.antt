@@ -1,9 +1,9 @@
 -- Where all lanes are done, each file is told to its end: a file that is followed by its path has no other key.
-use Rattle.std.proofs.Common.{◌≡◌, ◌≢◌, ◌⊎◌, inl, inr, ⊎_elim, ℕ, true, List, [], ◌∷◌, ◌++◌, All, Contains, map, Option, Some, None, IsSome, IfSome, refl, sym, ap, subst, ◌∙◌}
+use Rattle.std.proofs.Common.{◌≡◌, ◌≢◌, ⊎_elim, ℕ, List, [], ◌∷◌, ◌++◌, Contains, Option, Some, None, IsSome, sym, ap, subst, ◌∙◌}
 use Rattle.std.proofs.lemmas.List.Elements.{All-contains}
 use Rattle.std.specs.List.{AllByRecursion, flat_map}
-use Rattle.accounts.specs.Opened.{IsTailOf, Opened}
-use Rattle.accounts.specs.ToldFile.{IsToldFile, IsToldToItsEnd}
+use Rattle.accounts.specs.Opened.{Opened}
+use Rattle.accounts.specs.ToldFile.{IsToldToItsEnd}
 use Rattle.accounts.specs.Turned.{Turned}
 use Rattle.accounts.specs.Turning.{IsTurnedSo, Pairs}
 use Rattle.event_tree.specs.declared.input_rule.IdentityRule.{IdentityRule}
@@ -13,7 +13,6 @@ use Rattle.event_tree.specs.declared.processor_rule.ProcessorRule.{ProcessorRule
 use Rattle.file_identity.specs.Key.{named_key}
 use Rattle.file_identity.specs.Answers.{with_numbers}
 use Rattle.file_identity.specs.Asking.{given_key}
-use Rattle.harvester.specs.HasTold.{HasTold, IsChanged}
 use Rattle.harvester.specs.History.{Changed, History, Stage}
 use Rattle.harvester.specs.Looked.{AreLookedAt, HasChanged, IsLookedAt, StandBehind}
 use Rattle.harvester.specs.Standing.{stage_of}
@@ -21,14 +20,11 @@ use Rattle.harvester.specs.declared.harvester.Harvester.{Harvester}
 use Rattle.harvester.specs.declared.stage.Stage.TheVariants as stage
 use Rattle.lanes.specs.Done.{IsDone, IsThrough}
 use Rattle.lanes.specs.Laning.{Laning}
-use Rattle.outside.specs.Files.{File}
 use Rattle.outside.specs.Tails.{TailHistory}
 use Rattle.outside.specs.declared.history.Look.{Look}
-use Rattle.rounds.specs.Words.{TailWords}
-use Rattle.ship_core.proofs.Members.{first_there, later_there, none_there, there_cases}
+use Rattle.ship_core.proofs.Members.{first_there, later_there}
 use Rattle.wire_base.specs.declared.note.Begin.{Begin}
 use Rattle.run_steps.specs.Begun.{IsKeyedByPath}
-use Rattle.run_steps.specs.Stands.{AreTurnedIn}
 
 -- ---- no other key
 

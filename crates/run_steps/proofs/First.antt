@@ -1,5 +1,5 @@
 -- What stands of a run as its first file is to be begun: nothing was told, put or noted, and the areas may hold what they held.
-use Rattle.std.proofs.Common.{◌≡◌, ◌≢◌, ◌⊎◌, inl, inr, ℕ, zero, suc, ◌+◌, ◌-◌, ◌≤◌, ◌<◌, ◌^◌, min, All, List, [], ◌∷◌, ◌++◌, Contains, length, map, append-nil, append_assoc, Option, Some, None, IsSome, IfSome, refl, sym, ap, subst, ◌∙◌, arith}
+use Rattle.std.proofs.Common.{◌≡◌, ◌≢◌, ℕ, zero, suc, ◌-◌, ◌<◌, ◌^◌, min, List, [], ◌∷◌, ◌++◌, length, map, append-nil, append_assoc, Option, Some, None, IsSome, refl, sym, ap, subst, ◌∙◌, arith}
 use Rattle.std.specs.Prelude.{count_by, slice_get}
 use Rattle.std.specs.List.{AllByRecursion, flat_map}
 use Rattle.accounts.specs.Opened.{Opened as OpenedFile}
@@ -22,10 +22,10 @@ use Rattle.mem_queue.specs.Entries.{parcels}
 use Rattle.outside.specs.Folders.{FolderHistory}
 use Rattle.outside.specs.Folders.{Event, Opened}
 use Rattle.outside.specs.Times.{GivesMoment}
-use Rattle.rounds.specs.Books.{Acknowledges, AreBooked, ArePlaced, Heard, Told, carried_by, flat, held_notes, held_parcels, owed_notes}
+use Rattle.rounds.specs.Books.{Acknowledges, AreBooked, ArePlaced, Heard, carried_by, flat, held_notes, held_parcels, owed_notes}
 use Rattle.rounds.specs.Crewed.{carriers_passes, lanes_passes, lanings}
 use Rattle.rounds.specs.Making.{IsBegunCarrier, IsBegunLane, KnowAll, StandsForNothing}
-use Rattle.rounds.specs.Passes.{Passes, entries, senders}
+use Rattle.rounds.specs.Passes.{entries, senders}
 use Rattle.rounds.specs.Pairs as round_pairs
 use Rattle.rounds.specs.Settled.{spans_told}
 use Rattle.rounds.specs.Words.{LinkWords, TailWords, WireWords, Words}
@@ -44,7 +44,7 @@ use Rattle.wire_base.specs.declared.note.Note.{Note}
 use Rattle.run_steps.specs.Areas.{BeganAtRest, HaveHeldFronts}
 use Rattle.run_steps.specs.Began.{Began}
 use Rattle.run_steps.specs.RunState.{Finished, Reading, RunState}
-use Rattle.run_steps.specs.Shown.{HasDone, HasGiven, HasShown}
+use Rattle.run_steps.specs.Shown.{HasShown}
 use Rattle.run_steps.specs.SoFar.{SoFar, files_in}
 use Rattle.run_steps.specs.Stands.{AreCounted, AreTurnedIn, Stands}
 use Rattle.run_steps.proofs.Giving.{FirstGiven, first_given}

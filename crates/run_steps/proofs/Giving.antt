@@ -1,5 +1,5 @@
 -- The moments that a clock gives go on, and end with the last one.
-use Rattle.std.proofs.Common.{◌≡◌, ◌⊎◌, inl, inr, ℕ, zero, suc, ◌+◌, ◌-◌, ◌<◌, drop, List, [], ◌∷◌, ◌++◌, length, append-nil, append_assoc, length-append, Option, Some, None, IfSome, slice_get, refl, sym, ap, subst, ◌∙◌, arith, unwrap_or}
+use Rattle.std.proofs.Common.{◌≡◌, inl, inr, ℕ, suc, ◌+◌, ◌-◌, ◌<◌, drop, List, [], ◌∷◌, ◌++◌, length, append-nil, append_assoc, length-append, Option, Some, None, slice_get, refl, sym, ap, subst, ◌∙◌, arith, unwrap_or}
 use Rattle.std.proofs.lemmas.List.{drop-append-le}
 use Rattle.accounts.proofs.Lists.{in_order_on}
 use Rattle.harvester.specs.Standing.{EndsAt}
@@ -81,7 +81,7 @@ module _ (moment now : ℕ) (since : List ℕ) where
             more ++ now ∷ [],
             grows.1 ∙ ap (λ (l : List ℕ). Some l) (append_assoc earlier more (now ∷ [])),
             ap (λ (l : List ℕ). l ++ now ∷ []) since_is ∙ sym (drop-append-le (length earlier - 1) all (now ∷ []) (omega (arith, long)))
-            ∙ ap (drop (length earlier - 1)) (append_assoc earlier more (now ∷ [])),
+                ∙ ap (drop (length earlier - 1)) (append_assoc earlier more (now ∷ [])),
           );
           untold = λ none. absurd cc;
           among = in_order_on (moment ∷ []) since (now ∷ []) given.among;

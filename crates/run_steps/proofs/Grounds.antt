@@ -1,8 +1,8 @@
 -- Each note that the keeper collected has its ground in what was told of the files, in whatever order they are taken.
-use Rattle.std.proofs.Common.{◌≡◌, ℕ, List, [], ◌∷◌, ◌++◌, length, map, append_assoc, refl, sym, ap, subst, ◌∙◌, arith}
+use Rattle.std.proofs.Common.{◌≡◌, List, [], ◌∷◌, ◌++◌, map, append_assoc, refl, sym, ap, subst, ◌∙◌, arith}
 use Rattle.std.specs.List.{AllByRecursion, flat_map}
 use Rattle.accounts.specs.Ground.{HasGround}
-use Rattle.accounts.specs.Taken.{FitBooks, Taken, acknowledged_in, taken_by, taken_in}
+use Rattle.accounts.specs.Taken.{FitBooks, Taken, acknowledged_in, taken_in}
 use Rattle.accounts.specs.Turned.{Turned, notes_told, parcels_told}
 use Rattle.accounts.proofs.Grounded.{each_has_ground}
 use Rattle.accounts.proofs.Often.{often_then}

@@ -1,13 +1,12 @@
 -- What one round tells of the files that harvesters turn, lane by lane.
-use Rattle.std.proofs.Common.{◌≡◌, ◌⊎◌, inl, inr, ℕ, zero, suc, ◌+◌, ◌<◌, ◌≤◌, ◌^◌, ◌-◌, true, List, [], ◌∷◌, ◌++◌, length, map, append-nil, append_assoc, Option, Some, None, IsSome, refl, sym, ap, subst, ◌∙◌, arith}
+use Rattle.std.proofs.Common.{◌≡◌, ℕ, ◌+◌, ◌<◌, ◌^◌, ◌-◌, true, List, [], ◌∷◌, ◌++◌, map, append-nil, append_assoc, refl, sym, ap, subst, ◌∙◌, arith}
 use Rattle.std.proofs.lemmas.List.{map-append}
-use Rattle.std.specs.Prelude.{slice_get, slice_set}
 use Rattle.std.specs.List.{AllByRecursion, flat_map}
 use Rattle.accounts.specs.Opened.{Opened}
-use Rattle.accounts.specs.Turned.{Turned, notes_told, parcels_told, spans_in, spans_told as spans_of_file}
+use Rattle.accounts.specs.Turned.{Turned, notes_told, parcels_told, spans_in}
 use Rattle.accounts.specs.Turning.{GaveMore, IsTurnedSo, Pairs, TellOn}
 use Rattle.accounts.proofs.Lists.{flat_map_both}
-use Rattle.accounts.proofs.Often.{often_both, often_same, often_then}
+use Rattle.accounts.proofs.Often.{often_same, often_then}
 use Rattle.accounts.proofs.Onward.{each_stands_later}
 use Rattle.accounts.proofs.Turning.{run_tells}
 use Rattle.event_tree.specs.declared.processor_rule.ProcessorRule.{ProcessorRule}
@@ -18,7 +17,7 @@ use Rattle.lanes.specs.Step.{Step, issued_in, noted_in}
 use Rattle.lanes.specs.Step as steps
 use Rattle.lanes.specs.Giving.{notes_in, parcels_in}
 use Rattle.lanes.specs.declared.run.When.{When}
-use Rattle.pass_sums.specs.Weight.{AsOften, weigh}
+use Rattle.pass_sums.specs.Weight.{AsOften}
 use Rattle.pass_sums.proofs.Weights.{weigh-append}
 use Rattle.rounds.specs.Crewed.{bare_lanes}
 use Rattle.rounds.specs.Placed.{AreStepsOf}
@@ -175,8 +174,7 @@ module _ {T : Type 0} where
   pairs_but_passes tails processors opened moments (turned ∷ files) (lane ∷ lanes) (other ∷ others) same stand =
       let bare : without_passes other ≡ without_passes lane = cc in
       let here : lane.harvesters ≡ other.harvesters = ap (λ (l : Laning T). l.harvesters) (sym bare) in
-      let later : bare_lanes others ≡ bare_lanes lanes = cc in
-      (
+      let later : bare_lanes others ≡ bare_lanes lanes = cc in (
         subst (λ (hs : List (Harvester T)). Pairs (IsTurnedSo tails.numbers tails.told processors opened moments) turned hs) here stand.0,
         pairs_but_passes tails processors opened moments files lanes others later stand.1,
       )

@@ -1,18 +1,16 @@
 -- Tails that are closed keep what stands of a run.
-use Rattle.std.proofs.Common.{◌≡◌, ◌≢◌, ◌⊎◌, inl, inr, ⊎_elim, ℕ, zero, suc, ◌+◌, ◌≤◌, ◌<◌, ◌^◌, ◌-◌, ◌==◌, Bool, true, false, drop, List, [], ◌∷◌, ◌++◌, Contains, length, map, append-nil, append_assoc, length-append, Option, Some, None, IsSome, IfSome, refl, sym, ap, subst, ◌∙◌, arith}
-use Rattle.std.proofs.lemmas.Bool.{eq-eqb, eqb-true}
+use Rattle.std.proofs.Common.{◌≡◌, ◌⊎◌, inl, inr, ⊎_elim, ℕ, zero, suc, ◌+◌, ◌≤◌, ◌<◌, ◌^◌, ◌-◌, List, [], ◌∷◌, ◌++◌, Contains, length, map, append_assoc, Option, Some, None, IsSome, IfSome, refl, sym, ap, subst, ◌∙◌, arith}
 use Rattle.std.proofs.lemmas.List.{map-append}
-use Rattle.std.proofs.lemmas.List.Elements.{Contains-append_cases, Contains-append_left, Contains-append_right}
+use Rattle.std.proofs.lemmas.List.Elements.{Contains-append_cases}
 use Rattle.std.specs.Prelude.{Vec, slice_get}
 use Rattle.std.specs.declared.alloc.Global.{Global}
 use Rattle.std.specs.List.{AllByRecursion, flat_map}
 use Rattle.accounts.specs.Once.{AreOnce}
 use Rattle.accounts.specs.Opened.{IsTailOf, Opened}
-use Rattle.accounts.specs.Same.{TellsSame}
-use Rattle.accounts.specs.ToldFile.{IsToldFile, IsToldToItsEnd}
+use Rattle.accounts.specs.ToldFile.{IsToldToItsEnd}
 use Rattle.accounts.specs.Turned.{Turned, notes_told, parcels_told, spans_in}
 use Rattle.accounts.specs.Turning.{IsTurnedSo, Pairs}
-use Rattle.accounts.proofs.Often.{often_back, often_same, often_then, once_apart, once_behind, once_front, once_more, once_none, once_often, once_others}
+use Rattle.accounts.proofs.Often.{often_back, often_then, once_apart, once_front, once_more, once_none, once_often, once_others}
 use Rattle.event_tree.specs.declared.processor_rule.ProcessorRule.{ProcessorRule}
 use Rattle.harvester.specs.declared.harvester.Harvester.{Harvester}
 use Rattle.kept_rows.specs.Scans.{AreDistinct}
@@ -25,11 +23,11 @@ use Rattle.outside.specs.Tails.{TailHistory}
 use Rattle.outside.specs.declared.history.Sight.{Sight}
 use Rattle.pass_sums.specs.Weight.{AsOften, weigh}
 use Rattle.pass_sums.proofs.Weights.{weigh-append}
-use Rattle.rounds.specs.Books.{AreBooked, ArePlaced, Told, carried_by, flat, held_notes, held_parcels, owed_notes}
+use Rattle.rounds.specs.Books.{AreBooked, ArePlaced, carried_by, flat, held_notes, held_parcels, owed_notes}
 use Rattle.rounds.specs.Crewed.{carriers_passes, lanes_passes, lanings}
 use Rattle.rounds.specs.Passes.{Passes, entries, senders}
 use Rattle.rounds.specs.Settled.{spans_told}
-use Rattle.rounds.specs.Words.{LinkWords, TailWords, WireWords, Words}
+use Rattle.rounds.specs.Words.{Words}
 use Rattle.rounds.specs.declared.carrier.Carrier.{Carrier}
 use Rattle.rounds.specs.declared.crew.Crew.{Crew}
 use Rattle.batch_worker.specs.Held.{notes_of}
@@ -40,9 +38,9 @@ use Rattle.wire_base.specs.declared.numbers.Slot.{Slot}
 use Rattle.wire_base.specs.declared.parcel.Parcel.{Parcel}
 use Rattle.run_steps.specs.Began.{Began}
 use Rattle.run_steps.specs.Begun.{AreSlotsFrom}
-use Rattle.run_steps.specs.Releasing.{all_closings, closing_of, closings_of, released, with_events}
+use Rattle.run_steps.specs.Releasing.{all_closings, released, with_events}
 use Rattle.run_steps.specs.RunState.{Finished, Leaving, Phase, Reading, RunState, phase_left}
-use Rattle.run_steps.specs.Shown.{HasDone, HasShown, IsNoListing, IsStillOpen, IsTurnedIn, WasClosedWith, WasOpenedSince, openings_of}
+use Rattle.run_steps.specs.Shown.{HasDone, HasShown, IsNoListing, IsStillOpen, WasClosedWith, WasOpenedSince, openings_of}
 use Rattle.run_steps.specs.SoFar.{Left, SoFar, files_in}
 use Rattle.run_steps.specs.Stands.{AreEachOnce, AreTurnedIn, Further, IsLeftSo, Stands, TellIn}
 use Rattle.run_steps.proofs.Closing.{ClosesOne, HasClosing, HasOne, all_close, all_have, closed_now, closed_still, each_closed}
@@ -353,11 +351,11 @@ module _ {T W L D : Type 0} (words : Words T W L D) (start : Began D) (so_far : 
             let of = left_as one there in
             let tail_is : IsTailOf of.opened tail = subst (λ (o : Option TailHistory). IfSome o (IsTailOf of.opened)) is of.tail in
             let has = subst (λ (o : Option TailHistory). IfSome o (HasClosing closings)) is
-                (member_is (HasOne words.tails.told words.tails.faults closings) new_left one (all_have words.tails.told words.tails.faults so_far.lanes lanes) there) in
+            (member_is (HasOne words.tails.told words.tails.faults closings) new_left one (all_have words.tails.told words.tails.faults so_far.lanes lanes) there) in
             let found = each_closed new_left closings (all_close words.tails.told words.tails.faults so_far.lanes lanes (same_lengths so_far.lanes lanes stands.turned)) apart one tail there is has in
             let below : tail.opening < length now.events = subst (λ (n : ℕ). n < length now.events) (sym tail_is.opening) (within of.opened of.among) in
             let still : IsStillOpen now tail.opening =
-                subst (IsStillOpen now) (sym tail_is.opening) (done.still_open of.opened of.among (subst (Contains (slots_of all_files)) of.slot_is (turned_slot one there))) in
+            subst (IsStillOpen now) (sym tail_is.opening) (done.still_open of.opened of.among (subst (Contains (slots_of all_files)) of.slot_is (turned_slot one there))) in
             closed_now now closings tail.opening tail.looks found.faults below still found.closing
 
     closed_before : (one : Left) → Contains so_far.left one → IfSome one.told (λ tail. WasClosedWith then_told tail.opening tail.looks)
@@ -383,7 +381,7 @@ module _ {T W L D : Type 0} (words : Words T W L D) (start : Began D) (so_far : 
     no_opening : (path : List ℕ) (number : ℕ) (begun : Sight) → Contains closings (folders.Opened path number begun) → ⊥
     no_opening path number begun there =
         let of = member_is (ClosesOne new_left) closings (folders.Opened path number begun)
-            (all_close words.tails.told words.tails.faults so_far.lanes lanes (same_lengths so_far.lanes lanes stands.turned)) there in
+        (all_close words.tails.told words.tails.faults so_far.lanes lanes (same_lengths so_far.lanes lanes stands.turned)) there in
         let no : folders.Opened path number begun ≡ Closed of.tail.opening of.tail.looks of.faults = of.is in cc
 
     has_done : HasDone first then_told after

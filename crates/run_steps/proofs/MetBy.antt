@@ -1,5 +1,5 @@
 -- What a round met, by what shows of it.
-use Rattle.std.proofs.Common.{◌≡◌, ◌≢◌, ◌⊎◌, inl, inr, ⊎_elim, ℕ, ◌≤◌, ◌<◌, ◌^◌, ◌-◌, All, true, false, List, [], ◌∷◌, Option, Some, None, IfSome, refl, sym, ap, subst, ◌∙◌, arith}
+use Rattle.std.proofs.Common.{◌≡◌, ◌⊎◌, inl, inr, ⊎_elim, ℕ, ◌≤◌, false, List, [], ◌∷◌, Option, Some, None, IfSome, arith}
 use Rattle.std.proofs.lemmas.List.Elements.{recursion_from_All}
 use Rattle.std.specs.List.{AllByRecursion}
 use Rattle.lanes.specs.Done.{IsDone}
@@ -14,14 +14,12 @@ use Rattle.rounds.specs.Crewing.{Crewing, crew_of}
 use Rattle.rounds.specs.RoundKeeps.{RoundKeeps}
 use Rattle.rounds.specs.Rounds.{IsReady}
 use Rattle.rounds.specs.Running.{IsLaneReady}
-use Rattle.rounds.specs.Words.{TailWords, Words}
+use Rattle.rounds.specs.Words.{Words}
 use Rattle.rounds.specs.declared.answer.Round.{Round}
 use Rattle.settle_box.specs.BoundedBox.{BoundedBox}
-use Rattle.wire_base.specs.declared.numbers.Slot.{Slot}
-use Rattle.run_steps.specs.Met.{AreLeft}
-use Rattle.run_steps.specs.MetBy.{GoesOn, HasFaults, IsMetBy, IsOverOf, Since, phase_met, phase_of}
+use Rattle.run_steps.specs.MetBy.{GoesOn, HasFaults, IsMetBy, IsOverOf, Since, phase_of}
 use Rattle.run_steps.specs.MetIn.{IsMetIn}
-use Rattle.run_steps.specs.RunState.{Finished, Leaving, Phase, Reading}
+use Rattle.run_steps.specs.RunState.{Finished, Leaving, Reading}
 use Rattle.run_steps.specs.declared.met.Met.{Met}
 use Rattle.run_steps.specs.declared.met.Met.TheVariants.{DiskFault, Done, Epochs, FolderFault, NoMemory, Stopped, Unreachable}
 use Rattle.run_steps.proofs.Causing.{faults_show, over_shows, round_shows}

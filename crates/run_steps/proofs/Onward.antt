@@ -11,15 +11,14 @@ use Rattle.rounds.specs.Crewing.{crewing}
 use Rattle.rounds.specs.RoundKeeps.{RoundKeeps}
 use Rattle.rounds.specs.Rounds.{Rounds}
 use Rattle.rounds.specs.Settling.{SettlingKeeps}
-use Rattle.rounds.specs.Words.{DiskWords, Words}
+use Rattle.rounds.specs.Words.{Words}
 use Rattle.rounds.specs.declared.answer.Round.{Round}
 use Rattle.rounds.specs.declared.crew.Crew.{Crew}
 use Rattle.rounds.specs.declared.storing.Storing.{Storing}
 use Rattle.settle_box.specs.BoundedBox.{BoundedBox}
-use Rattle.run_steps.specs.Areas.{BeganAtRest, IsAtRest}
+use Rattle.run_steps.specs.Areas.{IsAtRest}
 use Rattle.run_steps.specs.Onward.{Onward}
 use Rattle.run_steps.specs.RunState.{Finished, Phase, Reading, RunState, within}
-use Rattle.run_steps.specs.Stands.{Further}
 use Rattle.run_steps.proofs.Rounding.{stands_on}
 use Rattle.run_steps.proofs.Settling.{stands_settled}
 

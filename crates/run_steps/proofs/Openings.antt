@@ -1,5 +1,5 @@
 -- What a folder tells as files are opened, and as tails are closed that were not read.
-use Rattle.std.proofs.Common.{◌≡◌, ◌≢◌, ◌⊎◌, inl, inr, ⊎_elim, ℕ, zero, suc, ◌+◌, ◌≤◌, ◌<◌, ◌==◌, Bool, true, false, drop, List, [], ◌∷◌, ◌++◌, Contains, length, map, append-nil, append_assoc, Option, Some, None, IfSome, refl, sym, ap, subst, ◌∙◌, arith, if◌then◌else◌}
+use Rattle.std.proofs.Common.{◌≡◌, ◌⊎◌, inl, inr, ⊎_elim, ℕ, zero, suc, ◌+◌, ◌≤◌, ◌<◌, ◌==◌, Bool, true, false, drop, List, [], ◌∷◌, ◌++◌, Contains, length, append-nil, append_assoc, Option, Some, None, IfSome, refl, sym, ap, subst, ◌∙◌, arith, if◌then◌else◌}
 use Rattle.std.proofs.lemmas.Bool.{eq-eqb, eqb-true}
 use Rattle.std.proofs.lemmas.List.{drop-append-le, length-append, map-append}
 use Rattle.std.proofs.lemmas.List.Elements.{Contains-append_left, Contains-append_right}
@@ -12,7 +12,6 @@ use Rattle.kept_rows.specs.Scans.{AreDistinct}
 use Rattle.kept_rows.specs.Trace.{Closing, closing_by, closing_in, first_of_two}
 use Rattle.kept_rows.proofs.Acknowledging.{got_in_front}
 use Rattle.kept_rows.proofs.Showing.{both}
-use Rattle.outside.specs.Files.{File}
 use Rattle.outside.specs.Folders.{Closed, Event, FolderHistory, NotThere, Opened, OpeningFailed}
 use Rattle.outside.specs.Tails.{TailHistory}
 use Rattle.outside.specs.declared.history.Look.{Look}

@@ -1,7 +1,6 @@
 -- The notes of a run are orderly: each was told by the run itself before its first round, or has its ground in what was told of the
 -- files.
-use Rattle.std.proofs.Common.{◌≡◌, ◌⊎◌, inl, inr, ℕ, ◌+◌, ◌≤◌, ◌<◌, List, [], ◌∷◌, ◌++◌, Contains, length, map, Option, Some, None, refl, sym, ap, subst, ◌∙◌, arith}
-use Rattle.std.proofs.lemmas.List.Elements.{Contains-append_left}
+use Rattle.std.proofs.Common.{◌≡◌, ◌⊎◌, inl, inr, ℕ, ◌+◌, ◌≤◌, List, [], ◌∷◌, ◌++◌, Contains, map, Option, Some, refl, sym, ap, subst, ◌∙◌, arith}
 use Rattle.std.specs.Prelude.{slice_get}
 use Rattle.std.specs.List.{AllByRecursion, flat_map}
 use Rattle.std.specs.Option.{option_map_or}
@@ -10,11 +9,10 @@ use Rattle.accounts.specs.FirstNotes.{AreFirstNotes, IsBeginOf, IsMomentOfOne}
 use Rattle.accounts.specs.FollowedFile.{AreInSlots}
 use Rattle.accounts.specs.Ground.{HasGround}
 use Rattle.accounts.specs.Opened.{Opened}
-use Rattle.accounts.specs.Turned.{Turned, notes_told, parcels_told}
+use Rattle.accounts.specs.Turned.{Turned}
 use Rattle.accounts.specs.Turning.{IsTurnedSo, Pairs}
 use Rattle.accounts.proofs.Apart.{IsInEpochs}
 use Rattle.accounts.proofs.Ends.{is_in_epochs}
-use Rattle.accounts.proofs.Often.{often_then}
 use Rattle.accounts.proofs.Ordered.{are_orderly}
 use Rattle.harvester.specs.declared.harvester.Harvester.{Harvester}
 use Rattle.lanes.specs.Laning.{Laning}
@@ -114,8 +112,7 @@ module _ (looks : Opened → List Look) (changed : Opened → ℕ) where
     seens_are : (seens : List Note) → AllByRecursion (IsSeenOf listed opened) seens → AllByRecursion (IsMomentOfOne (zipped looks changed opened turned)) seens
     seens_are [] are = tt
     seens_are (note ∷ seens) are =
-        let of = zipped_there opened turned are.0.file same are.0.among in
-        (
+        let of = zipped_there opened turned are.0.file same are.0.among in (
           record {
             file = of.file;
             of_files = of.among;

@@ -1,28 +1,18 @@
 -- Tails that are closed keep what stands of a run: their files are left, with what the tails told.
-use Rattle.std.proofs.Common.{◌≡◌, ◌≢◌, ◌⊎◌, inl, inr, ⊎_elim, ℕ, zero, suc, ◌+◌, ◌≤◌, ◌<◌, ◌^◌, ◌-◌, ◌==◌, Bool, true, false, drop, List, [], ◌∷◌, ◌++◌, Contains, length, map, append-nil, append_assoc, length-append, Option, Some, None, IsSome, IfSome, refl, sym, ap, subst, ◌∙◌, arith, if◌then◌else◌}
-use Rattle.std.proofs.lemmas.Bool.{eq-eqb, eqb-true}
-use Rattle.std.proofs.lemmas.List.{drop-append-le, map-append}
-use Rattle.std.proofs.lemmas.List.Elements.{Contains-append_left, Contains-append_right}
-use Rattle.std.specs.Prelude.{slice_get}
+use Rattle.std.proofs.Common.{◌≡◌, ℕ, List, [], ◌∷◌, ◌++◌, map, Option, IsSome, refl, ap, ◌∙◌}
+use Rattle.std.proofs.lemmas.List.{map-append}
 use Rattle.std.specs.List.{AllByRecursion, flat_map}
 use Rattle.accounts.specs.Opened.{Opened}
-use Rattle.accounts.specs.Turned.{Turned, notes_told, parcels_told, spans_in}
+use Rattle.accounts.specs.Turned.{Turned}
 use Rattle.accounts.specs.Turning.{IsTurnedSo, Pairs}
-use Rattle.accounts.proofs.Lists.{flat_map_both}
-use Rattle.accounts.proofs.Often.{often_back, often_same, often_then}
 use Rattle.event_tree.specs.declared.processor_rule.ProcessorRule.{ProcessorRule}
 use Rattle.harvester.specs.declared.harvester.Harvester.{Harvester}
 use Rattle.lanes.specs.Laning.{Laning}
 use Rattle.outside.specs.Tails.{TailHistory}
-use Rattle.pass_sums.specs.Weight.{AsOften, weigh}
-use Rattle.pass_sums.proofs.Weights.{weigh-append}
 use Rattle.rounds.specs.Words.{TailWords}
-use Rattle.wire_base.specs.declared.numbers.Slot.{Slot}
 use Rattle.run_steps.specs.Releasing.{released}
-use Rattle.run_steps.specs.SoFar.{Left, SoFar, files_in}
+use Rattle.run_steps.specs.SoFar.{Left}
 use Rattle.run_steps.specs.Stands.{AreTurnedIn, IsLeftSo, TellIn}
-use Rattle.run_steps.proofs.Filing.{given_as_often}
-use Rattle.run_steps.proofs.Lanes.{spans_of_both}
 
 -- ---- the files that are left
 

@@ -1,11 +1,11 @@
 -- A round keeps what stands of a run.
-use Rattle.std.proofs.Common.{◌≡◌, ◌≢◌, ◌⊎◌, inl, inr, ℕ, ◌+◌, ◌<◌, ◌≤◌, ◌^◌, ◌-◌, true, List, [], ◌∷◌, ◌++◌, Contains, length, map, append-nil, append_assoc, Option, Some, None, IsSome, IfSome, refl, sym, ap, subst, ◌∙◌, arith}
+use Rattle.std.proofs.Common.{◌≡◌, ◌≢◌, ◌⊎◌, inl, inr, ℕ, ◌<◌, ◌≤◌, ◌^◌, ◌-◌, true, List, [], ◌∷◌, ◌++◌, Contains, map, append-nil, Option, Some, None, IsSome, IfSome, refl, sym, ap, subst, ◌∙◌, arith}
 use Rattle.std.proofs.lemmas.List.{map-append}
 use Rattle.std.specs.List.{AllByRecursion, flat_map}
 use Rattle.accounts.specs.Opened.{Opened}
 use Rattle.accounts.specs.ToldFile.{IsToldToItsEnd}
 use Rattle.accounts.specs.Turned.{Turned, notes_told, parcels_told, spans_in}
-use Rattle.accounts.specs.Turning.{GaveMore, IsTurnedSo, Pairs}
+use Rattle.accounts.specs.Turning.{IsTurnedSo, Pairs}
 use Rattle.accounts.proofs.Lists.{flat_map_both}
 use Rattle.accounts.proofs.Often.{often_same, often_then}
 use Rattle.event_tree.specs.declared.input_rule.IdentityRule.TheVariants.{Path}
@@ -14,16 +14,15 @@ use Rattle.harvester.specs.declared.stage.Stage.TheVariants as stage
 use Rattle.lanes.specs.Done.{IsDone}
 use Rattle.lanes.specs.Laning.{Laning}
 use Rattle.lanes.specs.Step.{Step, issued_in, noted_in}
-use Rattle.lanes.specs.Step as steps
 use Rattle.lanes.specs.declared.run.When.{When}
 use Rattle.mem_queue.specs.BoundedQueue.{BoundedQueue}
 use Rattle.outside.specs.Folders.{FolderHistory}
 use Rattle.outside.specs.Times.{GivesMoment}
-use Rattle.pass_sums.specs.Weight.{AsOften, weigh}
+use Rattle.pass_sums.specs.Weight.{AsOften}
 use Rattle.pass_sums.proofs.Weights.{weigh-append}
 use Rattle.keeper.specs.Keeping.{held_in}
-use Rattle.rounds.specs.Books.{Heard, Told, flat}
-use Rattle.rounds.specs.Crewed.{bare_lanes, lanings}
+use Rattle.rounds.specs.Books.{Heard, flat}
+use Rattle.rounds.specs.Crewed.{lanings}
 use Rattle.rounds.specs.Crewing.{Crewing, crew_of}
 use Rattle.rounds.specs.Images.{TurnsLeave}
 use Rattle.rounds.specs.KeeperTurns.{storing_state}
@@ -32,20 +31,19 @@ use Rattle.rounds.specs.Placed.{GoesOn, IsPlacedAfter}
 use Rattle.rounds.specs.RoundKeeps.{RoundKeeps}
 use Rattle.rounds.specs.Rounds.{Rounds}
 use Rattle.rounds.specs.Settled.{spans_told}
-use Rattle.rounds.specs.Words.{DiskWords, Words}
+use Rattle.rounds.specs.Words.{Words}
 use Rattle.rounds.specs.declared.answer.Round.{Round}
 use Rattle.settle_box.specs.BoundedBox.{BoundedBox}
 use Rattle.settle_box.specs.Senders.{notes}
 use Rattle.ship_core.specs.Orderly.{AreOrderly}
 use Rattle.wire_base.specs.declared.note.Note.{Note}
 use Rattle.wire_base.specs.declared.numbers.Slot.{Slot}
-use Rattle.wire_base.specs.declared.parcel.Parcel.{Parcel}
 use Rattle.wire_base.specs.declared.row.Row.{Row}
 use Rattle.run_steps.specs.Areas.{BeganAtRest, HaveHeldFronts, IsAtRest}
 use Rattle.run_steps.specs.Began.{Began}
 use Rattle.run_steps.specs.Begun.{IsKeyedByPath, IsOpenedAsListed}
 use Rattle.run_steps.specs.RunState.{Finished, Phase, Reading, RunState}
-use Rattle.run_steps.specs.Shown.{HasDone, HasShown, IsTurnedIn}
+use Rattle.run_steps.specs.Shown.{HasShown}
 use Rattle.run_steps.specs.SoFar.{Left, SoFar, files_in}
 use Rattle.run_steps.specs.Stands.{AreCounted, AreEachOnce, AreNoted, AreTurnedIn, Further, HaveGiven, IsLeftSo, IsReading, Stands, TellIn}
 use Rattle.run_steps.proofs.Areas.{areas_by_turns, areas_on}

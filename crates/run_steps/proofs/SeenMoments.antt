@@ -1,9 +1,9 @@
 -- Where the keeper was told of all moments, it was told when each file was changed that was begun.
-use Rattle.std.proofs.Common.{◌≡◌, ◌⊎◌, inl, inr, ⊎_elim, ℕ, zero, suc, ◌+◌, ◌≤◌, ◌<◌, ◌==◌, min, Bool, true, false, ◌||◌, List, [], ◌∷◌, ◌++◌, Contains, length, map, append-nil, Option, Some, None, IsSome, IfSome, refl, sym, ap, subst, ◌∙◌, arith, if◌then◌else◌}
+use Rattle.std.proofs.Common.{◌≡◌, ◌⊎◌, inl, inr, ⊎_elim, ℕ, zero, suc, ◌+◌, ◌≤◌, ◌<◌, ◌==◌, Bool, true, false, ◌||◌, List, [], ◌∷◌, ◌++◌, Contains, map, append-nil, Option, Some, None, IsSome, IfSome, refl, sym, ap, subst, ◌∙◌, arith, if◌then◌else◌}
 use Rattle.std.proofs.lemmas.Bool.{eq-eqb}
 use Rattle.std.proofs.lemmas.List.Elements.{Contains-append_cases, Contains-append_left, Contains-append_right}
 use Rattle.std.specs.Prelude.{slice_get}
-use Rattle.std.specs.List.{AllByRecursion, filter_map, list_any}
+use Rattle.std.specs.List.{AllByRecursion, list_any}
 use Rattle.std.specs.Option.{option_and_then, option_map}
 use Rattle.accounts.specs.Opened.{Opened}
 use Rattle.keeper.specs.Keeping.{Keeping}
@@ -15,19 +15,16 @@ use Rattle.rounds.specs.Words.{Words}
 use Rattle.rounds.specs.declared.crew.Crew.{Crew}
 use Rattle.ship_core.proofs.Members.{first_there, later_there, none_there, there_cases}
 use Rattle.ship_core.specs.Orderly.{AreOrderly}
-use Rattle.ship_core.specs.RowOver.{Start, first_start, forgets, is_gone, notes_of, place_over, row_of, slot_of, standing_row, start_of, start_over}
+use Rattle.ship_core.specs.RowOver.{Start, forgets, is_gone, notes_of, place_over, row_of, slot_of, standing_row, start_over}
 use Rattle.wire_base.specs.declared.note.Begin.{Begin as Beginning}
 use Rattle.wire_base.specs.declared.note.Note.{Note}
-use Rattle.wire_base.specs.declared.note.Note.TheVariants.{Begin, Seen}
-use Rattle.wire_base.specs.declared.numbers.Moment.{Moment}
-use Rattle.wire_base.specs.declared.numbers.Slot.{Slot}
+use Rattle.wire_base.specs.declared.note.Note.TheVariants.{Seen}
 use Rattle.wire_base.specs.declared.row.Row.{Row}
 use Rattle.run_steps.specs.Began.{Began}
 use Rattle.run_steps.specs.Begun.{AreAllSeen, IsSeenOf, moment_noted, noted_begin}
 use Rattle.run_steps.specs.RunState.{Phase}
 use Rattle.run_steps.specs.SoFar.{files_in}
 use Rattle.run_steps.specs.Telling.{IsNotFollowed, TellMoments, TellsMoment, seen_note}
-use Rattle.run_steps.proofs.BeginningOne.{at_phase}
 use Rattle.run_steps.proofs.Members.{member_is}
 use Rattle.run_steps.proofs.Notes.{moments_are_told}
 use Rattle.run_steps.proofs.Ordering.{all_in_epochs, notes_are_orderly}

@@ -1,5 +1,5 @@
 -- A crew as it is made may make rounds, and what stands of a run stands as it sets out and once its files are begun.
-use Rattle.std.proofs.Common.{◌≡◌, ◌≢◌, ℕ, ◌≤◌, ◌+◌, All, List, [], ◌∷◌, ◌++◌, length, map, take, drop, Option, Some, None, IfSome, IsSome, Result, Ok, Err, IfOk, IfErr, Vec, Global, refl, sym, ap, subst, ◌∙◌, arith}
+use Rattle.std.proofs.Common.{◌≡◌, ◌≢◌, ℕ, ◌≤◌, ◌+◌, All, List, [], ◌∷◌, ◌++◌, length, map, take, drop, Option, None, IfSome, IsSome, Result, Ok, Err, IfOk, IfErr, Vec, Global, refl, sym, ap, subst, ◌∙◌, arith}
 use Rattle.std.specs.List.{AllByRecursion}
 use Rattle.std.proofs.Math.Seq.{take-append_seam}
 use Rattle.std.proofs.lemmas.List.{length-map, length-append, take-append-drop}

@@ -1,5 +1,5 @@
 -- The last steps of a run keep what stands of it.
-use Rattle.std.proofs.Common.{◌≡◌, ◌≢◌, ◌⊎◌, ℕ, ◌+◌, ◌<◌, ◌≤◌, ◌^◌, ◌-◌, List, [], ◌∷◌, ◌++◌, All, map, append-nil, Option, Some, None, IsSome, IfSome, refl, sym, ap, subst, ◌∙◌, arith}
+use Rattle.std.proofs.Common.{◌≡◌, ◌≢◌, ℕ, ◌<◌, ◌≤◌, ◌^◌, ◌-◌, List, [], ◌∷◌, ◌++◌, All, append-nil, Option, Some, None, IsSome, IfSome, refl, sym, subst, ◌∙◌, arith}
 use Rattle.std.proofs.lemmas.List.Elements.{All-from_recursion, recursion_from_All}
 use Rattle.std.specs.List.{AllByRecursion, flat_map}
 use Rattle.accounts.specs.Opened.{Opened}
@@ -15,7 +15,7 @@ use Rattle.outside.specs.Folders.{FolderHistory}
 use Rattle.pass_sums.specs.Weight.{AsOften}
 use Rattle.keeper.specs.Collecting.{Collects}
 use Rattle.keeper.specs.Keeping.{Keeping, held_in}
-use Rattle.rounds.specs.Books.{Heard, flat}
+use Rattle.rounds.specs.Books.{flat}
 use Rattle.rounds.specs.Crewed.{lanings}
 use Rattle.rounds.specs.Crewing.{Crewing}
 use Rattle.rounds.specs.Images.{TurnsLeave}
@@ -29,13 +29,12 @@ use Rattle.settle_box.specs.BoundedBox.{BoundedBox}
 use Rattle.settle_box.specs.Senders.{notes}
 use Rattle.ship_core.specs.Orderly.{AreOrderly}
 use Rattle.wire_base.specs.declared.note.Note.{Note}
-use Rattle.wire_base.specs.declared.parcel.Parcel.{Parcel}
 use Rattle.wire_base.specs.declared.row.Row.{Row}
 use Rattle.run_steps.specs.Areas.{BeganAtRest, HaveHeldFronts, IsAtRest}
 use Rattle.run_steps.specs.Began.{Began}
 use Rattle.run_steps.specs.Ends.{IsAllSettled}
 use Rattle.run_steps.specs.Releasing.{HasNoHarvesters}
-use Rattle.run_steps.specs.RunState.{Phase, Reading}
+use Rattle.run_steps.specs.RunState.{Phase}
 use Rattle.run_steps.specs.Shown.{HasShown}
 use Rattle.run_steps.specs.SoFar.{SoFar, files_in}
 use Rattle.run_steps.specs.Stands.{AreNoted, AreTurnedIn, Further, HaveGiven, Stands}

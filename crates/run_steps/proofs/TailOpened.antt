@@ -1,5 +1,5 @@
 -- A tail that a run opened: what it tells of its file, and what was told of the file before its first look.
-use Rattle.std.proofs.Common.{◌≡◌, ℕ, List, [], ◌∷◌, ◌++◌, length, Option, Some, None, IfSome, Ok, refl, sym, ap, subst, ◌∙◌, arith}
+use Rattle.std.proofs.Common.{◌≡◌, ℕ, List, [], length, Option, Some, None, IfSome, Ok, refl, sym, ap, subst}
 use Rattle.std.specs.Prelude.{slice_get}
 use Rattle.accounts.specs.Opened.{IsTailOf, Opened as OpenedFile}
 use Rattle.accounts.specs.ToldFile.{IsHistoryOf, IsToldFile}
@@ -14,7 +14,7 @@ use Rattle.harvester.specs.Looked.{AreLookedAt}
 use Rattle.harvester.specs.Standing.{EndsAt}
 use Rattle.harvester.proofs.HasToldGiven.{looked_at_opening}
 use Rattle.outside.specs.Files.{File, sight_of}
-use Rattle.outside.specs.Folders.{FolderHistory, Opened, OpensFile, TellsOpening, with_event}
+use Rattle.outside.specs.Folders.{FolderHistory, Opened, TellsOpening, with_event}
 use Rattle.outside.specs.Tails.{TailHistory}
 use Rattle.outside.specs.declared.history.Look.{Look}
 use Rattle.outside.specs.declared.history.Shown.{Shown}

@@ -1,5 +1,5 @@
 -- A keeper that was told when files were changed: the run stands as before.
-use Rattle.std.proofs.Common.{◌≡◌, ◌⊎◌, inl, inr, ⊎_elim, ℕ, suc, ◌≤◌, ◌<◌, ◌^◌, ◌-◌, ◌==◌, min, Bool, true, false, List, [], ◌∷◌, ◌++◌, Contains, length, map, append-nil, append_assoc, Option, Some, None, IsSome, IfSome, refl, sym, ap, subst, ◌∙◌, arith, if◌then◌else◌}
+use Rattle.std.proofs.Common.{◌≡◌, inl, inr, ℕ, suc, ◌≤◌, ◌==◌, Bool, true, false, List, [], ◌∷◌, ◌++◌, Contains, map, append-nil, append_assoc, Option, Some, None, IsSome, IfSome, refl, sym, ap, subst, ◌∙◌, if◌then◌else◌}
 use Rattle.std.proofs.lemmas.Bool.{eqb-true}
 use Rattle.std.specs.Prelude.{slice_get}
 use Rattle.std.specs.List.{AllByRecursion, filter_map}
@@ -15,18 +15,17 @@ use Rattle.rounds.specs.declared.crew.Crew.{Crew}
 use Rattle.settle_box.specs.Senders.{notes}
 use Rattle.ship_core.proofs.Members.{first_there, later_there}
 use Rattle.ship_core.specs.Orderly.{IsBegun}
-use Rattle.ship_core.specs.RowOver.{Start, first_start, notes_of, start_of}
+use Rattle.ship_core.specs.RowOver.{first_start, notes_of, start_of}
 use Rattle.wire_base.specs.declared.note.Note.{Note}
 use Rattle.wire_base.specs.declared.note.Note.TheVariants.{Seen}
-use Rattle.wire_base.specs.declared.numbers.Moment.{Moment}
 use Rattle.wire_base.specs.declared.numbers.Slot.{Slot}
 use Rattle.run_steps.specs.Began.{Began}
 use Rattle.run_steps.specs.Begun.{AreBeginNotes, IsSeenOf, moment_noted, noted_begin}
-use Rattle.run_steps.specs.RunState.{Phase, RunState}
+use Rattle.run_steps.specs.RunState.{Phase}
 use Rattle.run_steps.specs.Shown.{HasShown}
 use Rattle.run_steps.specs.SoFar.{SoFar}
 use Rattle.run_steps.specs.Stands.{Stands}
-use Rattle.run_steps.specs.Telling.{TellMoments, TellsMoment, TellsNotes, TellsSeen, seen_note}
+use Rattle.run_steps.specs.Telling.{TellMoments, TellsMoment, TellsNotes, seen_note}
 use Rattle.run_steps.proofs.BeginningOne.{at_phase}
 use Rattle.run_steps.proofs.BegunNotes.{areas_more, counted_more, got_same, noted_more, stores_more}
 

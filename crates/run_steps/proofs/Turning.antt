@@ -1,8 +1,7 @@
 -- What the turns of a round keep of each harvester, lane by lane.
-use Rattle.std.proofs.Common.{◌≡◌, ◌≢◌, ◌⊎◌, inl, inr, ⊎_elim, ℕ, zero, suc, ◌||◌, true, List, [], ◌∷◌, ◌++◌, map, Option, Some, None, IsSome, refl, sym, ap, subst, ◌∙◌}
+use Rattle.std.proofs.Common.{◌≡◌, ◌≢◌, inr, ℕ, zero, suc, ◌||◌, List, [], ◌∷◌, ◌++◌, Option, Some, None, IsSome, refl, sym, ap, subst, ◌∙◌}
 use Rattle.std.specs.Prelude.{slice_get, slice_set}
 use Rattle.std.specs.List.{AllByRecursion}
-use Rattle.harvester.specs.HasTold.{HasTold, IsChanged}
 use Rattle.harvester.specs.History.{Changed, History, Over}
 use Rattle.harvester.specs.Standing.{stage_of}
 use Rattle.harvester.specs.TurnLooks.{AreOfTurn, LooksOn}
@@ -14,7 +13,7 @@ use Rattle.harvester.specs.declared.turn.Turn.{Turn}
 use Rattle.harvester.specs.declared.turn.Turn.TheVariants as turn
 use Rattle.lanes.specs.Laning.{Laning}
 use Rattle.lanes.specs.Step.{Step}
-use Rattle.lanes.specs.Steps.{IsMade, Run}
+use Rattle.lanes.specs.Steps.{Run}
 use Rattle.lanes.specs.Turned.{HasTurned, IsKnown}
 use Rattle.lanes.specs.declared.run.When.{When}
 use Rattle.outside.specs.Files.{File}
@@ -64,8 +63,7 @@ module _ {T : Type 0} (tails : TailWords T) (queue box : ℕ) (when : When) (Q :
   lanes_keep all (old ∷ olds) [] each are so = absurd are
   lanes_keep all (old ∷ olds) (new ∷ news) each are so =
       let keeps = are.0.keeps in
-      let parts = first_of_steps tails.numbers tails.told tails.faults Q P keeps.steps are.1 (subst (λ (l : List Step). AllByRecursion Q l) are.2 each) in
-      (
+      let parts = first_of_steps tails.numbers tails.told tails.faults Q P keeps.steps are.1 (subst (λ (l : List Step). AllByRecursion Q l) are.2 each) in (
         run_keeps tails.numbers tails.told tails.faults Q P keep keeps.steps old.harvesters new.harvesters parts.0 keeps.ran so.0,
         lanes_keep are.1 olds news parts.1 are.3 so.1,
       )

@@ -1,27 +1,23 @@
 -- What a run does behind the beginning of its files, step by step.
-use Rattle.std.proofs.Common.{◌≡◌, ◌≢◌, ◌⊎◌, inl, inr, ⊎_elim, ℕ, zero, suc, ◌+◌, ◌≤◌, ◌<◌, ◌^◌, ◌-◌, false, All, Any, List, [], ◌∷◌, ◌++◌, length, map, take, Option, Some, None, IfErr, IfOk, IfSome, Result, Ok, Err, Vec, refl, sym, ap, subst, ◌∙◌, arith}
-use Rattle.std.proofs.lemmas.List.Elements.{All-from_recursion, recursion_from_All}
+use Rattle.std.proofs.Common.{◌≡◌, ◌≢◌, ◌⊎◌, inl, inr, ⊎_elim, ℕ, zero, suc, ◌≤◌, ◌<◌, false, All, Any, List, [], ◌∷◌, ◌++◌, length, map, Option, Some, IfErr, IfOk, Result, Ok, Err, Vec, refl, sym, ap, subst, ◌∙◌, arith}
 use Rattle.std.specs.Prelude.{slice_get}
-use Rattle.std.specs.List.{AllByRecursion}
 use Rattle.std.specs.declared.alloc.Global.{Global}
 use Rattle.harvester.specs.HasTold.{begin_of}
 use Rattle.harvester.specs.declared.harvester.Harvester.{Harvester}
 use Rattle.lanes.specs.Laning.{Laning}
-use Rattle.lanes.specs.declared.lane.Lane.{Lane}
-use Rattle.outside.specs.Counts.{Rose, added_counts}
+use Rattle.outside.specs.Counts.{Rose}
 use Rattle.outside.specs.Folders.{FolderHistory}
 use Rattle.report.specs.declared.passing.Passing.{Passing}
 use Rattle.rounds.specs.Crewed.{lanings}
-use Rattle.rounds.specs.Crewing.{Crewing, crew_of, crewing}
+use Rattle.rounds.specs.Crewing.{crew_of, crewing}
 use Rattle.rounds.specs.Pairs.{SomeOf}
-use Rattle.rounds.specs.Settled.{AreSettledIn, IsDoneIn, IsEachSettled, spans_told}
+use Rattle.rounds.specs.Settled.{AreSettledIn, IsDoneIn, spans_told}
 use Rattle.rounds.specs.Settling.{ArePostsCounted}
 use Rattle.rounds.specs.Staying.{AreAsMany, HaveSlot, begins_of}
-use Rattle.rounds.specs.Words.{DiskWords, TailWords, Words}
+use Rattle.rounds.specs.Words.{DiskWords, Words}
 use Rattle.rounds.specs.declared.carrier.Carrier.{Carrier}
 use Rattle.rounds.specs.declared.crew.Crew.{Crew}
 use Rattle.rounds.specs.declared.storing.Storing.{Storing}
-use Rattle.keeper.specs.Keeping.{Keeping}
 use Rattle.wire_base.specs.declared.note.Begin.{Begin}
 use Rattle.wire_base.specs.declared.numbers.Slot.{Slot}
 use Rattle.run_steps.specs.Areas.{BeganAtRest, IsAtRest}
@@ -30,11 +26,10 @@ use Rattle.run_steps.specs.CarriersEnd.{EndsCarriers}
 use Rattle.run_steps.specs.Ends.{IsAllSettled}
 use Rattle.run_steps.specs.Met.{AreLeft}
 use Rattle.run_steps.specs.MetBy.{HasFaults, IsMetBy, IsOverOf, Since, SomeHarvester, phase_met}
-use Rattle.run_steps.specs.MetIn.{HasFailed}
 use Rattle.run_steps.specs.Onward.{Onward}
 use Rattle.run_steps.specs.Releasing.{CountsFaults, HasNoHarvesters, all_closings, harvesters_of, released, with_events}
 use Rattle.run_steps.specs.RunEnds.{HasEnded}
-use Rattle.run_steps.specs.RunState.{Finished, Phase, RunState, phase_left, within}
+use Rattle.run_steps.specs.RunState.{Finished, Phase, phase_left, within}
 use Rattle.run_steps.specs.Settling.{IsMetByStoring, Written}
 use Rattle.run_steps.specs.SoFar.{SoFar}
 use Rattle.run_steps.specs.Stands.{Further, Stands}

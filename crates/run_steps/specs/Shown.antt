@@ -3,12 +3,9 @@
 use Rattle.std.specs.Prelude.{◌≡◌, ◌⊎◌, ℕ, suc, ◌-◌, ◌≤◌, drop, List, [], ◌∷◌, ◌++◌, Contains, length, map, slice_get, Option, Some, None, IfSome}
 use Rattle.std.specs.List.{AllByRecursion, flat_map}
 use Rattle.accounts.specs.Opened.{Opened as OpenedFile}
-use Rattle.accounts.specs.Turned.{Turned}
 use Rattle.kept_rows.specs.Scans.{AreDistinct, StandInOrder}
 use Rattle.kept_rows.specs.Trace.{closing_in}
-use Rattle.outside.specs.Files.{File}
 use Rattle.outside.specs.Folders.{Closed, Event, FolderHistory, Listed, ListingFailed, NotThere, Opened, OpeningFailed}
-use Rattle.outside.specs.Tails.{TailHistory}
 use Rattle.outside.specs.declared.history.Look.{Look}
 use Rattle.outside.specs.declared.history.Sight.{Sight}
 use Rattle.run_steps.specs.SoFar.{Left, SoFar}

@@ -1,6 +1,6 @@
 -- What a run keeps from step to step (this project's profile): what it has told of its files, where each event of it is, what the
 -- keeper noted of it, and what the areas may hold. Each step leads from a state for which this stands to another one.
-use Rattle.std.specs.Prelude.{◌≡◌, ◌≢◌, ℕ, ◌^◌, ◌-◌, ◌<◌, min, List, [], ◌∷◌, ◌++◌, Contains, IsSome, count_by, length, map, Option}
+use Rattle.std.specs.Prelude.{◌≡◌, ◌≢◌, ℕ, ◌^◌, ◌-◌, ◌<◌, min, List, [], ◌++◌, Contains, IsSome, count_by, length, map}
 use Rattle.std.specs.List.{AllByRecursion, flat_map}
 use Rattle.accounts.specs.Opened.{Opened}
 use Rattle.accounts.specs.ToldFile.{IsToldFile, IsToldToItsEnd}

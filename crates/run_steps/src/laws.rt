@@ -7,5 +7,4 @@ pub(crate) fn disk_images_are_counted<D: Disk>()
     ensures reads { (disk : D) → IfSome (D.contents disk) (D.images disk) }
     ensures counts { (disk : D) (since : ℕ) (image : List ℕ) → since ≤ D.moment disk →
         D.images disk image → D.images_since disk since image }
-{
-}
+{}

@@ -1,9 +1,9 @@
-use Rattle.std.proofs.Common.{ℕ, List, ◌+◌, length, Vec, Global, subst, sym, ap, arith, ◌∙◌}
+use Rattle.std.proofs.Common.{List, length, Vec, Global, subst, sym, ap, arith, ◌∙◌}
 use Rattle.std.proofs.lemmas.List.Elements.{recursion_from_All}
 use Rattle.keeper.specs.Keeping.{Keeping}
 use Rattle.rounds.specs.Crewed.{lanings}
 use Rattle.rounds.specs.Making.{IsBegunLane}
-use Rattle.rounds.specs.Words.{disk_words, link_words, tail_words, wire_words, words, Words}
+use Rattle.rounds.specs.Words.{disk_words, link_words, tail_words, wire_words, words}
 use Rattle.rounds.specs.declared.carrier.Carrier.{Carrier}
 use Rattle.run_steps.specs.Beginning.{beginning}
 use Rattle.run_steps.specs.FolderSeen.{folder_words}
@@ -24,10 +24,10 @@ work-requires-clause-ready g c κs within =
     let old = beginning names c.args.around.now.folder.now c.in_ok-crew.crew c.args.storing.now.keeper in
     let new = beginning names c.begin_all-begun.new.folder c.begin_all-begun.new.crew c.begin_all-begun.new.keeper in
     let first = first_ready g.L.Link.told queue desk c.args.context.settings.now c.args.around.now.wires.now.items c.crew_of.new.wires.items c.in_ok-crew.crew c.in_ok-crew.ensures.begun
-        tails c.args.storing.now c.requires.settings c.requires.keeper in
+    tails c.args.storing.now c.requires.settings c.requires.keeper in
     let ready = ready_begun tails c.args.context.settings.now c.args.scanned.now.now queue desk c.args.storing.now.a c.args.storing.now.b c.args.scanned.now.listed.items c.begin_all-begun.result old new
-        c.begin_all-begun.ensures.begun c.begin_all-begun.ensures.ended
-        (record { able = record { some_lanes = first.able.some_lanes; some_carriers = first.able.some_carriers; have = first.able.have; lanes = first.able.lanes; pass = first.able.pass }; is_open = first.is_open }) in
+    c.begin_all-begun.ensures.begun c.begin_all-begun.ensures.ended
+    (record { able = record { some_lanes = first.able.some_lanes; some_carriers = first.able.some_carriers; have = first.able.have; lanes = first.able.lanes; pass = first.able.pass }; is_open = first.is_open }) in
     record {
       able = record { some_lanes = ready.able.some_lanes; some_carriers = ready.able.some_carriers; have = ready.able.have; lanes = ready.able.lanes; pass = ready.able.pass };
       is_open = ready.is_open;
@@ -36,7 +36,7 @@ work-requires-clause-ready g c κs within =
 pub work-requires-clause-room : goal.work-requires-clause-room
 work-requires-clause-room g c κs within =
     let fit = wires_fit g.L.Link.told c.args.context.outlets.queue.now.id c.args.context.outlets.desk.now.id c.args.context.settings.now c.args.around.now.wires.now.items c.crew_of.new.wires.items
-        c.in_ok-crew.crew c.in_ok-crew.ensures.begun in
+    c.in_ok-crew.crew c.in_ok-crew.ensures.begun in
     let carriers = ap (λ (v : _). length v.items) c.begin_all-begun.ensures.kept.carriers in
     omega (arith, fit, carriers, c.begin_all-begun.new.crew.carriers.ok, c.in_ok-crew.crew.carriers.ok, c.crew_of.new.wires.ok, c.args.around.now.wires.now.ok, c.crew_of.ensures.capacity)
 
@@ -45,26 +45,39 @@ returns-clause-ends g c earlier sets =
     let queue = c.args.context.outlets.queue.now.id in
     let desk = c.args.context.outlets.desk.now.id in
     let all = words (tail_words g.F.Tail.Tail.numbers g.F.Tail.Tail.told g.F.Tail.Tail.faults) (link_words g.L.Link.told g.L.Link.faults g.L.Link.idles)
-        (wire_words g.W.Wire.outcomes g.W.Wire.open_links g.W.Wire.faults g.W.Wire.idles)
-        (disk_words g.D.Disk.contents g.D.Disk.images g.D.Disk.moment g.D.Disk.images_since g.D.Disk.faults) in
+    (wire_words g.W.Wire.outcomes g.W.Wire.open_links g.W.Wire.faults g.W.Wire.idles)
+    (disk_words g.D.Disk.contents g.D.Disk.images g.D.Disk.moment g.D.Disk.images_since g.D.Disk.faults) in
     let names = folder_words g.F.Folder.told g.F.Folder.states g.F.Folder.present g.F.Folder.open_tails g.F.Folder.faults in
     let old = beginning names c.args.around.now.folder.now c.in_ok-crew.crew c.args.storing.now.keeper in
     let new = beginning names c.begin_all-begun.new.folder c.begin_all-begun.new.crew c.begin_all-begun.new.keeper in
     let stood = further all c.disk_images_are_counted.ensures.reads c.disk_images_are_counted.ensures.counts queue desk c.args.context.settings.now c.args.scanned.now.listed.items c.args.scanned.now.now
-        (g.K.Clock.moments c.args.around.now.clock.now) c.args.around.now.wires.now.items c.crew_of.new.wires.items c.args.storing.now.a.now c.args.storing.now.b.now old earlier
-        c.in_ok-crew.ensures.begun c.requires.keeper sets c.begin_all-begun.result new c.begin_all-begun.ensures.begun c.begin_all-begun.ensures.ended in
+    (g.K.Clock.moments c.args.around.now.clock.now) c.args.around.now.wires.now.items c.crew_of.new.wires.items c.args.storing.now.a.now c.args.storing.now.b.now old earlier
+    c.in_ok-crew.ensures.begun c.requires.keeper sets c.begin_all-begun.result new c.begin_all-begun.ensures.begun c.begin_all-begun.ensures.ended in
     let at_rest = rests all c.disk_images_are_counted.ensures.reads c.disk_images_are_counted.ensures.counts queue desk c.args.context.settings.now c.args.scanned.now.listed.items c.args.scanned.now.now
-        (g.K.Clock.moments c.args.around.now.clock.now) c.args.around.now.wires.now.items c.crew_of.new.wires.items c.args.storing.now.a.now c.args.storing.now.b.now old earlier
-        c.in_ok-crew.ensures.begun c.requires.keeper sets c.begin_all-begun.result new c.begin_all-begun.ensures.begun c.begin_all-begun.ensures.ended in
+    (g.K.Clock.moments c.args.around.now.clock.now) c.args.around.now.wires.now.items c.crew_of.new.wires.items c.args.storing.now.a.now c.args.storing.now.b.now old earlier
+    c.in_ok-crew.ensures.begun c.requires.keeper sets c.begin_all-begun.result new c.begin_all-begun.ensures.begun c.begin_all-begun.ensures.ended in
     let left = wires_left g.L.Link.told queue desk c.args.context.settings.now c.args.around.now.wires.now.items c.crew_of.new.wires.items c.in_ok-crew.crew c.in_ok-crew.ensures.begun in
     let start = began_with all.wires (record {
-        settings = c.args.context.settings.now; listed = c.args.scanned.now.listed.items; moment = c.args.scanned.now.now.0; shown = g.F.Folder.told c.args.around.now.folder.now;
-        moments = g.K.Clock.moments c.args.around.now.clock.now; wires = c.args.around.now.wires.now.items; keeper = c.args.storing.now.keeper;
-        a = c.args.storing.now.a.now; b = c.args.storing.now.b.now }) earlier in
+      settings = c.args.context.settings.now;
+      listed = c.args.scanned.now.listed.items;
+      moment = c.args.scanned.now.now.0;
+      shown = g.F.Folder.told c.args.around.now.folder.now;
+      moments = g.K.Clock.moments c.args.around.now.clock.now;
+      wires = c.args.around.now.wires.now.items;
+      keeper = c.args.storing.now.keeper;
+      a = c.args.storing.now.a.now;
+      b = c.args.storing.now.b.now;
+    }) earlier in
     subst
     (λ (unused : List g.row.W.Denot). (phase : Phase) × HasEnded all start
-    (record { shown = g.F.Folder.told c.work.new.around.folder.now; moments = g.K.Clock.moments c.work.new.around.clock.now; keeper = c.work.new.storing.keeper;
-        a = c.work.new.storing.a.now; b = c.work.new.storing.b.now; phase = phase })
+    (record {
+      shown = g.F.Folder.told c.work.new.around.folder.now;
+      moments = g.K.Clock.moments c.work.new.around.clock.now;
+      keeper = c.work.new.storing.keeper;
+      a = c.work.new.storing.a.now;
+      b = c.work.new.storing.b.now;
+      phase = phase;
+    })
     c.work.result.met unused c.work.new.around.wires.now.items)
     (sym left) (c.work.ensures.ends start stood.so_far stood.stands at_rest)
 
@@ -73,27 +86,40 @@ returns-clause-accounted g c earlier folder sets has clock_tells wires_tell =
     let queue = c.args.context.outlets.queue.now.id in
     let desk = c.args.context.outlets.desk.now.id in
     let all = words (tail_words g.F.Tail.Tail.numbers g.F.Tail.Tail.told g.F.Tail.Tail.faults) (link_words g.L.Link.told g.L.Link.faults g.L.Link.idles)
-        (wire_words g.W.Wire.outcomes g.W.Wire.open_links g.W.Wire.faults g.W.Wire.idles)
-        (disk_words g.D.Disk.contents g.D.Disk.images g.D.Disk.moment g.D.Disk.images_since g.D.Disk.faults) in
+    (wire_words g.W.Wire.outcomes g.W.Wire.open_links g.W.Wire.faults g.W.Wire.idles)
+    (disk_words g.D.Disk.contents g.D.Disk.images g.D.Disk.moment g.D.Disk.images_since g.D.Disk.faults) in
     let names = folder_words g.F.Folder.told g.F.Folder.states g.F.Folder.present g.F.Folder.open_tails g.F.Folder.faults in
     let old = beginning names c.args.around.now.folder.now c.in_ok-crew.crew c.args.storing.now.keeper in
     let new = beginning names c.begin_all-begun.new.folder c.begin_all-begun.new.crew c.begin_all-begun.new.keeper in
     let stood = further all c.disk_images_are_counted.ensures.reads c.disk_images_are_counted.ensures.counts queue desk c.args.context.settings.now c.args.scanned.now.listed.items c.args.scanned.now.now
-        (g.K.Clock.moments c.args.around.now.clock.now) c.args.around.now.wires.now.items c.crew_of.new.wires.items c.args.storing.now.a.now c.args.storing.now.b.now old earlier
-        c.in_ok-crew.ensures.begun c.requires.keeper sets c.begin_all-begun.result new c.begin_all-begun.ensures.begun c.begin_all-begun.ensures.ended in
+    (g.K.Clock.moments c.args.around.now.clock.now) c.args.around.now.wires.now.items c.crew_of.new.wires.items c.args.storing.now.a.now c.args.storing.now.b.now old earlier
+    c.in_ok-crew.ensures.begun c.requires.keeper sets c.begin_all-begun.result new c.begin_all-begun.ensures.begun c.begin_all-begun.ensures.ended in
     let at_rest = rests all c.disk_images_are_counted.ensures.reads c.disk_images_are_counted.ensures.counts queue desk c.args.context.settings.now c.args.scanned.now.listed.items c.args.scanned.now.now
-        (g.K.Clock.moments c.args.around.now.clock.now) c.args.around.now.wires.now.items c.crew_of.new.wires.items c.args.storing.now.a.now c.args.storing.now.b.now old earlier
-        c.in_ok-crew.ensures.begun c.requires.keeper sets c.begin_all-begun.result new c.begin_all-begun.ensures.begun c.begin_all-begun.ensures.ended in
+    (g.K.Clock.moments c.args.around.now.clock.now) c.args.around.now.wires.now.items c.crew_of.new.wires.items c.args.storing.now.a.now c.args.storing.now.b.now old earlier
+    c.in_ok-crew.ensures.begun c.requires.keeper sets c.begin_all-begun.result new c.begin_all-begun.ensures.begun c.begin_all-begun.ensures.ended in
     let start = began_with all.wires (record {
-        settings = c.args.context.settings.now; listed = c.args.scanned.now.listed.items; moment = c.args.scanned.now.now.0; shown = g.F.Folder.told c.args.around.now.folder.now;
-        moments = g.K.Clock.moments c.args.around.now.clock.now; wires = c.args.around.now.wires.now.items; keeper = c.args.storing.now.keeper;
-        a = c.args.storing.now.a.now; b = c.args.storing.now.b.now }) earlier in
+      settings = c.args.context.settings.now;
+      listed = c.args.scanned.now.listed.items;
+      moment = c.args.scanned.now.now.0;
+      shown = g.F.Folder.told c.args.around.now.folder.now;
+      moments = g.K.Clock.moments c.args.around.now.clock.now;
+      wires = c.args.around.now.wires.now.items;
+      keeper = c.args.storing.now.keeper;
+      a = c.args.storing.now.a.now;
+      b = c.args.storing.now.b.now;
+    }) earlier in
     let is = c.work.ensures.ends start stood.so_far stood.stands at_rest in
     accounted all c.disk_images_are_counted.ensures.reads c.disk_images_are_counted.ensures.counts queue desk c.args.context.settings.now c.args.scanned.now.listed.items c.args.scanned.now.now
     (g.K.Clock.moments c.args.around.now.clock.now) c.args.around.now.wires.now.items c.crew_of.new.wires.items c.args.storing.now.a.now c.args.storing.now.b.now old earlier
     c.in_ok-crew.ensures.begun c.requires.keeper sets c.begin_all-begun.result new c.begin_all-begun.ensures.begun c.begin_all-begun.ensures.ended
-    (record { shown = g.F.Folder.told c.work.new.around.folder.now; moments = g.K.Clock.moments c.work.new.around.clock.now; keeper = c.work.new.storing.keeper;
-        a = c.work.new.storing.a.now; b = c.work.new.storing.b.now; phase = is.0 })
+    (record {
+      shown = g.F.Folder.told c.work.new.around.folder.now;
+      moments = g.K.Clock.moments c.work.new.around.clock.now;
+      keeper = c.work.new.storing.keeper;
+      a = c.work.new.storing.a.now;
+      b = c.work.new.storing.b.now;
+      phase = is.0;
+    })
     c.work.result.met c.work.new.around.wires.now.items is.1 folder has clock_tells wires_tell c.one_choice.ensures c.work.ensures.done_only_where_begun c.work.ensures.collects
     (ap (λ (k : Keeping). k.held) c.begin_all-begun.ensures.kept.keeper ∙ ap (λ (k : Keeping). k.held) c.requires.keeper.is) c.work.ensures.told.0 c.work.ensures.told.1
 

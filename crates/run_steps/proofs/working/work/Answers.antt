@@ -95,8 +95,8 @@ returns-clause-ends g c start so_far stands began =
 pub returns-clause-done_only_where_begun : goal.returns-clause-done_only_where_begun
 returns-clause-done_only_where_begun g c =
     let all = words (tail_words g.F.Tail.Tail.numbers g.F.Tail.Tail.told g.F.Tail.Tail.faults) (link_words g.L.Link.told g.L.Link.faults g.L.Link.idles)
-        (wire_words g.W.Wire.outcomes g.W.Wire.open_links g.W.Wire.faults g.W.Wire.idles)
-        (disk_words g.D.Disk.contents g.D.Disk.images g.D.Disk.moment g.D.Disk.images_since g.D.Disk.faults) in
+    (wire_words g.W.Wire.outcomes g.W.Wire.open_links g.W.Wire.faults g.W.Wire.idles)
+    (disk_words g.D.Disk.contents g.D.Disk.images g.D.Disk.moment g.D.Disk.images_since g.D.Disk.faults) in
     let one = c.follow_begun-worked.new.crew in
     let first = c.follow_begun-worked.new.storing in
     let met = c.follow_begun-worked.result.met in
@@ -104,7 +104,7 @@ returns-clause-done_only_where_begun g c =
     let since : Since g.row.F-Tail.Denot g.row.W.Denot g.row.L.Denot g.row.D.Denot = record { a = c.args.storing.now.a.now; b = c.args.storing.now.b.now; now = crewing one first } in
     not_done_by c.args.begun met now c.requires.begins (first_met all c.args.context.settings.now.output.attempts since c.args.begun met c.follow_begun-worked.ensures.met)
     (λ is. done_before all.disks (record { a = first.a.now; b = first.b.now; new_a = c.settle_after-worked.new.storing.a.now; new_b = c.settle_after-worked.new.storing.b.now }) met now
-        c.settle_after-worked.ensures.met is)
+    c.settle_after-worked.ensures.met is)
 
 pub returns-clause-cause : goal.returns-clause-cause
 returns-clause-cause g c =
