@@ -54,6 +54,7 @@ pub mod RunFits
 pub mod RunNotes
 pub mod RunRows
 pub mod RunServed
+pub mod RunTails
 pub mod RunToldOf
 pub mod RunWires
 pub mod ScanOf

@@ -1,4 +1,4 @@
-ghost use Rattle.std.specs.Prelude.{◌≡◌, ◌≤◌, All, IfOk, IsSome, OnErr, Some, drop, length, map, vec_len};
+ghost use Rattle.std.specs.Prelude.{◌≡◌, ◌≤◌, ◌+◌, ◌-◌, ◌^◌, ◌<◌, All, IfOk, IsSome, OnErr, Some, drop, length, map, vec_len};
 ghost use Rattle.std.specs.List.{AllByRecursion};
 ghost use Rattle.beat_config.specs.InRange.{AreInRange};
 ghost use Rattle.prospect.specs.ListedFiles.{IsListedInRange};
@@ -173,6 +173,11 @@ where
           folder_faults = F.faults around.new.folder.now;
           rings = B.rings around.new.bell.now;
         }) worked.met) }
+    ensures as_many_wires { length around.new.wires.now.items
+        ≡ length around.old.wires.now.items }
+    ensures tails_closed { F.open_tails around.old.folder.now
+        + length scanned.entry.now.listed.items < 2 ^ 64 - 1 →
+        F.open_tails around.new.folder.now ≡ F.open_tails around.old.folder.now }
     ensures untouched { OnErr result ((storing.new ≡ storing.old)
         × (around.new.folder.now ≡ around.old.folder.now)
         × (around.new.clock.now ≡ around.old.clock.now)

@@ -16,7 +16,7 @@ ghost use Rattle.run_steps.specs.Ends.{IsAllSettled};
 ghost use Rattle.run_steps.specs.Met.{AreLeft};
 ghost use Rattle.run_steps.specs.MetBy.{IsMetBy};
 ghost use Rattle.run_steps.specs.Onward.{Onward};
-ghost use Rattle.run_steps.specs.Releasing.{HasNoHarvesters, with_events};
+ghost use Rattle.run_steps.specs.Releasing.{HasNoHarvesters, harvesters_of, with_events};
 ghost use Rattle.run_steps.specs.RunEnds.{HasEnded};
 ghost use Rattle.run_steps.specs.RunState.{Phase, within};
 ghost use Rattle.run_steps.specs.Settling.{IsMetByStoring};
@@ -96,6 +96,10 @@ where
     // The folder's list grows.
     ensures told { (events : List Event) ×
         (F.told around.new.folder.now ≡ with_events events (F.told around.old.folder.now)) }
+    ensures open_tails { F.open_tails around.new.folder.now
+        ≡ F.open_tails around.old.folder.now - length (harvesters_of (lanings crew.lanes.items)) }
+    ensures as_many_wires { length around.new.wires.now.items
+        ≡ length crew.carriers.items + length around.old.wires.now.items }
     ensures done_only_where_begun { IfErr begun (λ _. result.met ≢ Done) }
     ensures passed { HasPassed begun result.passed.items }
     ensures cause { IsBegunWith begun result.met ⊎ IsWorkedBy crew

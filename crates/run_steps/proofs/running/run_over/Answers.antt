@@ -12,6 +12,7 @@ use Rattle.run_steps.specs.RunEnds.{HasEnded}
 use Rattle.run_steps.specs.RunState.{Phase}
 use Rattle.run_steps.proofs.BegunReady.{ready_begun}
 use Rattle.run_steps.proofs.RunCauses.{met_by_run, no_slots}
+use Rattle.run_steps.proofs.RunTails.{none_begun}
 use Rattle.run_steps.proofs.SettingOut.{accounted, first_ready, further, rests, wires_fit, wires_left}
 use Rattle.run_steps.proofs.running.run_over.Goals as goal
 
@@ -142,3 +143,18 @@ returns-clause-cause g c =
     kept.faults_never_fall (carriers ∙ begun.many_carriers)
     (kept.slots (no_slots (length c.args.scanned.now.listed.items) (lanings c.in_ok-crew.crew.lanes.items) (recursion_from_All IsBegunLane (lanings c.in_ok-crew.crew.lanes.items) begun.lanes)))
     c.begin_all-begun.result c.work.result.met c.begin_all-begun.ensures.ends c.work.ensures.never_fall.folder_faults c.work.ensures.cause
+
+pub returns-clause-tails_closed : goal.returns-clause-tails_closed
+returns-clause-tails_closed g c few =
+    let opened = c.begin_all-begun.ensures.kept.open_tails few in
+    let none = none_begun (lanings c.in_ok-crew.crew.lanes.items) (recursion_from_All IsBegunLane (lanings c.in_ok-crew.crew.lanes.items) c.in_ok-crew.ensures.begun.lanes) in
+    let closed = c.work.ensures.open_tails in
+    omega (arith, opened, none, closed)
+
+pub returns-clause-as_many_wires : goal.returns-clause-as_many_wires
+returns-clause-as_many_wires g c =
+    let fit = wires_fit g.L.Link.told c.args.context.outlets.queue.now.id c.args.context.outlets.desk.now.id c.args.context.settings.now c.args.around.now.wires.now.items c.crew_of.new.wires.items
+    c.in_ok-crew.crew c.in_ok-crew.ensures.begun in
+    let carriers = ap (λ (v : Vec (Carrier g.row.W.Denot g.row.L.Denot) Global). length v.items) c.begin_all-begun.ensures.kept.carriers in
+    let back = c.work.ensures.as_many_wires in
+    omega (arith, fit, carriers, back)

@@ -1,4 +1,4 @@
-use Rattle.std.proofs.Common.{◌≡◌, All, map, List, refl, sym, subst}
+use Rattle.std.proofs.Common.{◌≡◌, ◌-◌, All, map, List, refl, sym, subst, length, arith}
 use Rattle.keeper.proofs.InARow.{collects_more}
 use Rattle.lanes.specs.declared.lane.Lane.{Lane}
 use Rattle.rounds.specs.Crewed.{lanings}
@@ -11,6 +11,7 @@ use Rattle.run_steps.specs.RunState.{phase_left}
 use Rattle.run_steps.specs.Worked.{phase_worked}
 use Rattle.run_steps.specs.declared.met.Met.TheVariants.{Done}
 use Rattle.run_steps.proofs.Letting.{able_released, carriers_have_passes, lanes_have_passes, none_left, released_in}
+use Rattle.run_steps.proofs.RunTails.{as_many_harvesters, wires_back}
 use Rattle.run_steps.proofs.Whole.{cause, done_before, done_in, finished_by, first_met, has_ended, left_still, not_done_by}
 use Rattle.run_steps.proofs.working.work.Goals as goal
 
@@ -105,6 +106,22 @@ returns-clause-done_only_where_begun g c =
     not_done_by c.args.begun met now c.requires.begins (first_met all c.args.context.settings.now.output.attempts since c.args.begun met c.follow_begun-worked.ensures.met)
     (λ is. done_before all.disks (record { a = first.a.now; b = first.b.now; new_a = c.settle_after-worked.new.storing.a.now; new_b = c.settle_after-worked.new.storing.b.now }) met now
     c.settle_after-worked.ensures.met is)
+
+pub returns-clause-open_tails : goal.returns-clause-open_tails
+returns-clause-open_tails g c =
+    let one = c.follow_begun-worked.new.crew in
+    let closed = subst (λ (l : List (Lane g.row.F-Tail.Denot)). g.F.Folder.open_tails c.release_all.new.folder ≡ g.F.Folder.open_tails c.args.around.now.folder.now - length (harvesters_of (lanings l)))
+    c.as_mut_slice.ensures.value c.release_all.ensures.open_tails in
+    let same = as_many_harvesters (lanings c.args.crew.lanes.items) (lanings one.lanes.items) c.follow_begun-worked.ensures.slots in
+    omega (arith, closed, same)
+
+pub returns-clause-as_many_wires : goal.returns-clause-as_many_wires
+returns-clause-as_many_wires g c =
+    let back = wires_back (link_words g.L.Link.told g.L.Link.faults g.L.Link.idles) (wire_words g.W.Wire.outcomes g.W.Wire.open_links g.W.Wire.faults g.W.Wire.idles)
+    c.settle_after-worked.new.crew.carriers.items c.args.around.now.wires.now.items c.end_crew.new.wires.items c.end_crew.ensures.ended in
+    let first = c.follow_begun-worked.ensures.as_many.carriers in
+    let then = c.settle_after-worked.ensures.as_many.carriers in
+    omega (arith, back, first, then)
 
 pub returns-clause-cause : goal.returns-clause-cause
 returns-clause-cause g c =
