@@ -16,6 +16,7 @@ pub mod BegunReady
 pub mod Blank
 pub mod ByPath
 pub mod Causing
+pub mod Clocks
 pub mod Closing
 pub mod Ended
 pub mod Epochs

@@ -7,6 +7,7 @@ pub mod BeginsAll
 pub mod Begun
 pub mod BegunCrew
 pub mod CarriersEnd
+pub mod ClockOn
 pub mod Ends
 pub mod FolderSeen
 pub mod Met

@@ -9,6 +9,7 @@ ghost use Rattle.rounds.specs.Rounds.{IsAble, IsReady};
 ghost use Rattle.rounds.specs.Staying.{AreAsMany, begins_of};
 ghost use Rattle.rounds.specs.Words.{disk_words, link_words, tail_words, wire_words, words};
 ghost use Rattle.run_steps.specs.Areas.{IsAtRest};
+ghost use Rattle.run_steps.specs.ClockOn.{MomentsGoOn};
 ghost use Rattle.run_steps.specs.Met.{AreLeft};
 ghost use Rattle.run_steps.specs.MetBy.{GoesOn, IsMetBy, phase_met, phase_of};
 ghost use Rattle.run_steps.specs.Onward.{Onward};
@@ -83,6 +84,7 @@ pub fn make_round<
         ≡ begins_of (lanings crew.old.lanes.items) }
     ensures a_faults_never_fall { D.faults storing.old.a.now ≤ D.faults storing.new.a.now }
     ensures b_faults_never_fall { D.faults storing.old.b.now ≤ D.faults storing.new.b.now }
+    ensures clock_goes_on { MomentsGoOn (K.moments clock.old) (K.moments clock.new) }
     ensures collects { Collects storing.old.keeper storing.new.keeper }
     ensures same_areas { SameAreas storing.old storing.new }
 {
@@ -152,6 +154,8 @@ pub fn follow_all<
     ensures a_faults_never_fall { D.faults storing.old.a.now ≤ D.faults storing.new.a.now }
     ensures b_faults_never_fall { D.faults storing.old.b.now ≤ D.faults storing.new.b.now }
     ensures rings_never_fall { B.rings signals.old.bell.now ≤ B.rings signals.new.bell.now }
+    ensures clock_goes_on { MomentsGoOn (K.moments signals.old.clock.now)
+        (K.moments signals.new.clock.now) }
     ensures collects { Collects storing.old.keeper storing.new.keeper }
     ensures same_areas { SameAreas storing.old storing.new }
     ensures same_clock { signals.new.clock.ghost_name ≡ signals.old.clock.ghost_name }

@@ -9,6 +9,7 @@ ghost use Rattle.wire_base.specs.Ranges.{IsMoment};
 ghost use Rattle.run_steps.specs.AccountedFor.{AccountedFor};
 ghost use Rattle.run_steps.specs.BegunCrew.{AreFirstPasses};
 ghost use Rattle.run_steps.specs.BeginsAll.{IsOfInputs};
+ghost use Rattle.run_steps.specs.ClockOn.{MomentsGoOn};
 ghost use Rattle.run_steps.specs.Outset.{Earlier, IsFirstKeeper, SetsOut, began_with};
 ghost use Rattle.run_steps.specs.RunEnds.{HasEnded};
 ghost use Rattle.run_steps.specs.RunOf.{FolderTold};
@@ -173,6 +174,8 @@ where
           folder_faults = F.faults around.new.folder.now;
           rings = B.rings around.new.bell.now;
         }) worked.met) }
+    ensures clock_goes_on { MomentsGoOn (K.moments around.old.clock.now)
+        (K.moments around.new.clock.now) }
     ensures as_many_wires { length around.new.wires.now.items
         ≡ length around.old.wires.now.items }
     ensures tails_closed { F.open_tails around.old.folder.now

@@ -12,6 +12,7 @@ ghost use Rattle.rounds.specs.Staying.{AreAsMany, begins_of};
 ghost use Rattle.rounds.specs.Words.{disk_words, link_words, tail_words, wire_words, words};
 ghost use Rattle.run_steps.specs.Areas.{BeganAtRest, IsAtRest};
 ghost use Rattle.run_steps.specs.Began.{Began};
+ghost use Rattle.run_steps.specs.ClockOn.{MomentsGoOn};
 ghost use Rattle.run_steps.specs.Ends.{IsAllSettled};
 ghost use Rattle.run_steps.specs.Met.{AreLeft};
 ghost use Rattle.run_steps.specs.MetBy.{IsMetBy};
@@ -100,6 +101,8 @@ where
         ≡ F.open_tails around.old.folder.now - length (harvesters_of (lanings crew.lanes.items)) }
     ensures as_many_wires { length around.new.wires.now.items
         ≡ length crew.carriers.items + length around.old.wires.now.items }
+    ensures clock_goes_on { MomentsGoOn (K.moments around.old.clock.now)
+        (K.moments around.new.clock.now) }
     ensures done_only_where_begun { IfErr begun (λ _. result.met ≢ Done) }
     ensures passed { HasPassed begun result.passed.items }
     ensures cause { IsBegunWith begun result.met ⊎ IsWorkedBy crew
@@ -202,6 +205,8 @@ pub fn follow_begun<
     ensures a_faults_never_fall { D.faults storing.old.a.now ≤ D.faults storing.new.a.now }
     ensures b_faults_never_fall { D.faults storing.old.b.now ≤ D.faults storing.new.b.now }
     ensures rings_never_fall { B.rings signals.old.bell.now ≤ B.rings signals.new.bell.now }
+    ensures clock_goes_on { MomentsGoOn (K.moments signals.old.clock.now)
+        (K.moments signals.new.clock.now) }
     ensures collects { Collects storing.old.keeper storing.new.keeper }
     ensures same_areas { SameAreas storing.old storing.new }
     ensures same_clock { signals.new.clock.ghost_name ≡ signals.old.clock.ghost_name }

@@ -2,6 +2,7 @@ use Rattle.std.proofs.Common.{refl, ◌∙◌, arith}
 use Rattle.keeper.proofs.InARow.{collects_more, collects_none}
 use Rattle.rounds.specs.Words.{disk_words, link_words, tail_words, wire_words, words}
 use Rattle.run_steps.specs.RunState.{Reading, within}
+use Rattle.run_steps.proofs.Clocks.{clock_by_two, clock_stays}
 use Rattle.run_steps.proofs.Onward.{onward_by_nothing, onward_by_two}
 use Rattle.run_steps.proofs.reading.follow_all.Goals as goal
 use Rattle.run_steps.specs.MetBy.{phase_met}
@@ -23,6 +24,7 @@ loop-init g c =
       b_faults = omega arith;
       rings = omega arith;
       collects = collects_none c.args.storing.now.keeper;
+      clock = clock_stays (g.K.Clock.moments c.args.signals.now.clock.now);
       same_areas = record { a = refl; b = refl };
       same_clock = refl;
       same_bell = refl;
@@ -41,6 +43,10 @@ returns-in-Some-make_round-clause-onward g c shown =
 pub returns-in-Some-make_round-clause-collects : goal.returns-in-Some-make_round-clause-collects
 returns-in-Some-make_round-clause-collects g c =
     collects_more c.args.storing.now.keeper c.loop.storing.keeper c.make_round.new.storing.keeper c.loop.invariant.collects c.in-Some-make_round.ensures.collects
+
+pub returns-in-Some-make_round-clause-clock_goes_on : goal.returns-in-Some-make_round-clause-clock_goes_on
+returns-in-Some-make_round-clause-clock_goes_on g c =
+    clock_by_two (g.K.Clock.moments c.args.signals.now.clock.now) (g.K.Clock.moments c.loop.signals.clock.now) (g.K.Clock.moments c.make_round.new.clock) c.loop.invariant.clock c.in-Some-make_round.ensures.clock_goes_on
 
 pub loop-preserved : goal.loop-preserved
 loop-preserved g c =
@@ -64,6 +70,7 @@ loop-preserved g c =
       b_faults = let more = made.b_faults_never_fall in let were = kept.b_faults in omega (arith, more, were);
       rings = let more = c.asked.ensures.rings_never_fall in let were = kept.rings in omega (arith, more, were);
       collects = collects_more c.args.storing.now.keeper c.loop.storing.keeper c.make_round.new.storing.keeper kept.collects made.collects;
+      clock = clock_by_two (g.K.Clock.moments c.args.signals.now.clock.now) (g.K.Clock.moments c.loop.signals.clock.now) (g.K.Clock.moments c.make_round.new.clock) kept.clock made.clock_goes_on;
       same_areas = record { a = made.same_areas.a ∙ kept.same_areas.a; b = made.same_areas.b ∙ kept.same_areas.b };
       same_clock = kept.same_clock;
       same_bell = kept.same_bell;

@@ -7,6 +7,7 @@ use Rattle.rounds.specs.KeeperTurns.{SameAreas}
 use Rattle.rounds.specs.Rounds.{IsReady}
 use Rattle.rounds.specs.Staying.{AreAsMany, begins_of}
 use Rattle.rounds.specs.Words.{disk_words, link_words, tail_words, wire_words, words}
+use Rattle.run_steps.specs.ClockOn.{MomentsGoOn}
 use Rattle.run_steps.specs.Areas.{IsAtRest}
 use Rattle.run_steps.specs.Onward.{Onward}
 use Rattle.run_steps.specs.RunState.{Reading, within}
@@ -31,6 +32,7 @@ invariant-loop g l = record {
   a_faults : g.D.Disk.faults l.initial.storing.a.now ≤ g.D.Disk.faults l.storing.a.now;
   b_faults : g.D.Disk.faults l.initial.storing.b.now ≤ g.D.Disk.faults l.storing.b.now;
   rings : g.B.Bell.rings l.initial.signals.bell.now ≤ g.B.Bell.rings l.signals.bell.now;
+  clock : MomentsGoOn (g.K.Clock.moments l.initial.signals.clock.now) (g.K.Clock.moments l.signals.clock.now);
   collects : Collects l.initial.storing.keeper l.storing.keeper;
   same_areas : SameAreas l.initial.storing l.storing;
   same_clock : l.signals.clock.ghost_name ≡ l.initial.signals.clock.ghost_name;

@@ -3,6 +3,8 @@ use Rattle.outside.specs.Times.{GivesMoment}
 use Rattle.rounds.specs.Crewing.{crewing}
 use Rattle.rounds.specs.Words.{disk_words, link_words, tail_words, wire_words, words}
 use Rattle.run_steps.specs.MetBy.{phase_of}
+use Rattle.run_steps.specs.ClockOn.{MomentsGoOn}
+use Rattle.run_steps.proofs.Clocks.{clock_by_moment}
 use Rattle.run_steps.proofs.MetBy.{all_done, each_met, none_out, stored_well}
 use Rattle.run_steps.proofs.Onward.{round_onward}
 use Rattle.run_steps.proofs.reading.make_round.Goals as goal
@@ -57,3 +59,8 @@ returns-clause-met g c =
     each_met all c.args.context.outlets.queue.now c.args.context.outlets.desk.now (record { now = c.now-now.result; last = true }) (crewing c.args.crew.now c.args.storing.now)
     (crewing c.round-round.new.self c.round-round.new.storing) c.round-round.result c.requires.ready c.round-round.ensures.keeps c.args.context.settings.now.output.attempts
     c.met_in-met.result c.met_in-met.ensures
+
+pub returns-clause-clock_goes_on : goal.returns-clause-clock_goes_on
+returns-clause-clock_goes_on g c =
+    let gave = clock_by_moment (g.K.Clock.moments c.args.clock.now) c.now-now.result.0 (g.K.Clock.moments c.now-now.new.self) c.now-now.ensures.told in
+    subst (MomentsGoOn (g.K.Clock.moments c.args.clock.now)) (sym c.pause_where_still.ensures.moments_kept) gave

@@ -7,6 +7,7 @@ use Rattle.run_steps.specs.Onward.{Onward}
 use Rattle.run_steps.specs.RunState.{Leaving, Phase, within}
 use Rattle.run_steps.specs.Worked.{phase_begun, phase_worked}
 use Rattle.run_steps.specs.declared.met.Met.{Met}
+use Rattle.run_steps.proofs.Clocks.{clock_stays}
 use Rattle.run_steps.proofs.Onward.{onward_by_nothing}
 use Rattle.run_steps.proofs.working.follow_begun.Goals as goal
 
@@ -20,3 +21,6 @@ returns-in-Err-clause-onward g c shown =
 
 pub returns-in-Err-clause-collects : goal.returns-in-Err-clause-collects
 returns-in-Err-clause-collects g c = collects_none c.args.storing.now.keeper
+
+pub returns-in-Err-clause-clock_goes_on : goal.returns-in-Err-clause-clock_goes_on
+returns-in-Err-clause-clock_goes_on g c = clock_stays (g.K.Clock.moments c.args.signals.now.clock.now)
