@@ -101,8 +101,9 @@ pub record Finishes {L : Type 0} (told : L → Option Talk) (faults idles : L �
   pub no_outs : new.outs ≡ []
   pub unheard : new.heard.0 ≡ 0
 
--- it failed, or was found closed: its faults rose
-pub record IsFaulty {L : Type 0} (faults : L → ℕ) (link ended : L) : Type 0 where
+-- it failed, or was found closed: its faults rose, and its talk is the same
+pub record IsFaulty {L : Type 0} (told : L → Option Talk) (faults : L → ℕ) (link ended : L) : Type 0 where
+  pub same_talk : told ended ≡ told link
   pub rose : Rose (faults link) (faults ended)
   pub no_fewer : faults link ≤ faults ended
 
@@ -144,9 +145,9 @@ pub record IsTimedOut {L : Type 0} (told : L → Option Talk) (idles : L → ℕ
 -- by its cause
 abbrev pub FailsFor : {L : Type 0} → (L → Option Talk) → (L → ℕ) → (L → ℕ) → Seen → Seen → Moment → Working L → Working L → Failure → Type 0
 FailsFor told faults idles before after now old new Connect = IsRefused before after old
-FailsFor told faults idles before after now old new Send = Finishes told faults idles before after old new (IsFaulty faults)
-FailsFor told faults idles before after now old new Receive = Finishes told faults idles before after old new (IsFaulty faults)
-FailsFor told faults idles before after now old new Closed = Finishes told faults idles before after old new (IsFaulty faults)
+FailsFor told faults idles before after now old new Send = Finishes told faults idles before after old new (IsFaulty told faults)
+FailsFor told faults idles before after now old new Receive = Finishes told faults idles before after old new (IsFaulty told faults)
+FailsFor told faults idles before after now old new Closed = Finishes told faults idles before after old new (IsFaulty told faults)
 FailsFor told faults idles before after now old new (Peer at) = Finishes told faults idles before after old new (IsPeersFault told before old at)
 FailsFor told faults idles before after now old new (TimedOut since until) = Finishes told faults idles before after old new (IsTimedOut told idles now old since until)
 

@@ -77,7 +77,7 @@ returns-in-Closed g c = λ capacity.
     record {
       fails = fails_behind g.L.Link.told g.L.Link.faults g.L.Link.idles before after old mid c.fail-in-Closed.new.self c.args.now (faults_go g.L.Link.told g.L.Link.faults g.L.Link.idles before old mid x) said.failed said.finished;
       cause = finishes g.L.Link.told g.L.Link.faults g.L.Link.idles before after old mid c.fail-in-Closed.new.self c.args.now x.link x.later _ x.was (link_of g.L.Link.told g.L.Link.faults g.L.Link.idles old mid _ x) said.failed said.finished
-          (record { rose = x.cause.rose; no_fewer = x.cause.no_fewer });
+          (record { same_talk = x.cause.told_is; rose = x.cause.rose; no_fewer = x.cause.no_fewer });
     }
 
 pub returns-in-Failed : goal.returns-in-Failed
@@ -93,5 +93,5 @@ returns-in-Failed g c = λ capacity.
     record {
       fails = fails_behind g.L.Link.told g.L.Link.faults g.L.Link.idles before after old mid c.fail-in-Failed.new.self c.args.now (faults_go g.L.Link.told g.L.Link.faults g.L.Link.idles before old mid x) said.failed said.finished;
       cause = finishes g.L.Link.told g.L.Link.faults g.L.Link.idles before after old mid c.fail-in-Failed.new.self c.args.now x.link x.later _ x.was (link_of g.L.Link.told g.L.Link.faults g.L.Link.idles old mid _ x) said.failed said.finished
-          (record { rose = x.cause.rose; no_fewer = x.cause.no_fewer });
+          (record { same_talk = x.cause.told_is; rose = x.cause.rose; no_fewer = x.cause.no_fewer });
     }

@@ -23,5 +23,5 @@ returns-in-Err g c = λ capacity.
       fails = fails_at g.L.Link.told g.L.Link.faults g.L.Link.idles before after old mid c.fail.new.self c.args.now
           (send_goes_to_end g.L.Link.told g.L.Link.faults g.L.Link.idles before old mid x) c.fail.ensures.failed c.fail.ensures.finished;
       cause = finishes g.L.Link.told g.L.Link.faults g.L.Link.idles before after old mid c.fail.new.self c.args.now x.link x.later _ x.was (ap (λ (w : Working g.row.L.Denot). w.link) x.is)
-          c.fail.ensures.failed c.fail.ensures.finished (record { rose = x.rose; no_fewer = x.no_fewer });
+          c.fail.ensures.failed c.fail.ensures.finished (record { same_talk = x.told_is; rose = x.rose; no_fewer = x.no_fewer });
     }
