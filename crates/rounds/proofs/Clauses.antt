@@ -14,7 +14,7 @@ use Rattle.rounds.specs.Books.{AreBooked, ArePlaced, Told, told_on}
 use Rattle.rounds.specs.Causes.{AnswersSteps, LanesHad, RoundCauses}
 use Rattle.rounds.specs.Crewed.{lanings}
 use Rattle.rounds.specs.Images.{AreAtRest, ImagesAreFronts}
-use Rattle.rounds.specs.KeeperTurns.{SameAreas, begun_stored}
+use Rattle.rounds.specs.KeeperTurns.{SameAreas, StillTell, begun_stored}
 use Rattle.rounds.specs.Moved.{HaveMoved, WereStill}
 use Rattle.rounds.specs.Placed.{IsPlacedAfter}
 use Rattle.rounds.specs.RoundKeeps.{RoundKeeps}
@@ -30,7 +30,7 @@ use Rattle.rounds.proofs.KeeperSteps.{areas_by}
 use Rattle.rounds.proofs.Images.{images_are_fronts, kept_still, rested_images, rested_kept}
 use Rattle.rounds.proofs.Moved.{answer_moved, bare_answer, carriers_moved, carriers_still, lanes_moved, lanes_still, storing_moved, storing_still}
 use Rattle.rounds.proofs.Placing.{booked_met, carriers_stepped, lanes_stepped, placed_met}
-use Rattle.rounds.proofs.Kept.{collects_ran, collects_same, in_full_by, stores_ran}
+use Rattle.rounds.proofs.Kept.{collects_ran, collects_same, in_full_by, stores_ran, tells_ran, tells_same}
 use Rattle.rounds.proofs.Ready.{able_still, ready_still, stored_disk, stored_memory}
 use Rattle.rounds.proofs.Slices.{paired_many}
 use Rattle.rounds.proofs.Staying.{begins_met, begins_ran, crew_as_many, slot_in_lanes}
@@ -226,6 +226,13 @@ module _ {T W L D : Type 0} (words : Words T W L D) (queue : BoundedQueue) (desk
   pub same_areas : (old new : Crewing T W L D) (round : Round) → Rounds words queue desk when old new round → SameAreas old.storing new.storing
   same_areas old new round rounds = subst (λ (s : Storing D). SameAreas old.storing s) (sym rounds.meets.storing) (areas_then old rounds.mid _ rounds.ran.keeper)
 
+  tells_then : (old mid : Crewing T W L D) (moved : Bool) → KeeperHad words.disks moved old mid ⊎ KeeperRested moved old mid → StillTell words.disks.contents old.storing mid.storing
+  tells_then old mid moved (inl had) = tells_ran words.disks old.storing mid.storing had.ran
+  tells_then old mid moved (inr rested) = tells_same words.disks.contents begun_stored old.storing mid.storing rested.same
+
+  pub still_tell : (old new : Crewing T W L D) (round : Round) → Rounds words queue desk when old new round → StillTell words.disks.contents old.storing new.storing
+  still_tell old new round rounds = subst (λ (s : Storing D). StillTell words.disks.contents old.storing s) (sym rounds.meets.storing) (tells_then old rounds.mid _ rounds.ran.keeper)
+
   -- ---- what stays of the crew
 
   pub as_many : (old new : Crewing T W L D) (round : Round) → Rounds words queue desk when old new round → AreAsMany old new
@@ -260,4 +267,5 @@ module _ {T W L D : Type 0} (words : Words T W L D) (queue : BoundedQueue) (desk
     as_many = as_many old new round rounds;
     slots = slots old new round rounds;
     same_areas = same_areas old new round rounds;
+    still_tell = still_tell old new round rounds;
   }

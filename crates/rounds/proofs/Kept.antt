@@ -1,13 +1,13 @@
--- What the keeper's turns of a round keep: what was collected, what is stored, and that all is stored where memory was found and
--- the disk went well.
-use Rattle.std.proofs.Common.{◌≡◌, ◌<◌, Bool, true, false, List, [], ◌∷◌, length, sym, ap, subst, ◌∙◌, arith}
+-- What the keeper's turns of a round keep: what was collected, what is stored, that its areas still tell, and that all is stored
+-- where memory was found and the disk went well.
+use Rattle.std.proofs.Common.{◌≡◌, ℕ, ◌<◌, Bool, true, false, List, [], ◌∷◌, IsSome, Option, length, sym, ap, subst, ◌∙◌, arith}
 use Rattle.keeper.specs.Collecting.{Collects}
 use Rattle.keeper.specs.Keeping.{Keeping}
 use Rattle.keeper.specs.Storing.{IsStoredInFull, Stores}
 use Rattle.keeper.specs.declared.turn.KeeperTurn.{KeeperTurn}
 use Rattle.keeper.specs.declared.turn.KeeperTurn.TheVariants.{Kept, Empty, DiskFault, NoMemory}
 use Rattle.keeper.proofs.InARow.{collects_more, collects_none}
-use Rattle.rounds.specs.KeeperTurns.{KeeperRan, KeeperRun, KeeperTurned, StoringState, begun_stored, stored_of, stored_with, storing_state}
+use Rattle.rounds.specs.KeeperTurns.{KeeperRan, KeeperRun, KeeperTurned, StillTell, StoringState, begun_stored, stored_of, stored_with, storing_state}
 use Rattle.rounds.specs.Running.{StoringHasRun}
 use Rattle.rounds.specs.Words.{DiskWords}
 use Rattle.rounds.specs.declared.storing.Stored.{Stored}
@@ -22,6 +22,12 @@ apart is = absurd (subst IsSet is tt)
 
 pub collects_same : (old new : Keeping) → new ≡ old → Collects old new
 collects_same old new is = subst (Collects old) (sym is) (collects_none old)
+
+pub tells_same : {D : Type 0} (contents : D → Option (List ℕ)) (stored : Stored) (old new : Storing D) → new ≡ record old { stored = stored } → StillTell contents old new
+tells_same {D} contents stored old new is = record {
+  a = λ told. subst (λ (s : Storing D). IsSome (contents s.a.now)) (sym is) told;
+  b = λ told. subst (λ (s : Storing D). IsSome (contents s.b.now)) (sym is) told;
+}
 
 module _ {D : Type 0} (disks : DiskWords D) where
   collects_by : (turns : List KeeperTurn) (old new : StoringState D) → KeeperRun disks turns old new → Collects old.keeper new.keeper
@@ -43,6 +49,21 @@ module _ {D : Type 0} (disks : DiskWords D) where
   pub stores_ran : (old new : Storing D) → StoringHasRun disks old new → Stores old.keeper.tracked old.keeper.store → Stores new.keeper.tracked new.keeper.store
   unfolding StoringHasRun IsStored
   stores_ran old new ran stores = stores_by ran.turns (storing_state old) (storing_state new) ran.ran stores
+
+  a_tells_by : (turns : List KeeperTurn) (old new : StoringState D) → KeeperRun disks turns old new → IsSome (disks.contents old.a) → IsSome (disks.contents new.a)
+  a_tells_by [] old new is told = subst (λ (s : StoringState D). IsSome (disks.contents s.a)) (sym is) told
+  a_tells_by (t ∷ ts) old new run told = a_tells_by ts run.0 new run.2 (run.1.a_told told)
+
+  b_tells_by : (turns : List KeeperTurn) (old new : StoringState D) → KeeperRun disks turns old new → IsSome (disks.contents old.b) → IsSome (disks.contents new.b)
+  b_tells_by [] old new is told = subst (λ (s : StoringState D). IsSome (disks.contents s.b)) (sym is) told
+  b_tells_by (t ∷ ts) old new run told = b_tells_by ts run.0 new run.2 (run.1.b_told told)
+
+  pub tells_ran : (old new : Storing D) → StoringHasRun disks old new → StillTell disks.contents old new
+  unfolding StoringHasRun
+  tells_ran old new ran = record {
+    a = λ told. a_tells_by ran.turns (storing_state old) (storing_state new) ran.ran told;
+    b = λ told. b_tells_by ran.turns (storing_state old) (storing_state new) ran.ran told;
+  }
 
   -- ---- after turns that found memory, and whose disk went well, nothing is left to store
 

@@ -37,7 +37,7 @@ use Rattle.rounds.specs.Causes.{SettlingCauses, WireFaultsStay}
 use Rattle.rounds.specs.Crewed.{bare_lanes, carriers_passes, lane_passes, lanes_passes, lanings}
 use Rattle.rounds.specs.Crewing.{Crewing, crew_of}
 use Rattle.rounds.specs.Images.{AreAtRest, ImagesAreFronts}
-use Rattle.rounds.specs.KeeperTurns.{SameAreas, storing_state}
+use Rattle.rounds.specs.KeeperTurns.{SameAreas, StillTell, storing_state}
 use Rattle.rounds.specs.Pairs.{Pairs}
 use Rattle.rounds.specs.Passes.{AreAllOf, AreOf, IsOfQueue, post_share_in, post_shares, senders, share_in, shares}
 use Rattle.rounds.specs.Placed.{GoesOn}
@@ -56,7 +56,7 @@ use Rattle.rounds.proofs.Causes.{a_faults_ran, b_faults_ran, faults_met, rose_ra
 use Rattle.rounds.proofs.Having.{post_of, post_share, some_still, take_of, take_share}
 use Rattle.rounds.proofs.Images.{images_are_fronts, kept_still}
 use Rattle.rounds.proofs.KeeperSteps.{pass_stays}
-use Rattle.rounds.proofs.Kept.{collects_ran, in_full_ran, stores_ran}
+use Rattle.rounds.proofs.Kept.{collects_ran, in_full_ran, stores_ran, tells_ran}
 use Rattle.rounds.proofs.Placing.{booked_met, placed_met}
 use Rattle.rounds.proofs.Ready.{IsBareReady, from_bare, mapped_some, opened_ran, some_as, some_mapped, to_bare, with_passes}
 use Rattle.rounds.proofs.Slices.{paired_many}
@@ -384,4 +384,5 @@ module _ {T W L D : Type 0} (words : Words T W L D) (queue : BoundedQueue) (desk
           settles.meets.met.lanes_same settles.meets.met.carriers_same;
       slots = begins_settled (lanings old.lanes.items) (lanings new.lanes.items) files;
       same_areas = subst (λ (s : Storing D). SameAreas old.storing s) (sym settles.meets.storing) (areas_ran words.disks old.storing mid.storing settles.storing);
+      still_tell = subst (λ (s : Storing D). StillTell words.disks.contents old.storing s) (sym settles.meets.storing) (tells_ran words.disks old.storing mid.storing settles.storing);
     }

@@ -1,5 +1,5 @@
 -- The turns of the keeper in one round (this project's profile): as long as each keeps something, and at most 256.
-use Rattle.std.specs.Prelude.{◌≡◌, ◌⊎◌, ◌+◌, ℕ, ◌<◌, ◌≤◌, Bool, true, false, List, [], ◌∷◌, IsSome, length}
+use Rattle.std.specs.Prelude.{◌≡◌, ◌⊎◌, ◌+◌, ℕ, ◌<◌, ◌≤◌, Bool, true, false, List, [], ◌∷◌, IsSome, Option, length}
 use Rattle.outside.specs.Counts.{Rose}
 use Rattle.registry_store.specs.Settled.{AreSettled}
 use Rattle.registry_store.specs.Standing.{chosen_by}
@@ -72,6 +72,11 @@ storing_state storing = record { keeper = storing.keeper; a = storing.a.now; b =
 pub record SameAreas {D : Type 0} (old new : Storing D) : Type 0 where
   pub a : new.a.ghost_name ≡ old.a.ghost_name
   pub b : new.b.ghost_name ≡ old.b.ghost_name
+
+-- an area that told what it holds tells it still
+pub record StillTell {D : Type 0} (contents : D → Option (List ℕ)) (old new : Storing D) : Type 0 where
+  pub a : IsSome (contents old.a.now) → IsSome (contents new.a.now)
+  pub b : IsSome (contents old.b.now) → IsSome (contents new.b.now)
 
 module _ {D : Type 0} (disks : DiskWords D) where
   -- one turn, as the keeper's contract says

@@ -11,7 +11,7 @@ use Rattle.rounds.specs.Causes.{RoundCauses}
 use Rattle.rounds.specs.Crewed.{lanings}
 use Rattle.rounds.specs.Crewing.{Crewing}
 use Rattle.rounds.specs.Images.{AreAtRest, ImagesAreFronts}
-use Rattle.rounds.specs.KeeperTurns.{SameAreas}
+use Rattle.rounds.specs.KeeperTurns.{SameAreas, StillTell}
 use Rattle.rounds.specs.Moved.{HaveMoved, WereStill}
 use Rattle.rounds.specs.Placed.{IsPlacedAfter}
 use Rattle.rounds.specs.Rounds.{IsAble, IsReady}
@@ -46,3 +46,5 @@ pub record RoundKeeps {T W L D : Type 0} (words : Words T W L D) (queue : Bounde
   pub slots : begins_of (lanings new.lanes.items) ≡ begins_of (lanings old.lanes.items)
   -- the areas are the same disks
   pub same_areas : SameAreas old.storing new.storing
+  -- and where they told what they hold, they tell it still
+  pub still_tell : StillTell words.disks.contents old.storing new.storing

@@ -22,7 +22,7 @@ use Rattle.rounds.specs.Causes.{SettlingCauses}
 use Rattle.rounds.specs.Crewed.{lanings}
 use Rattle.rounds.specs.Crewing.{Crewing, crew_of}
 use Rattle.rounds.specs.Images.{AreAtRest, ImagesAreFronts}
-use Rattle.rounds.specs.KeeperTurns.{SameAreas}
+use Rattle.rounds.specs.KeeperTurns.{SameAreas, StillTell}
 use Rattle.rounds.specs.Pairs.{Pairs}
 use Rattle.rounds.specs.Placed.{GoesOn}
 use Rattle.rounds.specs.Rounds.{IsAble, IsReady, MeetsIn, posted_in}
@@ -121,3 +121,5 @@ pub record SettlingKeeps {T W L D : Type 0} (words : Words T W L D) (queue : Bou
   pub slots : begins_of (lanings new.lanes.items) ≡ begins_of (lanings old.lanes.items)
   -- the areas are the same disks
   pub same_areas : SameAreas old.storing new.storing
+  -- and where they told what they hold, they tell it still
+  pub still_tell : StillTell words.disks.contents old.storing new.storing

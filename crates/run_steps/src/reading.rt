@@ -4,7 +4,7 @@ ghost use Rattle.outside.specs.Counts.{Rose};
 ghost use Rattle.outside.specs.Folders.{FolderHistory};
 ghost use Rattle.rounds.specs.Crewed.{lanings};
 ghost use Rattle.rounds.specs.Crewing.{crewing};
-ghost use Rattle.rounds.specs.KeeperTurns.{SameAreas};
+ghost use Rattle.rounds.specs.KeeperTurns.{SameAreas, StillTell};
 ghost use Rattle.rounds.specs.Rounds.{IsAble, IsReady};
 ghost use Rattle.rounds.specs.Staying.{AreAsMany, begins_of};
 ghost use Rattle.rounds.specs.Words.{disk_words, link_words, tail_words, wire_words, words};
@@ -87,6 +87,7 @@ pub fn make_round<
     ensures clock_goes_on { MomentsGoOn (K.moments clock.old) (K.moments clock.new) }
     ensures collects { Collects storing.old.keeper storing.new.keeper }
     ensures same_areas { SameAreas storing.old storing.new }
+    ensures still_tell { StillTell D.contents storing.old storing.new }
 {
     disk_images_are_counted::<D>();
     let now = clock.now();
@@ -158,6 +159,7 @@ pub fn follow_all<
         (K.moments signals.new.clock.now) }
     ensures collects { Collects storing.old.keeper storing.new.keeper }
     ensures same_areas { SameAreas storing.old storing.new }
+    ensures still_tell { StillTell D.contents storing.old storing.new }
     ensures same_clock { signals.new.clock.ghost_name ≡ signals.old.clock.ghost_name }
     ensures same_bell { signals.new.bell.ghost_name ≡ signals.old.bell.ghost_name }
 {

@@ -2,7 +2,7 @@ ghost use Rattle.std.specs.Prelude.{◌≡◌, ◌≤◌, ◌+◌, ◌-◌, ◌^
 ghost use Rattle.std.specs.List.{AllByRecursion};
 ghost use Rattle.beat_config.specs.InRange.{AreInRange};
 ghost use Rattle.prospect.specs.ListedFiles.{IsListedInRange};
-ghost use Rattle.rounds.specs.KeeperTurns.{SameAreas};
+ghost use Rattle.rounds.specs.KeeperTurns.{SameAreas, StillTell};
 ghost use Rattle.rounds.specs.Making.{all_seen};
 ghost use Rattle.rounds.specs.Words.{disk_words, link_words, tail_words, wire_words, words};
 ghost use Rattle.wire_base.specs.Ranges.{IsMoment};
@@ -189,6 +189,7 @@ where
         (all_seen (wire_words W.outcomes W.open_links W.faults W.idles) around.new.wires.now.items
         ≡ all_seen (wire_words W.outcomes W.open_links W.faults W.idles) around.old.wires.now.items) }
     ensures same_areas { SameAreas storing.old storing.new }
+    ensures still_tell { StillTell D.contents storing.old storing.new }
     ensures same_folder { around.new.folder.ghost_name ≡ around.old.folder.ghost_name }
     ensures same_wires { around.new.wires.ghost_name ≡ around.old.wires.ghost_name }
     ensures same_clock { around.new.clock.ghost_name ≡ around.old.clock.ghost_name }

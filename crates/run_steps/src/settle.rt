@@ -3,7 +3,7 @@ ghost use Rattle.keeper.specs.Collecting.{Collects};
 ghost use Rattle.outside.specs.Folders.{FolderHistory};
 ghost use Rattle.rounds.specs.Crewed.{lanings};
 ghost use Rattle.rounds.specs.Crewing.{crewing};
-ghost use Rattle.rounds.specs.KeeperTurns.{SameAreas};
+ghost use Rattle.rounds.specs.KeeperTurns.{SameAreas, StillTell};
 ghost use Rattle.rounds.specs.Rounds.{IsAble, IsReady};
 ghost use Rattle.rounds.specs.Settled.{AreSettledIn};
 ghost use Rattle.rounds.specs.Settling.{ArePostsCounted};
@@ -77,6 +77,7 @@ pub fn settle_all<
     ensures b_faults_never_fall { D.faults storing.old.b.now ≤ D.faults storing.new.b.now }
     ensures collects { Collects storing.old.keeper storing.new.keeper }
     ensures same_areas { SameAreas storing.old storing.new }
+    ensures still_tell { StillTell D.contents storing.old storing.new }
 {
     disk_images_are_counted::<D>();
     for _ in rt.forever() {

@@ -4,7 +4,7 @@ ghost use Rattle.outside.specs.Counts.{Rose};
 ghost use Rattle.outside.specs.Folders.{Event, FolderHistory};
 ghost use Rattle.rounds.specs.Crewed.{lanings};
 ghost use Rattle.rounds.specs.Crewing.{crewing};
-ghost use Rattle.rounds.specs.KeeperTurns.{SameAreas};
+ghost use Rattle.rounds.specs.KeeperTurns.{SameAreas, StillTell};
 ghost use Rattle.rounds.specs.Rounds.{IsAble, IsReady};
 ghost use Rattle.rounds.specs.Settled.{AreSettledIn};
 ghost use Rattle.rounds.specs.Settling.{ArePostsCounted};
@@ -133,6 +133,7 @@ where
         }) }
     ensures collects { Collects storing.old.keeper storing.new.keeper }
     ensures same_areas { SameAreas storing.old storing.new }
+    ensures still_tell { StillTell D.contents storing.old storing.new }
     ensures same_folder { around.new.folder.ghost_name ≡ around.old.folder.ghost_name }
     ensures same_wires { around.new.wires.ghost_name ≡ around.old.wires.ghost_name }
     ensures same_clock { around.new.clock.ghost_name ≡ around.old.clock.ghost_name }
@@ -209,6 +210,7 @@ pub fn follow_begun<
         (K.moments signals.new.clock.now) }
     ensures collects { Collects storing.old.keeper storing.new.keeper }
     ensures same_areas { SameAreas storing.old storing.new }
+    ensures still_tell { StillTell D.contents storing.old storing.new }
     ensures same_clock { signals.new.clock.ghost_name ≡ signals.old.clock.ghost_name }
     ensures same_bell { signals.new.bell.ghost_name ≡ signals.old.bell.ghost_name }
 {
@@ -280,6 +282,7 @@ pub fn settle_after<
     ensures b_faults_never_fall { D.faults storing.old.b.now ≤ D.faults storing.new.b.now }
     ensures collects { Collects storing.old.keeper storing.new.keeper }
     ensures same_areas { SameAreas storing.old storing.new }
+    ensures still_tell { StillTell D.contents storing.old storing.new }
 {
     let Worked { passed, met } = worked;
     let met = settle_where_left(rt, context, met, crew, storing);
@@ -341,6 +344,7 @@ fn settle_where_left<
     ensures b_faults_never_fall { D.faults storing.old.b.now ≤ D.faults storing.new.b.now }
     ensures collects { Collects storing.old.keeper storing.new.keeper }
     ensures same_areas { SameAreas storing.old storing.new }
+    ensures still_tell { StillTell D.contents storing.old storing.new }
 {
     match met {
         Met::NoMemory | Met::DiskFault => met,

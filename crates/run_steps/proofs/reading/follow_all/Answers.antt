@@ -26,6 +26,7 @@ loop-init g c =
       collects = collects_none c.args.storing.now.keeper;
       clock = clock_stays (g.K.Clock.moments c.args.signals.now.clock.now);
       same_areas = record { a = refl; b = refl };
+      still_tell = record { a = λ told. told; b = λ told. told };
       same_clock = refl;
       same_bell = refl;
     }
@@ -72,6 +73,7 @@ loop-preserved g c =
       collects = collects_more c.args.storing.now.keeper c.loop.storing.keeper c.make_round.new.storing.keeper kept.collects made.collects;
       clock = clock_by_two (g.K.Clock.moments c.args.signals.now.clock.now) (g.K.Clock.moments c.loop.signals.clock.now) (g.K.Clock.moments c.make_round.new.clock) kept.clock made.clock_goes_on;
       same_areas = record { a = made.same_areas.a ∙ kept.same_areas.a; b = made.same_areas.b ∙ kept.same_areas.b };
+      still_tell = record { a = λ told. made.still_tell.a (kept.still_tell.a told); b = λ told. made.still_tell.b (kept.still_tell.b told) };
       same_clock = kept.same_clock;
       same_bell = kept.same_bell;
     }

@@ -3,7 +3,7 @@ use Rattle.keeper.specs.Collecting.{Collects}
 use Rattle.outside.specs.Folders.{FolderHistory}
 use Rattle.rounds.specs.Crewed.{lanings}
 use Rattle.rounds.specs.Crewing.{crewing}
-use Rattle.rounds.specs.KeeperTurns.{SameAreas}
+use Rattle.rounds.specs.KeeperTurns.{SameAreas, StillTell}
 use Rattle.rounds.specs.Rounds.{IsReady}
 use Rattle.rounds.specs.Staying.{AreAsMany, begins_of}
 use Rattle.rounds.specs.Words.{disk_words, link_words, tail_words, wire_words, words}
@@ -35,6 +35,7 @@ invariant-loop g l = record {
   clock : MomentsGoOn (g.K.Clock.moments l.initial.signals.clock.now) (g.K.Clock.moments l.signals.clock.now);
   collects : Collects l.initial.storing.keeper l.storing.keeper;
   same_areas : SameAreas l.initial.storing l.storing;
+  still_tell : StillTell g.D.Disk.contents l.initial.storing l.storing;
   same_clock : l.signals.clock.ghost_name ≡ l.initial.signals.clock.ghost_name;
   same_bell : l.signals.bell.ghost_name ≡ l.initial.signals.bell.ghost_name;
 }

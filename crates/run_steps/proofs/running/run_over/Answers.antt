@@ -151,6 +151,9 @@ returns-clause-tails_closed g c few =
     let closed = c.work.ensures.open_tails in
     omega (arith, opened, none, closed)
 
+pub returns-clause-still_tell : goal.returns-clause-still_tell
+returns-clause-still_tell g c = record { a = c.work.ensures.still_tell.a; b = c.work.ensures.still_tell.b }
+
 pub returns-clause-as_many_wires : goal.returns-clause-as_many_wires
 returns-clause-as_many_wires g c =
     let fit = wires_fit g.L.Link.told c.args.context.outlets.queue.now.id c.args.context.outlets.desk.now.id c.args.context.settings.now c.args.around.now.wires.now.items c.crew_of.new.wires.items

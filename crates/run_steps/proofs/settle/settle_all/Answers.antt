@@ -25,6 +25,7 @@ loop-init g c =
       b_faults = omega arith;
       collects = collects_none c.args.storing.now.keeper;
       same_areas = record { a = refl; b = refl };
+      still_tell = record { a = λ told. told; b = λ told. told };
     }
 
 pub returns-in-Some-stored_by-clause-onward : goal.returns-in-Some-stored_by-clause-onward
@@ -100,4 +101,5 @@ loop-preserved g c =
       b_faults = let more = keeps.causes.b_faults in let were = kept.b_faults in omega (arith, more, were);
       collects = collects_more c.args.storing.now.keeper c.loop.storing.keeper c.settle-round.new.storing.keeper kept.collects keeps.collects;
       same_areas = record { a = keeps.same_areas.a ∙ kept.same_areas.a; b = keeps.same_areas.b ∙ kept.same_areas.b };
+      still_tell = record { a = λ told. keeps.still_tell.a (kept.still_tell.a told); b = λ told. keeps.still_tell.b (kept.still_tell.b told) };
     }

@@ -3,7 +3,7 @@ use Rattle.keeper.specs.Collecting.{Collects}
 use Rattle.outside.specs.Folders.{FolderHistory}
 use Rattle.rounds.specs.Crewed.{lanings}
 use Rattle.rounds.specs.Crewing.{crewing}
-use Rattle.rounds.specs.KeeperTurns.{SameAreas}
+use Rattle.rounds.specs.KeeperTurns.{SameAreas, StillTell}
 use Rattle.rounds.specs.Rounds.{IsReady}
 use Rattle.rounds.specs.Staying.{AreAsMany}
 use Rattle.rounds.specs.Words.{disk_words, link_words, tail_words, wire_words, words}
@@ -34,4 +34,5 @@ invariant-loop g l = record {
   b_faults : g.D.Disk.faults l.initial.storing.b.now ≤ g.D.Disk.faults l.storing.b.now;
   collects : Collects l.initial.storing.keeper l.storing.keeper;
   same_areas : SameAreas l.initial.storing l.storing;
+  still_tell : StillTell g.D.Disk.contents l.initial.storing l.storing;
 }

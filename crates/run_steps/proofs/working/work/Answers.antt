@@ -162,3 +162,9 @@ returns-clause-told g c =
       subst (λ (l : List (Lane g.row.F-Tail.Denot)). g.F.Folder.told c.release_all.new.folder ≡ with_events (all_closings g.F.Tail.Tail.told g.F.Tail.Tail.faults (lanings l)) (g.F.Folder.told c.args.around.now.folder.now))
           c.as_mut_slice.ensures.value c.release_all.ensures.told,
     )
+
+pub returns-clause-still_tell : goal.returns-clause-still_tell
+returns-clause-still_tell g c = record {
+  a = λ told. c.settle_after-worked.ensures.still_tell.a (c.follow_begun-worked.ensures.still_tell.a told);
+  b = λ told. c.settle_after-worked.ensures.still_tell.b (c.follow_begun-worked.ensures.still_tell.b told);
+}
