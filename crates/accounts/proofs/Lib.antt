@@ -9,6 +9,8 @@ pub mod BegunRows
 pub mod Cuts
 pub mod Draining
 pub mod Ends
+pub mod Failing
+pub mod Failures
 pub mod Falls
 pub mod Following
 pub mod Given

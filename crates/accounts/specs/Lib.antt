@@ -1,5 +1,6 @@
 pub mod Accounted
 pub mod AccountedFor
+pub mod Failing
 pub mod Filed
 pub mod FirstNotes
 pub mod FollowedFile

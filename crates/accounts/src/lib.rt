@@ -10,5 +10,8 @@
 //! acknowledged; then its account is one of the run, rows over its notes are kept, also those that images hold, and only
 //! told events were sent. With `RunDone` it drained its folder.
 //!
+//! How a worker fails is kept over each of its turns (`IsFailing`); of one that failed as often in a row as it may, so many of the
+//! last outcomes of its wire are failures.
+//!
 //! Definitions and lemmas alone; nothing here runs.
 #![tactic(auto)]
