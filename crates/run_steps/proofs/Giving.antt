@@ -7,7 +7,7 @@ use Rattle.kept_rows.specs.Scans.{StandInOrder}
 use Rattle.outside.specs.Times.{EndsWith, GivesMoment}
 use Rattle.run_steps.specs.Shown.{HasGiven}
 
-ends_at : (moments : List ℕ) (now : ℕ) → EndsWith moments now → EndsAt moments now
+pub ends_at : (moments : List ℕ) (now : ℕ) → EndsWith moments now → EndsAt moments now
 ends_at [] now ends = absurd cc
 ends_at (one ∷ []) now ends = record { earlier = []; are = ap (λ (o : Option ℕ). unwrap_or o now ∷ []) ends }
 ends_at (one ∷ next ∷ moments) now ends =
@@ -20,7 +20,7 @@ some_there [] now ends = absurd cc
 some_there (one ∷ moments) now ends = omega arith
 
 -- the last ones end so, too
-ends_behind : (moments : List ℕ) (now n : ℕ) → n < length moments → EndsAt moments now → EndsAt (drop n moments) now
+pub ends_behind : (moments : List ℕ) (now n : ℕ) → n < length moments → EndsAt moments now → EndsAt (drop n moments) now
 ends_behind moments now n few ends =
     let long : length moments ≡ length ends.earlier + 1 = ap length ends.are ∙ length-append ends.earlier (now ∷ []) in
     record {

@@ -20,6 +20,7 @@ pub mod Clocks
 pub mod Closing
 pub mod Ended
 pub mod Epochs
+pub mod FailingRounds
 pub mod Filing
 pub mod Finishing
 pub mod First
@@ -30,6 +31,7 @@ pub mod Keeps
 pub mod Lanes
 pub mod Leaving
 pub mod Letting
+pub mod LinksStay
 pub mod Members
 pub mod MetBy
 pub mod Moments
@@ -40,6 +42,7 @@ pub mod OfInputs
 pub mod Onward
 pub mod Openings
 pub mod Ordering
+pub mod PassedOver
 pub mod Released
 pub mod Releasing
 pub mod Rounding
@@ -68,4 +71,5 @@ pub mod TailOpened
 pub mod Tails
 pub mod ToldMoments
 pub mod Turning
+pub mod Unreached
 pub mod Whole

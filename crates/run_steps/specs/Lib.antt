@@ -7,6 +7,7 @@ pub mod BeginsAll
 pub mod Begun
 pub mod BegunCrew
 pub mod CarriersEnd
+pub mod CarriersFail
 pub mod ClockOn
 pub mod Ends
 pub mod FolderSeen
@@ -15,6 +16,7 @@ pub mod MetBy
 pub mod MetIn
 pub mod Onward
 pub mod Outset
+pub mod PassedOver
 pub mod Registry
 pub mod RegistryErrors
 pub mod Releasing

@@ -1,4 +1,4 @@
-ghost use Rattle.std.specs.Prelude.{◌≡◌, ◌≢◌, ◌^◌, ◌-◌, ◌≤◌, IfSome, Option, Some, length};
+ghost use Rattle.std.specs.Prelude.{◌≡◌, ◌≢◌, ◌^◌, ◌-◌, ◌≤◌, IfNone, IfSome, Option, Some, length};
 ghost use Rattle.keeper.specs.Collecting.{Collects};
 ghost use Rattle.outside.specs.Counts.{Rose};
 ghost use Rattle.outside.specs.Folders.{FolderHistory};
@@ -9,9 +9,11 @@ ghost use Rattle.rounds.specs.Rounds.{IsAble, IsReady};
 ghost use Rattle.rounds.specs.Staying.{AreAsMany, begins_of};
 ghost use Rattle.rounds.specs.Words.{disk_words, link_words, tail_words, wire_words, words};
 ghost use Rattle.run_steps.specs.Areas.{IsAtRest};
+ghost use Rattle.run_steps.specs.CarriersFail.{FailOn, sending};
 ghost use Rattle.run_steps.specs.ClockOn.{MomentsGoOn};
 ghost use Rattle.run_steps.specs.Met.{AreLeft};
 ghost use Rattle.run_steps.specs.MetBy.{GoesOn, IsMetBy, phase_met, phase_of};
+ghost use Rattle.run_steps.specs.MetIn.{NoneFailed};
 ghost use Rattle.run_steps.specs.Onward.{Onward};
 ghost use Rattle.run_steps.specs.RunState.{Reading, within};
 ghost use Rattle.run_steps.specs.declared.met.Met.TheVariants.{Stopped};
@@ -79,6 +81,14 @@ pub fn make_round<
           b = storing.old.b.now;
           now = crewing crew.new storing.new;
         })) }
+    // Workers that failed so before it fail so behind it.
+    ensures failing { FailOn (link_words L.told L.faults L.idles)
+        (wire_words W.outcomes W.open_links W.faults W.idles)
+        context.entry.settings.now.output.attempts
+        (sending (K.moments clock.old) crew.old.carriers.items)
+        (sending (K.moments clock.new) crew.new.carriers.items) }
+    ensures none_failed { IfNone result (NoneFailed
+        context.entry.settings.now.output.attempts crew.new.carriers.items) }
     ensures as_many { AreAsMany (crewing crew.old storing.old) (crewing crew.new storing.new) }
     ensures slots { begins_of (lanings crew.new.lanes.items)
         ≡ begins_of (lanings crew.old.lanes.items) }
@@ -149,6 +159,12 @@ pub fn follow_all<
         }) result }
     ensures stopped { result ≡ Stopped →
         Rose (B.rings signals.old.bell.now) (B.rings signals.new.bell.now) }
+    // Workers that failed so before it fail so behind it.
+    ensures failing { FailOn (link_words L.told L.faults L.idles)
+        (wire_words W.outcomes W.open_links W.faults W.idles)
+        context.entry.settings.now.output.attempts
+        (sending (K.moments signals.old.clock.now) crew.old.carriers.items)
+        (sending (K.moments signals.new.clock.now) crew.new.carriers.items) }
     ensures as_many { AreAsMany (crewing crew.old storing.old) (crewing crew.new storing.new) }
     ensures slots { begins_of (lanings crew.new.lanes.items)
         ≡ begins_of (lanings crew.old.lanes.items) }

@@ -1,4 +1,4 @@
-ghost use Rattle.std.specs.Prelude.{◌≡◌, ◌≤◌, ◌+◌, ◌-◌, ◌^◌, ◌<◌, All, IfOk, IsSome, OnErr, Some, drop, length, map, vec_len};
+ghost use Rattle.std.specs.Prelude.{◌≡◌, ◌≤◌, ◌+◌, ◌-◌, ◌^◌, ◌<◌, ℕ, All, IfOk, IfSome, IsSome, OnErr, Some, drop, length, map, vec_len};
 ghost use Rattle.std.specs.List.{AllByRecursion};
 ghost use Rattle.beat_config.specs.InRange.{AreInRange};
 ghost use Rattle.prospect.specs.ListedFiles.{IsListedInRange};
@@ -9,8 +9,10 @@ ghost use Rattle.wire_base.specs.Ranges.{IsMoment};
 ghost use Rattle.run_steps.specs.AccountedFor.{AccountedFor};
 ghost use Rattle.run_steps.specs.BegunCrew.{AreFirstPasses};
 ghost use Rattle.run_steps.specs.BeginsAll.{IsOfInputs};
+ghost use Rattle.run_steps.specs.CarriersFail.{FailedAsMet, counts_told};
 ghost use Rattle.run_steps.specs.ClockOn.{MomentsGoOn};
 ghost use Rattle.run_steps.specs.Outset.{Earlier, IsFirstKeeper, SetsOut, began_with};
+ghost use Rattle.run_steps.specs.PassedOver.{ArePassedOver};
 ghost use Rattle.run_steps.specs.RunEnds.{HasEnded};
 ghost use Rattle.run_steps.specs.RunOf.{FolderTold};
 ghost use Rattle.run_steps.specs.RunState.{Phase};
@@ -174,6 +176,17 @@ where
           folder_faults = F.faults around.new.folder.now;
           rings = B.rings around.new.bell.now;
         }) worked.met) }
+    // A worker that is called unreachable failed as often in a row as it may, by the outcomes of its wire since the run began, and
+    // by the moments that the clock gave from this one on.
+    ensures failing { (earlier : ℕ) →
+        IfSome (K.moments around.old.clock.now) (λ moments. earlier < length moments) →
+        IfOk result (λ worked. FailedAsMet (wire_words W.outcomes W.open_links W.faults W.idles)
+        context.entry.settings.now.output.attempts context.entry.settings.now.output.timeout
+        earlier (counts_told (wire_words W.outcomes W.open_links W.faults W.idles)
+        context.entry.settings.now.output.workers around.old.wires.now.items)
+        (K.moments around.new.clock.now) around.new.wires.now.items worked.met) }
+    ensures passed_over { IfOk result (λ worked.
+        ArePassedOver scanned.entry.now.listed.items worked.passed.items) }
     ensures clock_goes_on { MomentsGoOn (K.moments around.old.clock.now)
         (K.moments around.new.clock.now) }
     ensures as_many_wires { length around.new.wires.now.items

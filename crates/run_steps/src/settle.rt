@@ -10,6 +10,7 @@ ghost use Rattle.rounds.specs.Settling.{ArePostsCounted};
 ghost use Rattle.rounds.specs.Staying.{AreAsMany};
 ghost use Rattle.rounds.specs.Words.{disk_words, link_words, tail_words, wire_words, words};
 ghost use Rattle.run_steps.specs.Areas.{IsAtRest};
+ghost use Rattle.run_steps.specs.CarriersFail.{LinksStay};
 ghost use Rattle.run_steps.specs.Ends.{IsAllSettled};
 ghost use Rattle.run_steps.specs.Met.{AreLeft};
 ghost use Rattle.run_steps.specs.Onward.{Onward};
@@ -72,6 +73,7 @@ pub fn settle_all<
         All HasNoHarvesters (lanings crew.new.lanes.items) }
     ensures all_settled { IsAllSettled (lanings crew.old.lanes.items) storing.old.keeper →
         IsAllSettled (lanings crew.new.lanes.items) storing.new.keeper }
+    ensures links_stay { LinksStay crew.old.carriers.items crew.new.carriers.items }
     ensures as_many { AreAsMany (crewing crew.old storing.old) (crewing crew.new storing.new) }
     ensures a_faults_never_fall { D.faults storing.old.a.now ≤ D.faults storing.new.a.now }
     ensures b_faults_never_fall { D.faults storing.old.b.now ≤ D.faults storing.new.b.now }

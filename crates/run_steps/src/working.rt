@@ -1,4 +1,4 @@
-ghost use Rattle.std.specs.Prelude.{◌≡◌, ◌≢◌, ◌⊎◌, ◌+◌, ◌-◌, ◌^◌, ◌≤◌, All, ℕ, IfErr, IfOk, List, Option, Result, false, length, vec_capacity, vec_len};
+ghost use Rattle.std.specs.Prelude.{◌≡◌, ◌≢◌, ◌⊎◌, ◌+◌, ◌-◌, ◌^◌, ◌<◌, ◌≤◌, All, ℕ, IfErr, IfOk, List, Option, Result, false, length, vec_capacity, vec_len};
 ghost use Rattle.keeper.specs.Collecting.{Collects};
 ghost use Rattle.outside.specs.Counts.{Rose};
 ghost use Rattle.outside.specs.Folders.{Event, FolderHistory};
@@ -12,10 +12,12 @@ ghost use Rattle.rounds.specs.Staying.{AreAsMany, begins_of};
 ghost use Rattle.rounds.specs.Words.{disk_words, link_words, tail_words, wire_words, words};
 ghost use Rattle.run_steps.specs.Areas.{BeganAtRest, IsAtRest};
 ghost use Rattle.run_steps.specs.Began.{Began};
+ghost use Rattle.run_steps.specs.CarriersFail.{AreFailing, FailOn, FailedAsMet, LinksStay, sending};
 ghost use Rattle.run_steps.specs.ClockOn.{MomentsGoOn};
 ghost use Rattle.run_steps.specs.Ends.{IsAllSettled};
 ghost use Rattle.run_steps.specs.Met.{AreLeft};
 ghost use Rattle.run_steps.specs.MetBy.{IsMetBy};
+ghost use Rattle.run_steps.specs.MetIn.{NoneFailed};
 ghost use Rattle.run_steps.specs.Onward.{Onward};
 ghost use Rattle.run_steps.specs.Releasing.{HasNoHarvesters, harvesters_of, with_events};
 ghost use Rattle.run_steps.specs.RunEnds.{HasEnded};
@@ -118,6 +120,16 @@ where
           folder_faults = F.faults around.new.folder.now;
           rings = B.rings around.new.bell.now;
         }) result.met }
+    // A worker that is called unreachable failed as often in a row as it may.
+    ensures failing { (timeout earlier : ℕ) (starts : List (Option ℕ)) → 0 < timeout →
+        NoneFailed context.entry.settings.now.output.attempts crew.carriers.items →
+        AreFailing (link_words L.told L.faults L.idles)
+        (wire_words W.outcomes W.open_links W.faults W.idles)
+        context.entry.settings.now.output.attempts timeout earlier starts
+        (sending (K.moments around.old.clock.now) crew.carriers.items) →
+        FailedAsMet (wire_words W.outcomes W.open_links W.faults W.idles)
+        context.entry.settings.now.output.attempts timeout earlier starts
+        (K.moments around.new.clock.now) around.new.wires.now.items result.met }
     ensures never_fall { NeverFall
         (record {
           a_faults = D.faults storing.old.a.now;
@@ -200,6 +212,12 @@ pub fn follow_begun<
         }) begun result.met }
     ensures stopped { IfOk begun (λ _. result.met ≡ Stopped →
         Rose (B.rings signals.old.bell.now) (B.rings signals.new.bell.now)) }
+    // Workers that failed so before it fail so behind it.
+    ensures failing { FailOn (link_words L.told L.faults L.idles)
+        (wire_words W.outcomes W.open_links W.faults W.idles)
+        context.entry.settings.now.output.attempts
+        (sending (K.moments signals.old.clock.now) crew.old.carriers.items)
+        (sending (K.moments signals.new.clock.now) crew.new.carriers.items) }
     ensures as_many { AreAsMany (crewing crew.old storing.old) (crewing crew.new storing.new) }
     ensures slots { begins_of (lanings crew.new.lanes.items)
         ≡ begins_of (lanings crew.old.lanes.items) }
@@ -277,6 +295,7 @@ pub fn settle_after<
         All HasNoHarvesters (lanings crew.new.lanes.items) }
     ensures all_settled { IsAllSettled (lanings crew.old.lanes.items) storing.old.keeper →
         IsAllSettled (lanings crew.new.lanes.items) storing.new.keeper }
+    ensures links_stay { LinksStay crew.old.carriers.items crew.new.carriers.items }
     ensures as_many { AreAsMany (crewing crew.old storing.old) (crewing crew.new storing.new) }
     ensures a_faults_never_fall { D.faults storing.old.a.now ≤ D.faults storing.new.a.now }
     ensures b_faults_never_fall { D.faults storing.old.b.now ≤ D.faults storing.new.b.now }
@@ -339,6 +358,7 @@ fn settle_where_left<
         All HasNoHarvesters (lanings crew.new.lanes.items) }
     ensures all_settled { IsAllSettled (lanings crew.old.lanes.items) storing.old.keeper →
         IsAllSettled (lanings crew.new.lanes.items) storing.new.keeper }
+    ensures links_stay { LinksStay crew.old.carriers.items crew.new.carriers.items }
     ensures as_many { AreAsMany (crewing crew.old storing.old) (crewing crew.new storing.new) }
     ensures a_faults_never_fall { D.faults storing.old.a.now ≤ D.faults storing.new.a.now }
     ensures b_faults_never_fall { D.faults storing.old.b.now ≤ D.faults storing.new.b.now }

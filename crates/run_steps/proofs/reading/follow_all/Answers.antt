@@ -1,8 +1,10 @@
 use Rattle.std.proofs.Common.{refl, ◌∙◌, arith}
 use Rattle.keeper.proofs.InARow.{collects_more, collects_none}
 use Rattle.rounds.specs.Words.{disk_words, link_words, tail_words, wire_words, words}
+use Rattle.run_steps.specs.CarriersFail.{sending}
 use Rattle.run_steps.specs.RunState.{Reading, within}
 use Rattle.run_steps.proofs.Clocks.{clock_by_two, clock_stays}
+use Rattle.run_steps.proofs.FailingRounds.{fail_by_nothing, fail_by_two}
 use Rattle.run_steps.proofs.Onward.{onward_by_nothing, onward_by_two}
 use Rattle.run_steps.proofs.reading.follow_all.Goals as goal
 use Rattle.run_steps.specs.MetBy.{phase_met}
@@ -18,6 +20,9 @@ loop-init g c =
       ready = c.requires.ready;
       onward = λ shown. onward_by_nothing all (within shown (g.K.Clock.moments c.args.signals.now.clock.now) c.args.crew.now c.args.storing.now Reading);
       at_rest = λ rest. rest;
+      failing = fail_by_nothing (link_words g.L.Link.told g.L.Link.faults g.L.Link.idles) (wire_words g.W.Wire.outcomes g.W.Wire.open_links g.W.Wire.faults g.W.Wire.idles) c.args.context.settings.now.output.attempts
+          (sending (g.K.Clock.moments c.args.signals.now.clock.now) c.args.crew.now.carriers.items);
+      none_failed = λ none. none;
       as_many = record { lanes = refl; carriers = refl };
       slots = refl;
       a_faults = omega arith;
@@ -49,6 +54,13 @@ pub returns-in-Some-make_round-clause-clock_goes_on : goal.returns-in-Some-make_
 returns-in-Some-make_round-clause-clock_goes_on g c =
     clock_by_two (g.K.Clock.moments c.args.signals.now.clock.now) (g.K.Clock.moments c.loop.signals.clock.now) (g.K.Clock.moments c.make_round.new.clock) c.loop.invariant.clock c.in-Some-make_round.ensures.clock_goes_on
 
+pub returns-in-Some-make_round-clause-failing : goal.returns-in-Some-make_round-clause-failing
+returns-in-Some-make_round-clause-failing g c =
+    fail_by_two (link_words g.L.Link.told g.L.Link.faults g.L.Link.idles) (wire_words g.W.Wire.outcomes g.W.Wire.open_links g.W.Wire.faults g.W.Wire.idles) c.args.context.settings.now.output.attempts
+    (sending (g.K.Clock.moments c.args.signals.now.clock.now) c.args.crew.now.carriers.items) (sending (g.K.Clock.moments c.loop.signals.clock.now) c.loop.crew.carriers.items)
+    (sending (g.K.Clock.moments c.make_round.new.clock) c.make_round.new.crew.carriers.items)
+    c.loop.invariant.failing c.loop.invariant.none_failed c.in-Some-make_round.ensures.failing
+
 pub loop-preserved : goal.loop-preserved
 loop-preserved g c =
     let all = words (tail_words g.T.Tail.numbers g.T.Tail.told g.T.Tail.faults) (link_words g.L.Link.told g.L.Link.faults g.L.Link.idles)
@@ -65,6 +77,11 @@ loop-preserved g c =
           (within shown (g.K.Clock.moments c.make_round.new.clock) c.make_round.new.crew c.make_round.new.storing Reading)
           kept.at_rest (kept.onward shown) (made.onward shown);
       at_rest = λ rest. made.at_rest tt (kept.at_rest rest);
+      failing = fail_by_two (link_words g.L.Link.told g.L.Link.faults g.L.Link.idles) (wire_words g.W.Wire.outcomes g.W.Wire.open_links g.W.Wire.faults g.W.Wire.idles) c.args.context.settings.now.output.attempts
+          (sending (g.K.Clock.moments c.args.signals.now.clock.now) c.args.crew.now.carriers.items) (sending (g.K.Clock.moments c.loop.signals.clock.now) c.loop.crew.carriers.items)
+          (sending (g.K.Clock.moments c.make_round.new.clock) c.make_round.new.crew.carriers.items)
+          c.loop.invariant.failing c.loop.invariant.none_failed made.failing;
+      none_failed = λ none. made.none_failed;
       as_many = record { lanes = made.as_many.lanes ∙ kept.as_many.lanes; carriers = made.as_many.carriers ∙ kept.as_many.carriers };
       slots = made.slots ∙ kept.slots;
       a_faults = let more = made.a_faults_never_fall in let were = kept.a_faults in omega (arith, more, were);

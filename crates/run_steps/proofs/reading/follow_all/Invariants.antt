@@ -7,8 +7,10 @@ use Rattle.rounds.specs.KeeperTurns.{SameAreas, StillTell}
 use Rattle.rounds.specs.Rounds.{IsReady}
 use Rattle.rounds.specs.Staying.{AreAsMany, begins_of}
 use Rattle.rounds.specs.Words.{disk_words, link_words, tail_words, wire_words, words}
+use Rattle.run_steps.specs.CarriersFail.{FailOn, sending}
 use Rattle.run_steps.specs.ClockOn.{MomentsGoOn}
 use Rattle.run_steps.specs.Areas.{IsAtRest}
+use Rattle.run_steps.specs.MetIn.{NoneFailed}
 use Rattle.run_steps.specs.Onward.{Onward}
 use Rattle.run_steps.specs.RunState.{Reading, within}
 use Rattle.run_steps.proofs.reading.follow_all.Given as goal
@@ -27,6 +29,10 @@ invariant-loop g l = record {
   at_rest : IsAtRest (disk_words g.D.Disk.contents g.D.Disk.images g.D.Disk.moment g.D.Disk.images_since g.D.Disk.faults)
       l.initial.storing.keeper l.initial.storing.a.now l.initial.storing.b.now →
       IsAtRest (disk_words g.D.Disk.contents g.D.Disk.images g.D.Disk.moment g.D.Disk.images_since g.D.Disk.faults) l.storing.keeper l.storing.a.now l.storing.b.now;
+  failing : FailOn (link_words g.L.Link.told g.L.Link.faults g.L.Link.idles) (wire_words g.W.Wire.outcomes g.W.Wire.open_links g.W.Wire.faults g.W.Wire.idles)
+      l.context.settings.now.output.attempts
+      (sending (g.K.Clock.moments l.initial.signals.clock.now) l.initial.crew.carriers.items) (sending (g.K.Clock.moments l.signals.clock.now) l.crew.carriers.items);
+  none_failed : NoneFailed l.context.settings.now.output.attempts l.initial.crew.carriers.items → NoneFailed l.context.settings.now.output.attempts l.crew.carriers.items;
   as_many : AreAsMany (crewing l.initial.crew l.initial.storing) (crewing l.crew l.storing);
   slots : begins_of (lanings l.crew.lanes.items) ≡ begins_of (lanings l.initial.crew.lanes.items);
   a_faults : g.D.Disk.faults l.initial.storing.a.now ≤ g.D.Disk.faults l.storing.a.now;

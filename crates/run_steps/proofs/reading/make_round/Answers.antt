@@ -5,6 +5,7 @@ use Rattle.rounds.specs.Words.{disk_words, link_words, tail_words, wire_words, w
 use Rattle.run_steps.specs.MetBy.{phase_of}
 use Rattle.run_steps.specs.ClockOn.{MomentsGoOn}
 use Rattle.run_steps.proofs.Clocks.{clock_by_moment}
+use Rattle.run_steps.proofs.FailingRounds.{fail_by_round, none_failed_in}
 use Rattle.run_steps.proofs.MetBy.{all_done, each_met, none_out, stored_well}
 use Rattle.run_steps.proofs.Onward.{round_onward}
 use Rattle.run_steps.proofs.reading.make_round.Goals as goal
@@ -64,3 +65,17 @@ pub returns-clause-clock_goes_on : goal.returns-clause-clock_goes_on
 returns-clause-clock_goes_on g c =
     let gave = clock_by_moment (g.K.Clock.moments c.args.clock.now) c.now-now.result.0 (g.K.Clock.moments c.now-now.new.self) c.now-now.ensures.told in
     subst (MomentsGoOn (g.K.Clock.moments c.args.clock.now)) (sym c.pause_where_still.ensures.moments_kept) gave
+
+pub returns-clause-failing : goal.returns-clause-failing
+returns-clause-failing g c =
+    let all = words (tail_words g.T.Tail.numbers g.T.Tail.told g.T.Tail.faults) (link_words g.L.Link.told g.L.Link.faults g.L.Link.idles)
+    (wire_words g.W.Wire.outcomes g.W.Wire.open_links g.W.Wire.faults g.W.Wire.idles)
+    (disk_words g.D.Disk.contents g.D.Disk.images g.D.Disk.moment g.D.Disk.images_since g.D.Disk.faults) in
+    let given : GivesMoment (g.K.Clock.moments c.args.clock.now) c.now-now.result.0 (g.K.Clock.moments c.pause_where_still.new.clock) =
+    subst (λ (o : Option (List ℕ)). GivesMoment (g.K.Clock.moments c.args.clock.now) c.now-now.result.0 o) (sym c.pause_where_still.ensures.moments_kept) c.now-now.ensures.told in
+    fail_by_round all c.args.context.outlets.queue.now c.args.context.outlets.desk.now (record { now = c.now-now.result; last = true }) (crewing c.args.crew.now c.args.storing.now)
+    (crewing c.round-round.new.self c.round-round.new.storing) c.round-round.result c.round-round.ensures.rounds c.args.context.settings.now.output.attempts
+    (g.K.Clock.moments c.args.clock.now) (g.K.Clock.moments c.pause_where_still.new.clock) given
+
+pub returns-clause-none_failed : goal.returns-clause-none_failed
+returns-clause-none_failed g c = none_failed_in c.args.context.settings.now.output.attempts c.round-round.new.self c.round-round.new.storing.keeper c.round-round.result c.met_in-met.result c.met_in-met.ensures

@@ -6,14 +6,17 @@ use Rattle.rounds.specs.Making.{IsBegunLane}
 use Rattle.rounds.specs.Words.{disk_words, link_words, tail_words, wire_words, words}
 use Rattle.rounds.specs.declared.carrier.Carrier.{Carrier}
 use Rattle.run_steps.specs.Beginning.{beginning}
+use Rattle.run_steps.specs.CarriersFail.{counts_told}
 use Rattle.run_steps.specs.FolderSeen.{folder_words}
 use Rattle.run_steps.specs.Outset.{began_with}
 use Rattle.run_steps.specs.RunEnds.{HasEnded}
 use Rattle.run_steps.specs.RunState.{Phase}
 use Rattle.run_steps.proofs.BegunReady.{ready_begun}
+use Rattle.run_steps.proofs.PassedOver.{passed_over}
 use Rattle.run_steps.proofs.RunCauses.{met_by_run, no_slots}
 use Rattle.run_steps.proofs.RunTails.{none_begun}
 use Rattle.run_steps.proofs.SettingOut.{accounted, first_ready, further, rests, wires_fit, wires_left}
+use Rattle.run_steps.proofs.Unreached.{begun_fails, none_failed_begun}
 use Rattle.run_steps.proofs.running.run_over.Goals as goal
 
 pub work-requires-clause-ready : goal.work-requires-clause-ready
@@ -161,3 +164,26 @@ returns-clause-as_many_wires g c =
     let carriers = ap (λ (v : Vec (Carrier g.row.W.Denot g.row.L.Denot) Global). length v.items) c.begin_all-begun.ensures.kept.carriers in
     let back = c.work.ensures.as_many_wires in
     omega (arith, fit, carriers, back)
+
+pub returns-clause-failing : goal.returns-clause-failing
+returns-clause-failing g c earlier within =
+    let queue = c.args.context.outlets.queue.now.id in
+    let desk = c.args.context.outlets.desk.now.id in
+    let settings = c.args.context.settings.now in
+    let old = c.args.around.now.wires.now.items in
+    let wires = wire_words g.W.Wire.outcomes g.W.Wire.open_links g.W.Wire.faults g.W.Wire.idles in
+    let tries = c.requires.settings.output.attempts in
+    let some = c.requires.settings.output.timeout in
+    c.work.ensures.failing settings.output.timeout earlier (counts_told wires settings.output.workers old) (omega (arith, some))
+    (none_failed_begun queue desk settings old c.crew_of.new.wires.items c.in_ok-crew.crew g.L.Link.told c.in_ok-crew.ensures.begun c.begin_all-begun.new.crew.carriers
+    c.begin_all-begun.ensures.kept.carriers (omega (arith, tries)))
+    (begun_fails queue desk settings old c.crew_of.new.wires.items c.in_ok-crew.crew (link_words g.L.Link.told g.L.Link.faults g.L.Link.idles) wires c.in_ok-crew.ensures.begun
+    c.begin_all-begun.new.crew.carriers c.begin_all-begun.ensures.kept.carriers earlier (g.K.Clock.moments c.args.around.now.clock.now) (omega (arith, tries)) within)
+
+pub returns-clause-passed_over : goal.returns-clause-passed_over
+returns-clause-passed_over g c =
+    let names = folder_words g.F.Folder.told g.F.Folder.states g.F.Folder.present g.F.Folder.open_tails g.F.Folder.faults in
+    passed_over (tail_words g.F.Tail.Tail.numbers g.F.Tail.Tail.told g.F.Tail.Tail.faults) c.args.context.settings.now c.args.scanned.now.now c.args.scanned.now.listed.items
+    (beginning names c.args.around.now.folder.now c.in_ok-crew.crew c.args.storing.now.keeper)
+    (beginning names c.begin_all-begun.new.folder c.begin_all-begun.new.crew c.begin_all-begun.new.keeper)
+    c.begin_all-begun.result c.work.result.passed.items c.begin_all-begun.ensures.begun c.work.ensures.passed

@@ -1,8 +1,10 @@
 use Rattle.std.proofs.Common.{refl, ◌∙◌, arith}
 use Rattle.keeper.proofs.InARow.{collects_more, collects_none}
 use Rattle.rounds.specs.Crewed.{lanings}
+use Rattle.rounds.specs.Crewing.{crewing}
 use Rattle.rounds.specs.Words.{disk_words, link_words, tail_words, wire_words, words}
 use Rattle.run_steps.specs.RunState.{within}
+use Rattle.run_steps.proofs.LinksStay.{links_by_settling, links_on, links_same}
 use Rattle.run_steps.proofs.Onward.{onward_by_nothing, onward_by_two, settle_onward}
 use Rattle.run_steps.proofs.Settling.{none_still, settled_still}
 use Rattle.run_steps.proofs.settle.settle_all.Goals as goal
@@ -20,6 +22,7 @@ loop-init g c =
       at_rest = λ rest. rest;
       no_harvesters = λ none. none;
       all_settled = λ settled. settled;
+      links_stay = links_same c.args.crew.now.carriers.items;
       as_many = record { lanes = refl; carriers = refl };
       a_faults = omega arith;
       b_faults = omega arith;
@@ -74,6 +77,24 @@ pub returns-then-is_settled-clause-collects : goal.returns-then-is_settled-claus
 returns-then-is_settled-clause-collects g c =
     collects_more c.args.storing.now.keeper c.loop.storing.keeper c.settle-round.new.storing.keeper c.loop.invariant.collects c.settle-round.ensures.keeps.collects
 
+pub returns-in-Some-stored_by-clause-links_stay : goal.returns-in-Some-stored_by-clause-links_stay
+returns-in-Some-stored_by-clause-links_stay g c =
+    let all = words (tail_words g.T.Tail.numbers g.T.Tail.told g.T.Tail.faults) (link_words g.L.Link.told g.L.Link.faults g.L.Link.idles)
+    (wire_words g.W.Wire.outcomes g.W.Wire.open_links g.W.Wire.faults g.W.Wire.idles)
+    (disk_words g.D.Disk.contents g.D.Disk.images g.D.Disk.moment g.D.Disk.images_since g.D.Disk.faults) in
+    links_on c.args.crew.now.carriers.items c.loop.crew.carriers.items c.settle-round.new.self.carriers.items c.loop.invariant.links_stay
+    (links_by_settling all c.args.context.outlets.queue.now c.args.context.outlets.desk.now (crewing c.loop.crew c.loop.storing) (crewing c.settle-round.new.self c.settle-round.new.storing)
+    c.settle-round.result c.settle-round.ensures.settles)
+
+pub returns-then-is_settled-clause-links_stay : goal.returns-then-is_settled-clause-links_stay
+returns-then-is_settled-clause-links_stay g c =
+    let all = words (tail_words g.T.Tail.numbers g.T.Tail.told g.T.Tail.faults) (link_words g.L.Link.told g.L.Link.faults g.L.Link.idles)
+    (wire_words g.W.Wire.outcomes g.W.Wire.open_links g.W.Wire.faults g.W.Wire.idles)
+    (disk_words g.D.Disk.contents g.D.Disk.images g.D.Disk.moment g.D.Disk.images_since g.D.Disk.faults) in
+    links_on c.args.crew.now.carriers.items c.loop.crew.carriers.items c.settle-round.new.self.carriers.items c.loop.invariant.links_stay
+    (links_by_settling all c.args.context.outlets.queue.now c.args.context.outlets.desk.now (crewing c.loop.crew c.loop.storing) (crewing c.settle-round.new.self c.settle-round.new.storing)
+    c.settle-round.result c.settle-round.ensures.settles)
+
 pub loop-preserved : goal.loop-preserved
 loop-preserved g c =
     let all = words (tail_words g.T.Tail.numbers g.T.Tail.told g.T.Tail.faults) (link_words g.L.Link.told g.L.Link.faults g.L.Link.idles)
@@ -96,6 +117,9 @@ loop-preserved g c =
       no_harvesters = λ none. none_still (lanings c.loop.crew.lanes.items) (lanings c.settle-round.new.self.lanes.items) keeps.lanes (kept.no_harvesters none);
       all_settled = λ settled. settled_still (lanings c.loop.crew.lanes.items) (lanings c.settle-round.new.self.lanes.items) c.loop.storing.keeper c.settle-round.new.storing.keeper
           keeps.lanes keeps.collects (kept.all_settled settled);
+      links_stay = links_on c.args.crew.now.carriers.items c.loop.crew.carriers.items c.settle-round.new.self.carriers.items c.loop.invariant.links_stay
+          (links_by_settling all c.args.context.outlets.queue.now c.args.context.outlets.desk.now (crewing c.loop.crew c.loop.storing) (crewing c.settle-round.new.self c.settle-round.new.storing)
+          c.settle-round.result c.settle-round.ensures.settles);
       as_many = record { lanes = keeps.as_many.lanes ∙ kept.as_many.lanes; carriers = keeps.as_many.carriers ∙ kept.as_many.carriers };
       a_faults = let more = keeps.causes.a_faults in let were = kept.a_faults in omega (arith, more, were);
       b_faults = let more = keeps.causes.b_faults in let were = kept.b_faults in omega (arith, more, were);

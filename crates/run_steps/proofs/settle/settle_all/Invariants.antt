@@ -8,6 +8,7 @@ use Rattle.rounds.specs.Rounds.{IsReady}
 use Rattle.rounds.specs.Staying.{AreAsMany}
 use Rattle.rounds.specs.Words.{disk_words, link_words, tail_words, wire_words, words}
 use Rattle.run_steps.specs.Areas.{IsAtRest}
+use Rattle.run_steps.specs.CarriersFail.{LinksStay}
 use Rattle.run_steps.specs.Ends.{IsAllSettled}
 use Rattle.run_steps.specs.Onward.{Onward}
 use Rattle.run_steps.specs.Releasing.{HasNoHarvesters}
@@ -29,6 +30,7 @@ invariant-loop g l = record {
       IsAtRest (disk_words g.D.Disk.contents g.D.Disk.images g.D.Disk.moment g.D.Disk.images_since g.D.Disk.faults) l.storing.keeper l.storing.a.now l.storing.b.now;
   no_harvesters : All HasNoHarvesters (lanings l.initial.crew.lanes.items) → All HasNoHarvesters (lanings l.crew.lanes.items);
   all_settled : IsAllSettled (lanings l.initial.crew.lanes.items) l.initial.storing.keeper → IsAllSettled (lanings l.crew.lanes.items) l.storing.keeper;
+  links_stay : LinksStay l.initial.crew.carriers.items l.crew.carriers.items;
   as_many : AreAsMany (crewing l.initial.crew l.initial.storing) (crewing l.crew l.storing);
   a_faults : g.D.Disk.faults l.initial.storing.a.now ≤ g.D.Disk.faults l.storing.a.now;
   b_faults : g.D.Disk.faults l.initial.storing.b.now ≤ g.D.Disk.faults l.storing.b.now;

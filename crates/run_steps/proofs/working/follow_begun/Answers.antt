@@ -3,11 +3,13 @@ use Rattle.std.specs.declared.alloc.Global.{Global}
 use Rattle.keeper.proofs.InARow.{collects_none}
 use Rattle.report.specs.declared.passing.Passing.{Passing}
 use Rattle.rounds.specs.Words.{disk_words, link_words, tail_words, wire_words, words}
+use Rattle.run_steps.specs.CarriersFail.{sending}
 use Rattle.run_steps.specs.Onward.{Onward}
 use Rattle.run_steps.specs.RunState.{Leaving, Phase, within}
 use Rattle.run_steps.specs.Worked.{phase_begun, phase_worked}
 use Rattle.run_steps.specs.declared.met.Met.{Met}
 use Rattle.run_steps.proofs.Clocks.{clock_stays}
+use Rattle.run_steps.proofs.FailingRounds.{fail_by_nothing}
 use Rattle.run_steps.proofs.Onward.{onward_by_nothing}
 use Rattle.run_steps.proofs.working.follow_begun.Goals as goal
 
@@ -24,3 +26,7 @@ returns-in-Err-clause-collects g c = collects_none c.args.storing.now.keeper
 
 pub returns-in-Err-clause-clock_goes_on : goal.returns-in-Err-clause-clock_goes_on
 returns-in-Err-clause-clock_goes_on g c = clock_stays (g.K.Clock.moments c.args.signals.now.clock.now)
+
+pub returns-in-Err-clause-failing : goal.returns-in-Err-clause-failing
+returns-in-Err-clause-failing g c =
+    fail_by_nothing (link_words g.L.Link.told g.L.Link.faults g.L.Link.idles) (wire_words g.W.Wire.outcomes g.W.Wire.open_links g.W.Wire.faults g.W.Wire.idles) c.args.context.settings.now.output.attempts (sending (g.K.Clock.moments c.args.signals.now.clock.now) c.args.crew.now.carriers.items)

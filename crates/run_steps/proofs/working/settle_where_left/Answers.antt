@@ -1,6 +1,7 @@
 use Rattle.keeper.proofs.InARow.{collects_none}
 use Rattle.rounds.specs.Words.{disk_words, link_words, tail_words, wire_words, words}
 use Rattle.run_steps.specs.RunState.{within}
+use Rattle.run_steps.proofs.LinksStay.{links_same}
 use Rattle.run_steps.proofs.Onward.{onward_by_nothing}
 use Rattle.run_steps.proofs.working.settle_where_left.Goals as goal
 
@@ -13,3 +14,6 @@ returns-in-NoMemory-clause-onward g c shown moments phase =
 
 pub returns-in-NoMemory-clause-collects : goal.returns-in-NoMemory-clause-collects
 returns-in-NoMemory-clause-collects g c = collects_none c.args.storing.now.keeper
+
+pub returns-in-NoMemory-clause-links_stay : goal.returns-in-NoMemory-clause-links_stay
+returns-in-NoMemory-clause-links_stay g c = links_same c.args.crew.now.carriers.items

@@ -5,13 +5,16 @@ use Rattle.rounds.specs.Crewed.{lanings}
 use Rattle.rounds.specs.Crewing.{crewing}
 use Rattle.rounds.specs.Words.{disk_words, link_words, tail_words, wire_words, words}
 use Rattle.std.specs.Vec.{with_items}
+use Rattle.run_steps.specs.CarriersFail.{sending}
 use Rattle.run_steps.specs.MetBy.{Since}
 use Rattle.run_steps.specs.Releasing.{CountsFaults, HasNoHarvesters, all_closings, harvesters_of, released, with_events}
 use Rattle.run_steps.specs.RunState.{phase_left}
 use Rattle.run_steps.specs.Worked.{phase_worked}
 use Rattle.run_steps.specs.declared.met.Met.TheVariants.{Done}
+use Rattle.run_steps.proofs.FailingRounds.{fail_after}
 use Rattle.run_steps.proofs.Letting.{able_released, carriers_have_passes, lanes_have_passes, none_left, released_in}
 use Rattle.run_steps.proofs.RunTails.{as_many_harvesters, wires_back}
+use Rattle.run_steps.proofs.Unreached.{failed_as_met}
 use Rattle.run_steps.proofs.Whole.{cause, done_before, done_in, finished_by, first_met, has_ended, left_still, not_done_by}
 use Rattle.run_steps.proofs.working.work.Goals as goal
 
@@ -162,6 +165,24 @@ returns-clause-told g c =
       subst (λ (l : List (Lane g.row.F-Tail.Denot)). g.F.Folder.told c.release_all.new.folder ≡ with_events (all_closings g.F.Tail.Tail.told g.F.Tail.Tail.faults (lanings l)) (g.F.Folder.told c.args.around.now.folder.now))
           c.as_mut_slice.ensures.value c.release_all.ensures.told,
     )
+
+pub returns-clause-failing : goal.returns-clause-failing
+returns-clause-failing g c timeout earlier starts some none failing =
+    let all = words (tail_words g.F.Tail.Tail.numbers g.F.Tail.Tail.told g.F.Tail.Tail.faults) (link_words g.L.Link.told g.L.Link.faults g.L.Link.idles)
+    (wire_words g.W.Wire.outcomes g.W.Wire.open_links g.W.Wire.faults g.W.Wire.idles)
+    (disk_words g.D.Disk.contents g.D.Disk.images g.D.Disk.moment g.D.Disk.images_since g.D.Disk.faults) in
+    let attempts = c.args.context.settings.now.output.attempts in
+    let one = c.follow_begun-worked.new.crew in
+    let first = c.follow_begun-worked.new.storing in
+    let moments = g.K.Clock.moments c.follow_begun-worked.new.signals.clock.now in
+    let since : Since g.row.F-Tail.Denot g.row.W.Denot g.row.L.Denot g.row.D.Denot = record { a = c.args.storing.now.a.now; b = c.args.storing.now.b.now; now = crewing one first } in
+    failed_as_met all attempts timeout earlier starts moments c.args.begun since
+    (record { a = first.a.now; b = first.b.now; new_a = c.settle_after-worked.new.storing.a.now; new_b = c.settle_after-worked.new.storing.b.now })
+    c.settle_after-worked.new.crew.carriers.items c.args.around.now.wires.now.items c.end_crew.new.wires.items c.follow_begun-worked.result.met c.settle_after-worked.result.met
+    c.requires.begins c.follow_begun-worked.ensures.met c.settle_after-worked.ensures.met
+    (fail_after (link_words g.L.Link.told g.L.Link.faults g.L.Link.idles) (wire_words g.W.Wire.outcomes g.W.Wire.open_links g.W.Wire.faults g.W.Wire.idles) attempts
+    (sending (g.K.Clock.moments c.args.around.now.clock.now) c.args.crew.carriers.items) (sending moments one.carriers.items) timeout earlier starts some none c.follow_begun-worked.ensures.failing failing)
+    c.settle_after-worked.ensures.links_stay c.end_crew.ensures.ended
 
 pub returns-clause-still_tell : goal.returns-clause-still_tell
 returns-clause-still_tell g c = record {
