@@ -1,5 +1,5 @@
 -- A registry whose areas are blank is empty.
-use Rattle.std.proofs.Common.{◌≡◌, inl, inr, ⊎_elim, ℕ, List, [], Option, Some, None, Result, Ok, Err, IfErr, IfOk, IfSome, IsSome, OnErr, refl, sym, ap, subst, ◌∙◌, arith}
+use Rattle.std.proofs.Common.{◌≡◌, inl, inr, ℕ, List, [], Option, Some, None, Result, Ok, Err, IfErr, IfOk, IfSome, IsSome, OnErr, refl, sym, ap, subst, ◌∙◌, arith}
 use Rattle.wire_base.specs.declared.limits.Which.{Which}
 use Rattle.wire_base.specs.declared.row.Row.{Row}
 use Rattle.outside.specs.DiskImages.{LeavesOnly}
@@ -13,6 +13,7 @@ use Rattle.registry_store.specs.declared.store_error.StoreError.TheVariants.{Bad
 use Rattle.run_steps.specs.RegistryErrors.{IsErrorOfStore}
 use Rattle.run_steps.specs.Registry.{IsNotBad, MayHoldNoRow}
 use Rattle.run_steps.specs.declared.registry_error.RegistryError.{RegistryError}
+use Rattle.run_steps.proofs.Areas.{weaker}
 
 -- ---- what is chosen
 
@@ -55,11 +56,11 @@ holds_no_row before image second (Broken at) is choice given chosen = absurd (le
 
 -- ---- what the opening of blank areas answers
 
-some_of : {A : Type 0} (o : Option A) → IsSome o → (x : A) × (o ≡ Some x)
+pub some_of : {A : Type 0} (o : Option A) → IsSome o → (x : A) × (o ≡ Some x)
 some_of None some = cc some
 some_of (Some x) some = (x, refl)
 
-blank_of : (o : Option (List ℕ)) (area : List ℕ) → o ≡ Some area → IfSome o IsBlank → IsBlank area
+pub blank_of : (o : Option (List ℕ)) (area : List ℕ) → o ≡ Some area → IfSome o IsBlank → IsBlank area
 blank_of None area is blank = cc is
 blank_of (Some one) area is blank = let same : one ≡ area = cc is in subst IsBlank same blank
 
@@ -92,20 +93,6 @@ not_bad_by Closed result none is = subst IsNotBad (sym is) tt
 not_bad_by StoreNoMemory result none is = subst IsNotBad (sym is) tt
 
 module _ {D : Type 0} (contents : D → Option (List ℕ)) (images : D → List ℕ → Type 0) (moment : D → ℕ) (images_since : D → ℕ → List ℕ → Type 0) where
-  weaker : (old new : D) (P Q : List ℕ → Type 0) → LeavesOnly moment images_since old new P → ((image : List ℕ) → P image → Q image) → LeavesOnly moment images_since old new Q
-  weaker old new P Q leaves then = record {
-    later = leaves.later;
-    each = λ image left. then image (leaves.each image left);
-    before = λ start image le left. ⊎_elim inl (λ has. inr (then image has)) (leaves.before start image le left);
-  }
-
-  behind : (old mid new : D) (P : List ℕ → Type 0) → LeavesOnly moment images_since old mid P → LeavesOnly moment images_since mid new P → LeavesOnly moment images_since old new P
-  behind old mid new P first second = record {
-    later = omega (arith, first.later, second.later);
-    each = λ image left. ⊎_elim (first.each image) (λ has. has) (second.before (moment old) image first.later left);
-    before = λ start image le left. ⊎_elim (first.before start image le) inr (second.before start image (omega (arith, le, first.later)) left);
-  }
-
   -- what A may hold while the registry is started
   pub holds_none : (a b new : D) → IfSome (contents a) IsBlank → IfSome (contents b) IsBlank → ((disk : D) → IfSome (contents disk) (images disk)) → AreAtRest contents images a b
       → (AreAtRest contents images a b → (first second : List ℕ) (rows : List Row) → contents a ≡ Some first → contents b ≡ Some second → GivesRows first second rows
@@ -117,7 +104,7 @@ module _ {D : Type 0} (contents : D → Option (List ℕ)) (images : D → List 
       let second_blank = blank_of (contents b) second b_is b_blank in
       let fresh : GivesRows first second [] = record { choice = Fresh; chosen = blank_is_fresh first second (blank_of (contents a) first a_is a_blank) second_blank; given = refl } in
       let there : images b second = subst (λ (o : Option (List ℕ)). IfSome o (images b)) b_is (reads b) in
-      weaker a new _ (MayHoldNoRow (contents a)) (each rest first second [] a_is b_is fresh) (λ image gives. of_blank (contents a) image second second_blank (gives second there))
+      weaker moment images_since a new _ (MayHoldNoRow (contents a)) (each rest first second [] a_is b_is fresh) (λ image gives. of_blank (contents a) image second second_blank (gives second there))
     where
       of_blank : (before : Option (List ℕ)) (image second : List ℕ) → IsBlank second → GivesRows image second [] → MayHoldNoRow before image
       of_blank before image second blank gives =

@@ -42,6 +42,7 @@ pub mod OfInputs
 pub mod Onward
 pub mod Openings
 pub mod Ordering
+pub mod OutsetMade
 pub mod PassedOver
 pub mod Released
 pub mod Releasing

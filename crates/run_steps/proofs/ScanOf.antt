@@ -44,7 +44,7 @@ pub record IsOfEntry (inputs : List InputRule) (listings : List Listing) (one : 
   pub among : Contains (shown_in listings) shown
   pub by : IsListedBy inputs one shown
 
-each_of_entry : (inputs : List InputRule) (listings : List Listing) (listed : List Listed) → AreOfShown inputs listings listed → AllByRecursion (IsOfEntry inputs listings) listed
+pub each_of_entry : (inputs : List InputRule) (listings : List Listing) (listed : List Listed) → AreOfShown inputs listings listed → AllByRecursion (IsOfEntry inputs listings) listed
 each_of_entry inputs listings listed only = of_any listed (each_of (λ (one : Listed). Any (λ shown. IsListedBy inputs one shown) (shown_in listings)) listed only)
   where
     of_any : (some : List Listed) → AllByRecursion (λ (one : Listed). Any (λ shown. IsListedBy inputs one shown) (shown_in listings)) some → AllByRecursion (IsOfEntry inputs listings) some
