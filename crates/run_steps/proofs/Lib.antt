@@ -27,6 +27,7 @@ pub mod First
 pub mod Giving
 pub mod Grounds
 pub mod Having
+pub mod HeldNoRow
 pub mod Keeps
 pub mod Lanes
 pub mod Leaving

@@ -6,7 +6,9 @@ ghost use Rattle.registry_log.specs.Starting.{IsBlank};
 ghost use Rattle.registry_store.specs.Committing.{GoesOn};
 ghost use Rattle.registry_store.specs.Settled.{AreAtRest, AreSettled};
 ghost use Rattle.registry_store.specs.Standing.{IsEmpty, chosen_by};
+ghost use Rattle.rounds.specs.Words.{disk_words};
 ghost use Rattle.wire_base.specs.declared.limits.Which.{Which};
+ghost use Rattle.run_steps.specs.Areas.{HaveHeldFronts};
 ghost use Rattle.run_steps.specs.Registry.{IsNotBad, IsRefusedAt, IsWritten, MayHoldNoRow, RefusesArea, RefusesOne, RefusesWritten};
 
 use crate::registry_error::RegistryError;
@@ -38,6 +40,18 @@ pub fn open_registry<D: Disk>(alloc: Global, a: &mut D, b: &mut D) -> Result<Sto
     ensures b_only_read { IsOnlyRead D.contents D.images D.moment D.images_since D.faults
         b.old b.new }
 
+    // Areas that were blank have held no row since then, whatever is answered.
+    ensures holds_no_row { (first second : List ℕ) →
+        AreAtRest D.contents D.images a.old b.old →
+        D.contents a.old ≡ Some first → D.contents b.old ≡ Some second →
+        ¬ (IsWritten first) → ¬ (IsWritten second) →
+        HaveHeldFronts (disk_words D.contents D.images D.moment D.images_since D.faults) []
+        a.old b.old a.new b.new }
+    ensures holds_no_row_where_open { AreAtRest D.contents D.images a.old b.old →
+        OnOk result (HaveHeldFronts
+        (disk_words D.contents D.images D.moment D.images_since D.faults) []
+        a.old b.old a.new b.new) }
+
     // Areas that are not blank are refused, and no others.
     ensures bad { (first second : List ℕ) (area : Which) (at : ℕ) →
         D.contents a.old ≡ Some first → D.contents b.old ≡ Some second →
@@ -45,6 +59,10 @@ pub fn open_registry<D: Disk>(alloc: Global, a: &mut D, b: &mut D) -> Result<Sto
     ensures a_only_read_where_bad { (area : Which) (at : ℕ) →
         IsSome (D.contents a.old) → IsSome (D.contents b.old) →
         IsErrOf result (RegistryError.Bad area at) →
+        IsOnlyRead D.contents D.images D.moment D.images_since D.faults a.old a.new }
+    ensures a_only_read_where_written { (first second : List ℕ) →
+        D.contents a.old ≡ Some first → D.contents b.old ≡ Some second →
+        IsWritten first ⊎ IsWritten second →
         IsOnlyRead D.contents D.images D.moment D.images_since D.faults a.old a.new }
     ensures area_refused { (first second : List ℕ) →
         D.contents a.old ≡ Some first → D.contents b.old ≡ Some second →
@@ -96,6 +114,9 @@ fn open_blank<D: Disk>(alloc: Global, a: &mut D, b: &mut D) -> Result<Store, Reg
         LeavesOnly D.moment D.images_since a.old a.new (MayHoldNoRow (D.contents a.old)) }
     ensures b_only_read { IsOnlyRead D.contents D.images D.moment D.images_since D.faults
         b.old b.new }
+    ensures holds_no_row { AreAtRest D.contents D.images a.old b.old →
+        HaveHeldFronts (disk_words D.contents D.images D.moment D.images_since D.faults) []
+        a.old b.old a.new b.new }
     ensures not_bad { IsSome (D.contents a.old) → IsSome (D.contents b.old) →
         IfErr result IsNotBad }
     ensures disk_fault_only_where_faults_rose { IsErrOf result RegistryError.DiskFault →
