@@ -1,5 +1,5 @@
 -- How a run sets out is known from its first steps: the registry was opened, the clock gave its moment, one scan listed the files, and
--- the keeper was made over the store. And a run that is accounted for is so, too, where it ends for want of memory.
+-- the keeper was made over the store.
 use Rattle.std.proofs.Common.{◌≡◌, All, List, [], ◌∷◌, Option, IfSome, IsSome, refl, sym, subst}
 use Rattle.std.specs.List.{AllByRecursion}
 use Rattle.beat_config.specs.InRange.{AreInRange}
@@ -16,12 +16,9 @@ use Rattle.registry_store.specs.Settled.{AreAtRest, AreSettled}
 use Rattle.registry_store.specs.Standing.{Standing, chosen_by}
 use Rattle.rounds.specs.Words.{DiskWords, WireWords}
 use Rattle.settle_box.specs.Collector.{Collector}
-use Rattle.run_steps.specs.AccountedFor.{AccountedFor, RunObjects}
 use Rattle.run_steps.specs.Areas.{HaveHeldFronts, IsAtRest}
 use Rattle.run_steps.specs.BeginsAll.{IsOfInputs, IsOfPathInput}
 use Rattle.run_steps.specs.Outset.{Earlier, Outset, SetsOut, began_with}
-use Rattle.run_steps.specs.declared.met.Met.{Met}
-use Rattle.run_steps.specs.declared.met.Met.TheVariants.{Done, NoMemory}
 use Rattle.run_steps.proofs.Blank.{some_of}
 use Rattle.run_steps.proofs.ByPath.{each_of}
 use Rattle.run_steps.proofs.OfInputs.{of_path_input}
@@ -73,25 +70,3 @@ module _ {W D : Type 0} (disks : DiskWords D) (wires : WireWords W) (outset : Ou
     at_rest = λ rest. first_at_rest disks outset.keeper outset.a outset.b store pass made (settled rest);
     of_inputs = of_path_inputs outset.settings in_range by_path before outset.shown outset.listed inside told scanned;
   }
-
--- ---- where memory is wanted
-
--- of a run that ends for want of memory no more is asked than of any other
-pub weakest : {D : Type 0} (disks : DiskWords D) (objects : RunObjects D) (met : Met) → AccountedFor disks objects met → AccountedFor disks objects NoMemory
-weakest disks objects met accounted = record {
-  run = accounted.run;
-  account = accounted.account;
-  fits = accounted.fits;
-  followed = accounted.followed;
-  sent = accounted.sent;
-  rows = λ at_rest first second rows a_is b_is gives. record {
-    in_image = (accounted.rows at_rest first second rows a_is b_is gives).in_image;
-    kept = λ left. absurd left;
-    begun = λ left. absurd left;
-  };
-  images = accounted.images;
-  supposing = λ premises. record {
-    is = (accounted.supposing premises).is;
-    drained = λ at_rest is_done. absurd (let never : NoMemory ≡ Done = is_done in cc);
-  };
-}

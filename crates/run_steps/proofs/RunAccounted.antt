@@ -75,6 +75,9 @@ module _ {T W L D : Type 0} (words : Words T W L D) (start : Began D) (ending : 
     held : HaveHeldFronts words.disks notes start.a start.b ending.a ending.b
     held = ends.stands.areas at_rest
 
+    given : (first second : List ℕ) → words.disks.contents ending.a ≡ Some first → words.disks.contents ending.b ≡ Some second → (rows : List Row) × GivesRows first second rows
+    given first second a_is b_is = let fronts = held.both first second a_is b_is in (fronts.rows, fronts.given)
+
     kept_in_image : (rows : List Row) → AreRowsOverFronts [] notes rows → AllByRecursion (IsKeptInImage account [] the_run.trace.wires) rows
     kept_in_image rows over = accounted.accounts.images rows (subst (λ (l : List Note). AreRowsOverFronts [] l rows) ends.stands.noted.are over)
 
@@ -127,13 +130,15 @@ module _ {T W L D : Type 0} (words : Words T W L D) (start : Began D) (ending : 
           (run_done words start ending met unused wires ends left folder has tell is_done (served is_done)) accounted.placed premises rows
           (rows_over one at_rest (subst AreLeft (sym is_done) tt) first second rows a_is b_is gives)
 
-      pub accounted_for : AccountedFor words.disks objects met
+      pub accounted_for : AccountedFor words.disks start.settings objects met
       accounted_for = record {
         run = the_run;
+        by_settings = refl;
         account = account;
         fits = fits;
         followed = accounted.accounts.followed;
         sent = accounted.accounts.sent;
+        given = given one;
         rows = rows_by one;
         images = λ at_rest. record { of_a = images_of one at_rest start.a ending.a (held one at_rest).of_a; of_b = images_of one at_rest start.b ending.b (held one at_rest).of_b };
         supposing = λ premises. record { is = accounted.accounts.is premises; drained = λ at_rest is_done. drained at_rest is_done premises };

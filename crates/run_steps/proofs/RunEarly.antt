@@ -31,7 +31,9 @@ use Rattle.prospect.specs.Scan.{AreListed, Listing, event_of}
 use Rattle.prospect.specs.Unfinished.{ListSome, ListsSome}
 use Rattle.prospect.specs.declared.scan_error.ScanError.{ScanError}
 use Rattle.prospect.specs.declared.scan_error.ScanError.TheVariants.{Failed, NoMemory, TooMany}
+use Rattle.registry_store.specs.Choice.{GivesRows}
 use Rattle.registry_store.specs.Settled.{AreAtRest}
+use Rattle.rounds.specs.Images.{GivesFronts}
 use Rattle.rounds.specs.Words.{DiskWords}
 use Rattle.ship_core.specs.RowsOver.{AreRowsOver, row_for}
 use Rattle.wire_base.specs.declared.note.Note.{Note}
@@ -121,6 +123,9 @@ over_no_notes rows over = record {
   in_order = over.in_order;
   each = λ key. let of = over.each key in of.is ∙ ap (λ (l : List Note). row_for [] l key) (nil_front of.front of.rest of.notes_are);
 }
+
+given_by : {first second : List ℕ} → GivesFronts [] [] first second → (rows : List Row) × GivesRows first second rows
+given_by fronts = (fronts.rows, fronts.given)
 
 -- ---- the run
 
@@ -217,9 +222,10 @@ module _ {D : Type 0} (disks : DiskWords D) (start : Began D) (folder : FolderTo
       begun = λ left. early_accounts.begun rows (over_no_notes rows over);
     }
 
-    pub early_is_accounted_for : (met : Met) → met ≢ Done → AccountedFor disks early_objects met
+    pub early_is_accounted_for : (met : Met) → met ≢ Done → AccountedFor disks start.settings early_objects met
     early_is_accounted_for met not_done = record {
       run = early_run;
+      by_settings = refl;
       account = [];
       fits = record {
         once = refl;
@@ -231,6 +237,7 @@ module _ {D : Type 0} (disks : DiskWords D) (start : Began D) (folder : FolderTo
       };
       followed = early_accounts.followed;
       sent = early_accounts.sent;
+      given = λ at_rest first second a_is b_is. given_by ((areas at_rest).both first second a_is b_is);
       rows = λ at_rest first second rows a_is b_is gives. rows_by met rows (given_over_fronts one [] first second rows ((areas at_rest).both first second a_is b_is) gives);
       images = λ at_rest. record { of_a = images_of start.a a (areas at_rest).of_a; of_b = images_of start.b b (areas at_rest).of_b };
       supposing = λ premises. record { is = early_accounts.is premises; drained = λ at_rest is_done. absurd (not_done is_done) };
@@ -292,9 +299,10 @@ module _ {D : Type 0} (disks : DiskWords D) (settings : Settings) (told : Folder
       begun = λ left. still_accounts.begun rows (over_no_notes rows over);
     }
 
-    pub still_is_accounted_for : (met : Met) → met ≢ Done → AccountedFor disks still_objects met
+    pub still_is_accounted_for : (met : Met) → met ≢ Done → AccountedFor disks settings still_objects met
     still_is_accounted_for met not_done = record {
       run = still_run;
+      by_settings = refl;
       account = [];
       fits = record {
         once = refl;
@@ -306,6 +314,7 @@ module _ {D : Type 0} (disks : DiskWords D) (settings : Settings) (told : Folder
       };
       followed = still_accounts.followed;
       sent = still_accounts.sent;
+      given = λ at_rest first second a_is b_is. given_by ((areas at_rest).both first second a_is b_is);
       rows = λ at_rest first second rows a_is b_is gives. still_rows met rows (given_over_fronts one [] first second rows ((areas at_rest).both first second a_is b_is) gives);
       images = λ at_rest. record { of_a = still_images from_a a (areas at_rest).of_a; of_b = still_images from_b b (areas at_rest).of_b };
       supposing = λ premises. record { is = still_accounts.is premises; drained = λ at_rest is_done. absurd (not_done is_done) };

@@ -1,11 +1,12 @@
--- A run that is accounted for (this project's profile): a run that fits what its objects told before and after it, and an account of
--- it. Its files are followed so, only told events were sent, the rows that its areas give are kept, and so is each row that any image
+-- A run that is accounted for (this project's profile): a run by its settings that fits what its objects told before and after it, and
+-- an account of it. Its files are followed so, only told events were sent, the rows that its areas give are kept, and so is each row that any image
 -- of an area had since it began. Where files keep their identities and truncations are seen, the account is one of the run, and a
 -- run that is done drained its folder. It is said where the folder, the clock and each wire tell.
 use Rattle.std.specs.Prelude.{◌≡◌, ℕ, ◌-◌, ◌≤◌, true, List, [], drop, length, map, Option, Some, None}
 use Rattle.std.specs.List.{AllByRecursion}
 use Rattle.accounts.specs.AccountedFor.{HasItsRow, followings_in}
 use Rattle.batch_worker.specs.Standing.{length_of}
+use Rattle.event_tree.specs.declared.settings.Settings.{Settings}
 use Rattle.kept_rows.specs.Account.{SlotAccount}
 use Rattle.kept_rows.specs.Drained.{IsDrained}
 use Rattle.kept_rows.specs.Followed.{AreFollowed}
@@ -78,7 +79,11 @@ pub record RowsBy (run : Run) (account : List SlotAccount) (met : Met) (rows : L
   pub kept : AreLeft met → AllByRecursion (IsKept account run.opening run.trace.wires) rows
   pub begun : AreLeft met → AllByRecursion (HasItsRow rows) account
 
--- what both areas hold now gives such rows
+-- what both areas hold now gives rows
+abbrev pub GiveRows : {D : Type 0} → DiskWords D → Objects D → Type 0
+GiveRows disks objects = (first second : List ℕ) → disks.contents objects.a ≡ Some first → disks.contents objects.b ≡ Some second → (rows : List Row) × GivesRows first second rows
+
+-- and those are such
 abbrev pub AreRowsBy : {D : Type 0} → DiskWords D → Objects D → (List Row → Type 0) → Type 0
 AreRowsBy disks objects P = (first second : List ℕ) (rows : List Row) → disks.contents objects.a ≡ Some first → disks.contents objects.b ≡ Some second →
     GivesRows first second rows → P rows
@@ -112,12 +117,14 @@ pub record AreAccounted {D : Type 0} (disks : DiskWords D) (objects : RunObjects
 
 -- ---- together
 
-pub record AccountedFor {D : Type 0} (disks : DiskWords D) (objects : RunObjects D) (met : Met) : Type 0 where
+pub record AccountedFor {D : Type 0} (disks : DiskWords D) (settings : Settings) (objects : RunObjects D) (met : Met) : Type 0 where
   pub run : Run
+  pub by_settings : run.settings ≡ settings
   pub account : List SlotAccount
   pub fits : FitsObjects objects run
   pub followed : AreFollowed run (followings_in account)
   pub sent : SendOnlyTold account run.trace.wires
+  pub given : WereAtRest disks objects → GiveRows disks objects.after
   pub rows : WereAtRest disks objects → AreRowsBy disks objects.after (RowsBy run account met)
   pub images : WereAtRest disks objects → ImagesHoldKeptRows disks objects run account
   pub supposing : Premises run (followings_in account) → AreAccounted disks objects met run account

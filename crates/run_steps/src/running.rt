@@ -2,7 +2,7 @@ ghost use Rattle.std.specs.Prelude.{◌≡◌, ◌≤◌, ◌+◌, ◌-◌, ◌^
 ghost use Rattle.std.specs.List.{AllByRecursion};
 ghost use Rattle.beat_config.specs.InRange.{AreInRange};
 ghost use Rattle.prospect.specs.ListedFiles.{IsListedInRange};
-ghost use Rattle.rounds.specs.KeeperTurns.{SameAreas, StillTell};
+ghost use Rattle.rounds.specs.KeeperTurns.{StillTell};
 ghost use Rattle.rounds.specs.Making.{all_seen};
 ghost use Rattle.rounds.specs.Words.{disk_words, link_words, tail_words, wire_words, words};
 ghost use Rattle.wire_base.specs.Ranges.{IsMoment};
@@ -146,7 +146,8 @@ where
         }) earlier) folder → IsSome earlier.moments →
         AllByRecursion (λ wire. IsSome (W.outcomes wire)) around.new.wires.now.items →
         IfOk result (λ worked. AccountedFor
-        (disk_words D.contents D.images D.moment D.images_since D.faults) (record {
+        (disk_words D.contents D.images D.moment D.images_since D.faults)
+        context.entry.settings.now (record {
           before = record {
             folder = Some folder.earlier;
             moments = earlier.moments;
@@ -201,7 +202,8 @@ where
     ensures back { OnErr result
         (all_seen (wire_words W.outcomes W.open_links W.faults W.idles) around.new.wires.now.items
         ≡ all_seen (wire_words W.outcomes W.open_links W.faults W.idles) around.old.wires.now.items) }
-    ensures same_areas { SameAreas storing.old storing.new }
+    ensures same_a { storing.new.a.ghost_name ≡ storing.old.a.ghost_name }
+    ensures same_b { storing.new.b.ghost_name ≡ storing.old.b.ghost_name }
     ensures still_tell { StillTell D.contents storing.old storing.new }
     ensures same_folder { around.new.folder.ghost_name ≡ around.old.folder.ghost_name }
     ensures same_wires { around.new.wires.ghost_name ≡ around.old.wires.ghost_name }

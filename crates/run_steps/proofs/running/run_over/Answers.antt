@@ -187,3 +187,9 @@ returns-clause-passed_over g c =
     (beginning names c.args.around.now.folder.now c.in_ok-crew.crew c.args.storing.now.keeper)
     (beginning names c.begin_all-begun.new.folder c.begin_all-begun.new.crew c.begin_all-begun.new.keeper)
     c.begin_all-begun.result c.work.result.passed.items c.begin_all-begun.ensures.begun c.work.ensures.passed
+
+pub returns-clause-same_a : goal.returns-clause-same_a
+returns-clause-same_a g c = c.work.ensures.same_areas.a
+
+pub returns-clause-same_b : goal.returns-clause-same_b
+returns-clause-same_b g c = c.work.ensures.same_areas.b
