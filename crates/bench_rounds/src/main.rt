@@ -57,7 +57,7 @@ fn worked<R: Threads + Wait + Sync>(
         desk: &desk,
     };
     let (mut a, mut b) = (CountingDisk::new(), CountingDisk::new());
-    let keeper = keeper(alloc, collect, asked.files, &mut a, &mut b)?;
+    let mut keeper = keeper(alloc, collect, asked.files, &mut a, &mut b)?;
     let files = tails(alloc, asked.files, asked.lines)?;
     let mut crew = crew(
         alloc,
@@ -67,18 +67,12 @@ fn worked<R: Threads + Wait + Sync>(
         files,
     )?;
     let mut storing = Storing {
-        keeper,
+        keeper: &mut keeper,
         a: &mut a,
         b: &mut b,
         stored: Stored::begun(),
     };
     let went = work(rt, alloc, outlets, &mut crew, &mut storing, asked.until);
-    let Storing {
-        keeper,
-        a: _,
-        b: _,
-        stored: _,
-    } = storing;
     let (_lanes, carriers) = crew.end();
     end_all(outlets, carriers);
     if !went {

@@ -14,7 +14,7 @@ use Rattle.rounds.specs.Books.{AreBooked, ArePlaced, Told, told_on}
 use Rattle.rounds.specs.Causes.{AnswersSteps, LanesHad, RoundCauses}
 use Rattle.rounds.specs.Crewed.{lanings}
 use Rattle.rounds.specs.Images.{AreAtRest, ImagesAreFronts}
-use Rattle.rounds.specs.KeeperTurns.{SameAreas, StillTell, begun_stored}
+use Rattle.rounds.specs.KeeperTurns.{SameObjects, StillTell, begun_stored}
 use Rattle.rounds.specs.Moved.{HaveMoved, WereStill}
 use Rattle.rounds.specs.Placed.{IsPlacedAfter}
 use Rattle.rounds.specs.RoundKeeps.{RoundKeeps}
@@ -26,7 +26,7 @@ use Rattle.rounds.specs.declared.answer.Round.{Round}
 use Rattle.rounds.specs.Crewing.{Crewing}
 use Rattle.rounds.specs.declared.storing.Storing.{Storing}
 use Rattle.rounds.proofs.Causes.{a_faults_ran, answers_steps, b_faults_ran, rose_ran, wires_stay}
-use Rattle.rounds.proofs.KeeperSteps.{areas_by}
+use Rattle.rounds.proofs.KeeperSteps.{same_by}
 use Rattle.rounds.proofs.Images.{images_are_fronts, kept_still, rested_images, rested_kept}
 use Rattle.rounds.proofs.Moved.{answer_moved, bare_answer, carriers_moved, carriers_still, lanes_moved, lanes_still, storing_moved, storing_still}
 use Rattle.rounds.proofs.Placing.{booked_met, carriers_stepped, lanes_stepped, placed_met}
@@ -72,11 +72,11 @@ module _ {T W L D : Type 0} (words : Words T W L D) (queue : BoundedQueue) (desk
         steps_are = lanes.are;
         lanes_are = met.lanes_same;
         acknowledged_more = carriers.more;
-        booked = booked_met words.links words.wires queue.id desk.id mid.storing.keeper.pass.got later (lanings mid.lanes.items) (lanings new.lanes.items) mid.carriers.items new.carriers.items met booked_then;
+        booked = booked_met words.links words.wires queue.id desk.id mid.storing.keeper.now.pass.got later (lanings mid.lanes.items) (lanings new.lanes.items) mid.carriers.items new.carriers.items met booked_then;
         queued = met.queued;
         boxed = notes met.boxed;
-        placed = subst (λ (s : Storing D). ArePlaced later (lanings new.lanes.items) new.carriers.items met.queued (notes s.keeper.pass.got) (notes met.boxed)) (sym rounds.meets.storing)
-            (placed_met words.links words.wires queue.id desk.id mid.storing.keeper.pass.got later (lanings mid.lanes.items) (lanings new.lanes.items) mid.carriers.items new.carriers.items met booked_then);
+        placed = subst (λ (s : Storing D). ArePlaced later (lanings new.lanes.items) new.carriers.items met.queued (notes s.keeper.now.pass.got) (notes met.boxed)) (sym rounds.meets.storing)
+            (placed_met words.links words.wires queue.id desk.id mid.storing.keeper.now.pass.got later (lanings mid.lanes.items) (lanings new.lanes.items) mid.carriers.items new.carriers.items met booked_then);
       }
 
   -- ---- moved means moved
@@ -129,7 +129,7 @@ module _ {T W L D : Type 0} (words : Words T W L D) (queue : BoundedQueue) (desk
 
   -- ---- images are prefixes
 
-  images_then : (old mid : Crewing T W L D) (moved : Bool) → KeeperHad words.disks moved old mid ⊎ KeeperRested moved old mid → AreAtRest words.disks old.storing → AreOrderly mid.storing.keeper.tracked.notes
+  images_then : (old mid : Crewing T W L D) (moved : Bool) → KeeperHad words.disks moved old mid ⊎ KeeperRested moved old mid → AreAtRest words.disks old.storing → AreOrderly mid.storing.keeper.now.tracked.notes
       → ImagesAreFronts words.disks old.storing mid.storing
   unfolding StoringHasRun
   images_then old mid moved (inl had) kept orderly = images_are_fronts words.disks old.storing mid.storing had.ran kept orderly
@@ -141,10 +141,10 @@ module _ {T W L D : Type 0} (words : Words T W L D) (queue : BoundedQueue) (desk
   kept_then old mid moved (inl had) disk memory kept = kept_still words.disks old.storing mid.storing had.ran disk memory kept
   kept_then old mid moved (inr rested) disk memory kept = rested_kept words.disks old.storing mid.storing rested.same kept
 
-  pub images : (old new : Crewing T W L D) (round : Round) → Rounds words queue desk when old new round → AreAtRest words.disks old.storing → AreOrderly new.storing.keeper.tracked.notes → ImagesAreFronts words.disks old.storing new.storing
+  pub images : (old new : Crewing T W L D) (round : Round) → Rounds words queue desk when old new round → AreAtRest words.disks old.storing → AreOrderly new.storing.keeper.now.tracked.notes → ImagesAreFronts words.disks old.storing new.storing
   images old new round rounds kept orderly =
       subst (λ (s : Storing D). ImagesAreFronts words.disks old.storing s) (sym rounds.meets.storing)
-      (images_then old rounds.mid _ rounds.ran.keeper kept (subst (λ (s : Storing D). AreOrderly s.keeper.tracked.notes) rounds.meets.storing orderly))
+      (images_then old rounds.mid _ rounds.ran.keeper kept (subst (λ (s : Storing D). AreOrderly s.keeper.now.tracked.notes) rounds.meets.storing orderly))
 
   pub areas_kept : (old new : Crewing T W L D) (round : Round) → Rounds words queue desk when old new round → round.memory ≡ false → round.disk ≡ false → AreAtRest words.disks old.storing → AreAtRest words.disks new.storing
   areas_kept old new round rounds memory disk kept =
@@ -155,20 +155,20 @@ module _ {T W L D : Type 0} (words : Words T W L D) (queue : BoundedQueue) (desk
 
   -- ---- what the keeper keeps
 
-  collects_then : (old mid : Crewing T W L D) (moved : Bool) → KeeperHad words.disks moved old mid ⊎ KeeperRested moved old mid → Collects old.storing.keeper mid.storing.keeper
+  collects_then : (old mid : Crewing T W L D) (moved : Bool) → KeeperHad words.disks moved old mid ⊎ KeeperRested moved old mid → Collects old.storing.keeper.now mid.storing.keeper.now
   collects_then old mid moved (inl had) = collects_ran words.disks old.storing mid.storing had.ran
-  collects_then old mid moved (inr rested) = collects_same old.storing.keeper mid.storing.keeper (ap (λ (s : Storing D). s.keeper) rested.same)
+  collects_then old mid moved (inr rested) = collects_same old.storing.keeper.now mid.storing.keeper.now (ap (λ (s : Storing D). s.keeper.now) rested.same)
 
-  stores_then : (old mid : Crewing T W L D) (moved : Bool) → KeeperHad words.disks moved old mid ⊎ KeeperRested moved old mid → Stores old.storing.keeper.tracked old.storing.keeper.store → Stores mid.storing.keeper.tracked mid.storing.keeper.store
+  stores_then : (old mid : Crewing T W L D) (moved : Bool) → KeeperHad words.disks moved old mid ⊎ KeeperRested moved old mid → Stores old.storing.keeper.now.tracked old.storing.keeper.now.store → Stores mid.storing.keeper.now.tracked mid.storing.keeper.now.store
   stores_then old mid moved (inl had) stores = stores_ran words.disks old.storing mid.storing had.ran stores
-  stores_then old mid moved (inr rested) stores = subst (λ (s : Storing D). Stores s.keeper.tracked s.keeper.store) (sym rested.same) stores
+  stores_then old mid moved (inr rested) stores = subst (λ (s : Storing D). Stores s.keeper.now.tracked s.keeper.now.store) (sym rested.same) stores
 
-  pub in_full : (old new : Crewing T W L D) (round : Round) → Rounds words queue desk when old new round → round.moved ≡ false → round.memory ≡ false → round.disk ≡ false → IsStoredInFull new.storing.keeper
+  pub in_full : (old new : Crewing T W L D) (round : Round) → Rounds words queue desk when old new round → round.moved ≡ false → round.memory ≡ false → round.disk ≡ false → IsStoredInFull new.storing.keeper.now
   in_full old new round rounds moved memory disk =
       let memory_is = stored_memory (lanings new.lanes.items) new.carriers.items new.storing.stored (sym (ap (λ (r : Round). r.memory) rounds.answer) ∙ memory) in
       let disk_is = sym (stored_disk (lanings new.lanes.items) new.carriers.items new.storing.stored) ∙ sym (ap (λ (r : Round). r.disk) rounds.answer) ∙ disk in
       let were = were_still old new round rounds moved in
-      subst (λ (s : Storing D). IsStoredInFull s.keeper) (sym were.met.storing)
+      subst (λ (s : Storing D). IsStoredInFull s.keeper.now) (sym were.met.storing)
       (in_full_by words.disks old.storing were.mid.storing were.storing.ran (ap (λ (s : Storing D). s.stored.disk) (sym were.met.storing) ∙ disk_is) (ap (λ (s : Storing D). s.stored.memory) (sym were.met.storing) ∙ memory_is))
 
   -- ---- causes
@@ -216,15 +216,15 @@ module _ {T W L D : Type 0} (words : Words T W L D) (queue : BoundedQueue) (desk
         wires = wires_stay words.wires words.links desk.capacity when.now old.carriers.items mid.carriers.items new.carriers.items rounds.ran.others.carriers rounds.meets.met.carriers_same;
       }
 
-  -- ---- the areas are the same disks
+  -- ---- the keeper and its areas are the same objects
 
-  areas_then : (old mid : Crewing T W L D) (moved : Bool) → KeeperHad words.disks moved old mid ⊎ KeeperRested moved old mid → SameAreas old.storing mid.storing
+  same_then : (old mid : Crewing T W L D) (moved : Bool) → KeeperHad words.disks moved old mid ⊎ KeeperRested moved old mid → SameObjects old.storing mid.storing
   unfolding StoringHasRun
-  areas_then old mid moved (inl had) = had.ran.same_areas
-  areas_then old mid moved (inr rested) = areas_by begun_stored old.storing mid.storing rested.same
+  same_then old mid moved (inl had) = had.ran.same_objects
+  same_then old mid moved (inr rested) = same_by begun_stored old.storing mid.storing rested.same
 
-  pub same_areas : (old new : Crewing T W L D) (round : Round) → Rounds words queue desk when old new round → SameAreas old.storing new.storing
-  same_areas old new round rounds = subst (λ (s : Storing D). SameAreas old.storing s) (sym rounds.meets.storing) (areas_then old rounds.mid _ rounds.ran.keeper)
+  pub same_objects : (old new : Crewing T W L D) (round : Round) → Rounds words queue desk when old new round → SameObjects old.storing new.storing
+  same_objects old new round rounds = subst (λ (s : Storing D). SameObjects old.storing s) (sym rounds.meets.storing) (same_then old rounds.mid _ rounds.ran.keeper)
 
   tells_then : (old mid : Crewing T W L D) (moved : Bool) → KeeperHad words.disks moved old mid ⊎ KeeperRested moved old mid → StillTell words.disks.contents old.storing mid.storing
   tells_then old mid moved (inl had) = tells_ran words.disks old.storing mid.storing had.ran
@@ -259,13 +259,13 @@ module _ {T W L D : Type 0} (words : Words T W L D) (queue : BoundedQueue) (desk
     moved = λ is. have_moved old new round rounds is;
     images = λ kept orderly. images old new round rounds kept orderly;
     at_rest = λ memory disk kept. areas_kept old new round rounds memory disk kept;
-    collects = subst (λ (s : Storing D). Collects old.storing.keeper s.keeper) (sym rounds.meets.storing) (collects_then old rounds.mid _ rounds.ran.keeper);
+    collects = subst (λ (s : Storing D). Collects old.storing.keeper.now s.keeper.now) (sym rounds.meets.storing) (collects_then old rounds.mid _ rounds.ran.keeper);
     able = able_still words queue desk when old new round rounds ready.able;
-    stored = λ stores. subst (λ (s : Storing D). Stores s.keeper.tracked s.keeper.store) (sym rounds.meets.storing) (stores_then old rounds.mid _ rounds.ran.keeper stores);
+    stored = λ stores. subst (λ (s : Storing D). Stores s.keeper.now.tracked s.keeper.now.store) (sym rounds.meets.storing) (stores_then old rounds.mid _ rounds.ran.keeper stores);
     in_full = λ moved memory disk. in_full old new round rounds moved memory disk;
     causes = causes old new round rounds ready;
     as_many = as_many old new round rounds;
     slots = slots old new round rounds;
-    same_areas = same_areas old new round rounds;
+    same_objects = same_objects old new round rounds;
     still_tell = still_tell old new round rounds;
   }

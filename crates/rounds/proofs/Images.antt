@@ -167,12 +167,12 @@ module _ {D : Type 0} (disks : DiskWords D) where
             (turns_leave (next ∷ ts) run.0 new notes run.2 kept.1 (settled_then t old run.0 run.1 kept.0 settled) (committed_then t old run.0 run.1 kept.0) noted orderly),
       )
 
-  pub images_are_fronts : (old new : Storing D) → KeeperRan disks old new → AreAtRest disks old → AreOrderly new.keeper.tracked.notes → ImagesAreFronts disks old new
+  pub images_are_fronts : (old new : Storing D) → KeeperRan disks old new → AreAtRest disks old → AreOrderly new.keeper.now.tracked.notes → ImagesAreFronts disks old new
   unfolding Settled
   images_are_fronts old new ran kept orderly = record {
     turns = length ran.turns;
-    leave = subst (λ (opening : List Row). TurnsLeave disks opening new.keeper.tracked.notes (length ran.turns) (storing_state old) (storing_state new)) (sym (opening_stays ran.turns (storing_state old) (storing_state new) ran.ran))
-        (turns_leave ran.turns (storing_state old) (storing_state new) new.keeper.tracked.notes ran.ran ran.kept kept.settled kept.committed (whole_front new.keeper.tracked.notes) orderly);
+    leave = subst (λ (opening : List Row). TurnsLeave disks opening new.keeper.now.tracked.notes (length ran.turns) (storing_state old) (storing_state new)) (sym (opening_stays ran.turns (storing_state old) (storing_state new) ran.ran))
+        (turns_leave ran.turns (storing_state old) (storing_state new) new.keeper.now.tracked.notes ran.ran ran.kept kept.settled kept.committed (whole_front new.keeper.now.tracked.notes) orderly);
   }
 
   -- ---- where no turn found a fault or no memory, the areas are as the next round wants them

@@ -3,7 +3,7 @@ use Rattle.std.proofs.Common.{◌≡◌, ℕ, suc, ◌+◌, ◌<◌, Bool, true,
 use Rattle.settle_box.specs.Collector.{Collector}
 use Rattle.keeper.specs.declared.turn.KeeperTurn.{KeeperTurn}
 use Rattle.keeper.specs.declared.turn.KeeperTurn.TheVariants.{Kept, Empty, DiskFault, NoMemory}
-use Rattle.rounds.specs.KeeperTurns.{AllButLastKept, AllKept, Counts, EndStill, HasKept, IsKeeping, KeeperRan, KeeperRun, KeeperTurned, KeepsOne, KeepsSoFar, SameAreas, StoringState, begun_stored, stored_of, stored_with, storing_state}
+use Rattle.rounds.specs.KeeperTurns.{AllButLastKept, AllKept, Counts, EndStill, HasKept, IsKeeping, KeeperRan, KeeperRun, KeeperTurned, KeepsOne, KeepsSoFar, SameObjects, StoringState, begun_stored, stored_of, stored_with, storing_state}
 use Rattle.rounds.specs.Words.{DiskWords}
 use Rattle.rounds.specs.declared.storing.Stored.{Stored}
 use Rattle.rounds.specs.declared.storing.Storing.{Storing}
@@ -35,28 +35,28 @@ one_longer : (ts : List KeeperTurn) (t : KeeperTurn) → length (ts ++ t ∷ [])
 one_longer [] t = refl
 one_longer (s ∷ ss) t = ap suc (one_longer ss t)
 
--- ---- the areas
+-- ---- the keeper and its areas
 
-pub areas_by : {D : Type 0} (stored : Stored) (a b : Storing D) → b ≡ record a { stored = stored } → SameAreas a b
-areas_by {D} stored a b is = record { a = ap (λ (s : Storing D). s.a.ghost_name) is; b = ap (λ (s : Storing D). s.b.ghost_name) is }
+pub same_by : {D : Type 0} (stored : Stored) (a b : Storing D) → b ≡ record a { stored = stored } → SameObjects a b
+same_by {D} stored a b is = record { keeper = ap (λ (s : Storing D). s.keeper.ghost_name) is; a = ap (λ (s : Storing D). s.a.ghost_name) is; b = ap (λ (s : Storing D). s.b.ghost_name) is }
 
-pub areas_on : {D : Type 0} (a b c : Storing D) → SameAreas a b → SameAreas b c → SameAreas a c
-areas_on a b c first second = record { a = second.a ∙ first.a; b = second.b ∙ first.b }
+pub same_on : {D : Type 0} (a b c : Storing D) → SameObjects a b → SameObjects b c → SameObjects a c
+same_on a b c first second = record { keeper = second.keeper ∙ first.keeper; a = second.a ∙ first.a; b = second.b ∙ first.b }
 
 module _ {D : Type 0} (disks : DiskWords D) where
   run_on : (ts : List KeeperTurn) (t : KeeperTurn) (a b c : StoringState D) → KeeperRun disks ts a b → KeeperTurned disks t b c → KeeperRun disks (ts ++ t ∷ []) a c
   run_on [] t a b c is turned = (c, subst (λ (s : StoringState D). KeeperTurned disks t s c) is turned, refl)
   run_on (s ∷ ss) t a b c run turned = (run.0, run.1, run_on ss t run.0 b c run.2 turned)
 
-  pub so_far_begins : (a b : Storing D) → b ≡ record a { stored = begun_stored } → a.keeper.store.closed ≡ false → KeepsSoFar disks 0 a b
+  pub so_far_begins : (a b : Storing D) → b ≡ record a { stored = begun_stored } → a.keeper.now.store.closed ≡ false → KeepsSoFar disks 0 a b
   so_far_begins a b is opened = record {
     turns = [];
     many = refl;
     kept = tt;
     ran = ap (λ (s : Storing D). storing_state s) is;
-    same_areas = areas_by begun_stored a b is;
+    same_objects = same_by begun_stored a b is;
     stored = ap (λ (s : Storing D). s.stored) is;
-    is_open = ap (λ (s : Storing D). s.keeper.store.closed) is ∙ opened;
+    is_open = ap (λ (s : Storing D). s.keeper.now.store.closed) is ∙ opened;
   }
 
   -- a turn that kept something leaves the store open
@@ -74,7 +74,7 @@ module _ {D : Type 0} (disks : DiskWords D) where
         many = omega (arith, one_longer so.turns one.turn, so.many);
         kept = kept_on so.turns one.turn so.kept one_kept;
         ran = run_on so.turns one.turn (storing_state a) (storing_state b) (storing_state c) so.ran one.turned;
-        same_areas = areas_on a b c so.same_areas one.same_areas;
+        same_objects = same_on a b c so.same_objects one.same_objects;
         stored = one.stored ∙ ap (stored_with one.turn) so.stored ∙ sym (stored_on begun_stored so.turns one.turn);
         is_open = open_still one.turn (storing_state b) (storing_state c) one.turned one_kept;
       }
@@ -87,7 +87,7 @@ module _ {D : Type 0} (disks : DiskWords D) where
     kept = all_but_last so.turns one.turn so.kept;
     over = inr (ends_still so.turns one.turn (subst (λ (k : Bool). HasKept k one.turn) is one.kept_is));
     ran = run_on so.turns one.turn (storing_state a) (storing_state b) (storing_state c) so.ran one.turned;
-    same_areas = areas_on a b c so.same_areas one.same_areas;
+    same_objects = same_on a b c so.same_objects one.same_objects;
     stored = one.stored ∙ ap (stored_with one.turn) so.stored ∙ sym (stored_on begun_stored so.turns one.turn);
   }
 
@@ -99,7 +99,7 @@ module _ {D : Type 0} (disks : DiskWords D) where
     kept = all_of so.turns so.kept;
     over = inl (so.many ∙ is);
     ran = so.ran;
-    same_areas = so.same_areas;
+    same_objects = so.same_objects;
     stored = so.stored;
   }
 
@@ -109,15 +109,15 @@ module _ {D : Type 0} (disks : DiskWords D) where
   pass_stays [] a b is = ap (λ (s : StoringState D). s.keeper.pass.desk) is
   pass_stays (t ∷ ts) a b run = pass_stays ts run.0 b run.2 ∙ ap (λ (p : Collector). p.desk) run.1.collected.pass
 
-  pub pass_still : (kept : Bool) (a b : Storing D) → KeepsOne disks kept a b → b.keeper.pass.desk ≡ a.keeper.pass.desk
+  pub pass_still : (kept : Bool) (a b : Storing D) → KeepsOne disks kept a b → b.keeper.now.pass.desk ≡ a.keeper.now.pass.desk
   pass_still kept a b one = ap (λ (p : Collector). p.desk) one.turned.collected.pass
 
   -- a turn, and then it is counted
-  pub keeps_one : (turn : KeeperTurn) (kept : Bool) (a b c : Storing D) → KeeperTurned disks turn (storing_state a) (storing_state b) → SameAreas a b → b.stored ≡ a.stored → Counts turn kept b c → KeepsOne disks kept a c
+  pub keeps_one : (turn : KeeperTurn) (kept : Bool) (a b c : Storing D) → KeeperTurned disks turn (storing_state a) (storing_state b) → SameObjects a b → b.stored ≡ a.stored → Counts turn kept b c → KeepsOne disks kept a c
   keeps_one turn kept a b c turned areas same counts = record {
     turn = turn;
     turned = subst (λ (s : Storing D). KeeperTurned disks turn (storing_state a) (storing_state s)) (sym counts.is) turned;
-    same_areas = areas_on a b c areas (areas_by (stored_with turn b.stored) b c counts.is);
+    same_objects = same_on a b c areas (same_by (stored_with turn b.stored) b c counts.is);
     stored = ap (λ (s : Storing D). s.stored) counts.is ∙ ap (stored_with turn) same;
     kept_is = counts.kept_is;
   }

@@ -34,7 +34,7 @@ module _ {D : Type 0} (disks : DiskWords D) where
   collects_by [] old new is = collects_same old.keeper new.keeper (ap (λ (s : StoringState D). s.keeper) is)
   collects_by (t ∷ ts) old new run = collects_more old.keeper run.0.keeper new.keeper run.1.collected (collects_by ts run.0 new run.2)
 
-  pub collects_ran : (old new : Storing D) → StoringHasRun disks old new → Collects old.keeper new.keeper
+  pub collects_ran : (old new : Storing D) → StoringHasRun disks old new → Collects old.keeper.now new.keeper.now
   unfolding StoringHasRun
   collects_ran old new ran = collects_by ran.turns (storing_state old) (storing_state new) ran.ran
 
@@ -46,7 +46,7 @@ module _ {D : Type 0} (disks : DiskWords D) where
   stores_by [] old new is stores = subst (λ (s : StoringState D). Stores s.keeper.tracked s.keeper.store) (sym is) stores
   stores_by (t ∷ ts) old new run stores = stores_by ts run.0 new run.2 run.1.stored
 
-  pub stores_ran : (old new : Storing D) → StoringHasRun disks old new → Stores old.keeper.tracked old.keeper.store → Stores new.keeper.tracked new.keeper.store
+  pub stores_ran : (old new : Storing D) → StoringHasRun disks old new → Stores old.keeper.now.tracked old.keeper.now.store → Stores new.keeper.now.tracked new.keeper.now.store
   unfolding StoringHasRun IsStored
   stores_ran old new ran stores = stores_by ran.turns (storing_state old) (storing_state new) ran.ran stores
 
@@ -79,11 +79,11 @@ module _ {D : Type 0} (disks : DiskWords D) where
       subst (λ (s : StoringState D). IsStoredInFull s.keeper) (sym run.2) (full_after t stored old run.0 run.1 disk memory)
   full_run (t ∷ u ∷ us) stored old new run some disk memory = full_run (u ∷ us) (stored_with t stored) run.0 new run.2 (omega arith) disk memory
 
-  pub in_full_by : (old new : Storing D) → KeeperRan disks old new → new.stored.disk ≡ false → new.stored.memory ≡ false → IsStoredInFull new.keeper
+  pub in_full_by : (old new : Storing D) → KeeperRan disks old new → new.stored.disk ≡ false → new.stored.memory ≡ false → IsStoredInFull new.keeper.now
   in_full_by old new ran disk memory =
       full_run ran.turns begun_stored (storing_state old) (storing_state new) ran.ran ran.some
       (sym (ap (λ (s : Stored). s.disk) ran.stored) ∙ disk) (sym (ap (λ (s : Stored). s.memory) ran.stored) ∙ memory)
 
-  pub in_full_ran : (old new : Storing D) → StoringHasRun disks old new → new.stored.disk ≡ false → new.stored.memory ≡ false → IsStoredInFull new.keeper
+  pub in_full_ran : (old new : Storing D) → StoringHasRun disks old new → new.stored.disk ≡ false → new.stored.memory ≡ false → IsStoredInFull new.keeper.now
   unfolding StoringHasRun
   in_full_ran old new ran disk memory = in_full_by old new ran disk memory

@@ -37,7 +37,7 @@ use Rattle.rounds.specs.Causes.{SettlingCauses, WireFaultsStay}
 use Rattle.rounds.specs.Crewed.{bare_lanes, carriers_passes, lane_passes, lanes_passes, lanings}
 use Rattle.rounds.specs.Crewing.{Crewing, crew_of}
 use Rattle.rounds.specs.Images.{AreAtRest, ImagesAreFronts}
-use Rattle.rounds.specs.KeeperTurns.{SameAreas, StillTell, storing_state}
+use Rattle.rounds.specs.KeeperTurns.{SameObjects, StillTell, storing_state}
 use Rattle.rounds.specs.Pairs.{Pairs}
 use Rattle.rounds.specs.Passes.{AreAllOf, AreOf, IsOfQueue, post_share_in, post_shares, senders, share_in, shares}
 use Rattle.rounds.specs.Placed.{GoesOn}
@@ -259,13 +259,13 @@ posts_collected crew keeper counted settled = omega (arith, counted, settled.col
 pub handed_then : {T W L : Type 0} (links : LinkWords L) (box : ℕ) (old mid : Crew T W L) (pace : Pace) → HaveHandedOn links box old mid → HaveHandedOn links box old (record mid { pace = pace })
 handed_then links box old mid pace handed = record { lanes = handed.lanes; carriers = handed.carriers }
 
-pass_ran : {D : Type 0} (disks : DiskWords D) (old new : Storing D) → StoringHasRun disks old new → new.keeper.pass.desk ≡ old.keeper.pass.desk
+pass_ran : {D : Type 0} (disks : DiskWords D) (old new : Storing D) → StoringHasRun disks old new → new.keeper.now.pass.desk ≡ old.keeper.now.pass.desk
 unfolding StoringHasRun
 pass_ran disks old new ran = pass_stays disks ran.turns (storing_state old) (storing_state new) ran.ran
 
-areas_ran : {D : Type 0} (disks : DiskWords D) (old new : Storing D) → StoringHasRun disks old new → SameAreas old new
+same_ran : {D : Type 0} (disks : DiskWords D) (old new : Storing D) → StoringHasRun disks old new → SameObjects old new
 unfolding StoringHasRun
-areas_ran disks old new ran = ran.same_areas
+same_ran disks old new ran = ran.same_objects
 
 module _ {T W L D : Type 0} (words : Words T W L D) (queue : BoundedQueue) (desk : BoundedBox) where
   pub can_meet_settled : (old mid : Crewing T W L D) → HaveHandedOn words.links desk.capacity (crew_of old) (crew_of mid) → StoringHasRun words.disks old.storing mid.storing → IsReady words.tails queue.id desk.id old → CanMeet queue.id desk.id mid
@@ -314,19 +314,19 @@ module _ {T W L D : Type 0} (words : Words T W L D) (queue : BoundedQueue) (desk
               (from_bare words.tails (lanings new.lanes.items) (subst (λ (ls : List (Laning T)). AllByRecursion (IsBareReady words.tails) ls) (sym met.lanes_same)
               (to_bare words.tails (lanings mid.lanes.items) (lanes_are.ready ready.able.lanes))))
               met.have.lanes_have;
-          pass = ap (λ (s : Storing D). s.keeper.pass.desk) settles.meets.storing ∙ pass_ran words.disks old.storing mid.storing settles.storing ∙ ready.able.pass;
+          pass = ap (λ (s : Storing D). s.keeper.now.pass.desk) settles.meets.storing ∙ pass_ran words.disks old.storing mid.storing settles.storing ∙ ready.able.pass;
         }
 
     ready_again : round.memory ≡ false → round.disk ≡ false → IsReady words.tails queue.id desk.id new
     ready_again memory disk = record {
       able = able_again;
-      is_open = ap (λ (s : Storing D). s.keeper.store.closed) settles.meets.storing ∙ opened_ran words.disks old.storing mid.storing settles.storing (disk_is disk) (memory_is memory) ready.is_open;
+      is_open = ap (λ (s : Storing D). s.keeper.now.store.closed) settles.meets.storing ∙ opened_ran words.disks old.storing mid.storing settles.storing (disk_is disk) (memory_is memory) ready.is_open;
     }
 
     placed_once : (told : Told) → AreBooked words.links words.wires told (lanings old.lanes.items) old.carriers.items → IsPlacedOnceSettled words told new
     placed_once told booked =
         let met = settles.meets.met in
-        let got = mid.storing.keeper.pass.got in
+        let got = mid.storing.keeper.now.pass.got in
         let carriers = carriers_settled words.links words.wires desk.capacity queue.id desk.id told.acknowledged old.carriers.items mid.carriers.items settles.handed.carriers ready.able.have.carriers_have booked.acknowledged in
         let later = told_on told [] carriers.after in
         let booked_then = booked_on words.links words.wires told [] carriers.after (lanings old.lanes.items) (lanings mid.lanes.items) old.carriers.items mid.carriers.items lanes_are.kept carriers.kept booked in
@@ -336,15 +336,15 @@ module _ {T W L D : Type 0} (words : Words T W L D) (queue : BoundedQueue) (desk
           booked = booked_met words.links words.wires queue.id desk.id got later (lanings mid.lanes.items) (lanings new.lanes.items) mid.carriers.items new.carriers.items met booked_then;
           queued = met.queued;
           boxed = notes met.boxed;
-          placed = subst (λ (s : Storing D). ArePlaced later (lanings new.lanes.items) new.carriers.items met.queued (notes s.keeper.pass.got) (notes met.boxed)) (sym settles.meets.storing)
+          placed = subst (λ (s : Storing D). ArePlaced later (lanings new.lanes.items) new.carriers.items met.queued (notes s.keeper.now.pass.got) (notes met.boxed)) (sym settles.meets.storing)
               (placed_met words.links words.wires queue.id desk.id got later (lanings mid.lanes.items) (lanings new.lanes.items) mid.carriers.items new.carriers.items met booked_then);
         }
 
-    images_are : AreAtRest words.disks old.storing → AreOrderly new.storing.keeper.tracked.notes → ImagesAreFronts words.disks old.storing new.storing
+    images_are : AreAtRest words.disks old.storing → AreOrderly new.storing.keeper.now.tracked.notes → ImagesAreFronts words.disks old.storing new.storing
     unfolding StoringHasRun
     images_are kept orderly =
         subst (λ (s : Storing D). ImagesAreFronts words.disks old.storing s) (sym settles.meets.storing)
-        (images_are_fronts words.disks old.storing mid.storing settles.storing kept (subst (λ (s : Storing D). AreOrderly s.keeper.tracked.notes) settles.meets.storing orderly))
+        (images_are_fronts words.disks old.storing mid.storing settles.storing kept (subst (λ (s : Storing D). AreOrderly s.keeper.now.tracked.notes) settles.meets.storing orderly))
 
     rest_again : round.memory ≡ false → round.disk ≡ false → AreAtRest words.disks old.storing → AreAtRest words.disks new.storing
     unfolding StoringHasRun
@@ -373,16 +373,16 @@ module _ {T W L D : Type 0} (words : Words T W L D) (queue : BoundedQueue) (desk
       counted = posts_counted queue.id desk.id mid new settles.meets;
       images = images_are;
       at_rest = rest_again;
-      collects = subst (λ (s : Storing D). Collects old.storing.keeper s.keeper) (sym settles.meets.storing) (collects_ran words.disks old.storing mid.storing settles.storing);
+      collects = subst (λ (s : Storing D). Collects old.storing.keeper.now s.keeper.now) (sym settles.meets.storing) (collects_ran words.disks old.storing mid.storing settles.storing);
       able = able_again;
-      stored = λ stores. subst (λ (s : Storing D). Stores s.keeper.tracked s.keeper.store) (sym settles.meets.storing) (stores_ran words.disks old.storing mid.storing settles.storing stores);
-      in_full = λ memory disk. subst (λ (s : Storing D). IsStoredInFull s.keeper) (sym settles.meets.storing) (in_full_ran words.disks old.storing mid.storing settles.storing (disk_is disk) (memory_is memory));
+      stored = λ stores. subst (λ (s : Storing D). Stores s.keeper.now.tracked s.keeper.now.store) (sym settles.meets.storing) (stores_ran words.disks old.storing mid.storing settles.storing stores);
+      in_full = λ memory disk. subst (λ (s : Storing D). IsStoredInFull s.keeper.now) (sym settles.meets.storing) (in_full_ran words.disks old.storing mid.storing settles.storing (disk_is disk) (memory_is memory));
       causes = causes;
       as_many = crew_as_many old mid new
           (paired_many _ (lanings old.lanes.items) (lanings mid.lanes.items) settles.handed.lanes)
           (paired_many _ old.carriers.items mid.carriers.items settles.handed.carriers)
           settles.meets.met.lanes_same settles.meets.met.carriers_same;
       slots = begins_settled (lanings old.lanes.items) (lanings new.lanes.items) files;
-      same_areas = subst (λ (s : Storing D). SameAreas old.storing s) (sym settles.meets.storing) (areas_ran words.disks old.storing mid.storing settles.storing);
+      same_objects = subst (λ (s : Storing D). SameObjects old.storing s) (sym settles.meets.storing) (same_ran words.disks old.storing mid.storing settles.storing);
       still_tell = subst (λ (s : Storing D). StillTell words.disks.contents old.storing s) (sym settles.meets.storing) (tells_ran words.disks old.storing mid.storing settles.storing);
     }

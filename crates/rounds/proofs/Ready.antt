@@ -97,7 +97,7 @@ module _ {D : Type 0} (disks : DiskWords D) where
   open_by [] stored a b is disk memory opened = ap (λ (s : StoringState D). s.keeper.store.closed) is ∙ opened
   open_by (t ∷ ts) stored a b run disk memory opened = open_by ts (stored_with t stored) run.0 b run.2 disk memory (open_then t ts stored a run.0 run.1 disk memory opened)
 
-  pub opened_ran : (a b : Storing D) → StoringHasRun disks a b → b.stored.disk ≡ false → b.stored.memory ≡ false → a.keeper.store.closed ≡ false → b.keeper.store.closed ≡ false
+  pub opened_ran : (a b : Storing D) → StoringHasRun disks a b → b.stored.disk ≡ false → b.stored.memory ≡ false → a.keeper.now.store.closed ≡ false → b.keeper.now.store.closed ≡ false
   unfolding StoringHasRun
   opened_ran a b ran disk memory is_open =
       open_by ran.turns begun_stored (storing_state a) (storing_state b) ran.ran (sym (ap (λ (s : Stored). s.disk) ran.stored) ∙ disk) (sym (ap (λ (s : Stored). s.memory) ran.stored) ∙ memory) is_open
@@ -153,14 +153,14 @@ some_as f xs ys same some = some_mapped f ys (λ is. mapped_some f xs some (sym 
 
 module _ {T W L D : Type 0} (words : Words T W L D) (queue : BoundedQueue) (desk : BoundedBox) (when : When) where
   open_then_by : (old mid : Crewing T W L D) (moved : Bool) → KeeperHad words.disks moved old mid ⊎ KeeperRested moved old mid → mid.storing.stored.disk ≡ false → mid.storing.stored.memory ≡ false
-      → old.storing.keeper.store.closed ≡ false → mid.storing.keeper.store.closed ≡ false
+      → old.storing.keeper.now.store.closed ≡ false → mid.storing.keeper.now.store.closed ≡ false
   open_then_by old mid moved (inl had) disk memory is_open = opened_ran words.disks old.storing mid.storing had.ran disk memory is_open
-  open_then_by old mid moved (inr rested) disk memory is_open = ap (λ (s : Storing D). s.keeper.store.closed) rested.same ∙ is_open
+  open_then_by old mid moved (inr rested) disk memory is_open = ap (λ (s : Storing D). s.keeper.now.store.closed) rested.same ∙ is_open
 
-  pass_then : (old mid : Crewing T W L D) (moved : Bool) → KeeperHad words.disks moved old mid ⊎ KeeperRested moved old mid → mid.storing.keeper.pass.desk ≡ old.storing.keeper.pass.desk
+  pass_then : (old mid : Crewing T W L D) (moved : Bool) → KeeperHad words.disks moved old mid ⊎ KeeperRested moved old mid → mid.storing.keeper.now.pass.desk ≡ old.storing.keeper.now.pass.desk
   unfolding StoringHasRun
   pass_then old mid moved (inl had) = pass_stays words.disks had.ran.turns (storing_state old.storing) (storing_state mid.storing) had.ran.ran
-  pass_then old mid moved (inr rested) = ap (λ (s : Storing D). s.keeper.pass.desk) rested.same
+  pass_then old mid moved (inr rested) = ap (λ (s : Storing D). s.keeper.now.pass.desk) rested.same
 
   -- whatever the round came to
   pub able_still : (old new : Crewing T W L D) (round : Round) → Rounds words queue desk when old new round → IsAble words.tails queue.id desk.id old → IsAble words.tails queue.id desk.id new
@@ -177,7 +177,7 @@ module _ {T W L D : Type 0} (words : Words T W L D) (queue : BoundedQueue) (desk
             (from_bare words.tails (lanings new.lanes.items) (subst (λ (ls : List (Laning T)). AllByRecursion (IsBareReady words.tails) ls) (sym met.lanes_same)
             (to_bare words.tails (lanings mid.lanes.items) (lanes_ran words.tails queue.capacity desk.capacity when queue.id desk.id (lanings old.lanes.items) (lanings mid.lanes.items) rounds.ran.others.lanes able.lanes))))
             met.have.lanes_have;
-        pass = ap (λ (s : Storing D). s.keeper.pass.desk) rounds.meets.storing ∙ pass_then old mid _ rounds.ran.keeper ∙ able.pass;
+        pass = ap (λ (s : Storing D). s.keeper.now.pass.desk) rounds.meets.storing ∙ pass_then old mid _ rounds.ran.keeper ∙ able.pass;
       }
 
   pub ready_still : (old new : Crewing T W L D) (round : Round) → Rounds words queue desk when old new round → round.memory ≡ false → round.disk ≡ false → IsReady words.tails queue.id desk.id old → IsReady words.tails queue.id desk.id new
@@ -186,7 +186,7 @@ module _ {T W L D : Type 0} (words : Words T W L D) (queue : BoundedQueue) (desk
       let stored_disk_is = sym (stored_disk (lanings new.lanes.items) new.carriers.items new.storing.stored) ∙ sym (ap (λ (r : Round). r.disk) rounds.answer) ∙ disk in
       record {
         able = able_still old new round rounds ready.able;
-        is_open = ap (λ (s : Storing D). s.keeper.store.closed) rounds.meets.storing
+        is_open = ap (λ (s : Storing D). s.keeper.now.store.closed) rounds.meets.storing
             ∙ open_then_by old rounds.mid _ rounds.ran.keeper (ap (λ (s : Storing D). s.stored.disk) (sym rounds.meets.storing) ∙ stored_disk_is) (ap (λ (s : Storing D). s.stored.memory) (sym rounds.meets.storing) ∙ stored_memory_is) ready.is_open;
       }
 

@@ -63,10 +63,10 @@ module _ {D : Type 0} (disks : DiskWords D) (opening : List Row) (notes : List N
 
 -- what is asked of the keeper's areas as a round begins
 pub record AreAtRest {D : Type 0} (disks : DiskWords D) (storing : Storing D) : Type 0 where
-  pub settled : AreSettled disks.contents disks.images storing.a.now storing.b.now (chosen_by storing.keeper.store)
-  pub committed : IsFront storing.keeper.tracked.committed storing.keeper.tracked.notes
+  pub settled : AreSettled disks.contents disks.images storing.a.now storing.b.now (chosen_by storing.keeper.now.store)
+  pub committed : IsFront storing.keeper.now.tracked.committed storing.keeper.now.tracked.notes
 
 -- the turns of the keeper, as many as it had
 pub record ImagesAreFronts {D : Type 0} (disks : DiskWords D) (old new : Storing D) : Type 0 where
   pub turns : ℕ
-  pub leave : TurnsLeave disks new.keeper.tracked.opening new.keeper.tracked.notes turns (storing_state old) (storing_state new)
+  pub leave : TurnsLeave disks new.keeper.now.tracked.opening new.keeper.now.tracked.notes turns (storing_state old) (storing_state new)

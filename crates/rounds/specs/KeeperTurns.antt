@@ -66,10 +66,11 @@ pub record StoringState (D : Type 0) : Type 0 where
   pub b : D
 
 abbrev pub storing_state : {D : Type 0} → Storing D → StoringState D
-storing_state storing = record { keeper = storing.keeper; a = storing.a.now; b = storing.b.now }
+storing_state storing = record { keeper = storing.keeper.now; a = storing.a.now; b = storing.b.now }
 
--- the areas are the same disks as before, whatever was written
-pub record SameAreas {D : Type 0} (old new : Storing D) : Type 0 where
+-- the keeper and its areas are the same objects as before, whatever was written
+pub record SameObjects {D : Type 0} (old new : Storing D) : Type 0 where
+  pub keeper : new.keeper.ghost_name ≡ old.keeper.ghost_name
   pub a : new.a.ghost_name ≡ old.a.ghost_name
   pub b : new.b.ghost_name ≡ old.b.ghost_name
 
@@ -120,7 +121,7 @@ module _ {D : Type 0} (disks : DiskWords D) where
     pub kept : AllButLastKept turns
     pub over : (length turns ≡ 256) ⊎ EndStill turns
     pub ran : KeeperRun turns (storing_state old) (storing_state new)
-    pub same_areas : SameAreas old new
+    pub same_objects : SameObjects old new
     pub stored : new.stored ≡ stored_of begun_stored turns
 
   -- ---- for private clauses
@@ -129,7 +130,7 @@ module _ {D : Type 0} (disks : DiskWords D) where
   pub record KeepsOne (kept : Bool) (old new : Storing D) : Type 0 where
     pub turn : KeeperTurn
     pub turned : KeeperTurned turn (storing_state old) (storing_state new)
-    pub same_areas : SameAreas old new
+    pub same_objects : SameObjects old new
     pub stored : new.stored ≡ stored_with turn old.stored
     pub kept_is : HasKept kept turn
 
@@ -139,6 +140,6 @@ module _ {D : Type 0} (disks : DiskWords D) where
     pub many : length turns ≡ count
     pub kept : AllKept turns
     pub ran : KeeperRun turns (storing_state old) (storing_state new)
-    pub same_areas : SameAreas old new
+    pub same_objects : SameObjects old new
     pub stored : new.stored ≡ stored_of begun_stored turns
-    pub is_open : new.keeper.store.closed ≡ false
+    pub is_open : new.keeper.now.store.closed ≡ false

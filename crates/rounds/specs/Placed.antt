@@ -42,4 +42,4 @@ pub record IsPlacedAfter {T W L D : Type 0} (words : Words T W L D) (queue : Bou
   -- what the queue and the box held as the passes met
   pub queued : List Parcel
   pub boxed : List Note
-  pub placed : ArePlaced (told_on told steps acknowledged) (lanings new.lanes.items) new.carriers.items queued (notes new.storing.keeper.pass.got) boxed
+  pub placed : ArePlaced (told_on told steps acknowledged) (lanings new.lanes.items) new.carriers.items queued (notes new.storing.keeper.now.pass.got) boxed

@@ -11,7 +11,7 @@ use Rattle.rounds.specs.Causes.{RoundCauses}
 use Rattle.rounds.specs.Crewed.{lanings}
 use Rattle.rounds.specs.Crewing.{Crewing}
 use Rattle.rounds.specs.Images.{AreAtRest, ImagesAreFronts}
-use Rattle.rounds.specs.KeeperTurns.{SameAreas, StillTell}
+use Rattle.rounds.specs.KeeperTurns.{SameObjects, StillTell}
 use Rattle.rounds.specs.Moved.{HaveMoved, WereStill}
 use Rattle.rounds.specs.Placed.{IsPlacedAfter}
 use Rattle.rounds.specs.Rounds.{IsAble, IsReady}
@@ -28,16 +28,16 @@ pub record RoundKeeps {T W L D : Type 0} (words : Words T W L D) (queue : Bounde
   pub still : round.moved ≡ false → WereStill words queue desk when old new
   pub moved : round.moved ≡ true → HaveMoved words queue desk when old new
   -- images are prefixes
-  pub images : AreAtRest words.disks old.storing → AreOrderly new.storing.keeper.tracked.notes → ImagesAreFronts words.disks old.storing new.storing
+  pub images : AreAtRest words.disks old.storing → AreOrderly new.storing.keeper.now.tracked.notes → ImagesAreFronts words.disks old.storing new.storing
   pub at_rest : round.memory ≡ false → round.disk ≡ false → AreAtRest words.disks old.storing → AreAtRest words.disks new.storing
   -- what was collected is noted, in order, or held
-  pub collects : Collects old.storing.keeper new.storing.keeper
+  pub collects : Collects old.storing.keeper.now new.storing.keeper.now
   -- whatever the round found, its lanes may be let go, and its workers and the keeper may end
   pub able : IsAble words.tails queue.id desk.id new
   -- what the store has is what was noted up to the last commit, also where the keeper rested
-  pub stored : Stores old.storing.keeper.tracked old.storing.keeper.store → Stores new.storing.keeper.tracked new.storing.keeper.store
+  pub stored : Stores old.storing.keeper.now.tracked old.storing.keeper.now.store → Stores new.storing.keeper.now.tracked new.storing.keeper.now.store
   -- where nothing moved, nothing is left to store
-  pub in_full : round.moved ≡ false → round.memory ≡ false → round.disk ≡ false → IsStoredInFull new.storing.keeper
+  pub in_full : round.moved ≡ false → round.memory ≡ false → round.disk ≡ false → IsStoredInFull new.storing.keeper.now
   -- each answer has its cause
   pub causes : RoundCauses words queue desk when old new round
   -- as many lanes and workers
@@ -45,6 +45,6 @@ pub record RoundKeeps {T W L D : Type 0} (words : Words T W L D) (queue : Bounde
   -- each lane has its harvesters still, of the same slots
   pub slots : begins_of (lanings new.lanes.items) ≡ begins_of (lanings old.lanes.items)
   -- the areas are the same disks
-  pub same_areas : SameAreas old.storing new.storing
+  pub same_objects : SameObjects old.storing new.storing
   -- and where they told what they hold, they tell it still
   pub still_tell : StillTell words.disks.contents old.storing new.storing

@@ -24,12 +24,12 @@ pub record IsAble {T W L D : Type 0} (tails : TailWords T) (queue desk : TableId
   pub some_carriers : crew.carriers.items ≢ []
   pub have : HaveAllPasses queue desk (lanings crew.lanes.items) crew.carriers.items
   pub lanes : All (IsLaneReady tails queue desk) (lanings crew.lanes.items)
-  pub pass : crew.storing.keeper.pass.desk ≡ desk
+  pub pass : crew.storing.keeper.now.pass.desk ≡ desk
 
 -- and the store is open, so a round may follow
 pub record IsReady {T W L D : Type 0} (tails : TailWords T) (queue desk : TableId) (crew : Crewing T W L D) : Type 0 where
   pub able : IsAble tails queue desk crew
-  pub is_open : crew.storing.keeper.store.closed ≡ false
+  pub is_open : crew.storing.keeper.now.store.closed ≡ false
 
 -- the keeper had its turns, since it was due or nothing else moved
 pub record KeeperHad {T W L D : Type 0} (disks : DiskWords D) (moved : Bool) (old new : Crewing T W L D) : Type 0 where
@@ -60,7 +60,7 @@ pub record CanMeet {T W L D : Type 0} (queue desk : TableId) (crew : Crewing T W
   pub some_lanes : crew.lanes.items ≢ []
   pub some_carriers : crew.carriers.items ≢ []
   pub have : HaveAllPasses queue desk (lanings crew.lanes.items) crew.carriers.items
-  pub pass : crew.storing.keeper.pass.desk ≡ desk
+  pub pass : crew.storing.keeper.now.pass.desk ≡ desk
 
 -- how many notes were posted in all; the count stands still at 2^64 - 1
 abbrev pub posted_in : {T W L : Type 0} → Crew T W L → ℕ
@@ -68,11 +68,11 @@ posted_in crew = min (posts_of (senders (lanes_passes (lanings crew.lanes.items)
 
 -- how many notes the box holds as the passes meet: all that were posted but for those that were collected
 abbrev pub boxed_in : {T W L D : Type 0} → Crewing T W L D → ℕ
-boxed_in crew = posted_in (crew_of crew) - crew.storing.keeper.collected
+boxed_in crew = posted_in (crew_of crew) - crew.storing.keeper.now.collected
 
 -- the passes met, and nothing else changed but what is known of the box
 pub record MeetsIn {T W L D : Type 0} (queue desk : TableId) (old new : Crewing T W L D) : Type 0 where
-  pub met : HaveMet queue desk old.storing.keeper.pass.got (lanings old.lanes.items) (lanings new.lanes.items) old.carriers.items new.carriers.items
+  pub met : HaveMet queue desk old.storing.keeper.now.pass.got (lanings old.lanes.items) (lanings new.lanes.items) old.carriers.items new.carriers.items
   pub storing : new.storing ≡ old.storing
   pub room : new.pace.room ≡ old.pace.room
   pub boxed : new.pace.boxed ≡ boxed_in old

@@ -26,8 +26,8 @@ IsCarrierReady queue desk carrier = AreOf queue desk (carrier_passes carrier)
 
 -- the keeper has its pass, and its store is open
 pub record IsStoringReady {D : Type 0} (desk : TableId) (storing : Storing D) : Type 0 where
-  pub pass : storing.keeper.pass.desk ≡ desk
-  pub is_open : storing.keeper.store.closed ≡ false
+  pub pass : storing.keeper.now.pass.desk ≡ desk
+  pub is_open : storing.keeper.now.store.closed ≡ false
 
 -- ---- their turns, each as one word
 

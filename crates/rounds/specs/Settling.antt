@@ -22,7 +22,7 @@ use Rattle.rounds.specs.Causes.{SettlingCauses}
 use Rattle.rounds.specs.Crewed.{lanings}
 use Rattle.rounds.specs.Crewing.{Crewing, crew_of}
 use Rattle.rounds.specs.Images.{AreAtRest, ImagesAreFronts}
-use Rattle.rounds.specs.KeeperTurns.{SameAreas, StillTell}
+use Rattle.rounds.specs.KeeperTurns.{SameObjects, StillTell}
 use Rattle.rounds.specs.Pairs.{Pairs}
 use Rattle.rounds.specs.Placed.{GoesOn}
 use Rattle.rounds.specs.Rounds.{IsAble, IsReady, MeetsIn, posted_in}
@@ -93,7 +93,7 @@ pub record IsPlacedOnceSettled {T W L D : Type 0} (words : Words T W L D) (told 
   -- what the queue and the box held as the passes met
   pub queued : List Parcel
   pub boxed : List Note
-  pub placed : ArePlaced (told_on told [] acknowledged) (lanings new.lanes.items) new.carriers.items queued (notes new.storing.keeper.pass.got) boxed
+  pub placed : ArePlaced (told_on told [] acknowledged) (lanings new.lanes.items) new.carriers.items queued (notes new.storing.keeper.now.pass.got) boxed
 
 pub record SettlingKeeps {T W L D : Type 0} (words : Words T W L D) (queue : BoundedQueue) (desk : BoundedBox) (old new : Crewing T W L D) (round : Round) : Type 0 where
   -- another may follow
@@ -103,16 +103,16 @@ pub record SettlingKeeps {T W L D : Type 0} (words : Words T W L D) (queue : Bou
   pub placed : (told : Told) → AreBooked words.links words.wires told (lanings old.lanes.items) old.carriers.items → IsPlacedOnceSettled words told new
   pub counted : ArePostsCounted (crew_of new)
   -- images are prefixes
-  pub images : AreAtRest words.disks old.storing → AreOrderly new.storing.keeper.tracked.notes → ImagesAreFronts words.disks old.storing new.storing
+  pub images : AreAtRest words.disks old.storing → AreOrderly new.storing.keeper.now.tracked.notes → ImagesAreFronts words.disks old.storing new.storing
   pub at_rest : round.memory ≡ false → round.disk ≡ false → AreAtRest words.disks old.storing → AreAtRest words.disks new.storing
   -- what was collected is noted, in order, or held
-  pub collects : Collects old.storing.keeper new.storing.keeper
+  pub collects : Collects old.storing.keeper.now new.storing.keeper.now
   -- whatever was found, lanes may be let go, and workers and the keeper may end
   pub able : IsAble words.tails queue.id desk.id new
   -- what the store has is what was noted up to the last commit
-  pub stored : Stores old.storing.keeper.tracked old.storing.keeper.store → Stores new.storing.keeper.tracked new.storing.keeper.store
+  pub stored : Stores old.storing.keeper.now.tracked old.storing.keeper.now.store → Stores new.storing.keeper.now.tracked new.storing.keeper.now.store
   -- and nothing is left to store
-  pub in_full : round.memory ≡ false → round.disk ≡ false → IsStoredInFull new.storing.keeper
+  pub in_full : round.memory ≡ false → round.disk ≡ false → IsStoredInFull new.storing.keeper.now
   -- each answer has its cause
   pub causes : SettlingCauses words old new round
   -- as many lanes and workers
@@ -120,6 +120,6 @@ pub record SettlingKeeps {T W L D : Type 0} (words : Words T W L D) (queue : Bou
   -- each lane has its harvesters still, of the same slots
   pub slots : begins_of (lanings new.lanes.items) ≡ begins_of (lanings old.lanes.items)
   -- the areas are the same disks
-  pub same_areas : SameAreas old.storing new.storing
+  pub same_objects : SameObjects old.storing new.storing
   -- and where they told what they hold, they tell it still
   pub still_tell : StillTell words.disks.contents old.storing new.storing

@@ -184,7 +184,7 @@ impl<T: Tail + Send, L: Link + Send, W: Wire<Link = L> + Send> Crew<T, W, L> {
             outlets,
             self.lanes.as_mut_slice(),
             self.carriers.as_mut_slice(),
-            &mut storing.keeper,
+            storing.keeper,
         );
         self.pace.boxed = posted.saturating_sub(storing.keeper.collected());
         self.pace.posted = posted;

@@ -33,11 +33,11 @@ impl Stored {
     }
 }
 
-/// The keeper, and the two areas that it alone writes. It is written out where it is made, and taken apart there: of a call that
-/// made it no caller could tell what the areas come to.
+/// The keeper, and the two areas that it alone writes. It is written out where they are: of a call that made it no caller could
+/// tell what they come to.
 #[derive(Drop)]
 pub struct Storing<'a, D> {
-    pub keeper: Keeper,
+    pub keeper: &'a mut Keeper,
     pub a: &'a mut D,
     pub b: &'a mut D,
     /// What the turns of the last round came to.
@@ -47,8 +47,8 @@ pub struct Storing<'a, D> {
 impl<D: Disk> Storing<'_, D> {
     /// One round: at most 256 turns, as long as each keeps something.
     pub fn run<R: Wait>(&mut self, rt: &R, alloc: Global, desk: &SettleBox)
-        requires of_this_box { self.old.keeper.pass.desk ≡ desk.now.id }
-        requires open { self.old.keeper.store.closed ≡ false }
+        requires of_this_box { self.old.keeper.now.pass.desk ≡ desk.now.id }
+        requires open { self.old.keeper.now.store.closed ≡ false }
         ensures { KeeperRan (disk_words D.contents D.images D.moment D.images_since D.faults)
             self.old self.new }
     {
@@ -71,8 +71,8 @@ impl<D: Disk> Storing<'_, D> {
 
     // One turn; whether it kept something.
     fn turn<R: Wait>(&mut self, rt: &R, alloc: Global, desk: &SettleBox) -> bool
-        requires of_this_box { self.old.keeper.pass.desk ≡ desk.now.id }
-        requires open { self.old.keeper.store.closed ≡ false }
+        requires of_this_box { self.old.keeper.now.pass.desk ≡ desk.now.id }
+        requires open { self.old.keeper.now.store.closed ≡ false }
         ensures { KeepsOne (disk_words D.contents D.images D.moment D.images_since D.faults)
             result self.old self.new }
     {

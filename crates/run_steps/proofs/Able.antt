@@ -62,7 +62,7 @@ module _ {T : Type 0} (tails : TailWords T) (settings : Settings) (file : Listed
 
 -- a crew that may make rounds still may
 pub able_on : {T W L D : Type 0} (tails : TailWords T) (settings : Settings) (file : ListedFile) (old new : Beginning T W L) → BeginKeeps tails settings file old new → (queue desk : TableId) (storing later : Storing D)
-    → later.keeper.pass ≡ storing.keeper.pass → IsAble tails queue desk (crewing old.crew storing) → IsAble tails queue desk (crewing new.crew later)
+    → later.keeper.now.pass ≡ storing.keeper.now.pass → IsAble tails queue desk (crewing old.crew storing) → IsAble tails queue desk (crewing new.crew later)
 able_on {T} {W} {L} tails settings file old new keeps queue desk storing later pass able =
     let passes : lanes_passes (lanings new.crew.lanes.items) ≡ lanes_passes (lanings old.crew.lanes.items) = passes_kept tails settings file (lanings old.crew.lanes.items) (lanings new.crew.lanes.items) keeps.lanes in
     let items : new.crew.carriers.items ≡ old.crew.carriers.items = ap (λ v. v.items) (carriers_kept tails settings file old new keeps) in

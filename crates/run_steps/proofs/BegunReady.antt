@@ -56,16 +56,16 @@ module _ {T W L : Type 0} (tails : TailWords T) (settings : Settings) (now : Mom
 
   -- ---- rounds may follow
 
-  module _ {D : Type 0} (queue desk : TableId) (a b : MutBor D) where
+  module _ {D : Type 0} (queue desk : TableId) (loan : MutBor Keeping) (a b : MutBor D) where
     abbrev pub MayRun : Beginning T W L → Type 0
-    MayRun state = IsReady tails queue desk (crewing state.crew (lent state.keeper a b))
+    MayRun state = IsReady tails queue desk (crewing state.crew (lent loan state.keeper a b))
 
     one_runs : (slot : ℕ) (listed : Listed) (result : Result Bool Met) (old new : Beginning T W L) → BeginsOne tails settings (file_at slot listed now) result old new → MayRun old → MayRun new
     one_runs slot listed result old new is ready =
         let keeps = begin_keeps tails settings (file_at slot listed now) result old new is in
         let others = keeper_others tails settings (file_at slot listed now) old new keeps in
         record {
-          able = able_on tails settings (file_at slot listed now) old new keeps queue desk (lent old.keeper a b) (lent new.keeper a b) (ap (λ (k : Keeping). k.pass) others) ready.able;
+          able = able_on tails settings (file_at slot listed now) old new keeps queue desk (lent loan old.keeper a b) (lent loan new.keeper a b) (ap (λ (k : Keeping). k.pass) others) ready.able;
           is_open = ap (λ (k : Keeping). k.store.closed) others ∙ ready.is_open;
         }
 

@@ -75,7 +75,7 @@ pub released_in : {T Z : Type 0} (lanes : Vec (Lane T) Z) (later : List (Lane T)
 released_in {T} lanes later same = subst (λ (l : List (Lane T)). lanings l ≡ map released (lanings lanes.items)) (sym (with_items_is lanes later (as_many lanes.items later same ∙ sym lanes.ok.0))) same
 
 pub able_released : {T W L D : Type 0} (tails : TailWords T) (queue desk : TableId) (old new : Crewing T W L D) → IsAble tails queue desk old → lanings new.lanes.items ≡ map released (lanings old.lanes.items)
-    → new.carriers ≡ old.carriers → new.storing.keeper.pass ≡ old.storing.keeper.pass → IsAble tails queue desk new
+    → new.carriers ≡ old.carriers → new.storing.keeper.now.pass ≡ old.storing.keeper.now.pass → IsAble tails queue desk new
 able_released {T} {W} {L} tails queue desk old new able same carriers pass =
     let passes : lanes_passes (lanings new.lanes.items) ≡ lanes_passes (lanings old.lanes.items) = ap lanes_passes same ∙ same_passes (lanings old.lanes.items) in
     let items : new.carriers.items ≡ old.carriers.items = ap (λ v. v.items) carriers in

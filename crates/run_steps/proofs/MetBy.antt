@@ -48,7 +48,7 @@ module _ {T W L D : Type 0} (words : Words T W L D) (queue : BoundedQueue) (desk
   abbrev since : Since T W L D
   since = record { a = old.storing.a.now; b = old.storing.b.now; now = new }
 
-  pub round_met : (met : Met) → IsMetIn attempts (crew_of new) new.storing.keeper round (Some met) → IsMetBy words.tails words.disks attempts since met
+  pub round_met : (met : Met) → IsMetIn attempts (crew_of new) new.storing.keeper.now round (Some met) → IsMetBy words.tails words.disks attempts since met
   round_met Done is = is.2
   round_met Stopped is = is
   round_met NoMemory is = tt
@@ -65,13 +65,13 @@ module _ {T W L D : Type 0} (words : Words T W L D) (queue : BoundedQueue) (desk
       had.steps (lanings old.lanes.items) had.lanes (lanings new.lanes.items) had.steps_are had.lanes_are known
       ((keeps.causes.files had).epochs slot is.2)
 
-  pub each_met : (result : Option Met) → IsMetIn attempts (crew_of new) new.storing.keeper round result → IfSome result (IsMetBy words.tails words.disks attempts since)
+  pub each_met : (result : Option Met) → IsMetIn attempts (crew_of new) new.storing.keeper.now round result → IfSome result (IsMetBy words.tails words.disks attempts since)
   each_met None is = tt
   each_met (Some met) is = round_met met is
 
   -- ---- whether the run goes on
 
-  pub none_out : (result : Option Met) → IsMetIn attempts (crew_of new) new.storing.keeper round result → (phase_of result ≡ Reading) ⊎ (phase_of result ≡ Finished) → round.epochs ≡ None
+  pub none_out : (result : Option Met) → IsMetIn attempts (crew_of new) new.storing.keeper.now round result → (phase_of result ≡ Reading) ⊎ (phase_of result ≡ Finished) → round.epochs ≡ None
   none_out None is phase = is.0.reading.no_epochs
   none_out (Some Done) is phase = is.0.reading.no_epochs
   none_out (Some Stopped) is phase = absurd is
@@ -81,7 +81,7 @@ module _ {T W L D : Type 0} (words : Words T W L D) (queue : BoundedQueue) (desk
   none_out (Some (Unreachable worker)) is phase = absurd (⊎_elim not_reading not_finished phase)
   none_out (Some (Epochs slot)) is phase = absurd (⊎_elim not_reading not_finished phase)
 
-  pub all_done : (result : Option Met) → IsMetIn attempts (crew_of new) new.storing.keeper round result → phase_of result ≡ Finished → AllByRecursion IsDone (lanings new.lanes.items)
+  pub all_done : (result : Option Met) → IsMetIn attempts (crew_of new) new.storing.keeper.now round result → phase_of result ≡ Finished → AllByRecursion IsDone (lanings new.lanes.items)
   all_done None is phase = absurd (reads_not phase)
   all_done (Some Done) is phase = is.2.lanes
   all_done (Some Stopped) is phase = absurd is
@@ -92,7 +92,7 @@ module _ {T W L D : Type 0} (words : Words T W L D) (queue : BoundedQueue) (desk
   all_done (Some (Epochs slot)) is phase = absurd (not_finished phase)
 
   -- memory was there, and no disk failed
-  pub stored_well : (result : Option Met) → IsMetIn attempts (crew_of new) new.storing.keeper round result → GoesOn result → (round.memory ≡ false) × (round.disk ≡ false)
+  pub stored_well : (result : Option Met) → IsMetIn attempts (crew_of new) new.storing.keeper.now round result → GoesOn result → (round.memory ≡ false) × (round.disk ≡ false)
   stored_well None is goes = (is.0.reading.storing.memory, is.0.reading.storing.disk)
   stored_well (Some Done) is goes = (is.0.reading.storing.memory, is.0.reading.storing.disk)
   stored_well (Some Stopped) is goes = absurd is

@@ -63,7 +63,7 @@ state_of shown moments crew phase = record {
   shown = shown;
   moments = moments;
   crew = crew_of crew;
-  keeper = crew.storing.keeper;
+  keeper = crew.storing.keeper.now;
   a = crew.storing.a.now;
   b = crew.storing.b.now;
   phase = phase;
@@ -186,12 +186,12 @@ module _ {T W L D : Type 0} (words : Words T W L D) (queue : BoundedQueue) (desk
         let before = spans_of_both (all_of so_far.lanes) left_files in
         omega (arith, same, told_here, was, gave, now, before)
 
-    counted : AreCounted (lanings new.lanes.items) new.storing.keeper after
+    counted : AreCounted (lanings new.lanes.items) new.storing.keeper.now after
     counted = record {
       spans = spans_are;
-      shipped = shipped_on old.storing.keeper new.storing.keeper keeps.collects stands.counted.shipped;
-      dropped = dropped_on old.storing.keeper new.storing.keeper keeps.collects stands.counted.dropped;
-      collected = collected_on old.storing.keeper new.storing.keeper keeps.collects stands.counted.collected;
+      shipped = shipped_on old.storing.keeper.now new.storing.keeper.now keeps.collects stands.counted.shipped;
+      dropped = dropped_on old.storing.keeper.now new.storing.keeper.now keeps.collects stands.counted.dropped;
+      collected = collected_on old.storing.keeper.now new.storing.keeper.now keeps.collects stands.counted.collected;
     }
 
     -- ---- harvesters
@@ -270,16 +270,16 @@ module _ {T W L D : Type 0} (words : Words T W L D) (queue : BoundedQueue) (desk
     left : AllByRecursion (IsLeftSo start.settings.processors so_far.opened since) so_far.left
     left = subst (AllByRecursion (IsLeftSo start.settings.processors so_far.opened since)) (sym reading.none_left) tt
 
-    noted : AreNoted new.storing.keeper so_far.begun (so_far.collected ++ keeps.collects.more)
-    noted = noted_on old.storing.keeper new.storing.keeper keeps.collects so_far.begun so_far.collected stands.noted
+    noted : AreNoted new.storing.keeper.now so_far.begun (so_far.collected ++ keeps.collects.more)
+    noted = noted_on old.storing.keeper.now new.storing.keeper.now keeps.collects so_far.begun so_far.collected stands.noted
 
-    orderly : AreOrderly new.storing.keeper.tracked.notes
+    orderly : AreOrderly new.storing.keeper.now.tracked.notes
     orderly = subst AreOrderly (sym noted.are)
         (notes_are_orderly start.listed so_far.opened (files_in after) each_once
         (all_in_epochs words.tails start.settings start.listed so_far.opened since stands.opened told.after (lanings new.lanes.items) so_far.left turned left)
         so_far.begun (so_far.collected ++ keeps.collects.more) (flat placed.acknowledged) stands.begun
-        (λ files same. have_ground (lanings new.lanes.items) new.carriers.items placed.queued (notes new.storing.keeper.pass.got) placed.boxed after have_given placed.placed files same
-        (so_far.collected ++ keeps.collects.more) (held_in new.storing.keeper.held) noted.got))
+        (λ files same. have_ground (lanings new.lanes.items) new.carriers.items placed.queued (notes new.storing.keeper.now.pass.got) placed.boxed after have_given placed.placed files same
+        (so_far.collected ++ keeps.collects.more) (held_in new.storing.keeper.now.held) noted.got))
 
     -- ---- all of it
 
@@ -299,17 +299,17 @@ module _ {T W L D : Type 0} (words : Words T W L D) (queue : BoundedQueue) (desk
 
       module _ (reads : (disk : D) → IfSome (words.disks.contents disk) (words.disks.images disk))
           (counts : (disk : D) (at : ℕ) (image : List ℕ) → at ≤ words.disks.moment disk → words.disks.images disk image → words.disks.images_since disk at image)
-          (at_rest : BeganAtRest words.disks start → IsAtRest words.disks old.storing.keeper old.storing.a.now old.storing.b.now) where
+          (at_rest : BeganAtRest words.disks start → IsAtRest words.disks old.storing.keeper.now old.storing.a.now old.storing.b.now) where
         areas : BeganAtRest words.disks start →
-            HaveHeldFronts words.disks new.storing.keeper.tracked.notes start.a start.b new.storing.a.now new.storing.b.now
+            HaveHeldFronts words.disks new.storing.keeper.now.tracked.notes start.a start.b new.storing.a.now new.storing.b.now
         areas began =
             let rest = at_rest began in
             let images = keeps.images (record { settled = rest.settled; committed = rest.committed }) orderly in
-            let no_opening : new.storing.keeper.tracked.opening ≡ [] = keeps.collects.opening ∙ stands.noted.opening in
-            areas_by_turns words.disks reads counts new.storing.keeper.tracked.notes start.a start.b images.turns (storing_state old.storing) (storing_state new.storing)
-            (subst (λ (l : List Row). TurnsLeave words.disks l new.storing.keeper.tracked.notes images.turns (storing_state old.storing) (storing_state new.storing)) no_opening images.leave)
+            let no_opening : new.storing.keeper.now.tracked.opening ≡ [] = keeps.collects.opening ∙ stands.noted.opening in
+            areas_by_turns words.disks reads counts new.storing.keeper.now.tracked.notes start.a start.b images.turns (storing_state old.storing) (storing_state new.storing)
+            (subst (λ (l : List Row). TurnsLeave words.disks l new.storing.keeper.now.tracked.notes images.turns (storing_state old.storing) (storing_state new.storing)) no_opening images.leave)
             (subst (λ (l : List Note). HaveHeldFronts words.disks l start.a start.b old.storing.a.now old.storing.b.now) (sym keeps.collects.noted)
-            (areas_on words.disks reads counts old.storing.keeper.tracked.notes keeps.collects.more start.a start.b old.storing.a.now old.storing.b.now (stands.areas began)))
+            (areas_on words.disks reads counts old.storing.keeper.now.tracked.notes keeps.collects.more start.a start.b old.storing.a.now old.storing.b.now (stands.areas began)))
 
         pub stands_on : Further words start (state_of shown later new phase)
         stands_on = record {

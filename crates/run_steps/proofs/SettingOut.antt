@@ -84,7 +84,7 @@ module _ {T : Type 0} (tails : TailWords T) (queue desk : TableId) where
 -- ---- a crew as it is made
 
 module _ {T W L : Type 0} (told : L → Option Talk) (queue desk : TableId) (settings : Settings) (wires left : List W) (crew : Crew T W L) (begun : IsBegunCrew told queue desk settings wires left crew) where
-  pub first_ready : {D : Type 0} (tails : TailWords T) (storing : Storing D) → AreInRange settings → IsFirstKeeper desk storing.keeper → IsReady tails queue desk (crewing crew storing)
+  pub first_ready : {D : Type 0} (tails : TailWords T) (storing : Storing D) → AreInRange settings → IsFirstKeeper desk storing.keeper.now → IsReady tails queue desk (crewing crew storing)
   first_ready tails storing in_range first = record {
     able = record {
       some_lanes = λ none. absurd (let long = ap (λ (l : List _). length l) none in let many = begun.many_lanes in let some = in_range.lanes in omega (arith, long, many, some));

@@ -83,25 +83,25 @@ module _ {T W L D : Type 0} (words : Words T W L D) (start : Began D) (begun : R
   -- what each step gave
   pub record Steps : Type 0 where
     pub followed : (at : Option FolderHistory) → Onward words (within at moments crew storing (phase_begun begun)) (within at then one first (phase_worked begun met))
-    pub at_rest : AreLeft met → IsAtRest words.disks storing.keeper storing.a.now storing.b.now → IsAtRest words.disks first.keeper first.a.now first.b.now
+    pub at_rest : AreLeft met → IsAtRest words.disks storing.keeper.now storing.a.now storing.b.now → IsAtRest words.disks first.keeper.now first.a.now first.b.now
     pub lanes_are : lanings two.lanes.items ≡ map released (lanings one.lanes.items)
     pub carriers_are : two.carriers ≡ one.carriers
     pub shows : later ≡ with_events (all_closings words.tails.told words.tails.faults (lanings one.lanes.items)) shown
     pub settled : (at : Option FolderHistory) (given : Option (List ℕ)) (phase : Phase) → Onward words (within at given two first phase) (within at given three second phase)
     pub still : (¬ AreLeft met) → (three ≡ two) × (second ≡ first)
     pub left_before : AreLeft now → AreLeft met
-    pub stored : AreLeft now → AreSettledIn three second.keeper
+    pub stored : AreLeft now → AreSettledIn three second.keeper.now
     pub counted : AreLeft now → ArePostsCounted three
-    pub is_open : AreLeft now → second.keeper.store.closed ≡ false
-    pub then_at_rest : AreLeft now → IsAtRest words.disks first.keeper first.a.now first.b.now → IsAtRest words.disks second.keeper second.a.now second.b.now
+    pub is_open : AreLeft now → second.keeper.now.store.closed ≡ false
+    pub then_at_rest : AreLeft now → IsAtRest words.disks first.keeper.now first.a.now first.b.now → IsAtRest words.disks second.keeper.now second.a.now second.b.now
     pub none_left : All HasNoHarvesters (lanings three.lanes.items)
-    pub all_settled : IsAllSettled (lanings two.lanes.items) first.keeper → IsAllSettled (lanings three.lanes.items) second.keeper
+    pub all_settled : IsAllSettled (lanings two.lanes.items) first.keeper.now → IsAllSettled (lanings three.lanes.items) second.keeper.now
     pub ended : EndsCarriers words.links words.wires three.carriers.items old new
-    pub done : now ≡ Done → IsDoneIn one first.keeper
+    pub done : now ≡ Done → IsDoneIn one first.keeper.now
     pub finished : now ≡ Done → phase_left (phase_worked begun met) ≡ Finished
 
   module _ (steps : Steps) (so_far : SoFar) (stands : Stands words start (within shown moments crew storing (phase_begun begun)) so_far)
-      (began : BeganAtRest words.disks start → IsAtRest words.disks storing.keeper storing.a.now storing.b.now) where
+      (began : BeganAtRest words.disks start → IsAtRest words.disks storing.keeper.now storing.a.now storing.b.now) where
     abbrev phase : Phase
     phase = phase_left (phase_worked begun met)
 
@@ -119,7 +119,7 @@ module _ {T W L D : Type 0} (words : Words T W L D) (start : Began D) (begun : R
         subst (λ (s : Storing D). Further words start (within later then three s phase)) (sym same.1)
         (subst (λ (c : Crew T W L). Further words start (within later then c first phase)) (sym same.0) after_release)) (left_or_not met)
 
-    told_all : now ≡ Done → IsAllSettled (lanings two.lanes.items) first.keeper
+    told_all : now ≡ Done → IsAllSettled (lanings two.lanes.items) first.keeper.now
     told_all is =
         let done = steps.done is in
         let same = ap spans_told steps.lanes_are ∙ spans_same (lanings one.lanes.items) in
@@ -127,7 +127,7 @@ module _ {T W L D : Type 0} (words : Words T W L D) (start : Began D) (begun : R
         let each = done.spans.settled in
         record { below = omega (arith, same, few); settled = omega (arith, same, each) }
 
-    pub has_ended : HasEnded words start (record { shown = later; moments = then; keeper = second.keeper; a = second.a.now; b = second.b.now; phase = phase }) now old new
+    pub has_ended : HasEnded words start (record { shown = later; moments = then; keeper = second.keeper.now; a = second.a.now; b = second.b.now; phase = phase }) now old new
     has_ended = record {
       ends = record {
         crew = three;
@@ -158,7 +158,7 @@ not_stopped : Done ≡ Stopped → ⊥
 not_stopped is = cc
 
 pub done_in : {T W L D : Type 0} (words : Words T W L D) (attempts : ℕ) (since : Since T W L D) (begun : Result (Vec Passing Global) Met) (met : Met) → IfErr begun IsBeginEnd →
-    IsFollowedBy words.tails words.disks attempts since begun met → met ≡ Done → IsDoneIn (crew_of since.now) since.now.storing.keeper
+    IsFollowedBy words.tails words.disks attempts since begun met → met ≡ Done → IsDoneIn (crew_of since.now) since.now.storing.keeper.now
 done_in words attempts since (Ok passed) met range by is =
     subst (IsMetBy words.tails words.disks attempts since) is (by (λ stopped. not_stopped (sym is ∙ stopped)))
 done_in words attempts since (Err first) met range by is = absurd (subst IsBeginEnd (sym by ∙ is) range)

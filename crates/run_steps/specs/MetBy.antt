@@ -37,7 +37,7 @@ pub record Since (T W L D : Type 0) : Type 0 where
 
 module _ {T W L D : Type 0} (tails : TailWords T) (disks : DiskWords D) (attempts : ℕ) where
   abbrev pub IsMetBy : Since T W L D → Met → Type 0
-  IsMetBy since Done = IsDoneIn (crew_of since.now) since.now.storing.keeper
+  IsMetBy since Done = IsDoneIn (crew_of since.now) since.now.storing.keeper.now
   IsMetBy since Stopped = ⊥
   IsMetBy since NoMemory = Unit {0}
   IsMetBy since DiskFault =

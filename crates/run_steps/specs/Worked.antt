@@ -83,6 +83,6 @@ IsMetByRun workers files before after FolderFault = Rose before.folder_faults af
 IsMetByRun workers files before after (Unreachable worker) = worker < workers
 IsMetByRun workers files before after (Epochs slot) = slot.0 < files
 
--- the keeper with its areas, as they are lent to the rounds
-abbrev pub lent : {D : Type 0} → Keeping → MutBor D → MutBor D → Storing D
-lent keeper a b = record { keeper = keeper; a = a; b = b; stored = begun_stored }
+-- a lent keeper with its areas, as they are lent to the rounds
+abbrev pub lent : {D : Type 0} → MutBor Keeping → Keeping → MutBor D → MutBor D → Storing D
+lent loan keeper a b = record { keeper = record loan { now = keeper }; a = a; b = b; stored = begun_stored }

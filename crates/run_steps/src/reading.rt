@@ -4,7 +4,7 @@ ghost use Rattle.outside.specs.Counts.{Rose};
 ghost use Rattle.outside.specs.Folders.{FolderHistory};
 ghost use Rattle.rounds.specs.Crewed.{lanings};
 ghost use Rattle.rounds.specs.Crewing.{crewing};
-ghost use Rattle.rounds.specs.KeeperTurns.{SameAreas, StillTell};
+ghost use Rattle.rounds.specs.KeeperTurns.{SameObjects, StillTell};
 ghost use Rattle.rounds.specs.Rounds.{IsAble, IsReady};
 ghost use Rattle.rounds.specs.Staying.{AreAsMany, begins_of};
 ghost use Rattle.rounds.specs.Words.{disk_words, link_words, tail_words, wire_words, words};
@@ -64,9 +64,9 @@ pub fn make_round<
         (within shown (K.moments clock.new) crew.new storing.new (phase_of result)) }
     ensures at_rest { GoesOn result →
         IsAtRest (disk_words D.contents D.images D.moment D.images_since D.faults)
-        storing.old.keeper storing.old.a.now storing.old.b.now →
+        storing.old.keeper.now storing.old.a.now storing.old.b.now →
         IsAtRest (disk_words D.contents D.images D.moment D.images_since D.faults)
-        storing.new.keeper storing.new.a.now storing.new.b.now }
+        storing.new.keeper.now storing.new.a.now storing.new.b.now }
     ensures ready { GoesOn result →
         IsReady (tail_words T.numbers T.told T.faults) context.entry.outlets.queue.now.id
         context.entry.outlets.desk.now.id (crewing crew.new storing.new) }
@@ -95,8 +95,8 @@ pub fn make_round<
     ensures a_faults_never_fall { D.faults storing.old.a.now ≤ D.faults storing.new.a.now }
     ensures b_faults_never_fall { D.faults storing.old.b.now ≤ D.faults storing.new.b.now }
     ensures clock_goes_on { MomentsGoOn (K.moments clock.old) (K.moments clock.new) }
-    ensures collects { Collects storing.old.keeper storing.new.keeper }
-    ensures same_areas { SameAreas storing.old storing.new }
+    ensures collects { Collects storing.old.keeper.now storing.new.keeper.now }
+    ensures same_objects { SameObjects storing.old storing.new }
     ensures still_tell { StillTell D.contents storing.old storing.new }
 {
     disk_images_are_counted::<D>();
@@ -104,7 +104,7 @@ pub fn make_round<
     let when = When { now, last: true };
     let round = crew.round(rt, context.alloc, context.outlets, when, storing);
     let attempts = context.settings.output.attempts;
-    let met = met_in(attempts, crew, &storing.keeper, round);
+    let met = met_in(attempts, crew, storing.keeper, round);
     pause_where_still(met, round, clock);
     met
 }
@@ -140,9 +140,9 @@ pub fn follow_all<
         (phase_met result)) }
     ensures at_rest { AreLeft result →
         IsAtRest (disk_words D.contents D.images D.moment D.images_since D.faults)
-        storing.old.keeper storing.old.a.now storing.old.b.now →
+        storing.old.keeper.now storing.old.a.now storing.old.b.now →
         IsAtRest (disk_words D.contents D.images D.moment D.images_since D.faults)
-        storing.new.keeper storing.new.a.now storing.new.b.now }
+        storing.new.keeper.now storing.new.a.now storing.new.b.now }
     ensures ready { AreLeft result →
         IsReady (tail_words T.numbers T.told T.faults) context.entry.outlets.queue.now.id
         context.entry.outlets.desk.now.id (crewing crew.new storing.new) }
@@ -173,8 +173,8 @@ pub fn follow_all<
     ensures rings_never_fall { B.rings signals.old.bell.now ≤ B.rings signals.new.bell.now }
     ensures clock_goes_on { MomentsGoOn (K.moments signals.old.clock.now)
         (K.moments signals.new.clock.now) }
-    ensures collects { Collects storing.old.keeper storing.new.keeper }
-    ensures same_areas { SameAreas storing.old storing.new }
+    ensures collects { Collects storing.old.keeper.now storing.new.keeper.now }
+    ensures same_objects { SameObjects storing.old storing.new }
     ensures still_tell { StillTell D.contents storing.old storing.new }
     ensures same_clock { signals.new.clock.ghost_name ≡ signals.old.clock.ghost_name }
     ensures same_bell { signals.new.bell.ghost_name ≡ signals.old.bell.ghost_name }

@@ -58,7 +58,7 @@ where
     requires of_inputs { All (IsOfInputs context.settings.now) scanned.now.listed.items }
     requires few { length scanned.now.listed.items ≤ 65_536 }
     requires moment { IsMoment scanned.now.now }
-    requires keeper { IsFirstKeeper context.outlets.desk.now.id storing.old.keeper }
+    requires keeper { IsFirstKeeper context.outlets.desk.now.id storing.old.keeper.now }
     requires wires { vec_len around.old.wires.now ≡ 16 }
     // What stood as the run set out stands at the end.
     ensures ends { (earlier : Earlier D) →
@@ -70,7 +70,7 @@ where
           shown = F.told around.old.folder.now;
           moments = K.moments around.old.clock.now;
           wires = around.old.wires.now.items;
-          keeper = storing.old.keeper;
+          keeper = storing.old.keeper.now;
           a = storing.old.a.now;
           b = storing.old.b.now;
         }) earlier) (record {
@@ -80,7 +80,7 @@ where
           shown = F.told around.old.folder.now;
           moments = K.moments around.old.clock.now;
           wires = around.old.wires.now.items;
-          keeper = storing.old.keeper;
+          keeper = storing.old.keeper.now;
           a = storing.old.a.now;
           b = storing.old.b.now;
         }) → IfOk result (λ worked. (phase : Phase) × HasEnded
@@ -95,14 +95,14 @@ where
           shown = F.told around.old.folder.now;
           moments = K.moments around.old.clock.now;
           wires = around.old.wires.now.items;
-          keeper = storing.old.keeper;
+          keeper = storing.old.keeper.now;
           a = storing.old.a.now;
           b = storing.old.b.now;
         }) earlier)
         (record {
           shown = F.told around.new.folder.now;
           moments = K.moments around.new.clock.now;
-          keeper = storing.new.keeper;
+          keeper = storing.new.keeper.now;
           a = storing.new.a.now;
           b = storing.new.b.now;
           phase = phase;
@@ -119,7 +119,7 @@ where
           shown = F.told around.old.folder.now;
           moments = K.moments around.old.clock.now;
           wires = around.old.wires.now.items;
-          keeper = storing.old.keeper;
+          keeper = storing.old.keeper.now;
           a = storing.old.a.now;
           b = storing.old.b.now;
         }) earlier) (record {
@@ -129,7 +129,7 @@ where
           shown = F.told around.old.folder.now;
           moments = K.moments around.old.clock.now;
           wires = around.old.wires.now.items;
-          keeper = storing.old.keeper;
+          keeper = storing.old.keeper.now;
           a = storing.old.a.now;
           b = storing.old.b.now;
         }) → HasScanned
@@ -140,7 +140,7 @@ where
           shown = F.told around.old.folder.now;
           moments = K.moments around.old.clock.now;
           wires = around.old.wires.now.items;
-          keeper = storing.old.keeper;
+          keeper = storing.old.keeper.now;
           a = storing.old.a.now;
           b = storing.old.b.now;
         }) earlier) folder → IsSome earlier.moments →
@@ -202,6 +202,7 @@ where
     ensures back { OnErr result
         (all_seen (wire_words W.outcomes W.open_links W.faults W.idles) around.new.wires.now.items
         ≡ all_seen (wire_words W.outcomes W.open_links W.faults W.idles) around.old.wires.now.items) }
+    ensures same_keeper { storing.new.keeper.ghost_name ≡ storing.old.keeper.ghost_name }
     ensures same_a { storing.new.a.ghost_name ≡ storing.old.a.ghost_name }
     ensures same_b { storing.new.b.ghost_name ≡ storing.old.b.ghost_name }
     ensures still_tell { StillTell D.contents storing.old storing.new }
@@ -213,12 +214,6 @@ where
     disk_images_are_counted::<D>();
     one_choice();
     let mut crew = crew_of(context, passes, around.wires)?;
-    let begun = begin_all(
-        context,
-        scanned,
-        around.folder,
-        &mut crew,
-        &mut storing.keeper,
-    );
+    let begun = begin_all(context, scanned, around.folder, &mut crew, storing.keeper);
     Ok(work(rt, context, begun, crew, storing, around))
 }

@@ -3,7 +3,7 @@ ghost use Rattle.keeper.specs.Collecting.{Collects};
 ghost use Rattle.outside.specs.Folders.{FolderHistory};
 ghost use Rattle.rounds.specs.Crewed.{lanings};
 ghost use Rattle.rounds.specs.Crewing.{crewing};
-ghost use Rattle.rounds.specs.KeeperTurns.{SameAreas, StillTell};
+ghost use Rattle.rounds.specs.KeeperTurns.{SameObjects, StillTell};
 ghost use Rattle.rounds.specs.Rounds.{IsAble, IsReady};
 ghost use Rattle.rounds.specs.Settled.{AreSettledIn};
 ghost use Rattle.rounds.specs.Settling.{ArePostsCounted};
@@ -52,9 +52,9 @@ pub fn settle_all<
         (within shown moments crew.new storing.new phase) }
     ensures at_rest { AreLeft result →
         IsAtRest (disk_words D.contents D.images D.moment D.images_since D.faults)
-        storing.old.keeper storing.old.a.now storing.old.b.now →
+        storing.old.keeper.now storing.old.a.now storing.old.b.now →
         IsAtRest (disk_words D.contents D.images D.moment D.images_since D.faults)
-        storing.new.keeper storing.new.a.now storing.new.b.now }
+        storing.new.keeper.now storing.new.a.now storing.new.b.now }
     ensures met { (result ≡ met) ⊎ IsMetByStoring
         (disk_words D.contents D.images D.moment D.images_since D.faults)
         (record {
@@ -63,22 +63,22 @@ pub fn settle_all<
           new_a = storing.new.a.now;
           new_b = storing.new.b.now;
         }) result }
-    ensures settled { AreLeft result → AreSettledIn crew.new storing.new.keeper }
+    ensures settled { AreLeft result → AreSettledIn crew.new storing.new.keeper.now }
     ensures counted { AreLeft result → ArePostsCounted crew.new }
-    ensures is_open { AreLeft result → storing.new.keeper.store.closed ≡ false }
+    ensures is_open { AreLeft result → storing.new.keeper.now.store.closed ≡ false }
     ensures able { IsAble (tail_words T.numbers T.told T.faults)
         context.entry.outlets.queue.now.id context.entry.outlets.desk.now.id
         (crewing crew.new storing.new) }
     ensures no_harvesters { All HasNoHarvesters (lanings crew.old.lanes.items) →
         All HasNoHarvesters (lanings crew.new.lanes.items) }
-    ensures all_settled { IsAllSettled (lanings crew.old.lanes.items) storing.old.keeper →
-        IsAllSettled (lanings crew.new.lanes.items) storing.new.keeper }
+    ensures all_settled { IsAllSettled (lanings crew.old.lanes.items) storing.old.keeper.now →
+        IsAllSettled (lanings crew.new.lanes.items) storing.new.keeper.now }
     ensures links_stay { LinksStay crew.old.carriers.items crew.new.carriers.items }
     ensures as_many { AreAsMany (crewing crew.old storing.old) (crewing crew.new storing.new) }
     ensures a_faults_never_fall { D.faults storing.old.a.now ≤ D.faults storing.new.a.now }
     ensures b_faults_never_fall { D.faults storing.old.b.now ≤ D.faults storing.new.b.now }
-    ensures collects { Collects storing.old.keeper storing.new.keeper }
-    ensures same_areas { SameAreas storing.old storing.new }
+    ensures collects { Collects storing.old.keeper.now storing.new.keeper.now }
+    ensures same_objects { SameObjects storing.old storing.new }
     ensures still_tell { StillTell D.contents storing.old storing.new }
 {
     disk_images_are_counted::<D>();
@@ -87,7 +87,7 @@ pub fn settle_all<
         if let Some(met) = stored_by(round) {
             return met;
         }
-        if crew.is_settled(&storing.keeper) {
+        if crew.is_settled(storing.keeper) {
             return met;
         }
     }

@@ -4,7 +4,7 @@ ghost use Rattle.outside.specs.Counts.{Rose};
 ghost use Rattle.outside.specs.Folders.{Event, FolderHistory};
 ghost use Rattle.rounds.specs.Crewed.{lanings};
 ghost use Rattle.rounds.specs.Crewing.{crewing};
-ghost use Rattle.rounds.specs.KeeperTurns.{SameAreas, StillTell};
+ghost use Rattle.rounds.specs.KeeperTurns.{SameObjects, StillTell};
 ghost use Rattle.rounds.specs.Rounds.{IsAble, IsReady};
 ghost use Rattle.rounds.specs.Settled.{AreSettledIn};
 ghost use Rattle.rounds.specs.Settling.{ArePostsCounted};
@@ -82,7 +82,7 @@ where
         crew storing.old (phase_begun begun)) so_far →
         (BeganAtRest (disk_words D.contents D.images D.moment D.images_since D.faults) start →
         IsAtRest (disk_words D.contents D.images D.moment D.images_since D.faults)
-        storing.old.keeper storing.old.a.now storing.old.b.now) →
+        storing.old.keeper.now storing.old.a.now storing.old.b.now) →
         (phase : Phase) × HasEnded (words (tail_words F.Tail.numbers F.Tail.told F.Tail.faults)
         (link_words L.told L.faults L.idles)
         (wire_words W.outcomes W.open_links W.faults W.idles)
@@ -90,7 +90,7 @@ where
         start (record {
           shown = F.told around.new.folder.now;
           moments = K.moments around.new.clock.now;
-          keeper = storing.new.keeper;
+          keeper = storing.new.keeper.now;
           a = storing.new.a.now;
           b = storing.new.b.now;
           phase = phase;
@@ -143,8 +143,8 @@ where
           folder_faults = F.faults around.new.folder.now;
           rings = B.rings around.new.bell.now;
         }) }
-    ensures collects { Collects storing.old.keeper storing.new.keeper }
-    ensures same_areas { SameAreas storing.old storing.new }
+    ensures collects { Collects storing.old.keeper.now storing.new.keeper.now }
+    ensures same_objects { SameObjects storing.old storing.new }
     ensures still_tell { StillTell D.contents storing.old storing.new }
     ensures same_folder { around.new.folder.ghost_name ≡ around.old.folder.ghost_name }
     ensures same_wires { around.new.wires.ghost_name ≡ around.old.wires.ghost_name }
@@ -192,9 +192,9 @@ pub fn follow_begun<
         (phase_worked begun result.met)) }
     ensures at_rest { AreLeft result.met →
         IsAtRest (disk_words D.contents D.images D.moment D.images_since D.faults)
-        storing.old.keeper storing.old.a.now storing.old.b.now →
+        storing.old.keeper.now storing.old.a.now storing.old.b.now →
         IsAtRest (disk_words D.contents D.images D.moment D.images_since D.faults)
-        storing.new.keeper storing.new.a.now storing.new.b.now }
+        storing.new.keeper.now storing.new.a.now storing.new.b.now }
     ensures ready { AreLeft result.met →
         IsReady (tail_words T.numbers T.told T.faults) context.entry.outlets.queue.now.id
         context.entry.outlets.desk.now.id (crewing crew.new storing.new) }
@@ -226,8 +226,8 @@ pub fn follow_begun<
     ensures rings_never_fall { B.rings signals.old.bell.now ≤ B.rings signals.new.bell.now }
     ensures clock_goes_on { MomentsGoOn (K.moments signals.old.clock.now)
         (K.moments signals.new.clock.now) }
-    ensures collects { Collects storing.old.keeper storing.new.keeper }
-    ensures same_areas { SameAreas storing.old storing.new }
+    ensures collects { Collects storing.old.keeper.now storing.new.keeper.now }
+    ensures same_objects { SameObjects storing.old storing.new }
     ensures still_tell { StillTell D.contents storing.old storing.new }
     ensures same_clock { signals.new.clock.ghost_name ≡ signals.old.clock.ghost_name }
     ensures same_bell { signals.new.bell.ghost_name ≡ signals.old.bell.ghost_name }
@@ -280,27 +280,27 @@ pub fn settle_after<
           new_b = storing.new.b.now;
         }) result.met }
     ensures still { ¬ AreLeft worked.met → (crew.new ≡ crew.old) × (storing.new ≡ storing.old) }
-    ensures settled { AreLeft result.met → AreSettledIn crew.new storing.new.keeper }
+    ensures settled { AreLeft result.met → AreSettledIn crew.new storing.new.keeper.now }
     ensures counted { AreLeft result.met → ArePostsCounted crew.new }
-    ensures is_open { AreLeft result.met → storing.new.keeper.store.closed ≡ false }
+    ensures is_open { AreLeft result.met → storing.new.keeper.now.store.closed ≡ false }
     ensures at_rest { AreLeft result.met →
         IsAtRest (disk_words D.contents D.images D.moment D.images_since D.faults)
-        storing.old.keeper storing.old.a.now storing.old.b.now →
+        storing.old.keeper.now storing.old.a.now storing.old.b.now →
         IsAtRest (disk_words D.contents D.images D.moment D.images_since D.faults)
-        storing.new.keeper storing.new.a.now storing.new.b.now }
+        storing.new.keeper.now storing.new.a.now storing.new.b.now }
     ensures able { IsAble (tail_words T.numbers T.told T.faults)
         context.entry.outlets.queue.now.id context.entry.outlets.desk.now.id
         (crewing crew.new storing.new) }
     ensures no_harvesters { All HasNoHarvesters (lanings crew.old.lanes.items) →
         All HasNoHarvesters (lanings crew.new.lanes.items) }
-    ensures all_settled { IsAllSettled (lanings crew.old.lanes.items) storing.old.keeper →
-        IsAllSettled (lanings crew.new.lanes.items) storing.new.keeper }
+    ensures all_settled { IsAllSettled (lanings crew.old.lanes.items) storing.old.keeper.now →
+        IsAllSettled (lanings crew.new.lanes.items) storing.new.keeper.now }
     ensures links_stay { LinksStay crew.old.carriers.items crew.new.carriers.items }
     ensures as_many { AreAsMany (crewing crew.old storing.old) (crewing crew.new storing.new) }
     ensures a_faults_never_fall { D.faults storing.old.a.now ≤ D.faults storing.new.a.now }
     ensures b_faults_never_fall { D.faults storing.old.b.now ≤ D.faults storing.new.b.now }
-    ensures collects { Collects storing.old.keeper storing.new.keeper }
-    ensures same_areas { SameAreas storing.old storing.new }
+    ensures collects { Collects storing.old.keeper.now storing.new.keeper.now }
+    ensures same_objects { SameObjects storing.old storing.new }
     ensures still_tell { StillTell D.contents storing.old storing.new }
 {
     let Worked { passed, met } = worked;
@@ -343,27 +343,27 @@ fn settle_where_left<
           new_b = storing.new.b.now;
         }) result }
     ensures still { ¬ AreLeft met → (crew.new ≡ crew.old) × (storing.new ≡ storing.old) }
-    ensures settled { AreLeft result → AreSettledIn crew.new storing.new.keeper }
+    ensures settled { AreLeft result → AreSettledIn crew.new storing.new.keeper.now }
     ensures counted { AreLeft result → ArePostsCounted crew.new }
-    ensures is_open { AreLeft result → storing.new.keeper.store.closed ≡ false }
+    ensures is_open { AreLeft result → storing.new.keeper.now.store.closed ≡ false }
     ensures at_rest { AreLeft result →
         IsAtRest (disk_words D.contents D.images D.moment D.images_since D.faults)
-        storing.old.keeper storing.old.a.now storing.old.b.now →
+        storing.old.keeper.now storing.old.a.now storing.old.b.now →
         IsAtRest (disk_words D.contents D.images D.moment D.images_since D.faults)
-        storing.new.keeper storing.new.a.now storing.new.b.now }
+        storing.new.keeper.now storing.new.a.now storing.new.b.now }
     ensures able { IsAble (tail_words T.numbers T.told T.faults)
         context.entry.outlets.queue.now.id context.entry.outlets.desk.now.id
         (crewing crew.new storing.new) }
     ensures no_harvesters { All HasNoHarvesters (lanings crew.old.lanes.items) →
         All HasNoHarvesters (lanings crew.new.lanes.items) }
-    ensures all_settled { IsAllSettled (lanings crew.old.lanes.items) storing.old.keeper →
-        IsAllSettled (lanings crew.new.lanes.items) storing.new.keeper }
+    ensures all_settled { IsAllSettled (lanings crew.old.lanes.items) storing.old.keeper.now →
+        IsAllSettled (lanings crew.new.lanes.items) storing.new.keeper.now }
     ensures links_stay { LinksStay crew.old.carriers.items crew.new.carriers.items }
     ensures as_many { AreAsMany (crewing crew.old storing.old) (crewing crew.new storing.new) }
     ensures a_faults_never_fall { D.faults storing.old.a.now ≤ D.faults storing.new.a.now }
     ensures b_faults_never_fall { D.faults storing.old.b.now ≤ D.faults storing.new.b.now }
-    ensures collects { Collects storing.old.keeper storing.new.keeper }
-    ensures same_areas { SameAreas storing.old storing.new }
+    ensures collects { Collects storing.old.keeper.now storing.new.keeper.now }
+    ensures same_objects { SameObjects storing.old storing.new }
     ensures still_tell { StillTell D.contents storing.old storing.new }
 {
     match met {

@@ -83,22 +83,16 @@ fn run<R: Threads + Wait + Sync>(
         desk: &desk,
     };
     let (mut a, mut b) = (MemDisk::new(alloc, b"")?, MemDisk::new(alloc, b"")?);
-    let keeper = keeper(alloc, collect, &mut a, &mut b)?;
+    let mut keeper = keeper(alloc, collect, &mut a, &mut b)?;
     let passes = Passes { put, take, post };
     let mut crew = crew(alloc, outlets, passes, sizes, tails(alloc)?, wires)?;
     let mut storing = Storing {
-        keeper,
+        keeper: &mut keeper,
         a: &mut a,
         b: &mut b,
         stored: Stored::begun(),
     };
     let went = work(rt, alloc, outlets, &mut crew, &mut storing, sizes.way);
-    let Storing {
-        keeper,
-        a: _,
-        b: _,
-        stored: _,
-    } = storing;
     let outcome = finish(alloc, outlets, crew, &keeper, (&mut a, &mut b))?;
     if went {
         Ok(outcome)

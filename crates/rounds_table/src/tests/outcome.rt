@@ -130,9 +130,9 @@ fn is_through<T: Tail + Drop + Send, R: Wait>(
     ensures able { IsAble (tail_words T.numbers T.told T.faults) outlets.entry.queue.now.id
         outlets.entry.desk.now.id (crewing crew.new storing.new) }
 {
-    let done = crew.is_done(&storing.keeper);
+    let done = crew.is_done(storing.keeper);
     let round = crew.settle(rt, alloc, outlets, storing);
-    done && !round.moved && crew.is_settled(&storing.keeper)
+    done && !round.moved && crew.is_settled(storing.keeper)
 }
 
 fn is_work_left<T: Tail>(crew: &MemCrew<T>, keeper: &Keeper) -> bool {
@@ -153,7 +153,7 @@ fn settles<T: Tail + Drop + Send, R: Threads + Wait + Sync>(
     ensures able { IsAble (tail_words T.numbers T.told T.faults) outlets.entry.queue.now.id
         outlets.entry.desk.now.id (crewing crew.new storing.new) }
 {
-    if !is_work_left(crew, &storing.keeper) {
+    if !is_work_left(crew, storing.keeper) {
         return false;
     }
     if !rest(rt, alloc, outlets, crew, storing, last) {

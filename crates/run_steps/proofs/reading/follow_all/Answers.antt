@@ -28,9 +28,9 @@ loop-init g c =
       a_faults = omega arith;
       b_faults = omega arith;
       rings = omega arith;
-      collects = collects_none c.args.storing.now.keeper;
+      collects = collects_none c.args.storing.now.keeper.now;
       clock = clock_stays (g.K.Clock.moments c.args.signals.now.clock.now);
-      same_areas = record { a = refl; b = refl };
+      same_objects = record { keeper = refl; a = refl; b = refl };
       still_tell = record { a = λ told. told; b = λ told. told };
       same_clock = refl;
       same_bell = refl;
@@ -48,7 +48,7 @@ returns-in-Some-make_round-clause-onward g c shown =
 
 pub returns-in-Some-make_round-clause-collects : goal.returns-in-Some-make_round-clause-collects
 returns-in-Some-make_round-clause-collects g c =
-    collects_more c.args.storing.now.keeper c.loop.storing.keeper c.make_round.new.storing.keeper c.loop.invariant.collects c.in-Some-make_round.ensures.collects
+    collects_more c.args.storing.now.keeper.now c.loop.storing.keeper.now c.make_round.new.storing.keeper.now c.loop.invariant.collects c.in-Some-make_round.ensures.collects
 
 pub returns-in-Some-make_round-clause-clock_goes_on : goal.returns-in-Some-make_round-clause-clock_goes_on
 returns-in-Some-make_round-clause-clock_goes_on g c =
@@ -87,9 +87,9 @@ loop-preserved g c =
       a_faults = let more = made.a_faults_never_fall in let were = kept.a_faults in omega (arith, more, were);
       b_faults = let more = made.b_faults_never_fall in let were = kept.b_faults in omega (arith, more, were);
       rings = let more = c.asked.ensures.rings_never_fall in let were = kept.rings in omega (arith, more, were);
-      collects = collects_more c.args.storing.now.keeper c.loop.storing.keeper c.make_round.new.storing.keeper kept.collects made.collects;
+      collects = collects_more c.args.storing.now.keeper.now c.loop.storing.keeper.now c.make_round.new.storing.keeper.now kept.collects made.collects;
       clock = clock_by_two (g.K.Clock.moments c.args.signals.now.clock.now) (g.K.Clock.moments c.loop.signals.clock.now) (g.K.Clock.moments c.make_round.new.clock) kept.clock made.clock_goes_on;
-      same_areas = record { a = made.same_areas.a ∙ kept.same_areas.a; b = made.same_areas.b ∙ kept.same_areas.b };
+      same_objects = record { keeper = made.same_objects.keeper ∙ kept.same_objects.keeper; a = made.same_objects.a ∙ kept.same_objects.a; b = made.same_objects.b ∙ kept.same_objects.b };
       still_tell = record { a = λ told. made.still_tell.a (kept.still_tell.a told); b = λ told. made.still_tell.b (kept.still_tell.b told) };
       same_clock = kept.same_clock;
       same_bell = kept.same_bell;

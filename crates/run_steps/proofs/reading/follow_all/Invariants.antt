@@ -3,7 +3,7 @@ use Rattle.keeper.specs.Collecting.{Collects}
 use Rattle.outside.specs.Folders.{FolderHistory}
 use Rattle.rounds.specs.Crewed.{lanings}
 use Rattle.rounds.specs.Crewing.{crewing}
-use Rattle.rounds.specs.KeeperTurns.{SameAreas, StillTell}
+use Rattle.rounds.specs.KeeperTurns.{SameObjects, StillTell}
 use Rattle.rounds.specs.Rounds.{IsReady}
 use Rattle.rounds.specs.Staying.{AreAsMany, begins_of}
 use Rattle.rounds.specs.Words.{disk_words, link_words, tail_words, wire_words, words}
@@ -27,8 +27,8 @@ invariant-loop g l = record {
       (within shown (g.K.Clock.moments l.initial.signals.clock.now) l.initial.crew l.initial.storing Reading)
       (within shown (g.K.Clock.moments l.signals.clock.now) l.crew l.storing Reading);
   at_rest : IsAtRest (disk_words g.D.Disk.contents g.D.Disk.images g.D.Disk.moment g.D.Disk.images_since g.D.Disk.faults)
-      l.initial.storing.keeper l.initial.storing.a.now l.initial.storing.b.now →
-      IsAtRest (disk_words g.D.Disk.contents g.D.Disk.images g.D.Disk.moment g.D.Disk.images_since g.D.Disk.faults) l.storing.keeper l.storing.a.now l.storing.b.now;
+      l.initial.storing.keeper.now l.initial.storing.a.now l.initial.storing.b.now →
+      IsAtRest (disk_words g.D.Disk.contents g.D.Disk.images g.D.Disk.moment g.D.Disk.images_since g.D.Disk.faults) l.storing.keeper.now l.storing.a.now l.storing.b.now;
   failing : FailOn (link_words g.L.Link.told g.L.Link.faults g.L.Link.idles) (wire_words g.W.Wire.outcomes g.W.Wire.open_links g.W.Wire.faults g.W.Wire.idles)
       l.context.settings.now.output.attempts
       (sending (g.K.Clock.moments l.initial.signals.clock.now) l.initial.crew.carriers.items) (sending (g.K.Clock.moments l.signals.clock.now) l.crew.carriers.items);
@@ -39,8 +39,8 @@ invariant-loop g l = record {
   b_faults : g.D.Disk.faults l.initial.storing.b.now ≤ g.D.Disk.faults l.storing.b.now;
   rings : g.B.Bell.rings l.initial.signals.bell.now ≤ g.B.Bell.rings l.signals.bell.now;
   clock : MomentsGoOn (g.K.Clock.moments l.initial.signals.clock.now) (g.K.Clock.moments l.signals.clock.now);
-  collects : Collects l.initial.storing.keeper l.storing.keeper;
-  same_areas : SameAreas l.initial.storing l.storing;
+  collects : Collects l.initial.storing.keeper.now l.storing.keeper.now;
+  same_objects : SameObjects l.initial.storing l.storing;
   still_tell : StillTell g.D.Disk.contents l.initial.storing l.storing;
   same_clock : l.signals.clock.ghost_name ≡ l.initial.signals.clock.ghost_name;
   same_bell : l.signals.bell.ghost_name ≡ l.initial.signals.bell.ghost_name;

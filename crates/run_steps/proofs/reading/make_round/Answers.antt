@@ -78,4 +78,4 @@ returns-clause-failing g c =
     (g.K.Clock.moments c.args.clock.now) (g.K.Clock.moments c.pause_where_still.new.clock) given
 
 pub returns-clause-none_failed : goal.returns-clause-none_failed
-returns-clause-none_failed g c = none_failed_in c.args.context.settings.now.output.attempts c.round-round.new.self c.round-round.new.storing.keeper c.round-round.result c.met_in-met.result c.met_in-met.ensures
+returns-clause-none_failed g c = none_failed_in c.args.context.settings.now.output.attempts c.round-round.new.self c.round-round.new.storing.keeper.now c.round-round.result c.met_in-met.result c.met_in-met.ensures

@@ -25,11 +25,11 @@ work-requires-clause-ready g c κs within =
     let desk = c.args.context.outlets.desk.now.id in
     let tails = tail_words g.F.Tail.Tail.numbers g.F.Tail.Tail.told g.F.Tail.Tail.faults in
     let names = folder_words g.F.Folder.told g.F.Folder.states g.F.Folder.present g.F.Folder.open_tails g.F.Folder.faults in
-    let old = beginning names c.args.around.now.folder.now c.in_ok-crew.crew c.args.storing.now.keeper in
+    let old = beginning names c.args.around.now.folder.now c.in_ok-crew.crew c.args.storing.now.keeper.now in
     let new = beginning names c.begin_all-begun.new.folder c.begin_all-begun.new.crew c.begin_all-begun.new.keeper in
     let first = first_ready g.L.Link.told queue desk c.args.context.settings.now c.args.around.now.wires.now.items c.crew_of.new.wires.items c.in_ok-crew.crew c.in_ok-crew.ensures.begun
     tails c.args.storing.now c.requires.settings c.requires.keeper in
-    let ready = ready_begun tails c.args.context.settings.now c.args.scanned.now.now queue desk c.args.storing.now.a c.args.storing.now.b c.args.scanned.now.listed.items c.begin_all-begun.result old new
+    let ready = ready_begun tails c.args.context.settings.now c.args.scanned.now.now queue desk c.args.storing.now.keeper c.args.storing.now.a c.args.storing.now.b c.args.scanned.now.listed.items c.begin_all-begun.result old new
     c.begin_all-begun.ensures.begun c.begin_all-begun.ensures.ended
     (record { able = record { some_lanes = first.able.some_lanes; some_carriers = first.able.some_carriers; have = first.able.have; lanes = first.able.lanes; pass = first.able.pass }; is_open = first.is_open }) in
     record {
@@ -52,7 +52,7 @@ returns-clause-ends g c earlier sets =
     (wire_words g.W.Wire.outcomes g.W.Wire.open_links g.W.Wire.faults g.W.Wire.idles)
     (disk_words g.D.Disk.contents g.D.Disk.images g.D.Disk.moment g.D.Disk.images_since g.D.Disk.faults) in
     let names = folder_words g.F.Folder.told g.F.Folder.states g.F.Folder.present g.F.Folder.open_tails g.F.Folder.faults in
-    let old = beginning names c.args.around.now.folder.now c.in_ok-crew.crew c.args.storing.now.keeper in
+    let old = beginning names c.args.around.now.folder.now c.in_ok-crew.crew c.args.storing.now.keeper.now in
     let new = beginning names c.begin_all-begun.new.folder c.begin_all-begun.new.crew c.begin_all-begun.new.keeper in
     let stood = further all c.disk_images_are_counted.ensures.reads c.disk_images_are_counted.ensures.counts queue desk c.args.context.settings.now c.args.scanned.now.listed.items c.args.scanned.now.now
     (g.K.Clock.moments c.args.around.now.clock.now) c.args.around.now.wires.now.items c.crew_of.new.wires.items c.args.storing.now.a.now c.args.storing.now.b.now old earlier
@@ -68,7 +68,7 @@ returns-clause-ends g c earlier sets =
       shown = g.F.Folder.told c.args.around.now.folder.now;
       moments = g.K.Clock.moments c.args.around.now.clock.now;
       wires = c.args.around.now.wires.now.items;
-      keeper = c.args.storing.now.keeper;
+      keeper = c.args.storing.now.keeper.now;
       a = c.args.storing.now.a.now;
       b = c.args.storing.now.b.now;
     }) earlier in
@@ -77,7 +77,7 @@ returns-clause-ends g c earlier sets =
     (record {
       shown = g.F.Folder.told c.work.new.around.folder.now;
       moments = g.K.Clock.moments c.work.new.around.clock.now;
-      keeper = c.work.new.storing.keeper;
+      keeper = c.work.new.storing.keeper.now;
       a = c.work.new.storing.a.now;
       b = c.work.new.storing.b.now;
       phase = phase;
@@ -93,7 +93,7 @@ returns-clause-accounted g c earlier folder sets has clock_tells wires_tell =
     (wire_words g.W.Wire.outcomes g.W.Wire.open_links g.W.Wire.faults g.W.Wire.idles)
     (disk_words g.D.Disk.contents g.D.Disk.images g.D.Disk.moment g.D.Disk.images_since g.D.Disk.faults) in
     let names = folder_words g.F.Folder.told g.F.Folder.states g.F.Folder.present g.F.Folder.open_tails g.F.Folder.faults in
-    let old = beginning names c.args.around.now.folder.now c.in_ok-crew.crew c.args.storing.now.keeper in
+    let old = beginning names c.args.around.now.folder.now c.in_ok-crew.crew c.args.storing.now.keeper.now in
     let new = beginning names c.begin_all-begun.new.folder c.begin_all-begun.new.crew c.begin_all-begun.new.keeper in
     let stood = further all c.disk_images_are_counted.ensures.reads c.disk_images_are_counted.ensures.counts queue desk c.args.context.settings.now c.args.scanned.now.listed.items c.args.scanned.now.now
     (g.K.Clock.moments c.args.around.now.clock.now) c.args.around.now.wires.now.items c.crew_of.new.wires.items c.args.storing.now.a.now c.args.storing.now.b.now old earlier
@@ -108,7 +108,7 @@ returns-clause-accounted g c earlier folder sets has clock_tells wires_tell =
       shown = g.F.Folder.told c.args.around.now.folder.now;
       moments = g.K.Clock.moments c.args.around.now.clock.now;
       wires = c.args.around.now.wires.now.items;
-      keeper = c.args.storing.now.keeper;
+      keeper = c.args.storing.now.keeper.now;
       a = c.args.storing.now.a.now;
       b = c.args.storing.now.b.now;
     }) earlier in
@@ -119,7 +119,7 @@ returns-clause-accounted g c earlier folder sets has clock_tells wires_tell =
     (record {
       shown = g.F.Folder.told c.work.new.around.folder.now;
       moments = g.K.Clock.moments c.work.new.around.clock.now;
-      keeper = c.work.new.storing.keeper;
+      keeper = c.work.new.storing.keeper.now;
       a = c.work.new.storing.a.now;
       b = c.work.new.storing.b.now;
       phase = is.0;
@@ -130,7 +130,7 @@ returns-clause-accounted g c earlier folder sets has clock_tells wires_tell =
 pub returns-clause-cause : goal.returns-clause-cause
 returns-clause-cause g c =
     let names = folder_words g.F.Folder.told g.F.Folder.states g.F.Folder.present g.F.Folder.open_tails g.F.Folder.faults in
-    let old = beginning names c.args.around.now.folder.now c.in_ok-crew.crew c.args.storing.now.keeper in
+    let old = beginning names c.args.around.now.folder.now c.in_ok-crew.crew c.args.storing.now.keeper.now in
     let new = beginning names c.begin_all-begun.new.folder c.begin_all-begun.new.crew c.begin_all-begun.new.keeper in
     let kept = c.begin_all-begun.ensures.kept in
     let begun = c.in_ok-crew.ensures.begun in
@@ -184,12 +184,15 @@ pub returns-clause-passed_over : goal.returns-clause-passed_over
 returns-clause-passed_over g c =
     let names = folder_words g.F.Folder.told g.F.Folder.states g.F.Folder.present g.F.Folder.open_tails g.F.Folder.faults in
     passed_over (tail_words g.F.Tail.Tail.numbers g.F.Tail.Tail.told g.F.Tail.Tail.faults) c.args.context.settings.now c.args.scanned.now.now c.args.scanned.now.listed.items
-    (beginning names c.args.around.now.folder.now c.in_ok-crew.crew c.args.storing.now.keeper)
+    (beginning names c.args.around.now.folder.now c.in_ok-crew.crew c.args.storing.now.keeper.now)
     (beginning names c.begin_all-begun.new.folder c.begin_all-begun.new.crew c.begin_all-begun.new.keeper)
     c.begin_all-begun.result c.work.result.passed.items c.begin_all-begun.ensures.begun c.work.ensures.passed
 
+pub returns-clause-same_keeper : goal.returns-clause-same_keeper
+returns-clause-same_keeper g c = c.work.ensures.same_objects.keeper
+
 pub returns-clause-same_a : goal.returns-clause-same_a
-returns-clause-same_a g c = c.work.ensures.same_areas.a
+returns-clause-same_a g c = c.work.ensures.same_objects.a
 
 pub returns-clause-same_b : goal.returns-clause-same_b
-returns-clause-same_b g c = c.work.ensures.same_areas.b
+returns-clause-same_b g c = c.work.ensures.same_objects.b

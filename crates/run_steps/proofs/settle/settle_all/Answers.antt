@@ -26,8 +26,8 @@ loop-init g c =
       as_many = record { lanes = refl; carriers = refl };
       a_faults = omega arith;
       b_faults = omega arith;
-      collects = collects_none c.args.storing.now.keeper;
-      same_areas = record { a = refl; b = refl };
+      collects = collects_none c.args.storing.now.keeper.now;
+      same_objects = record { keeper = refl; a = refl; b = refl };
       still_tell = record { a = λ told. told; b = λ told. told };
     }
 
@@ -47,7 +47,7 @@ returns-in-Some-stored_by-clause-no_harvesters g c none =
 
 pub returns-in-Some-stored_by-clause-all_settled : goal.returns-in-Some-stored_by-clause-all_settled
 returns-in-Some-stored_by-clause-all_settled g c settled =
-    settled_still (lanings c.loop.crew.lanes.items) (lanings c.settle-round.new.self.lanes.items) c.loop.storing.keeper c.settle-round.new.storing.keeper
+    settled_still (lanings c.loop.crew.lanes.items) (lanings c.settle-round.new.self.lanes.items) c.loop.storing.keeper.now c.settle-round.new.storing.keeper.now
     c.settle-round.ensures.keeps.lanes c.settle-round.ensures.keeps.collects (c.loop.invariant.all_settled settled)
 
 pub returns-then-is_settled-clause-onward : goal.returns-then-is_settled-clause-onward
@@ -66,16 +66,16 @@ returns-then-is_settled-clause-no_harvesters g c none =
 
 pub returns-then-is_settled-clause-all_settled : goal.returns-then-is_settled-clause-all_settled
 returns-then-is_settled-clause-all_settled g c settled =
-    settled_still (lanings c.loop.crew.lanes.items) (lanings c.settle-round.new.self.lanes.items) c.loop.storing.keeper c.settle-round.new.storing.keeper
+    settled_still (lanings c.loop.crew.lanes.items) (lanings c.settle-round.new.self.lanes.items) c.loop.storing.keeper.now c.settle-round.new.storing.keeper.now
     c.settle-round.ensures.keeps.lanes c.settle-round.ensures.keeps.collects (c.loop.invariant.all_settled settled)
 
 pub returns-in-Some-stored_by-clause-collects : goal.returns-in-Some-stored_by-clause-collects
 returns-in-Some-stored_by-clause-collects g c =
-    collects_more c.args.storing.now.keeper c.loop.storing.keeper c.settle-round.new.storing.keeper c.loop.invariant.collects c.settle-round.ensures.keeps.collects
+    collects_more c.args.storing.now.keeper.now c.loop.storing.keeper.now c.settle-round.new.storing.keeper.now c.loop.invariant.collects c.settle-round.ensures.keeps.collects
 
 pub returns-then-is_settled-clause-collects : goal.returns-then-is_settled-clause-collects
 returns-then-is_settled-clause-collects g c =
-    collects_more c.args.storing.now.keeper c.loop.storing.keeper c.settle-round.new.storing.keeper c.loop.invariant.collects c.settle-round.ensures.keeps.collects
+    collects_more c.args.storing.now.keeper.now c.loop.storing.keeper.now c.settle-round.new.storing.keeper.now c.loop.invariant.collects c.settle-round.ensures.keeps.collects
 
 pub returns-in-Some-stored_by-clause-links_stay : goal.returns-in-Some-stored_by-clause-links_stay
 returns-in-Some-stored_by-clause-links_stay g c =
@@ -115,7 +115,7 @@ loop-preserved g c =
           let after = keeps.at_rest well.0 well.1 (record { settled = before.settled; committed = before.committed }) in
           record { settled = after.settled; committed = after.committed };
       no_harvesters = λ none. none_still (lanings c.loop.crew.lanes.items) (lanings c.settle-round.new.self.lanes.items) keeps.lanes (kept.no_harvesters none);
-      all_settled = λ settled. settled_still (lanings c.loop.crew.lanes.items) (lanings c.settle-round.new.self.lanes.items) c.loop.storing.keeper c.settle-round.new.storing.keeper
+      all_settled = λ settled. settled_still (lanings c.loop.crew.lanes.items) (lanings c.settle-round.new.self.lanes.items) c.loop.storing.keeper.now c.settle-round.new.storing.keeper.now
           keeps.lanes keeps.collects (kept.all_settled settled);
       links_stay = links_on c.args.crew.now.carriers.items c.loop.crew.carriers.items c.settle-round.new.self.carriers.items c.loop.invariant.links_stay
           (links_by_settling all c.args.context.outlets.queue.now c.args.context.outlets.desk.now (crewing c.loop.crew c.loop.storing) (crewing c.settle-round.new.self c.settle-round.new.storing)
@@ -123,7 +123,7 @@ loop-preserved g c =
       as_many = record { lanes = keeps.as_many.lanes ∙ kept.as_many.lanes; carriers = keeps.as_many.carriers ∙ kept.as_many.carriers };
       a_faults = let more = keeps.causes.a_faults in let were = kept.a_faults in omega (arith, more, were);
       b_faults = let more = keeps.causes.b_faults in let were = kept.b_faults in omega (arith, more, were);
-      collects = collects_more c.args.storing.now.keeper c.loop.storing.keeper c.settle-round.new.storing.keeper kept.collects keeps.collects;
-      same_areas = record { a = keeps.same_areas.a ∙ kept.same_areas.a; b = keeps.same_areas.b ∙ kept.same_areas.b };
+      collects = collects_more c.args.storing.now.keeper.now c.loop.storing.keeper.now c.settle-round.new.storing.keeper.now kept.collects keeps.collects;
+      same_objects = record { keeper = keeps.same_objects.keeper ∙ kept.same_objects.keeper; a = keeps.same_objects.a ∙ kept.same_objects.a; b = keeps.same_objects.b ∙ kept.same_objects.b };
       still_tell = record { a = λ told. keeps.still_tell.a (kept.still_tell.a told); b = λ told. keeps.still_tell.b (kept.still_tell.b told) };
     }

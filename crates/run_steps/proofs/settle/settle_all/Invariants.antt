@@ -3,7 +3,7 @@ use Rattle.keeper.specs.Collecting.{Collects}
 use Rattle.outside.specs.Folders.{FolderHistory}
 use Rattle.rounds.specs.Crewed.{lanings}
 use Rattle.rounds.specs.Crewing.{crewing}
-use Rattle.rounds.specs.KeeperTurns.{SameAreas, StillTell}
+use Rattle.rounds.specs.KeeperTurns.{SameObjects, StillTell}
 use Rattle.rounds.specs.Rounds.{IsReady}
 use Rattle.rounds.specs.Staying.{AreAsMany}
 use Rattle.rounds.specs.Words.{disk_words, link_words, tail_words, wire_words, words}
@@ -26,15 +26,15 @@ invariant-loop g l = record {
       (disk_words g.D.Disk.contents g.D.Disk.images g.D.Disk.moment g.D.Disk.images_since g.D.Disk.faults))
       (within shown moments l.initial.crew l.initial.storing phase) (within shown moments l.crew l.storing phase);
   at_rest : IsAtRest (disk_words g.D.Disk.contents g.D.Disk.images g.D.Disk.moment g.D.Disk.images_since g.D.Disk.faults)
-      l.initial.storing.keeper l.initial.storing.a.now l.initial.storing.b.now →
-      IsAtRest (disk_words g.D.Disk.contents g.D.Disk.images g.D.Disk.moment g.D.Disk.images_since g.D.Disk.faults) l.storing.keeper l.storing.a.now l.storing.b.now;
+      l.initial.storing.keeper.now l.initial.storing.a.now l.initial.storing.b.now →
+      IsAtRest (disk_words g.D.Disk.contents g.D.Disk.images g.D.Disk.moment g.D.Disk.images_since g.D.Disk.faults) l.storing.keeper.now l.storing.a.now l.storing.b.now;
   no_harvesters : All HasNoHarvesters (lanings l.initial.crew.lanes.items) → All HasNoHarvesters (lanings l.crew.lanes.items);
-  all_settled : IsAllSettled (lanings l.initial.crew.lanes.items) l.initial.storing.keeper → IsAllSettled (lanings l.crew.lanes.items) l.storing.keeper;
+  all_settled : IsAllSettled (lanings l.initial.crew.lanes.items) l.initial.storing.keeper.now → IsAllSettled (lanings l.crew.lanes.items) l.storing.keeper.now;
   links_stay : LinksStay l.initial.crew.carriers.items l.crew.carriers.items;
   as_many : AreAsMany (crewing l.initial.crew l.initial.storing) (crewing l.crew l.storing);
   a_faults : g.D.Disk.faults l.initial.storing.a.now ≤ g.D.Disk.faults l.storing.a.now;
   b_faults : g.D.Disk.faults l.initial.storing.b.now ≤ g.D.Disk.faults l.storing.b.now;
-  collects : Collects l.initial.storing.keeper l.storing.keeper;
-  same_areas : SameAreas l.initial.storing l.storing;
+  collects : Collects l.initial.storing.keeper.now l.storing.keeper.now;
+  same_objects : SameObjects l.initial.storing l.storing;
   still_tell : StillTell g.D.Disk.contents l.initial.storing l.storing;
 }

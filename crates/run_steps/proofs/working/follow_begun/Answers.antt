@@ -22,7 +22,7 @@ returns-in-Err-clause-onward g c shown =
     subst (λ (b : Result (Vec Passing Global) Met). Onward all (at (phase_begun b)) (at (phase_worked b c.in-Err.met))) (sym c.in-Err.is) (onward_by_nothing all (at Leaving))
 
 pub returns-in-Err-clause-collects : goal.returns-in-Err-clause-collects
-returns-in-Err-clause-collects g c = collects_none c.args.storing.now.keeper
+returns-in-Err-clause-collects g c = collects_none c.args.storing.now.keeper.now
 
 pub returns-in-Err-clause-clock_goes_on : goal.returns-in-Err-clause-clock_goes_on
 returns-in-Err-clause-clock_goes_on g c = clock_stays (g.K.Clock.moments c.args.signals.now.clock.now)

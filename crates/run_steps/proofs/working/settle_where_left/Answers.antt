@@ -13,7 +13,7 @@ returns-in-NoMemory-clause-onward g c shown moments phase =
     onward_by_nothing all (within shown moments c.args.crew.now c.args.storing.now phase)
 
 pub returns-in-NoMemory-clause-collects : goal.returns-in-NoMemory-clause-collects
-returns-in-NoMemory-clause-collects g c = collects_none c.args.storing.now.keeper
+returns-in-NoMemory-clause-collects g c = collects_none c.args.storing.now.keeper.now
 
 pub returns-in-NoMemory-clause-links_stay : goal.returns-in-NoMemory-clause-links_stay
 returns-in-NoMemory-clause-links_stay g c = links_same c.args.crew.now.carriers.items

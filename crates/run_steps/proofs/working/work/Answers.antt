@@ -155,7 +155,7 @@ returns-clause-cause g c =
 
 pub returns-clause-collects : goal.returns-clause-collects
 returns-clause-collects g c =
-    collects_more c.args.storing.now.keeper c.follow_begun-worked.new.storing.keeper c.settle_after-worked.new.storing.keeper c.follow_begun-worked.ensures.collects
+    collects_more c.args.storing.now.keeper.now c.follow_begun-worked.new.storing.keeper.now c.settle_after-worked.new.storing.keeper.now c.follow_begun-worked.ensures.collects
     c.settle_after-worked.ensures.collects
 
 pub returns-clause-told : goal.returns-clause-told

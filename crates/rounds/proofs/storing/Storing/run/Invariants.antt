@@ -6,7 +6,7 @@ use Rattle.rounds.proofs.storing.Storing.run.Given as goal
 abbrev pub invariant-turns : goal.invariant-turns
 invariant-turns g l = record {
   so_far : KeepsSoFar (disk_words g.D.Disk.contents g.D.Disk.images g.D.Disk.moment g.D.Disk.images_since g.D.Disk.faults) l.turns l.fn.self l.self;
-  pass : l.self.keeper.pass.desk ≡ l.desk.id;
+  pass : l.self.keeper.now.pass.desk ≡ l.desk.id;
   most : l.turns ≤ 256;
 }
 

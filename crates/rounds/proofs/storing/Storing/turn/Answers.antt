@@ -8,7 +8,7 @@ returns g c =
     let old = c.args.self.now in
     let told = c.turn-turn.ensures in
     keeps_one (disk_words g.D.Disk.contents g.D.Disk.images g.D.Disk.moment g.D.Disk.images_since g.D.Disk.faults) c.turn-turn.result c.count.result old
-    (record old { keeper = c.turn-turn.new.self; a = record old.a { now = c.turn-turn.new.a }; b = record old.b { now = c.turn-turn.new.b } }) c.count.new.self
+    (record old { keeper = record old.keeper { now = c.turn-turn.new.self }; a = record old.a { now = c.turn-turn.new.a }; b = record old.b { now = c.turn-turn.new.b } }) c.count.new.self
     (record {
       collected = told.collected;
       at_most = told.at_most;
@@ -34,4 +34,4 @@ returns g c =
       a_faults_never_fall = told.a_faults_never_fall;
       b_faults_never_fall = told.b_faults_never_fall;
     })
-    (record { a = refl; b = refl }) refl c.count.ensures
+    (record { keeper = refl; a = refl; b = refl }) refl c.count.ensures
