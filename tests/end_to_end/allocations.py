@@ -1,6 +1,6 @@
 #!/usr/bin/env python3
 """Ships two plain lines once for each allocation of such a run, and makes that allocation fail. The answer has to be
-want of memory or the right one, and the area has to be absent, without a byte, or one that the run may leave.
+want of memory or the right one, and the area has to be absent, not opened, or one that the run may leave.
 
     python3 tests/end_to_end/allocations.py [--program PATH]
 
@@ -16,7 +16,7 @@ import tempfile
 from pathlib import Path
 
 import program
-from area import area, key_of, row, text
+from area import changed, key_of, row, rows_of, text
 from peer import Peer
 
 SHIM = Path(__file__).with_name("failing_malloc.c")
@@ -29,10 +29,15 @@ def build_shim(folder):
     return library
 
 
-def areas(path):
-    """The areas that a run may leave, by what they are."""
-    rows = {f"row at {offset}": area(row(path, offset)) for offset in (0, 4)}
-    return {"absent": None, "without a byte": b"", "no row": area(), **rows}
+def name_of(stored, path):
+    """What the area is that a run left; nothing where no run may leave it."""
+    if stored is None:
+        return "absent"
+    if not stored.startswith(b"{"):
+        return "not opened"
+    rows = rows_of(stored)
+    named = {f"row at {offset}": [changed(row(path, offset))] for offset in (0, 2, 4)}
+    return next((name for name, held in {"no row": [], **named}.items() if held == rows), None)
 
 
 def report(path):
@@ -58,7 +63,7 @@ def ship(tested, library, failing):
         )
         stored = folder / "data" / "registry.a"
         left = stored.read_bytes() if stored.exists() else None
-        named = next((name for name, held in areas(path).items() if held == left), None)
+        named = name_of(left, path)
         ended = (ran.returncode, ran.stdout, ran.stderr)
         done = ended == (0, report(path), b"") and named == "row at 4"
         wanting = ended == (12, NO_MEMORY, b"") and named is not None

@@ -1,6 +1,7 @@
 """Registry areas, spelled and read by themselves: no line of the program's code is used."""
 
 import json
+import os
 
 # bytes that the body of a record has at most
 MAX_BODY = 1_048_576
@@ -13,6 +14,11 @@ def key_of(path, input_id="w"):
 
 def row(path, offset, input_id="w"):
     return {"epoch": 0, "key": key_of(path, input_id), "offset": offset, "path": path}
+
+
+def changed(it):
+    """The row with the moment, in milliseconds, at which its file was last changed."""
+    return {**it, "changed": os.stat(it["path"]).st_mtime_ns // 1_000_000}
 
 
 def text(value):
@@ -28,11 +34,15 @@ def area(*rows):
     return stored + b"."
 
 
+def spelled(value):
+    return json.dumps(value, ensure_ascii=False, separators=(",", ":"), sort_keys=True).encode()
+
+
 def bodies(rows):
     """The bodies of the records that set these rows."""
     body = b""
     for it in rows:
-        operation = json.dumps({**it, "op": "set"}, ensure_ascii=False, separators=(",", ":"), sort_keys=True).encode()
+        operation = spelled({**it, "op": "set"})
         # with a comma before it and the bracket behind it
         if body and len(body) + len(operation) + 2 > MAX_BODY:
             yield body + b"]"
@@ -43,16 +53,21 @@ def bodies(rows):
 
 
 def rows_of(stored):
-    """The rows that an area holds, by their keys. The area has to be opened and whole."""
-    assert stored[:8] == b"{beat 2 " and stored[28:29] == b"\n", "no area of version 2"
+    """The rows that an area holds, by their keys. The area has to be opened and whole, with each body in its one spelling,
+    and of the first generation."""
+    assert stored[:29] == b"{beat 2 %020d\n" % 1, "no area of version 2 and the first generation"
     rows, gate = {}, 29
     while stored[gate : gate + 1] == b"{":
         length = int(stored[gate + 1 : gate + 8])
-        for operation in json.loads(stored[gate + 9 : gate + 9 + length]):
+        body = stored[gate + 9 : gate + 9 + length]
+        operations = json.loads(body)
+        assert operations and length <= MAX_BODY and spelled(operations) == body, f"no body: {body!r}"
+        assert stored[gate + 8 : gate + 9] == b" " and stored[gate + 9 + length : gate + 10 + length] == b"\n", "no record"
+        for operation in operations:
             if operation.pop("op") == "set":
                 rows[operation["key"]] = operation
             else:
                 rows.pop(operation["key"], None)
         gate += 10 + length
-    assert gate < len(stored), "the last gate is absent"
+    assert stored[gate : gate + 1] == b".", "the last gate is absent or not closed"
     return [rows[key] for key in sorted(rows, key=str.encode)]

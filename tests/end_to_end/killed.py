@@ -1,14 +1,15 @@
 """Runs that are killed at random moments."""
 
+import contextlib
 import random
 import signal
 import subprocess
 import time
 
 import program
-from area import area, row
+from area import changed, row
 from peer import CUT_OFF, Behaviour, Peer
-from shipping import WINDOW, Shipping, end_of, events_of, numbered_lines
+from shipping import WINDOW, Shipping, end_of, events_of, numbered_lines, places_of
 
 # the peers of these runs: how they acknowledge, and how many windows before they hang up
 KILLED_WITH = (
@@ -28,7 +29,7 @@ class Killed(Shipping):
             since = time.monotonic()
             program.finish(started)
             seconds = time.monotonic() - since
-        self.assertEqual(self.area.read_bytes(), area(row(self.path, end_of(events_of(peer.acknowledged)))))
+        self.assert_rows(row(self.path, end_of(events_of(peer.acknowledged))))
         return seconds
 
     def ship_and_kill(self, content, peer, seconds):
@@ -43,11 +44,44 @@ class Killed(Shipping):
         return started.returncode == -signal.SIGKILL
 
     def assert_killed_is_covered(self, peer, events):
-        """Each line before the offset of the row was acknowledged, where the run left an area that is opened."""
+        """Each line before the offset of the row was acknowledged. A run that is killed early leaves no row yet."""
         self.assertLessEqual(set(peer.faults), {CUT_OFF})
         self.assert_first_acknowledged(peer, events)
-        if self.area.exists() and self.area.read_bytes().startswith(b"{"):
+        if self.stored_rows():
             self.assert_covered(peer)
+
+    def ship_with_workers_and_kill(self, peer, seconds):
+        """A run of four workers over several files, killed so many seconds after it stored that a line was acknowledged. The
+        events of each file."""
+        self.enter_new_folder()
+        with peer:
+            files, _ = self.prepare_files(peer.host, "workers = 4", "bulk_max_size = 50", "pipelining = 1")
+            with self.start_prepared() as started:
+                self.wait_until(lambda: any(it["offset"] for it in self.stored_rows()), "no line was stored")
+                with contextlib.suppress(subprocess.TimeoutExpired):
+                    started.communicate(timeout=seconds)
+                peer.fall_silent()
+                started.kill()
+        return files
+
+    def assert_rows_are_covered(self, peer, files):
+        """Each line before the offset of a row was acknowledged, whichever worker had it."""
+        self.assertLessEqual(set(peer.faults), {CUT_OFF})
+        acknowledged = set(places_of(peer.acknowledged))
+        for it in self.stored_rows():
+            self.assertEqual(it, changed(row(it["path"], it["offset"])))
+            before = [event for event in files[it["path"]] if event[0] < it["offset"]]
+            self.assertEqual(end_of(before), it["offset"], "the offset is within a line")
+            self.assertLessEqual({(it["path"], *event) for event in before}, acknowledged)
+
+    def test_killed_with_four_workers_no_offset_passes_an_unacknowledged_line(self):
+        chance = random.Random(self.seed)
+        for _ in range(KILLS):
+            seconds = chance.random()
+            with self.subTest(seed=self.seed, seconds=seconds):
+                # a late one, since rows are stored where nothing else is to be done
+                peer = Peer(Behaviour.LATE)
+                self.assert_rows_are_covered(peer, self.ship_with_workers_and_kill(peer, seconds))
 
     def test_killed_at_random_no_offset_passes_an_unacknowledged_line(self):
         chance = random.Random(self.seed)

@@ -2,7 +2,10 @@
 
 from area import area, row, rows_of
 from peer import Peer
-from shipping import WINDOW, Shipping, now, numbered_lines, windows_of
+from shipping import WINDOW, Shipping, events_of, now, numbered_lines, windows_of
+
+# so many bytes of a line are sent at most where the settings do not say it
+LONGEST = 10_485_760
 
 
 class OneFile(Shipping):
@@ -35,6 +38,13 @@ class OneFile(Shipping):
         self.assert_events(peer, [(0, "a")], since)
         self.assert_report(ran, 2, 1)
 
+    def test_longest_head(self):
+        """Of a longer line the first bytes are sent, and the row is behind it all the same."""
+        with Peer() as peer:
+            ran = self.ship(b"x" * (LONGEST + 1) + b"\n", peer)
+        self.assert_report(ran, LONGEST + 2, 1)
+        self.assertEqual([len(message) for _, message in events_of(peer.payloads)], [LONGEST])
+
     def test_absent_file(self):
         with Peer() as peer:
             ran = self.ship(None, peer)
@@ -55,11 +65,13 @@ class OneFile(Shipping):
     def test_more_lines_than_a_window(self):
         since = now()
         content, events = numbered_lines(WINDOW + 2)
-        for more, size in ((), WINDOW), (("bulk_max_size = 700",), 700):
+        for more, size in ((), WINDOW), (("bulk_max_size = 700",), 700), (("bulk_max_size = 1",), 1):
             self.enter_new_folder()
             with self.subTest(more=more), Peer() as peer:
                 ran = self.ship(content, peer, *more)
                 peer.end()
                 self.assert_events(peer, events, since)
                 self.assert_report(ran, len(content), len(events))
-                self.assertEqual(max(windows_of(peer)), size)
+                # a window takes what is there by then, so only the most is known
+                self.assertLessEqual(max(windows_of(peer)), size)
+                self.assertEqual(peer.connections, 1)

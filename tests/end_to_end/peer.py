@@ -22,6 +22,9 @@ GLANCE = 0.05
 SIGNS = 6
 SIGN = 0.5
 
+# the seconds after which a late receiver answers
+LATENESS = 0.1
+
 # the fault of a client that ends, or is ended, before its window is whole
 CUT_OFF = "the connection ended within a window"
 
@@ -32,9 +35,10 @@ class Behaviour(enum.Enum):
     WHOLE = "acknowledges the whole window"
     SINGLE_BYTES = "acknowledges the whole window, each byte sent by itself"
     SLOW = "says a few times that it is alive, and then acknowledges the whole window"
+    LATE = "acknowledges the whole window a while later"
     COMPRESSED = "answers with the head of a compressed frame"
     ABOVE = "acknowledges a number above the window's count"
-    PART = "acknowledges all frames of the window but the last, and nothing more"
+    PART = "acknowledges a window of one frame, of the first longer one all frames but the last, and nothing more"
 
 
 @dataclass(frozen=True)
@@ -87,9 +91,11 @@ class Frames:
 class Talk:
     """One connection: its windows, and what is said of them."""
 
-    def __init__(self, link, peer):
+    def __init__(self, link, peer, behaviour, windows):
         self._link = link
         self._peer = peer
+        self._behaviour = behaviour
+        self._windows = windows
         self._window = []
         self._count = 0
         self._answered = 0
@@ -116,11 +122,14 @@ class Talk:
         return self.is_between and self._answer()
 
     def _answer(self):
-        if self._answered == self._peer.windows:
+        if self._answered == self._windows:
             return self._peer.closes
         self._answered += 1
-        behaviour = self._peer.behaviour
+        behaviour = self._behaviour
         if behaviour is Behaviour.WHOLE:
+            self._acknowledge(self._count)
+        elif behaviour is Behaviour.LATE:
+            time.sleep(LATENESS)
             self._acknowledge(self._count)
         elif behaviour is Behaviour.SINGLE_BYTES:
             self._acknowledge(self._count, pause=0.002)
@@ -133,9 +142,13 @@ class Talk:
             self._link.sendall(b"2C")
         elif behaviour is Behaviour.ABOVE:
             self._link.sendall(struct.pack(">2sI", b"2A", self._count + 1))
-        elif behaviour is Behaviour.PART and self._count > 1:
+        elif behaviour is Behaviour.PART and self._count == 1:
+            self._acknowledge(1)
+        elif behaviour is Behaviour.PART:
             self._acknowledge(self._count - 1)
-        return behaviour is Behaviour.PART and self._peer.closes
+            self._windows = self._answered
+            return self._peer.closes
+        return False
 
     def _acknowledge(self, sequence, pause=None):
         answer = struct.pack(">2sI", b"2A", sequence)
@@ -148,19 +161,21 @@ class Talk:
 
 
 class Peer:
-    """The receiver, in a thread of its own from `with` on. It serves one connection after the other.
+    """The receiver, in threads of its own from `with` on. It serves several connections at once.
 
     Read what it recorded after `end`, which waits until all that came in was taken.
     """
 
-    def __init__(self, behaviour=Behaviour.WHOLE, windows=None, closes=True, port=0, tell=None):
+    def __init__(self, behaviour=Behaviour.WHOLE, windows=None, closes=True, port=0, tell=None, first=None):
         self.behaviour = behaviour
         # how many windows of a connection it answers
         self.windows = windows
+        # with how many connections it deals so, before it acknowledges whatever comes; without it, with all
+        self.first = first
         # whether it closes the connection where it answers no more, or is silent
         self.closes = closes
-        # what was received: the bytes of each connection, all frames and all payloads, in order
-        self.raw = []
+        # what was received: how many connections, and of all of them the frames and the payloads, in order
+        self.connections = 0
         self.frames = []
         self.payloads = []
         # the payloads that an acknowledgement covers, in order
@@ -176,15 +191,12 @@ class Peer:
         self._listener = socket.create_server(("127.0.0.1", port))
         self._listener.settimeout(GLANCE)
         self._thread = threading.Thread(target=self._serve)
+        self._listening = []
 
     @property
     def host(self):
         """Where it listens, as the settings write it."""
         return "127.0.0.1:%d" % self._listener.getsockname()[1]
-
-    @property
-    def connections(self):
-        return len(self.raw)
 
     def __enter__(self):
         self._thread.start()
@@ -195,9 +207,11 @@ class Peer:
         self._listener.close()
 
     def end(self):
-        """Takes what still waits, and ends the thread. A client has to have ended before."""
+        """Takes what still waits, and ends the threads. A client has to have ended before."""
         self._ending.set()
         self._thread.join()
+        for thread in self._listening:
+            thread.join()
 
     def received(self, payload):
         self.payloads.append(payload)
@@ -227,20 +241,26 @@ class Peer:
                 if self._ending.is_set():
                     return
                 continue
-            with link:
-                self.raw.append(b"")
-                try:
-                    self._listen(link)
-                except Fault as fault:
-                    self.faults.append(str(fault))
-                except OSError:
-                    # the client went away without a farewell
-                    pass
+            self._listening.append(threading.Thread(target=self._hear, args=(link, self.connections)))
+            self.connections += 1
+            self._listening[-1].start()
 
-    def _listen(self, link):
+    def _hear(self, link, number):
+        with link:
+            try:
+                self._listen(link, number)
+            except Fault as fault:
+                self.faults.append(str(fault))
+            except OSError:
+                # the client went away without a farewell
+                pass
+
+    def _listen(self, link, number):
         link.settimeout(GLANCE)
         link.setsockopt(socket.IPPROTO_TCP, socket.TCP_NODELAY, 1)
-        frames, talk = Frames(), Talk(link, self)
+        is_plain = self.first is not None and number >= self.first
+        talk = Talk(link, self, *((Behaviour.WHOLE, None) if is_plain else (self.behaviour, self.windows)))
+        frames = Frames()
         while True:
             try:
                 piece = link.recv(65536)
@@ -252,7 +272,6 @@ class Peer:
                 if not (frames.is_between and talk.is_between):
                     raise Fault(CUT_OFF)
                 return
-            self.raw[-1] += piece
             for frame in frames.feed(piece):
                 self.frames.append(frame)
                 if talk.take(frame):

@@ -6,9 +6,22 @@ import socket
 import time
 
 import program
-from area import area, row
+from area import changed, row
 from peer import SIGN, SIGNS, Behaviour, Peer
-from shipping import ONCE, UNREACHABLE, WINDOW, Shipping, end_of, now, numbered_lines
+from shipping import (
+    FILES,
+    LINES,
+    ONCE,
+    UNREACHABLE,
+    WINDOW,
+    Shipping,
+    end_of,
+    events_of,
+    now,
+    numbered_lines,
+    places_of,
+    windows_of,
+)
 
 # the timeout of a run whose peer is silent, in seconds
 SILENCE = 1
@@ -18,6 +31,22 @@ LIFE = 2
 GIVING_UP = 5
 # how long a connection may take that is answered
 ANSWER = 1
+# how long a run rests behind its first and its second failure
+RESTS = 1 + 2
+# more bytes than the system takes on their way to a host that does not read, and still a message that is sent whole
+LONG_LINE = 1_000_000
+
+# what peers do with the first connection of each worker, before they acknowledge all: the behaviour, and after how many
+# windows they answer no more
+FIRST_MET_WITH = (
+    ("closes before any byte", Behaviour.WHOLE, 0),
+    ("closes behind a window", Behaviour.WHOLE, 1),
+    ("answers late", Behaviour.LATE, None),
+    ("acknowledges a part", Behaviour.PART, None),
+    ("acknowledges above the count", Behaviour.ABOVE, None),
+    ("sends another frame", Behaviour.COMPRESSED, None),
+)
+WORKERS = (1, 4)
 
 
 def unused_host():
@@ -72,7 +101,19 @@ class Peers(Shipping):
             self.prepare(b"a\nb\n", host)
             ran = self.run_words(*ONCE)
         self.assert_wrote(ran, UNREACHABLE)
-        self.assertEqual(self.area.read_bytes(), area(row(self.path, 0)))
+        self.assert_rows(row(self.path, 0))
+
+    def test_unreachable_after_rests(self):
+        """Three attempts are made where the settings do not say how many."""
+        holder, host = unused_host()
+        with holder:
+            self.prepare(b"a\nb\n", host)
+            self.write_settings(program.settings_text(self.path, host))
+            began = time.monotonic()
+            ran = self.run_words(*ONCE)
+        self.assertGreaterEqual(time.monotonic() - began, RESTS)
+        self.assert_wrote(ran, "status 7 unreachable worker 0 failures 3")
+        self.assert_rows(row(self.path, 0))
 
     def ship_until_given_up(self, content, host):
         """A run that gives up by itself long before the timeout, which is 30 seconds."""
@@ -82,31 +123,29 @@ class Peers(Shipping):
         seconds = time.monotonic() - began
         self.assertTrue(GIVING_UP <= seconds < 2 * GIVING_UP, f"it took {seconds} seconds")
         self.assert_wrote(ran, UNREACHABLE)
-        self.assertEqual(self.area.read_bytes(), area(row(self.path, 0)))
+        self.assert_rows(row(self.path, 0))
 
     def test_connecting_gives_up(self):
         with unanswering_host() as host:
             self.ship_until_given_up(b"a\nb\n", host)
 
     def test_sending_gives_up(self):
-        """One window of more bytes than the system takes."""
+        """One event, since how many of them go into a window is left open."""
         with deaf_host() as host:
-            self.ship_until_given_up(b"".join(b"%0999d\n" % number for number in range(400)), host)
-
-    def has_opened_area(self):
-        return self.area.exists() and self.area.read_bytes().startswith(b"{")
+            self.ship_until_given_up(b"x" * LONG_LINE + b"\n", host)
 
     def test_full_output_pipe_is_closed(self):
         """The report cannot be printed, and the row is stored all the same."""
         with Peer() as peer, full_pipe() as (reader, writer):
             with self.start(b"a\nb\n", peer, output=writer) as started:
                 # a run prints only then
-                self.wait_until(self.has_opened_area, "no area was opened")
+                stored = [changed(row(self.path, 4))]
+                self.wait_until(lambda: self.stored_rows() == stored, "the row was not stored")
                 reader.close()
                 ran = program.finish(started)
         self.assertEqual(ran.stderr, b"")
         self.assertEqual(ran.returncode, 8)
-        self.assertEqual(self.area.read_bytes(), area(row(self.path, 4)))
+        self.assert_rows(row(self.path, 4))
 
     def test_acknowledgement_in_single_bytes(self):
         since = now()
@@ -116,12 +155,16 @@ class Peers(Shipping):
         self.assert_report(ran, 4, 2)
 
     def ship_to_faulty(self, peer):
+        """A run that its first failure ends. The row stands where the last acknowledgement left it. While a second window goes
+        out, a run would not hear what came before the connection was closed; so there is one at a time."""
+        content, events = numbered_lines(WINDOW)
         with peer:
-            ran = self.ship(b"a\nb\nc\n", peer)
+            ran = self.ship(content, peer, "pipelining = 1")
         self.assertEqual(peer.faults, [])
         self.assertEqual(peer.connections, 1)
         self.assert_wrote(ran, UNREACHABLE)
-        self.assert_covered(peer)
+        self.assert_first_acknowledged(peer, events)
+        self.assert_rows(row(self.path, end_of(events_of(peer.acknowledged))))
 
     def test_compressed_frame_from_the_peer(self):
         self.ship_to_faulty(Peer(Behaviour.COMPRESSED))
@@ -133,18 +176,54 @@ class Peers(Shipping):
         self.ship_to_faulty(Peer(windows=0))
 
     def test_acknowledgement_of_a_part(self):
-        self.ship_to_faulty(Peer(Behaviour.PART))
+        peer = Peer(Behaviour.PART)
+        self.ship_to_faulty(peer)
+        self.assertGreater(len(peer.acknowledged), 0)
 
     def test_second_window_unacknowledged_keeps_the_first(self):
         since = now()
         content, events = numbered_lines(WINDOW + 2)
         with Peer(windows=1) as peer:
             ran = self.ship(content, peer)
-        self.assert_events(peer, events, since)
-        self.assertEqual(len(peer.acknowledged), WINDOW)
+        # the first window has as many events as were read by then
+        windows = windows_of(peer)
+        self.assertGreater(len(windows), 1)
+        self.assertEqual(len(peer.acknowledged), windows[0])
+        self.assertLessEqual(max(windows), WINDOW)
+        self.assert_events(peer, events[: len(peer.payloads)], since)
         self.assert_first_acknowledged(peer, events)
         self.assert_wrote(ran, UNREACHABLE)
-        self.assertEqual(self.area.read_bytes(), area(row(self.path, end_of(events[:WINDOW]))))
+        self.assert_rows(row(self.path, end_of(events[: windows[0]])))
+
+    # several workers
+
+    def ship_with_workers(self, workers, peer, *more):
+        """One run over several files, each event of which is acknowledged, and no other."""
+        with peer:
+            files, size = self.prepare_files(peer.host, f"workers = {workers}", *more)
+            ran = self.run_words(*ONCE)
+        self.assertEqual(peer.faults, [])
+        self.assert_done(ran, [row(path, size) for path in files], FILES * LINES)
+        events = {(path, *event) for path, events in files.items() for event in events}
+        self.assertEqual(set(places_of(peer.acknowledged)), events)
+        self.assertEqual(set(places_of(peer.payloads)), events)
+
+    def test_failures_are_made_good(self):
+        """Each worker meets a peer that closes, answers late, in part or wrongly, and then one that acknowledges all."""
+        for workers in WORKERS:
+            for name, behaviour, windows in FIRST_MET_WITH:
+                self.enter_new_folder()
+                with self.subTest(workers=workers, peer=name):
+                    # more attempts than there are such connections, as one worker may come upon all of them
+                    peer = Peer(behaviour, windows, first=workers)
+                    self.ship_with_workers(workers, peer, "attempts = 10", "bulk_max_size = 100")
+
+    def test_four_workers_send_each_event_once(self):
+        peer = Peer()
+        self.ship_with_workers(4, peer, "bulk_max_size = 10")
+        self.assertEqual(len(peer.payloads), FILES * LINES)
+        self.assertTrue(1 <= peer.connections <= 4)
+        self.assertLessEqual(max(windows_of(peer)), 10)
 
     # peers that are slow or silent
 
@@ -160,16 +239,22 @@ class Peers(Shipping):
 
     def test_silent_peer(self):
         self.ship_to_silent(b"a\nb\n", Peer(windows=0, closes=False))
-        self.assertEqual(self.area.read_bytes(), area(row(self.path, 0)))
+        self.assert_rows(row(self.path, 0))
 
     def test_silent_peer_behind_a_part(self):
         peer = Peer(Behaviour.PART, closes=False)
-        self.ship_to_silent(b"a\nb\nc\n", peer)
-        self.assert_covered(peer)
+        content, events = numbered_lines(WINDOW)
+        self.ship_to_silent(content, peer)
+        self.assert_first_acknowledged(peer, events)
+        self.assertGreater(len(peer.acknowledged), 0)
+        self.assert_rows(row(self.path, end_of(events_of(peer.acknowledged))))
 
     def test_silent_peer_behind_the_first_window(self):
-        self.ship_to_silent(b"a\nb\nc\n", Peer(windows=1, closes=False), "bulk_max_size = 2")
-        self.assertEqual(self.area.read_bytes(), area(row(self.path, 4)))
+        """Of one event: how many there are in a larger one is left open."""
+        peer = Peer(windows=1, closes=False)
+        self.ship_to_silent(b"a\nb\nc\n", peer, "bulk_max_size = 1", "pipelining = 1")
+        self.assertEqual(events_of(peer.payloads), [(0, "a"), (2, "b")])
+        self.assert_rows(row(self.path, 2))
 
     def test_signs_of_life_are_waited_for(self):
         """They come for longer than the timeout, each of them within it."""

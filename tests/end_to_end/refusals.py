@@ -1,10 +1,10 @@
-"""Words, settings and folders that are refused, each by its name."""
+"""Words, settings and folders that are refused, each by its name, and settings that are taken."""
 
 import re
 from pathlib import Path
 
 import program
-from area import area, row
+from area import row
 from peer import Peer
 from shipping import Shipping
 
@@ -61,12 +61,6 @@ SETTINGS_REFUSED = (
     ),
     (lambda valid: valid.replace("file_identity", "# file_identity"), "status 13 unbuilt key inputs.0.file_identity"),
     (lambda valid: valid.replace('"path"', '"native"'), "status 13 unbuilt key inputs.0.file_identity"),
-    (
-        lambda valid: valid.replace("[output]", "multiline.count_lines = 2\nmultiline.type = 'count'\n[output]"),
-        "status 13 unbuilt key inputs.0.multiline",
-    ),
-    (lambda valid: valid + "workers = 2\n", "status 13 unbuilt key output.workers"),
-    (lambda valid: valid + "[[processors]]\nadd_tags.tags = ['x']\n", "status 13 unbuilt key processors"),
 )
 
 # the example with every key: what it says of its user's machine, and the one default that is not built
@@ -76,14 +70,20 @@ HOST = '"127.0.0.1:5044"'
 IDENTITY = 'file_identity = "fingerprint"'
 # what it says, and what may stand there that is not built; each has to be named
 EVERY_KEY_UNBUILT = (
+    (IDENTITY, 'file_identity = "native"', "inputs.0.file_identity"),
     ('ignore_older = "0ms"', 'ignore_older = "1m"', "inputs.0.ignore_older"),
     ('clean_inactive = "0ms"', 'clean_inactive = "1m"', "inputs.0.clean_inactive"),
-    ('line_terminator = "auto"', 'line_terminator = "line_feed"', "inputs.0.line_terminator"),
-    ("message_max_bytes = 10485760", "message_max_bytes = 1024", "inputs.0.message_max_bytes"),
-    ("include_lines = []", "include_lines = ['a']", "inputs.0.include_lines"),
-    ("exclude_lines = []", "exclude_lines = ['b']", "inputs.0.exclude_lines"),
-    ("\nworkers = 1\n", "\nworkers = 2\n", "output.workers"),
-    ("processors = []", "processors = [{ add_tags = { tags = ['x'] } }]", "processors"),
+)
+# what it says, and what may stand there as well; the file is shipped with all of these
+EVERY_KEY_BUILT = (
+    (IDENTITY, 'file_identity = "path"'),
+    ("processors = []", "processors = [{ add_tags = { tags = ['x'] } }]"),
+    ('line_terminator = "auto"', 'line_terminator = "line_feed"'),
+    ("message_max_bytes = 10485760", "message_max_bytes = 1024"),
+    ("include_lines = []", "include_lines = ['a']"),
+    ("exclude_lines = []", "exclude_lines = ['b']"),
+    ("\nworkers = 1\n", "\nworkers = 2\n"),
+    ("lanes = 2", "lanes = 8"),
 )
 
 # the same settings spelled otherwise
@@ -91,7 +91,9 @@ SETTINGS_TAKEN = (
     lambda valid: valid[:-1],
     lambda valid: valid.replace("\n", "\r\n"),
     lambda valid: valid + "#" * (SETTINGS - len(valid)),
-    lambda valid: valid + "attempts = 3\npipelining = 8\nworkers = 1\n[queue]\nevents = 32\n",
+    lambda valid: valid + "attempts = 3\npipelining = 8\nworkers = 16\n[queue]\nevents = 32\n[harvest]\nlanes = 8\n",
+    lambda valid: valid.replace("[output]", "multiline.count_lines = 1\nmultiline.type = 'count'\n[output]"),
+    lambda valid: valid + "[[processors]]\nadd_tags.tags = ['x']\n",
 )
 
 
@@ -122,28 +124,43 @@ class Refusals(Shipping):
                 ran = self.run_settings(made_of(program.settings_text(self.path, peer.host)))
             self.assert_done(ran, [row(self.path, 2)], 1)
 
+    def replaced(self, settings, said, meant):
+        """The settings with this in the place of what they say."""
+        self.assertIn(said, settings)
+        return settings.replace(said, meant)
+
+    def every_key(self, host):
+        """The example with every key, for the file `a.log` and this receiver."""
+        settings = self.replaced(EVERY_KEY.read_text(), LOGS, f'"{self.path}"')
+        return self.replaced(settings, HOST, f'"{host}"')
+
     def test_every_key_with_its_default(self):
         """An unknown key would be a fault, so each of them is read; with the one default that is not built replaced, the
         file is shipped."""
         Path(self.path).write_bytes(b"a\n")
         with Peer() as peer:
-            settings = EVERY_KEY.read_text()
-            for said, meant in ((LOGS, f'"{self.path}"'), (HOST, f'"{peer.host}"')):
-                self.assertIn(said, settings)
-                settings = settings.replace(said, meant)
+            settings = self.every_key(peer.host)
             self.assert_wrote(self.run_settings(settings), "status 13 unbuilt key inputs.0.file_identity")
-            self.assertIn(IDENTITY, settings)
-            built = settings.replace(IDENTITY, 'file_identity = "path"')
+            built = self.replaced(settings, IDENTITY, 'file_identity = "path"')
             for said, asked, key in EVERY_KEY_UNBUILT:
                 with self.subTest(key=key):
-                    self.assertIn(said, built)
-                    self.assert_wrote(self.run_settings(built.replace(said, asked)), f"status 13 unbuilt key {key}")
-            with_multiline = re.sub(r"^#(?=[^ \n])", "", built, flags=re.MULTILINE)
-            self.assert_wrote(self.run_settings(with_multiline), "status 13 unbuilt key inputs.0.multiline")
+                    asking = self.replaced(settings if said == IDENTITY else built, said, asked)
+                    self.assert_wrote(self.run_settings(asking), f"status 13 unbuilt key {key}")
             self.assertEqual(peer.connections, 0)
             self.assertFalse(self.area.exists())
             ran = self.run_settings(built)
         self.assert_done(ran, [row(self.path, 2, "services")], 1)
+
+    def test_every_key_with_another_value(self):
+        """With the table that the example has behind a hash mark, too."""
+        Path(self.path).write_bytes(b"a\n")
+        with Peer() as peer:
+            settings = self.every_key(peer.host)
+            for said, meant in EVERY_KEY_BUILT:
+                settings = self.replaced(settings, said, meant)
+            ran = self.run_settings(re.sub(r"^#(?=[^ \n])", "", settings, flags=re.MULTILINE))
+        self.assert_done(ran, [row(self.path, 2, "services")], 1)
+        self.assertIn(b'"tags":["x"]', peer.payloads[0])
 
     def test_settings_file_is_absent(self):
         self.assert_wrote(self.run_words("-c", "beat.toml", "--once"), "status 9 source fault")
@@ -159,5 +176,5 @@ class Refusals(Shipping):
             self.write_settings(program.settings_text(logs / "*", peer.host))
             ran = program.finish(program.start(self.tested, ("-c", "beat.toml", "--once"), self.folder), PATIENCE)
         self.assert_wrote(ran, f'status 10 too many files "{logs}/{FILES:05}"')
-        self.assertEqual(self.area.read_bytes(), area())
+        self.assert_rows()
         self.assertEqual(peer.connections, 0)

@@ -11,13 +11,16 @@ import unittest
 from pathlib import Path
 
 import program
-from area import area, row, rows_of, text
+from area import changed, row, rows_of, text
 from peer import GLANCE, Window
 
 ONCE = ("-c", "beat.toml", "--once")
 UNREACHABLE = "status 7 unreachable worker 0 failures 1"
 # so many lines go into one window at most where the settings do not say it
 WINDOW = 2048
+# so many files of so many lines each are read by several lanes
+FILES = 8
+LINES = 500
 STAMP = re.compile(rb'\{"@timestamp":"(\d{4}-\d\d-\d\dT\d\d:\d\d:\d\d\.\d{3}Z)"')
 
 
@@ -48,6 +51,12 @@ def events_of(payloads):
     """The offset and the message of each."""
     events = map(json.loads, payloads)
     return [(event["log"]["offset"], event["message"]) for event in events]
+
+
+def places_of(payloads):
+    """The path, the offset and the message of each."""
+    events = map(json.loads, payloads)
+    return [(event["log"]["file"]["path"], event["log"]["offset"], event["message"]) for event in events]
 
 
 def end_of(events):
@@ -88,10 +97,25 @@ class Shipping(unittest.TestCase):
         return self.run_words(*ONCE)
 
     def prepare(self, content, host, *more):
-        """A file with this content, or none, and the settings for it. More are keys of the output."""
+        """A file with this content, or none, and the settings for it. More are keys of the output; where they do not say
+        otherwise, one failure ends a run, so that none has to rest."""
         if content is not None:
             Path(self.path).write_bytes(content)
-        self.write_settings(program.settings_text(self.path, host, *more))
+        attempts = () if any(line.startswith("attempts") for line in more) else ("attempts = 1",)
+        self.write_settings(program.settings_text(self.path, host, *attempts, *more))
+
+    def prepare_files(self, host, *more):
+        """Several files and the settings for them, with lanes and a small queue. The events of each file, and its size. More are
+        keys of the output."""
+        logs = self.folder / "logs"
+        logs.mkdir()
+        content, events = numbered_lines(LINES)
+        paths = [logs / f"{number}.log" for number in range(FILES)]
+        for path in paths:
+            path.write_bytes(content)
+        settings = program.settings_text(logs / "*.log", host, *more)
+        self.write_settings(settings + "[queue]\nevents = 1000\n[harvest]\nlanes = 3\n")
+        return {str(path): events for path in paths}, len(content)
 
     def start_prepared(self, output=subprocess.PIPE):
         return program.start(self.tested, ONCE, self.folder, output)
@@ -139,18 +163,34 @@ class Shipping(unittest.TestCase):
         rows = sorted(rows, key=lambda it: it["key"].encode())
         files = [f"file {text(it['key'])} {it['epoch']} {it['offset']} {text(it['path'])}" for it in rows]
         self.assert_wrote(ran, *files, f"shipped {shipped} dropped {dropped}", "status 0 done")
-        self.assertEqual(self.area.read_bytes(), area(*rows))
+        self.assert_rows(*rows)
+
+    def stored_rows(self):
+        """The rows of the registry: none where its area is not opened. In how many records they came is left open, since a
+        run stores while it reads. None of these runs stores so much that the second area is begun."""
+        second = self.area.with_suffix(".b")
+        self.assertFalse(second.exists() and second.stat().st_size > 1, "the second area is not blank")
+        stored = self.area.read_bytes() if self.area.exists() else b""
+        return rows_of(stored) if stored.startswith(b"{") else []
+
+    def assert_rows(self, *rows):
+        """The registry has these rows, each with the moment of its file's last change, and no other."""
+        rows = sorted(rows, key=lambda it: it["key"].encode())
+        self.assertEqual(self.stored_rows(), [changed(it) for it in rows])
 
     def assert_report(self, ran, offset, shipped):
         """The run over `a.log` has this row and no other."""
         self.assert_done(ran, [row(self.path, offset)], shipped)
 
     def assert_sent(self, peer, events, since):
-        """These paths, offsets and messages came in this order, in whole windows, each with a moment of this run."""
+        """These paths, offsets and messages came, those of each file in this order, in whole windows, each with a moment of
+        this run. Which file comes first is left open: lanes read files at once."""
         self.assertEqual(peer.faults, [])
         self.assertEqual(len(peer.payloads), len(events))
         near = datetime.timedelta(seconds=1)
-        for payload, (path, offset, message) in zip(peer.payloads, events):
+        payloads = sorted(peer.payloads, key=lambda it: json.loads(it)["log"]["file"]["path"].encode())
+        events = sorted(events, key=lambda it: it[0].encode())
+        for payload, (path, offset, message) in zip(payloads, events):
             stamp = STAMP.match(payload)
             self.assertIsNotNone(stamp, payload)
             moment = datetime.datetime.strptime(stamp[1].decode(), "%Y-%m-%dT%H:%M:%S.%fZ")
@@ -165,8 +205,8 @@ class Shipping(unittest.TestCase):
 
     def assert_covered(self, peer):
         """The area has the one row of `a.log`, at 0 or at the end of an event that was acknowledged."""
-        (stored,) = rows_of(self.area.read_bytes())
-        self.assertEqual(stored, row(self.path, stored["offset"]))
+        (stored,) = self.stored_rows()
+        self.assertEqual(stored, changed(row(self.path, stored["offset"])))
         ends = [0] + [end_of([event]) for event in events_of(peer.acknowledged)]
         why = f"{stored['offset']} ends no acknowledged line; the last of them ends at {ends[-1]}"
         self.assertTrue(stored["offset"] in ends, why)

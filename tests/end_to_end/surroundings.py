@@ -3,7 +3,7 @@
 import os
 
 import program
-from area import area, row
+from area import row
 from peer import Behaviour, Peer
 from shipping import ONCE, Shipping
 
@@ -39,7 +39,7 @@ class Surroundings(Shipping):
                     self.assert_report(ran, 4, 2)
                 else:
                     self.assertEqual((ran.returncode, ran.stdout, ran.stderr), (0, b"", b""))
-                    self.assertEqual(self.area.read_bytes(), area(row(self.path, 4)))
+                    self.assert_rows(row(self.path, 4))
 
     def test_registry_is_no_regular_file(self):
         """That is found before anything is sent, and left as it is."""

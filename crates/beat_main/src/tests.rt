@@ -2,7 +2,7 @@
 
 mod faults;
 mod many_files;
-mod one_file;
 mod refusals;
+mod rows;
 mod wanted;
 mod world;

@@ -15,7 +15,7 @@ use Rattle.event_tree.specs.declared.processor_rule.ProcessorRule.{ProcessorRule
 use Rattle.event_tree.specs.declared.settings.Settings.{Settings}
 use Rattle.prospect.specs.Lacks.{IsFirstLack, lacks_of, lacks_of_inputs, unless_built}
 use Rattle.wire_base.specs.KeyOrder.{compare}
-use Rattle.report.specs.declared.status.Lack.TheVariants.{Byte, Life, Key, Follow, Generate}
+use Rattle.report.specs.declared.status.Lack.TheVariants.{Key, Follow, Generate}
 use Rattle.report.specs.declared.status.Status.{Status}
 use Rattle.report.specs.declared.status.Status.TheVariants.{Done, Stopped, Usage, Settings as SettingsFault, RegistryBad, DiskFault, FolderFault, Unreachable, OutFault, SourceFault, TooMany, NoNative, NoMemory, Unbuilt}
 use Rattle.toml.specs.Data.{Data, Items, no_items, item, as_array}
@@ -26,34 +26,11 @@ use Rattle.wire_base.proofs.ByteOrder.{neither_before}
 
 -- ---- settings of the same bytes
 
--- as many processors
-as_many : (items : Items) (rules others : List ProcessorRule) → AreEach IsProcessor items rules → AreEach IsProcessor items others → length rules ≡ length others
-as_many no_items [] [] are also = refl
-as_many no_items [] (other ∷ others) are also = absurd also
-as_many no_items (rule ∷ rules) others are also = absurd are
-as_many (item value items) [] others are also = absurd are
-as_many (item value items) (rule ∷ rules) [] are also = absurd also
-as_many (item value items) (rule ∷ rules) (other ∷ others) are also = ap suc (as_many items rules others are.1 also.1)
-
-same_listed : (items : Option Items) (rules others : List ProcessorRule) → AreListed items rules → AreListed items others → length rules ≡ length others
-same_listed None rules others are also = ap (λ (l : List ProcessorRule). length l) (are ∙ sym also)
-same_listed (Some items) rules others are also = as_many items rules others are also
-
-same_processors : (value : Option Data) (rules others : List ProcessorRule) → AreProcessorsOf value rules → AreProcessorsOf value others → length rules ≡ length others
-same_processors None rules others are also = ap (λ (l : List ProcessorRule). length l) (are ∙ sym also)
-same_processors (Some value) rules others are also = same_listed (as_array value) rules others are also
-
-lacks_alike : (settings other : Settings) → settings.inputs ≡ other.inputs → settings.output ≡ other.output → length settings.processors ≡ length other.processors → lacks_of settings ≡ lacks_of other
-lacks_alike settings other inputs output processors =
-    ap (λ (l : List InputRule). lacks_of_inputs 0 l ++ unless_built (settings.output.workers == 1) (codes "output.workers") ++ unless_built (length settings.processors == 0) (codes "processors")) inputs
-    ∙ ap (λ (o : OutputRule). lacks_of_inputs 0 other.inputs ++ unless_built (o.workers == 1) (codes "output.workers") ++ unless_built (length settings.processors == 0) (codes "processors")) output
-    ∙ ap (λ (n : ℕ). lacks_of_inputs 0 other.inputs ++ unless_built (other.output.workers == 1) (codes "output.workers") ++ unless_built (n == 0) (codes "processors")) processors
-
 -- all settings of the same bytes have the same lacks
 same_lacks : (bytes : List ℕ) (settings other : Settings) → AreSettingsOf bytes settings → AreSettingsOf bytes other → lacks_of settings ≡ lacks_of other
 same_lacks bytes settings other are also =
     let said : AreSettings also.document settings = subst (λ d. AreSettings d settings) (same_Some _ _ (sym are.parsed ∙ also.parsed)) are.said in
-    lacks_alike settings other (said.inputs ∙ sym also.said.inputs) (said.output ∙ sym also.said.output) (same_processors _ settings.processors other.processors said.processors also.said.processors)
+    ap (λ (l : List InputRule). lacks_of_inputs 0 l) (said.inputs ∙ sym also.said.inputs)
 
 same_first_lack : (settings other : Settings) (key also : List ℕ) → lacks_of settings ≡ lacks_of other → IsFirstLack settings key → IsFirstLack other also → key ≡ also
 same_first_lack settings other key also same first too =
@@ -105,8 +82,6 @@ lack_cases P memory by_key SourceFault ends = absurd ends
 lack_cases P memory by_key (TooMany what path) ends = absurd ends
 lack_cases P memory by_key (NoNative path) ends = absurd ends
 lack_cases P memory by_key NoMemory ends = memory
-lack_cases P memory by_key (Unbuilt (Byte at)) ends = absurd ends
-lack_cases P memory by_key (Unbuilt Life) ends = absurd ends
 lack_cases P memory by_key (Unbuilt (Key key)) ends = by_key key
 lack_cases P memory by_key (Unbuilt Follow) ends = absurd ends
 lack_cases P memory by_key (Unbuilt Generate) ends = absurd ends

@@ -1,33 +1,11 @@
-mod Appending
-mod Crashes
-mod Ended
-mod Endings
-mod EventLines
-mod FileShipments
-mod Filling
-mod FirstLacks
-mod Follows
-mod GivenMoments
-mod Harvests
-mod Hearings
-mod Keeping
-mod Living
-mod Openings
-mod Orders
-mod Partings
-mod Payloads
-mod PieceReads
-mod Printings
-mod Progresses
-mod Readings
-mod Refusals
-mod Runs
-mod SentPieces
-mod Services
-mod SettingsBytes
-mod Shipments
-mod Silences
-mod Standings
-mod Stoppings
-mod Storings
-mod Worked
+pub mod Accounts
+pub mod Causes
+pub mod Endings
+pub mod FirstLacks
+pub mod PrintedEnds
+pub mod Printings
+pub mod Refusals
+pub mod ReportEnds
+pub mod SettingOut
+pub mod SettingsBytes
+pub mod WiresFailed

@@ -13,7 +13,7 @@ pub status_printed : (old : Option (List ℕ)) (status : Status) (after : Option
     WritesAll old (status_bytes status) (Ok tt) after → IfSome old (λ written. IsPrinted written after status)
 status_printed None status after ends writes = tt
 status_printed (Some written) Done after ends writes = absurd ends
-status_printed (Some written) Stopped after ends writes = writes
+status_printed (Some written) Stopped after ends writes = absurd ends
 status_printed (Some written) Usage after ends writes = writes
 status_printed (Some written) (SettingsFault fault) after ends writes = writes
 status_printed (Some written) (RegistryBad area at) after ends writes = writes
@@ -23,7 +23,7 @@ status_printed (Some written) (Unreachable worker failures) after ends writes = 
 status_printed (Some written) OutFault after ends writes = absurd ends
 status_printed (Some written) SourceFault after ends writes = writes
 status_printed (Some written) (TooMany what path) after ends writes = writes
-status_printed (Some written) (NoNative path) after ends writes = writes
+status_printed (Some written) (NoNative path) after ends writes = absurd ends
 status_printed (Some written) NoMemory after ends writes = writes
 status_printed (Some written) (Unbuilt what) after ends writes = writes
 

@@ -1,18 +1,21 @@
 -- A run that goes on was not refused.
-use Rattle.std.proofs.Common.{inl, inr, ℕ, ◌<◌, List, length, take, Option, Some, None, IfSome, IsSomeAnd}
+use Rattle.std.proofs.Common.{◌≡◌, ◌⊎◌, refl, inl, inr, ℕ, List, take, Option, Some, None, IfSome, IsSomeAnd}
 use Rattle.beat_config.specs.Document.{AreSettingsOf, IsFirstFault}
 use Rattle.beat_config.specs.declared.settings_error.SettingsError.{SettingsError}
 use Rattle.command_line.specs.Words.{IsNoCommand}
 use Rattle.event_tree.specs.declared.settings.Settings.{Settings}
 use Rattle.prospect.specs.Lacks.{IsFirstLack}
 use Rattle.report.specs.declared.status.Lack.{Lack}
+use Rattle.run_steps.specs.Registry.{IsWritten}
 use Rattle.beat_run.specs.Asked.{AskFor}
 use Rattle.beat_run.specs.Untouched.{AskByKey, IsRefused}
 use Rattle.beat_run.specs.declared.settings.TheConstants.{LIMIT}
 
-both_told : {A : Type 0} (told : Option A) (P Q : A → Type 0) → IfSome told (λ one. P one → ⊥) → ((one : A) → Q one → P one) → IsSomeAnd told Q → ⊥
-both_told None P Q never so is = absurd is
-both_told (Some one) P Q never so is = never (so one is)
+both_told : (first second : Option (List ℕ)) (P : Type 0) → ((one other : List ℕ) → first ≡ Some one → second ≡ Some other → IsWritten one ⊎ IsWritten other → P) →
+    IsSomeAnd first (λ one. IsSomeAnd second (λ other. IsWritten one ⊎ IsWritten other)) → P
+both_told None second P so is = absurd is
+both_told (Some one) None P so is = absurd is
+both_told (Some one) (Some other) P so is = so one other refl refl is
 
 faultless : (source : Option (List ℕ)) → ((fault : SettingsError) → IfSome source (λ bytes. IsFirstFault (take LIMIT bytes) fault → ⊥)) →
     IsSomeAnd source (λ bytes. (fault : SettingsError) × IsFirstFault (take LIMIT bytes) fault) → ⊥
@@ -24,13 +27,13 @@ keyless : (source : Option (List ℕ)) → ((settings : Settings) (key : List �
 keyless None never is = absurd is
 keyless (Some bytes) never is = never is.1.settings is.0 is.1.are is.1.first
 
-pub never_refused : (words : List (List ℕ)) (source area : Option (List ℕ)) → (IsNoCommand words → ⊥) → ((lack : Lack) → AskFor words lack → ⊥) →
+-- once words and settings are found good, only the areas may refuse a run
+pub refused_by_areas : (words : List (List ℕ)) (source first second : Option (List ℕ)) (P : Type 0) → (IsNoCommand words → ⊥) → ((lack : Lack) → AskFor words lack → ⊥) →
     ((fault : SettingsError) → IfSome source (λ bytes. IsFirstFault (take LIMIT bytes) fault → ⊥)) →
     ((settings : Settings) (key : List ℕ) → IfSome source (λ bytes. AreSettingsOf (take LIMIT bytes) settings → IsFirstLack settings key → ⊥)) →
-    IfSome area (λ bytes. 1 < length bytes → ⊥) → IsRefused words source area → ⊥
-never_refused words source area command lacks faults keys blank (inl none) = command none
-never_refused words source area command lacks faults keys blank (inr (inl asked)) = lacks asked.0 asked.1
-never_refused words source area command lacks faults keys blank (inr (inr (inl fault))) = faultless source faults fault
-never_refused words source area command lacks faults keys blank (inr (inr (inr (inl key)))) = keyless source keys key
-never_refused words source area command lacks faults keys blank (inr (inr (inr (inr long)))) =
-    both_told area (λ bytes. 1 < length bytes) (λ bytes. 1 < length bytes) blank (λ one is. is) long
+    ((one other : List ℕ) → first ≡ Some one → second ≡ Some other → IsWritten one ⊎ IsWritten other → P) → IsRefused words source first second → P
+refused_by_areas words source first second P command lacks faults keys so (inl none) = absurd (command none)
+refused_by_areas words source first second P command lacks faults keys so (inr (inl asked)) = absurd (lacks asked.0 asked.1)
+refused_by_areas words source first second P command lacks faults keys so (inr (inr (inl fault))) = absurd (faultless source faults fault)
+refused_by_areas words source first second P command lacks faults keys so (inr (inr (inr (inl key)))) = absurd (keyless source keys key)
+refused_by_areas words source first second P command lacks faults keys so (inr (inr (inr (inr written)))) = both_told first second P so written

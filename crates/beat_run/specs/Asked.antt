@@ -6,15 +6,13 @@ use Rattle.command_line.specs.declared.words.Words.{Words}
 use Rattle.event_tree.specs.declared.settings.Settings.{Settings}
 use Rattle.prospect.specs.Lacks.{IsFirstLack}
 use Rattle.report.specs.declared.status.Lack.{Lack}
-use Rattle.report.specs.declared.status.Lack.TheVariants.{Byte, Life, Key, Follow, Generate}
+use Rattle.report.specs.declared.status.Lack.TheVariants.{Key, Follow, Generate}
 use Rattle.beat_run.specs.Named.{IsNamed}
 
 -- by what the words ask for
 abbrev pub LacksFor : Words → Lack → Type 0
 LacksFor asked Follow = asked.once ≡ false
 LacksFor asked Generate = (asked.once ≡ true) × IsSome asked.generate
-LacksFor asked (Byte at) = ⊥
-LacksFor asked Life = ⊥
 LacksFor asked (Key key) = ⊥
 
 -- the command takes the words, and they ask for it
@@ -35,10 +33,8 @@ pub record AsksByKey (source : Option (List ℕ)) (key : List ℕ) : Type 0 wher
   pub named : IsNamed source settings
   pub first : IsFirstLack settings key
 
--- the words or the settings ask for it; a byte that cannot be sent and a shortened file are met in the run
+-- the words or the settings ask for it
 abbrev pub IsAsked : List (List ℕ) → Option (List ℕ) → Lack → Type 0
 IsAsked words source Follow = AskFor words Follow
 IsAsked words source Generate = AskFor words Generate
 IsAsked words source (Key key) = AsksByKey source key
-IsAsked words source (Byte at) = Unit {0}
-IsAsked words source Life = Unit {0}

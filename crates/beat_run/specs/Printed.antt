@@ -1,19 +1,26 @@
--- What a run prints (this project's profile): where it is done, the report; else the last line alone.
+-- What a run prints (this project's profile): where it is done or stopped, the report; else the last line alone.
 use Rattle.std.specs.Prelude.{◌≡◌, ◌⊎◌, ℕ, List, ◌++◌, take, Option, Some}
 use Rattle.report.specs.Report.{IsReport, status_bytes}
 use Rattle.report.specs.declared.passing.Passing.{Passing}
 use Rattle.report.specs.declared.status.Status.{Status}
-use Rattle.report.specs.declared.status.Status.TheVariants.{Done, OutFault}
+use Rattle.report.specs.declared.status.Status.TheVariants.{Done, OutFault, Stopped}
+use Rattle.registry_store.specs.Choice.{GivesRows}
+use Rattle.rounds.specs.Words.{DiskWords}
 use Rattle.wire_base.specs.declared.row.Row.{Row}
-use Rattle.beat_run.specs.Ends.{IsRunEnd}
+use Rattle.beat_run.specs.Ends.{IsReportEnd, IsRunEnd}
 
--- the text is the report of a run that is done
-pub record IsDoneReport (text : List ℕ) : Type 0 where
+-- the text is the report of a run that ended so
+pub record IsReportOf (status : Status) (text : List ℕ) : Type 0 where
   pub rows : List Row
   pub passed : List Passing
   pub shipped : ℕ
   pub dropped : ℕ
-  pub report : IsReport rows passed shipped dropped Done text
+  pub report : IsReport rows passed shipped dropped status text
+
+-- its rows are those that both areas give
+pub record ReportsStored {D : Type 0} (disks : DiskWords D) (a b : D) (status : Status) (text : List ℕ) : Type 0 where
+  pub is : IsReportOf status text
+  pub stored : (first second : List ℕ) → disks.contents a ≡ Some first → disks.contents b ≡ Some second → GivesRows first second is.rows
 
 -- a text of this kind stands behind what the sink held
 pub record Prints (Kind : List ℕ → Type 0) (written : List ℕ) (after : Option (List ℕ)) : Type 0 where
@@ -21,9 +28,11 @@ pub record Prints (Kind : List ℕ → Type 0) (written : List ℕ) (after : Opt
   pub is : Kind text
   pub held : after ≡ Some (written ++ text)
 
--- a text that a run may print: a report, or the last line of a run that is not done
+-- a text that a run may print: a report, or the last line of a run that tells none
 abbrev pub IsPrintable : List ℕ → Type 0
-IsPrintable text = IsDoneReport text ⊎ ((status : Status) × (IsRunEnd status × (text ≡ status_bytes status)))
+IsPrintable text =
+    ((status : Status) × (IsReportEnd status × IsReportOf status text))
+    ⊎ ((status : Status) × (IsRunEnd status × (text ≡ status_bytes status)))
 
 -- a front of such a text stands behind what the sink held
 pub record HoldsFront (written : List ℕ) (after : Option (List ℕ)) : Type 0 where
@@ -33,8 +42,9 @@ pub record HoldsFront (written : List ℕ) (after : Option (List ℕ)) : Type 0 
   pub held : after ≡ Some (written ++ take count text)
 
 -- the last line stands behind what the sink held, or a front of what was to be printed where the sink failed; a run that is
--- done prints a report
+-- done or stopped prints a report
 abbrev pub IsPrinted : List ℕ → Option (List ℕ) → Status → Type 0
-IsPrinted written after Done = Prints IsDoneReport written after
+IsPrinted written after Done = Prints (IsReportOf Done) written after
+IsPrinted written after Stopped = Prints (IsReportOf Stopped) written after
 IsPrinted written after OutFault = HoldsFront written after
 IsPrinted written after status = after ≡ Some (written ++ status_bytes status)

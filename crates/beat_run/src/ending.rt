@@ -1,54 +1,58 @@
-ghost use Rattle.std.specs.Prelude.{◌≡◌, ◌≤◌, All, IfOk, length, vec_len};
-ghost use Rattle.wire_base.specs.Ranges.{IsRow};
-ghost use Rattle.ship_core.specs.Rows.{IsInOrder};
+ghost use Rattle.std.specs.Prelude.{◌≡◌, ◌⊎◌, length, IfErr, IfOk};
+ghost use Rattle.report.specs.Report.{IsReport};
+ghost use Rattle.run_steps.specs.Met.{IsMetOf};
+ghost use Rattle.beat_run.specs.Ended.{IsTelling, StandsForMet};
+ghost use Rattle.beat_run.specs.Ends.{IsReportEnd, IsRunEnd};
 
-use crate::noted::Noted;
-use report::Passing;
-use ship_core::Rows;
+use crate::status::status_of;
+use keeper::Keeper;
+use prospect::Listed;
+use report::{Status, report_text};
+use run_steps::{Met, Worked};
 use std::alloc::Global;
-use wire_base::{NoMemory, Op, Row};
+use wire_base::Blob;
 
-/// What a run that followed its files tells.
-#[derive(Debug, Drop)]
+/// What a run that was done or stopped tells.
+#[derive(Drop)]
 pub struct Ending {
-    pub rows: Rows,
-    /// The paths that were listed and then not found.
-    pub passed: Vec<Passing>,
-    pub shipped: u64,
-    pub dropped: u64,
+    pub report: Blob,
+    /// `Done` or `Stopped`.
+    pub status: Status,
 }
 
-/// What is told of what was noted.
-pub fn ending_of(alloc: Global, noted: Noted) -> Result<Ending, NoMemory>
-    requires in_range { All IsRow noted.rows.items }
-    ensures rows { IfOk result (λ ending. IsInOrder noted.rows.items → ending.rows ≡ noted.rows.items) }
-    ensures no_more_rows { IfOk result (λ ending. length ending.rows ≤ vec_len noted.rows) }
-    ensures passed { IfOk result (λ ending. ending.passed ≡ noted.missed) }
-    ensures shipped { IfOk result (λ ending. ending.shipped ≡ noted.shipped) }
-    ensures dropped { IfOk result (λ ending. ending.dropped ≡ noted.dropped) }
+/// What is told of what a run has done, or the status that it ends with.
+pub fn ending_of(
+    alloc: Global,
+    worked: Worked,
+    keeper: &Keeper,
+    listed: &[Listed],
+    attempts: u32,
+) -> Result<Ending, Status>
+    requires of_these { IsMetOf (length listed.now) worked.met }
+    ensures telling { IfOk result (λ _. IsTelling worked.met) }
+    ensures report { IfOk result (λ ending. IsReport keeper.now.store.rows worked.passed.items
+        keeper.now.shipped keeper.now.dropped ending.status ending.report) }
+    ensures stands { IfOk result (λ ending.
+        StandsForMet listed.now attempts worked.met ending.status) }
+    ensures with_report { IfOk result (λ ending. IsReportEnd ending.status) }
+    ensures refused { IfErr result (λ status. (status ≡ Status.NoMemory)
+        ⊎ StandsForMet listed.now attempts worked.met status) }
+    ensures without_report { IfErr result IsRunEnd }
 {
-    let Noted {
-        rows,
-        missed,
-        shipped,
-        dropped,
-    } = noted;
-    Ok(Ending {
-        rows: rows_of(alloc, rows)?,
-        passed: missed,
-        shipped,
-        dropped,
-    })
-}
-
-fn rows_of(alloc: Global, list: Vec<Row>) -> Result<Rows, NoMemory>
-    requires in_range { All IsRow list.items }
-    ensures same { IfOk result (λ rows. IsInOrder list.items → rows ≡ list.items) }
-    ensures no_more { IfOk result (λ rows. length rows ≤ vec_len list) }
-{
-    let mut rows = Rows::new(alloc);
-    for row in list {
-        rows.apply(alloc, Op::Set(row))?;
+    let Worked { passed, met } = worked;
+    let status = status_of(alloc, met, listed, attempts);
+    match met {
+        Met::Done | Met::Stopped => {
+            let report = report_text(
+                alloc,
+                keeper.rows(),
+                &passed,
+                keeper.shipped(),
+                keeper.dropped(),
+                &status,
+            )?;
+            Ok(Ending { report, status })
+        }
+        _ => Err(status),
     }
-    Ok(rows)
 }

@@ -1,25 +1,20 @@
-//! The run: one call, `ship`, that reads files, sends their lines and stores how far they were acknowledged.
+//! The run: one call, `ship`, that reads files, sends their events and stores how far they were acknowledged.
 //!
-//! It takes the files that the globs of the settings cover, one after the other, and one worker. Everything
-//! outside is an object of a trait that the caller hands in; no thread, lock or atomic is used. What is not
-//! built yet is refused by a status of its own.
+//! It reads words and settings, opens the registry, scans once, and then makes rounds of lanes, workers and a keeper until all
+//! is done or something ends it; then what was settled is stored, and all is let go. Everything outside is an object of a trait
+//! that the caller hands in. What is not built yet is refused by a status of its own.
 #![tactic(auto)]
 
-mod batch;
 mod ending;
-mod file;
-mod follow;
-mod lines;
-mod noted;
-mod open;
-mod peer;
+mod laws;
+mod objects;
+mod parts;
 mod prepare;
-mod progress;
 mod run;
+mod scan;
 mod settings;
-mod shipment;
 mod shipping;
-mod waiting;
+mod status;
 
 pub use command_line::{Places, places};
 pub use report::{Lack, Status, status_line};

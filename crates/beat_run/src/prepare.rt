@@ -1,10 +1,9 @@
-ghost use Rattle.std.specs.Prelude.{◌≡◌, ◌≤◌, ◌<◌, [], ℕ, List, length, take, IfErr, IfOk, IfSome, IsErrOf, MatchResult, OnOk};
-ghost use Rattle.outside.specs.DiskImages.{LeavesOnly};
+ghost use Rattle.std.specs.Prelude.{◌≡◌, [], ℕ, List, take, IfErr, IfOk, IfSome, IsErrOf, MatchResult, OnOk};
 ghost use Rattle.beat_config.specs.Document.{AreSettingsOf, IsFirstFault};
 ghost use Rattle.beat_config.specs.InRange.{AreInRange};
 ghost use Rattle.command_line.specs.Words.{IsNoCommand};
 ghost use Rattle.prospect.specs.Lacks.{IsFirstLack, lacks_of};
-ghost use Rattle.beat_run.specs.Ends.{IsLackEnd, IsOpeningEnd, IsPreparingEnd, IsWordsEnd, RefusesArea, RefusesKey, RefusesLack, RefusesSettings, RefusesWords};
+ghost use Rattle.beat_run.specs.Ends.{IsLackEnd, IsPreparingEnd, IsWordsEnd, RefusesKey, RefusesLack, RefusesSettings, RefusesWords};
 ghost use Rattle.beat_run.specs.Asked.{AskFor, AskForOnce, IsAsked};
 ghost use Rattle.beat_run.specs.Named.{IsNamed};
 ghost use Rattle.beat_run.specs.declared.settings.TheConstants.{LIMIT};
@@ -13,19 +12,14 @@ use crate::settings::read_source;
 use beat_config::{SettingsError, settings_or_one_first_fault};
 use command_line::read_words;
 use event_tree::Settings;
-use outside::{Disk, Source};
+use outside::Source;
 use prospect::first_lack;
 use report::{Lack, Status};
 use std::alloc::Global;
-use wire_base::{NoMemory, Text, Which};
+use wire_base::{NoMemory, Text};
 
-/// Everything before the run: the words, the settings, what they ask for, and the area, which has to be blank.
-pub fn prepare<D: Disk, R: Source>(
-    alloc: Global,
-    words: &[Text],
-    source: &mut R,
-    area: &mut D,
-) -> Result<Settings, Status>
+/// Everything before the registry: the words, the settings, and what they ask for.
+pub fn prepare<R: Source>(alloc: Global, words: &[Text], source: &mut R) -> Result<Settings, Status>
     ensures settings { IfOk result (IsNamed (R.left source.old)) }
     ensures in_range { IfOk result AreInRange }
     ensures nothing_lacks { IfOk result (λ settings. lacks_of settings ≡ []) }
@@ -37,14 +31,7 @@ pub fn prepare<D: Disk, R: Source>(
     ensures fault_only { (fault : SettingsError) → IsErrOf result (Status.Settings fault) → IfSome (R.left source.old) (λ bytes. IsFirstFault (take LIMIT bytes) fault) }
     ensures fault_refused { (fault : SettingsError) → IfSome (R.left source.old) (λ bytes. IsFirstFault (take LIMIT bytes) fault → MatchResult result (λ _. ⊥) (RefusesSettings fault)) }
     ensures key_refused { (settings : Settings) (key : List ℕ) → IfSome (R.left source.old) (λ bytes. AreSettingsOf (take LIMIT bytes) settings → IsFirstLack settings key → MatchResult result (λ _. ⊥) (RefusesKey key)) }
-    ensures registry_bad { (area' : Which) (at : ℕ) → IsErrOf result (Status.RegistryBad area' at) → (area' ≡ Which.A) × (at ≡ 0) × IfSome (D.contents area.old) (λ bytes. 1 < length bytes) }
-    ensures area_refused { IfSome (D.contents area.old) (λ bytes. 1 < length bytes → MatchResult result (λ _. ⊥) RefusesArea) }
-    ensures blank { OnOk result (IfSome (D.contents area.old) (λ bytes. length bytes ≤ 1)) }
-    ensures contents_kept { D.contents area.new ≡ D.contents area.old }
-    ensures images_kept { (image : List ℕ) → D.images area.new image → D.images area.old image }
-    ensures each_moment { LeavesOnly D.moment D.images_since area.old area.new (D.images area.old) }
-    ensures area_faults_never_fall { D.faults area.old ≤ D.faults area.new }
-    ensures ends { IfErr result (IsPreparingEnd (R.faults source.old) (R.faults source.new) (D.faults area.old) (D.faults area.new)) }
+    ensures ends { IfErr result (IsPreparingEnd (R.faults source.old) (R.faults source.new)) }
 {
     match check_words(alloc, words) {
         Ok(()) => {}
@@ -56,10 +43,6 @@ pub fn prepare<D: Disk, R: Source>(
         Err(status) => return Err(status),
     };
     match check_keys(alloc, &settings) {
-        Ok(()) => {}
-        Err(status) => return Err(status),
-    }
-    match check_blank(area) {
         Ok(()) => Ok(settings),
         Err(status) => Err(status),
     }
@@ -97,25 +80,5 @@ fn check_keys(alloc: Global, settings: &Settings) -> Result<(), Status>
             what: Lack::Key(key),
         }),
         Err(NoMemory) => Err(Status::NoMemory),
-    }
-}
-
-// Answers Ok where the area is blank.
-fn check_blank<D: Disk>(area: &mut D) -> Result<(), Status>
-    ensures blank { OnOk result (IfSome (D.contents area.old) (λ bytes. length bytes ≤ 1)) }
-    ensures refused { IsErrOf result (Status.RegistryBad Which.A 0) → IfSome (D.contents area.old) (λ bytes. 1 < length bytes) }
-    ensures contents_kept { D.contents area.new ≡ D.contents area.old }
-    ensures images_kept { (image : List ℕ) → D.images area.new image → D.images area.old image }
-    ensures each_moment { LeavesOnly D.moment D.images_since area.old area.new (D.images area.old) }
-    ensures ends { IfErr result (IsOpeningEnd (D.faults area.old) (D.faults area.new)) }
-    ensures faults_never_fall { D.faults area.old ≤ D.faults area.new }
-{
-    match area.len() {
-        Ok(length) if length <= 1 => Ok(()),
-        Ok(_) => Err(Status::RegistryBad {
-            area: Which::A,
-            at: 0,
-        }),
-        Err(_) => Err(Status::DiskFault),
     }
 }

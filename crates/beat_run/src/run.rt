@@ -1,221 +1,406 @@
-ghost use Rattle.std.specs.Prelude.{Some, ℕ, List, All, Option, ◌<◌, length, vec_len, ◌≡◌, ◌≤◌, take, IfErr, IfOk, IfSome, IsErrOf, IsSome, MatchResult, OnErr, OnOk};
-ghost use Rattle.outside.specs.Counts.{IsAtEnd, Rose};
-ghost use Rattle.outside.specs.DiskImages.{LeavesOnly, Only};
+ghost use Rattle.std.specs.Prelude.{false, ◌≡◌, ◌⊎◌, [], All, IfErr, IfOk, IfSome, IsErrOf, IsSome, List, MatchResult, OnOk, Some, ℕ, take, vec_len};
 ghost use Rattle.beat_config.specs.Document.{AreSettingsOf, IsFirstFault};
 ghost use Rattle.beat_config.specs.InRange.{AreInRange};
 ghost use Rattle.command_line.specs.Words.{IsNoCommand};
-ghost use Rattle.prospect.specs.Lacks.{IsFirstLack};
-ghost use Rattle.prospect.specs.Scan.{FindsTooMany};
-ghost use Rattle.registry_log.specs.Area.{area_bytes};
-ghost use Rattle.registry_log.specs.Starting.{Holds, IsPartStarted};
-ghost use Rattle.wire_base.specs.Ranges.{IsRow};
-ghost use Rattle.beat_run.specs.Acknowledged.{FailsFor};
+ghost use Rattle.prospect.specs.Lacks.{IsFirstLack, lacks_of};
+ghost use Rattle.registry_log.specs.OnlyRead.{IsOnlyRead};
+ghost use Rattle.registry_store.specs.Settled.{AreAtRest};
+ghost use Rattle.rounds.specs.Words.{disk_words, wire_words};
+ghost use Rattle.run_steps.specs.Registry.{IsRefusedAt, IsWritten};
+ghost use Rattle.wire_base.specs.declared.limits.Which.{Which};
+ghost use Rattle.beat_run.specs.Accounted.{AllTell, Areas, IsAccounted, IsAccountedWhereTold, IsOpenedFrom, TellEnough};
 ghost use Rattle.beat_run.specs.Asked.{AskFor, AskForOnce, IsAsked};
-ghost use Rattle.beat_run.specs.Ends.{HasStored, IsFollowingEnd, IsHarvestEnd, IsRefusal, IsRunEnd, IsStoringEnd, RefusesArea, RefusesKey, RefusesLack, RefusesSettings, RefusesWords, StandsForScan};
-ghost use Rattle.beat_run.specs.Evidence.{MomentsGoOn, evidence_of, moments_since};
-ghost use Rattle.beat_run.specs.Blamed.{FailsBySettings, ShowsTooMany};
-ghost use Rattle.beat_run.specs.Named.{IsNamed};
-ghost use Rattle.beat_run.specs.Harvest.{AreWhole};
-ghost use Rattle.beat_run.specs.Run.{IsFollowedBy, IsUnnoted};
-ghost use Rattle.beat_run.specs.Standing.{GoesOn, outcomes_since};
-ghost use Rattle.beat_run.specs.Stored.{HasNoOtherRow, HoldsNoRow, IsEnded, IsStored, IsStoredBy};
-ghost use Rattle.beat_run.specs.Untouched.{IsRefused, IsUntouched};
+ghost use Rattle.beat_run.specs.Cause.{Cause, without_sink};
+ghost use Rattle.beat_run.specs.Ended.{ended};
+ghost use Rattle.beat_run.specs.Ends.{IsBehindOpening, IsRefusal, IsReportEnd, IsRunEnd, IsScannedEnd, IsSettledEnd, IsUnprepared, RefusesArea, RefusesKey, RefusesLack, RefusesSettings, RefusesWords};
+ghost use Rattle.beat_run.specs.Handed.{CausedIn, GoesOn, objects_of, outside_words, signs_of};
+ghost use Rattle.beat_run.specs.Printed.{IsReportOf, ReportsStored};
+ghost use Rattle.beat_run.specs.Untouched.{IsRefused};
 ghost use Rattle.beat_run.specs.declared.settings.TheConstants.{LIMIT};
 
 use crate::ending::{Ending, ending_of};
-use crate::follow::follow_all;
-use crate::noted::Noted;
-use crate::peer::Worker;
+use crate::laws::unasked_disk_is_only_read;
+use crate::objects::Outside;
+use crate::parts::{Parts, parts_of};
 use crate::prepare::prepare;
+use crate::scan::scan;
+use crate::status::status_of_registry;
 use beat_config::SettingsError;
 use event_tree::Settings;
-use outside::{Clock, Disk, Folder, Source, Wire};
-use prospect::{ScanError, scan};
-use registry_log::{LogError, start_area};
+use lanes::Outlets;
+use outside::{Bell, Clock, Disk, Folder, Link, Source, Wire};
+use registry_store::{Store, one_choice};
 use report::{Lack, Status};
-use ship_core::Rows;
+use rounds::{Stored, Storing};
+use run_steps::{Context, Surroundings, open_registry, run_over};
 use std::alloc::Global;
 use std::sync::Wait;
-use wire_base::{Full, Text, Which};
-
-/// The area is started with the first generation.
-const GENERATION: u64 = 1;
+use std::thread::Threads;
+use wire_base::Text;
 
 /// Everything but the printing.
-pub fn run<X: Wait, F: Folder, W: Wire, D: Disk, K: Clock, R: Source>(
+pub fn run<
+    X: Threads + Wait + Sync,
+    F: Folder,
+    L: Link + Send,
+    W: Wire<Link = L> + Send,
+    D: Disk + Send,
+    K: Clock,
+    B: Bell,
+    R: Source,
+>(
     rt: &X,
     alloc: Global,
     words: &[Text],
     source: &mut R,
-    folder: &mut F,
-    wire: &mut W,
-    area: &mut D,
-    clock: &mut K,
+    outside: &mut Outside<F, W, D, K, B>,
 ) -> Result<Ending, Status>
+where
+    F::Tail: Send,
+    requires wires { vec_len outside.old.wires.now ≡ 16 }
     ensures usage_only { IsErrOf result Status.Usage → IsNoCommand words.now }
-    ensures other_words_refused { IsNoCommand words.now → MatchResult result (λ _. ⊥) RefusesWords }
-    ensures unbuilt_only { (lack : Lack) → IsErrOf result (Status.Unbuilt lack) → IsAsked words.now (R.left source.old) lack }
-    ensures unbuilt_refused { (lack : Lack) → AskFor words.now lack → MatchResult result (λ _. ⊥) (RefusesLack lack) }
-    ensures fault_only { (fault : SettingsError) → IsErrOf result (Status.Settings fault) → IfSome (R.left source.old) (λ bytes. IsFirstFault (take LIMIT bytes) fault) }
-    ensures fault_refused { (fault : SettingsError) → IfSome (R.left source.old) (λ bytes. IsFirstFault (take LIMIT bytes) fault → MatchResult result (λ _. ⊥) (RefusesSettings fault)) }
-    ensures key_refused { (settings : Settings) (key : List ℕ) → IfSome (R.left source.old) (λ bytes. AreSettingsOf (take LIMIT bytes) settings → IsFirstLack settings key → MatchResult result (λ _. ⊥) (RefusesKey key)) }
-    ensures registry_bad { (area' : Which) (at : ℕ) → IsErrOf result (Status.RegistryBad area' at) → (area' ≡ Which.A) × (at ≡ 0) × IfSome (D.contents area.old) (λ bytes. 1 < length bytes) }
-    ensures area_refused { IfSome (D.contents area.old) (λ bytes. 1 < length bytes → MatchResult result (λ _. ⊥) RefusesArea) }
-    ensures done { IfOk result (λ ending. IfSome (F.told folder.old) (λ told. IsEnded (R.left source.old) told (evidence_of (K.moments clock.old) (K.moments clock.new) (W.outcomes wire.old) (W.outcomes wire.new)) (F.told folder.new) (D.contents area.old) (D.contents area.new) ending)) }
-    ensures rows { IfSome (F.told folder.old) (λ told. MatchResult result
-        (λ _. IsStored (R.left source.old) told (evidence_of (K.moments clock.old) (K.moments clock.new) (W.outcomes wire.old) (W.outcomes wire.new)) (F.told folder.new) (D.contents area.old) (D.contents area.new) ⊥ (HoldsNoRow (D.faults area.old) (D.faults area.new) (D.contents area.old) (D.contents area.new) Status.Done) (λ left harvests end. AreWhole harvests))
-        (IsStoredBy (R.left source.old) told (evidence_of (K.moments clock.old) (K.moments clock.new) (W.outcomes wire.old) (W.outcomes wire.new)) (F.told folder.new) (D.faults area.old) (D.faults area.new) (D.contents area.old) (D.contents area.new))) }
-    ensures no_other_row { Only (D.contents area.old) (D.images area.old) → IfSome (F.told folder.old) (λ told. HasNoOtherRow (R.left source.old) told (evidence_of (K.moments clock.old) (K.moments clock.new) (W.outcomes wire.old) (W.outcomes wire.new)) (F.told folder.new) (D.contents area.old) (D.contents area.new) (LeavesOnly D.moment D.images_since area.old area.new)) }
-    ensures stored { IfOk result (λ ending. IfSome (D.contents area.old) (λ _. D.contents area.new ≡ Some (area_bytes GENERATION ending.rows))) }
-    ensures durable { IfOk result (λ _. Only (D.contents area.new) (D.images area.new)) }
-    ensures durable_where_stored { IfErr result (λ status. HasStored status → Only (D.contents area.new) (D.images area.new)) }
-    ensures area_kept { IfErr result (λ status. IsRefusal status → D.contents area.new ≡ D.contents area.old) }
-    ensures images_kept { IfErr result (λ status. IsRefusal status → LeavesOnly D.moment D.images_since area.old area.new (D.images area.old)) }
-    ensures folder_kept { IfErr result (λ status. IsRefusal status → folder.new ≡ folder.old) }
-    ensures wire_kept { IfErr result (λ status. IsRefusal status → wire.new ≡ wire.old) }
-    ensures images_kept_where_refused { IsRefused words.now (R.left source.old) (D.contents area.old) → LeavesOnly D.moment D.images_since area.old area.new (D.images area.old) }
-    ensures untouched_where_refused { IsRefused words.now (R.left source.old) (D.contents area.old) → IsUntouched (D.contents area.old) (D.contents area.new) folder.old folder.new wire.old wire.new }
-    ensures still_told { IsSome (D.contents area.old) → IsSome (D.contents area.new) }
-    ensures once { IfOk result (λ _. AskForOnce words.now) }
-    ensures once_where_stored { IfErr result (λ status. HasStored status → AskForOnce words.now) }
-    ensures clock_goes_on { MomentsGoOn (K.moments clock.old) (K.moments clock.new) }
-    ensures wire_goes_on { GoesOn (W.outcomes wire.old) (W.outcomes wire.new) }
-    ensures links_finished { ¬ (IsAtEnd (W.open_links wire.old)) → W.open_links wire.new ≡ W.open_links wire.old }
-    ensures tails_closed { ¬ (IsAtEnd (F.open_tails folder.old)) → F.open_tails folder.new ≡ F.open_tails folder.old }
-    ensures disk_fault { IsErrOf result Status.DiskFault → Rose (D.faults area.old) (D.faults area.new) }
-    ensures folder_fault { IsErrOf result Status.FolderFault → Rose (F.faults folder.old) (F.faults folder.new) }
-    ensures unreachable { (worker failures : ℕ) → IsErrOf result (Status.Unreachable worker failures) → FailsBySettings (R.left source.old) (evidence_of (K.moments clock.old) (K.moments clock.new) (W.outcomes wire.old) (W.outcomes wire.new)) (W.faults wire.new) }
-    ensures too_many { (what : Full) (path : List ℕ) → IsErrOf result (Status.TooMany what path) → (what ≡ Full.Files) × IfSome (F.told folder.old) (λ told. ShowsTooMany (R.left source.old) told path (F.told folder.new)) }
-    ensures source_fault { IsErrOf result Status.SourceFault → Rose (R.faults source.old) (R.faults source.new) }
+    ensures other_words_refused { IsNoCommand words.now →
+        MatchResult result (λ _. ⊥) RefusesWords }
+    ensures unbuilt_only { (lack : Lack) → IsErrOf result (Status.Unbuilt lack) →
+        IsAsked words.now (R.left source.old) lack }
+    ensures unbuilt_refused { (lack : Lack) → AskFor words.now lack →
+        MatchResult result (λ _. ⊥) (RefusesLack lack) }
+    ensures fault_only { (fault : SettingsError) → IsErrOf result (Status.Settings fault) →
+        IfSome (R.left source.old) (λ bytes. IsFirstFault (take LIMIT bytes) fault) }
+    ensures fault_refused { (fault : SettingsError) → IfSome (R.left source.old) (λ bytes.
+        IsFirstFault (take LIMIT bytes) fault →
+        MatchResult result (λ _. ⊥) (RefusesSettings fault)) }
+    ensures key_refused { (settings : Settings) (key : List ℕ) →
+        IfSome (R.left source.old) (λ bytes. AreSettingsOf (take LIMIT bytes) settings →
+        IsFirstLack settings key → MatchResult result (λ _. ⊥) (RefusesKey key)) }
+    ensures registry_bad { (first second : List ℕ) (area : Which) (at : ℕ) →
+        D.contents outside.old.a.now ≡ Some first → D.contents outside.old.b.now ≡ Some second →
+        IsErrOf result (Status.RegistryBad area at) → IsRefusedAt first second area at }
+    ensures area_refused { (first second : List ℕ) →
+        D.contents outside.old.a.now ≡ Some first → D.contents outside.old.b.now ≡ Some second →
+        IsWritten first ⊎ IsWritten second → MatchResult result (λ _. ⊥) RefusesArea }
+    ensures a_unused { IfErr result (λ status. IsUnprepared status →
+        outside.new.a.now ≡ outside.old.a.now) }
+    ensures b_unused { IfErr result (λ status. IsUnprepared status →
+        outside.new.b.now ≡ outside.old.b.now) }
+    ensures folder_kept_on_refusal { IfErr result (λ status. IsRefusal status →
+        outside.new.folder.now ≡ outside.old.folder.now) }
+    ensures wires_kept_on_refusal { IfErr result (λ status. IsRefusal status →
+        outside.new.wires.now.items ≡ outside.old.wires.now.items) }
+    ensures a_only_read_on_refusal { IfErr result (λ status. IsRefusal status →
+        IsSome (D.contents outside.old.a.now) → IsSome (D.contents outside.old.b.now) →
+        IsOnlyRead D.contents D.images D.moment D.images_since D.faults outside.old.a.now outside.new.a.now) }
+    ensures b_only_read_on_refusal { IfErr result (λ status. IsRefusal status →
+        IsOnlyRead D.contents D.images D.moment D.images_since D.faults outside.old.b.now outside.new.b.now) }
+    ensures a_only_read_where_refused { IsRefused words.now (R.left source.old)
+        (D.contents outside.old.a.now) (D.contents outside.old.b.now) →
+        IsOnlyRead D.contents D.images D.moment D.images_since D.faults
+        outside.old.a.now outside.new.a.now }
+    ensures b_only_read_where_refused { IsRefused words.now (R.left source.old)
+        (D.contents outside.old.a.now) (D.contents outside.old.b.now) →
+        IsOnlyRead D.contents D.images D.moment D.images_since D.faults
+        outside.old.b.now outside.new.b.now }
+    ensures folder_kept_where_refused { IsRefused words.now (R.left source.old)
+        (D.contents outside.old.a.now) (D.contents outside.old.b.now) →
+        outside.new.folder.now ≡ outside.old.folder.now }
+    ensures wires_kept_where_refused { IsRefused words.now (R.left source.old)
+        (D.contents outside.old.a.now) (D.contents outside.old.b.now) →
+        outside.new.wires.now.items ≡ outside.old.wires.now.items }
+    ensures once_where_reported { OnOk result (AskForOnce words.now) }
+    ensures once_where_followed { IfErr result (λ status. IsBehindOpening status →
+        AskForOnce words.now) }
+    ensures cause { Cause (R.left source.old)
+        (without_sink (signs_of (outside_words F.told F.open_tails F.faults
+        (wire_words W.outcomes W.open_links W.faults W.idles)
+        (disk_words D.contents D.images D.moment D.images_since D.faults)
+        K.moments B.rings) outside.old) (R.faults source.old))
+        (without_sink (signs_of (outside_words F.told F.open_tails F.faults
+        (wire_words W.outcomes W.open_links W.faults W.idles)
+        (disk_words D.contents D.images D.moment D.images_since D.faults)
+        K.moments B.rings) outside.new) (R.faults source.new))
+        (ended result) }
+    ensures accounted { IsAccountedWhereTold
+        (disk_words D.contents D.images D.moment D.images_since D.faults)
+        (R.left source.old) (record {
+          before = objects_of (outside_words F.told F.open_tails F.faults
+              (wire_words W.outcomes W.open_links W.faults W.idles)
+              (disk_words D.contents D.images D.moment D.images_since D.faults)
+              K.moments B.rings) outside.old;
+          after = objects_of (outside_words F.told F.open_tails F.faults
+              (wire_words W.outcomes W.open_links W.faults W.idles)
+              (disk_words D.contents D.images D.moment D.images_since D.faults)
+              K.moments B.rings) outside.new;
+        }) (ended result) }
+    ensures at_rest { IsSome (F.told outside.old.folder.now) →
+        AreAtRest D.contents D.images outside.old.a.now outside.old.b.now → IsBehindOpening (ended result) →
+        AreAtRest D.contents D.images outside.new.a.now outside.new.b.now }
+    ensures reported { IsSome (F.told outside.old.folder.now) →
+        AreAtRest D.contents D.images outside.old.a.now outside.old.b.now →
+        IfOk result (λ ending. ReportsStored
+        (disk_words D.contents D.images D.moment D.images_since D.faults)
+        outside.new.a.now outside.new.b.now ending.status ending.report) }
+    ensures report { IfOk result (λ ending. IsReportOf ending.status ending.report) }
+    ensures with_report { IfOk result (λ ending. IsReportEnd ending.status) }
     ensures ends { IfErr result IsRunEnd }
+    ensures goes_on { GoesOn (outside_words F.told F.open_tails F.faults
+        (wire_words W.outcomes W.open_links W.faults W.idles)
+        (disk_words D.contents D.images D.moment D.images_since D.faults)
+        K.moments B.rings)
+        outside.old outside.new }
+    ensures same_folder { outside.new.folder.ghost_name ≡ outside.old.folder.ghost_name }
+    ensures same_wires { outside.new.wires.ghost_name ≡ outside.old.wires.ghost_name }
+    ensures same_a { outside.new.a.ghost_name ≡ outside.old.a.ghost_name }
+    ensures same_b { outside.new.b.ghost_name ≡ outside.old.b.ghost_name }
+    ensures same_clock { outside.new.clock.ghost_name ≡ outside.old.clock.ghost_name }
+    ensures same_bell { outside.new.bell.ghost_name ≡ outside.old.bell.ghost_name }
 {
-    let settings = match prepare(alloc, words, source, area) {
+    unasked_disk_is_only_read::<D>();
+    one_choice();
+    let settings = match prepare(alloc, words, source) {
         Ok(settings) => settings,
         Err(status) => return Err(status),
     };
-    follow_and_store(rt, alloc, &settings, folder, wire, area, clock)
+    run_settings(rt, alloc, &settings, outside)
 }
 
-// Follows the files of the settings, and starts the area with the rows of what was done.
-fn follow_and_store<X: Wait, F: Folder, W: Wire, D: Disk, K: Clock>(
+// Opens the registry, and then follows the files of the settings.
+fn run_settings<
+    X: Threads + Wait + Sync,
+    F: Folder,
+    L: Link + Send,
+    W: Wire<Link = L> + Send,
+    D: Disk + Send,
+    K: Clock,
+    B: Bell,
+>(
     rt: &X,
     alloc: Global,
     settings: &Settings,
-    folder: &mut F,
-    wire: &mut W,
-    area: &mut D,
-    clock: &mut K,
+    outside: &mut Outside<F, W, D, K, B>,
 ) -> Result<Ending, Status>
+where
+    F::Tail: Send,
     requires in_range { AreInRange settings.now }
-    ensures done { (source held : Option (List ℕ)) → IsNamed source settings.now → D.contents area.old ≡ held → IfOk result (λ ending. IfSome (F.told folder.old) (λ told.
-        IsEnded source told (evidence_of (K.moments clock.old) (K.moments clock.new) (W.outcomes wire.old) (W.outcomes wire.new)) (F.told folder.new) held (D.contents area.new) ending)) }
-    ensures rows { (source held : Option (List ℕ)) (faults : ℕ) → IsNamed source settings.now → D.contents area.old ≡ held → faults ≤ D.faults area.old → IfSome (F.told folder.old) (λ told. MatchResult result
-        (λ _. IsStored source told (evidence_of (K.moments clock.old) (K.moments clock.new) (W.outcomes wire.old) (W.outcomes wire.new)) (F.told folder.new) held (D.contents area.new) ⊥ (HoldsNoRow faults (D.faults area.new) held (D.contents area.new) Status.Done) (λ left harvests end. AreWhole harvests))
-        (IsStoredBy source told (evidence_of (K.moments clock.old) (K.moments clock.new) (W.outcomes wire.old) (W.outcomes wire.new)) (F.told folder.new) faults (D.faults area.new) held (D.contents area.new))) }
-    ensures no_other_row { (source held : Option (List ℕ)) → IsNamed source settings.now → D.contents area.old ≡ held → Only (D.contents area.old) (D.images area.old) → IfSome (F.told folder.old) (λ told.
-        HasNoOtherRow source told (evidence_of (K.moments clock.old) (K.moments clock.new) (W.outcomes wire.old) (W.outcomes wire.new)) (F.told folder.new) held (D.contents area.new) (LeavesOnly D.moment D.images_since area.old area.new)) }
-    ensures stored { IfOk result (λ ending. IfSome (D.contents area.old) (λ _. D.contents area.new ≡ Some (area_bytes GENERATION ending.rows))) }
-    ensures durable { IfOk result (λ _. Only (D.contents area.new) (D.images area.new)) }
-    ensures durable_where_stored { IfErr result (λ status. HasStored status → Only (D.contents area.new) (D.images area.new)) }
-    ensures still_told { IsSome (D.contents area.old) → IsSome (D.contents area.new) }
-    ensures clock_goes_on { MomentsGoOn (K.moments clock.old) (K.moments clock.new) }
-    ensures wire_goes_on { GoesOn (W.outcomes wire.old) (W.outcomes wire.new) }
-    ensures links_finished { ¬ (IsAtEnd (W.open_links wire.old)) → W.open_links wire.new ≡ W.open_links wire.old }
-    ensures tails_closed { ¬ (IsAtEnd (F.open_tails folder.old)) → F.open_tails folder.new ≡ F.open_tails folder.old }
-    ensures unreachable { IfErr result (FailsFor settings.now.output.timeout (moments_since (K.moments clock.old) (K.moments clock.new)) (W.faults wire.new) (outcomes_since (W.outcomes wire.old) (W.outcomes wire.new))) }
-    ensures too_many { (what : Full) (path : List ℕ) → IsErrOf result (Status.TooMany what path) → (what ≡ Full.Files) × IfSome (F.told folder.old) (λ told. FindsTooMany settings.now.inputs told path (F.told folder.new)) }
-    ensures ends { IfErr result (IsHarvestEnd (F.faults folder.old) (F.faults folder.new) (D.faults area.old) (D.faults area.new)) }
+    requires nothing_lacks { lacks_of settings.now ≡ [] }
+    requires wires { vec_len outside.old.wires.now ≡ 16 }
+    ensures registry_bad { (first second : List ℕ) (area : Which) (at : ℕ) →
+        D.contents outside.old.a.now ≡ Some first → D.contents outside.old.b.now ≡ Some second →
+        IsErrOf result (Status.RegistryBad area at) → IsRefusedAt first second area at }
+    ensures area_refused { (first second : List ℕ) →
+        D.contents outside.old.a.now ≡ Some first → D.contents outside.old.b.now ≡ Some second →
+        IsWritten first ⊎ IsWritten second → MatchResult result (λ _. ⊥) RefusesArea }
+    ensures a_only_read_where_bad { (area : Which) (at : ℕ) →
+        IsSome (D.contents outside.old.a.now) → IsSome (D.contents outside.old.b.now) →
+        IsErrOf result (Status.RegistryBad area at) →
+        IsOnlyRead D.contents D.images D.moment D.images_since D.faults outside.old.a.now outside.new.a.now }
+    ensures b_only_read_where_bad { (area : Which) (at : ℕ) →
+        IsErrOf result (Status.RegistryBad area at) →
+        IsOnlyRead D.contents D.images D.moment D.images_since D.faults outside.old.b.now outside.new.b.now }
+    ensures folder_kept_where_bad { (area : Which) (at : ℕ) →
+        IsErrOf result (Status.RegistryBad area at) →
+        outside.new.folder.now ≡ outside.old.folder.now }
+    ensures wires_kept_where_bad { (area : Which) (at : ℕ) →
+        IsErrOf result (Status.RegistryBad area at) →
+        outside.new.wires.now.items ≡ outside.old.wires.now.items }
+    ensures a_only_read_where_written { (first second : List ℕ) →
+        D.contents outside.old.a.now ≡ Some first → D.contents outside.old.b.now ≡ Some second →
+        IsWritten first ⊎ IsWritten second →
+        IsOnlyRead D.contents D.images D.moment D.images_since D.faults
+        outside.old.a.now outside.new.a.now }
+    ensures b_only_read_where_written { (first second : List ℕ) →
+        D.contents outside.old.a.now ≡ Some first → D.contents outside.old.b.now ≡ Some second →
+        IsWritten first ⊎ IsWritten second →
+        IsOnlyRead D.contents D.images D.moment D.images_since D.faults
+        outside.old.b.now outside.new.b.now }
+    ensures folder_kept_where_written { (first second : List ℕ) →
+        D.contents outside.old.a.now ≡ Some first → D.contents outside.old.b.now ≡ Some second →
+        IsWritten first ⊎ IsWritten second →
+        outside.new.folder.now ≡ outside.old.folder.now }
+    ensures wires_kept_where_written { (first second : List ℕ) →
+        D.contents outside.old.a.now ≡ Some first → D.contents outside.old.b.now ≡ Some second →
+        IsWritten first ⊎ IsWritten second →
+        outside.new.wires.now.items ≡ outside.old.wires.now.items }
+    ensures cause { CausedIn (outside_words F.told F.open_tails F.faults
+        (wire_words W.outcomes W.open_links W.faults W.idles)
+        (disk_words D.contents D.images D.moment D.images_since D.faults)
+        K.moments B.rings)
+        settings.now outside.old outside.new (ended result) }
+    ensures accounted { AllTell
+        (disk_words D.contents D.images D.moment D.images_since D.faults)
+        (record {
+          before = objects_of (outside_words F.told F.open_tails F.faults
+              (wire_words W.outcomes W.open_links W.faults W.idles)
+              (disk_words D.contents D.images D.moment D.images_since D.faults)
+              K.moments B.rings) outside.old;
+          after = objects_of (outside_words F.told F.open_tails F.faults
+              (wire_words W.outcomes W.open_links W.faults W.idles)
+              (disk_words D.contents D.images D.moment D.images_since D.faults)
+              K.moments B.rings) outside.new;
+        }) → IsAccounted
+        (disk_words D.contents D.images D.moment D.images_since D.faults)
+        settings.now (record {
+          before = objects_of (outside_words F.told F.open_tails F.faults
+              (wire_words W.outcomes W.open_links W.faults W.idles)
+              (disk_words D.contents D.images D.moment D.images_since D.faults)
+              K.moments B.rings) outside.old;
+          after = objects_of (outside_words F.told F.open_tails F.faults
+              (wire_words W.outcomes W.open_links W.faults W.idles)
+              (disk_words D.contents D.images D.moment D.images_since D.faults)
+              K.moments B.rings) outside.new;
+        }) (ended result) }
+    ensures at_rest { IsSome (F.told outside.old.folder.now) →
+        AreAtRest D.contents D.images outside.old.a.now outside.old.b.now → IsBehindOpening (ended result) →
+        AreAtRest D.contents D.images outside.new.a.now outside.new.b.now }
+    ensures reported { IsSome (F.told outside.old.folder.now) →
+        AreAtRest D.contents D.images outside.old.a.now outside.old.b.now →
+        IfOk result (λ ending. ReportsStored
+        (disk_words D.contents D.images D.moment D.images_since D.faults)
+        outside.new.a.now outside.new.b.now ending.status ending.report) }
+    ensures report { IfOk result (λ ending. IsReportOf ending.status ending.report) }
+    ensures with_report { IfOk result (λ ending. IsReportEnd ending.status) }
+    ensures ends { IfErr result IsSettledEnd }
+    ensures goes_on { GoesOn (outside_words F.told F.open_tails F.faults
+        (wire_words W.outcomes W.open_links W.faults W.idles)
+        (disk_words D.contents D.images D.moment D.images_since D.faults)
+        K.moments B.rings)
+        outside.old outside.new }
+    ensures same_folder { outside.new.folder.ghost_name ≡ outside.old.folder.ghost_name }
+    ensures same_wires { outside.new.wires.ghost_name ≡ outside.old.wires.ghost_name }
+    ensures same_a { outside.new.a.ghost_name ≡ outside.old.a.ghost_name }
+    ensures same_b { outside.new.b.ghost_name ≡ outside.old.b.ghost_name }
+    ensures same_clock { outside.new.clock.ghost_name ≡ outside.old.clock.ghost_name }
+    ensures same_bell { outside.new.bell.ghost_name ≡ outside.old.bell.ghost_name }
 {
-    let mut noted = Noted::new(alloc);
-    let met = follow(rt, alloc, settings, folder, wire, clock, &mut noted);
-    let ending = match ending_of(alloc, noted) {
-        Ok(ending) => ending,
-        Err(_) => return Err(Status::NoMemory),
-    };
-    match store(alloc, area, &ending.rows) {
-        Ok(()) => {}
-        Err(status) => return Err(status),
-    }
-    match met {
-        Ok(()) => Ok(ending),
-        Err(status) => Err(status),
+    one_choice();
+    match open_registry(alloc, outside.a, outside.b) {
+        Ok(store) => run_store(rt, alloc, settings, store, outside),
+        Err(error) => Err(status_of_registry(error)),
     }
 }
 
-// Scans the folders and follows the files that the settings name.
-fn follow<X: Wait, F: Folder, W: Wire, K: Clock>(
+// Scans once, and follows what was listed.
+fn run_store<
+    X: Threads + Wait + Sync,
+    F: Folder,
+    L: Link + Send,
+    W: Wire<Link = L> + Send,
+    D: Disk + Send,
+    K: Clock,
+    B: Bell,
+>(
     rt: &X,
     alloc: Global,
     settings: &Settings,
-    folder: &mut F,
-    wire: &mut W,
-    clock: &mut K,
-    noted: &mut Noted,
-) -> Result<(), Status>
+    store: Store,
+    outside: &mut Outside<F, W, D, K, B>,
+) -> Result<Ending, Status>
+where
+    F::Tail: Send,
     requires in_range { AreInRange settings.now }
-    requires unnoted { IsUnnoted noted.old }
-    ensures followed { IfSome (F.told folder.old) (λ told. IsFollowedBy settings.now told (evidence_of (K.moments clock.old) (K.moments clock.new) (W.outcomes wire.old) (W.outcomes wire.new)) noted.new (F.told folder.new) result) }
-    ensures rows_in_range { All IsRow noted.new.rows.items }
-    ensures few { vec_len noted.new.rows ≤ 65_536 }
-    ensures clock_goes_on { MomentsGoOn (K.moments clock.old) (K.moments clock.new) }
-    ensures wire_goes_on { GoesOn (W.outcomes wire.old) (W.outcomes wire.new) }
-    ensures links_finished { ¬ (IsAtEnd (W.open_links wire.old)) → W.open_links wire.new ≡ W.open_links wire.old }
-    ensures tails_closed { ¬ (IsAtEnd (F.open_tails folder.old)) → F.open_tails folder.new ≡ F.open_tails folder.old }
-    ensures unreachable { IfErr result (FailsFor settings.now.output.timeout (moments_since (K.moments clock.old) (K.moments clock.new)) (W.faults wire.new) (outcomes_since (W.outcomes wire.old) (W.outcomes wire.new))) }
-    ensures too_many { (what : Full) (path : List ℕ) → IsErrOf result (Status.TooMany what path) → (what ≡ Full.Files) × IfSome (F.told folder.old) (λ told. FindsTooMany settings.now.inputs told path (F.told folder.new)) }
-    ensures ends { IfErr result (IsFollowingEnd (F.faults folder.old) (F.faults folder.new)) }
-    ensures faults_never_fall { F.faults folder.old ≤ F.faults folder.new }
+    requires nothing_lacks { lacks_of settings.now ≡ [] }
+    requires open { store.closed ≡ false }
+    requires no_rows { store.rows ≡ [] }
+    requires wires { vec_len outside.old.wires.now ≡ 16 }
+    ensures cause { (from : Areas D) → IsOpenedFrom
+        (disk_words D.contents D.images D.moment D.images_since D.faults)
+        from store outside.old.a.now outside.old.b.now →
+        CausedIn (outside_words F.told F.open_tails F.faults
+        (wire_words W.outcomes W.open_links W.faults W.idles)
+        (disk_words D.contents D.images D.moment D.images_since D.faults)
+        K.moments B.rings)
+        settings.now outside.old outside.new (ended result) }
+    ensures accounted { (from : Areas D) → IsOpenedFrom
+        (disk_words D.contents D.images D.moment D.images_since D.faults)
+        from store outside.old.a.now outside.old.b.now →
+        TellEnough
+        (objects_of (outside_words F.told F.open_tails F.faults
+        (wire_words W.outcomes W.open_links W.faults W.idles)
+        (disk_words D.contents D.images D.moment D.images_since D.faults)
+        K.moments B.rings) outside.old)
+        (objects_of (outside_words F.told F.open_tails F.faults
+        (wire_words W.outcomes W.open_links W.faults W.idles)
+        (disk_words D.contents D.images D.moment D.images_since D.faults)
+        K.moments B.rings) outside.new) →
+        IsAccounted (disk_words D.contents D.images D.moment D.images_since D.faults)
+        settings.now (record {
+          before = record (objects_of (outside_words F.told F.open_tails F.faults
+              (wire_words W.outcomes W.open_links W.faults W.idles)
+              (disk_words D.contents D.images D.moment D.images_since D.faults)
+              K.moments B.rings) outside.old) { a = from.a; b = from.b };
+          after = objects_of (outside_words F.told F.open_tails F.faults
+              (wire_words W.outcomes W.open_links W.faults W.idles)
+              (disk_words D.contents D.images D.moment D.images_since D.faults)
+              K.moments B.rings) outside.new;
+        }) (ended result) }
+    ensures at_rest { (from : Areas D) → IsOpenedFrom
+        (disk_words D.contents D.images D.moment D.images_since D.faults)
+        from store outside.old.a.now outside.old.b.now →
+        IsSome (F.told outside.old.folder.now) →
+        AreAtRest D.contents D.images from.a from.b → IsBehindOpening (ended result) →
+        AreAtRest D.contents D.images outside.new.a.now outside.new.b.now }
+    ensures reported { (from : Areas D) → IsOpenedFrom
+        (disk_words D.contents D.images D.moment D.images_since D.faults)
+        from store outside.old.a.now outside.old.b.now →
+        IsSome (F.told outside.old.folder.now) →
+        AreAtRest D.contents D.images from.a from.b →
+        IfOk result (λ ending. ReportsStored
+        (disk_words D.contents D.images D.moment D.images_since D.faults)
+        outside.new.a.now outside.new.b.now ending.status ending.report) }
+    ensures report { IfOk result (λ ending. IsReportOf ending.status ending.report) }
+    ensures with_report { IfOk result (λ ending. IsReportEnd ending.status) }
+    ensures ends { IfErr result IsScannedEnd }
+    ensures goes_on { GoesOn (outside_words F.told F.open_tails F.faults
+        (wire_words W.outcomes W.open_links W.faults W.idles)
+        (disk_words D.contents D.images D.moment D.images_since D.faults)
+        K.moments B.rings)
+        outside.old outside.new }
+    ensures same_folder { outside.new.folder.ghost_name ≡ outside.old.folder.ghost_name }
+    ensures same_wires { outside.new.wires.ghost_name ≡ outside.old.wires.ghost_name }
+    ensures same_a { outside.new.a.ghost_name ≡ outside.old.a.ghost_name }
+    ensures same_b { outside.new.b.ghost_name ≡ outside.old.b.ghost_name }
+    ensures same_clock { outside.new.clock.ghost_name ≡ outside.old.clock.ghost_name }
+    ensures same_bell { outside.new.bell.ghost_name ≡ outside.old.bell.ghost_name }
 {
-    let members = match scan(alloc, folder, settings.inputs.as_slice()) {
-        Ok(members) => members,
-        Err(error) => return Err(status_of_scan(error)),
-    };
-    let mut worker = Worker::new();
-    let output = &settings.output;
-    let met = follow_all(
-        rt,
+    one_choice();
+    let scanned = scan(
         alloc,
-        &members,
-        output,
-        folder,
-        &mut worker,
-        wire,
-        clock,
-        noted,
-    );
-    worker.end(wire);
-    met
-}
-
-fn status_of_scan(error: ScanError) -> Status
-    ensures { StandsForScan error result }
-{
-    match error {
-        ScanError::Failed => Status::FolderFault,
-        ScanError::NoMemory => Status::NoMemory,
-        ScanError::TooMany { path } => Status::TooMany {
-            what: Full::Files,
-            path,
+        settings.inputs.as_slice(),
+        outside.folder,
+        outside.clock,
+    )?;
+    let parts = parts_of(alloc, settings.events, store)?;
+    let Parts {
+        queue,
+        desk,
+        passes,
+        mut keeper,
+    } = parts;
+    let context = Context {
+        alloc,
+        settings,
+        outlets: Outlets {
+            queue: &queue,
+            desk: &desk,
         },
-    }
-}
-
-// Starts the area with the rows.
-fn store<D: Disk>(alloc: Global, area: &mut D, rows: &Rows) -> Result<(), Status>
-    requires few { length rows.now ≤ 65_536 }
-    ensures stored { OnOk result (IfSome (D.contents area.old) (λ _. D.contents area.new ≡ Some (area_bytes GENERATION rows.now))) }
-    ensures durable { OnOk result (Only (D.contents area.new) (D.images area.new)) }
-    ensures each_moment { Only (D.contents area.old) (D.images area.old) → IfSome (D.contents area.old) (λ before. LeavesOnly D.moment D.images_since area.old area.new (IsPartStarted GENERATION rows.now before)) }
-    ensures still_told { IsSome (D.contents area.old) → IsSome (D.contents area.new) }
-    ensures left { OnErr result (Only (D.contents area.old) (D.images area.old) → IfSome (D.contents area.old) (λ before. Holds (IsPartStarted GENERATION rows.now before) (D.contents area.new))) }
-    ensures kept_without_memory { IsErrOf result Status.NoMemory → D.contents area.new ≡ D.contents area.old }
-    ensures ends { IfErr result (IsStoringEnd (D.faults area.old) (D.faults area.new)) }
-    ensures faults_never_fall { D.faults area.old ≤ D.faults area.new }
-{
-    match start_area(alloc, area, GENERATION, rows) {
-        Ok(_) => Ok(()),
-        Err(LogError::DiskFault) => Err(Status::DiskFault),
-        Err(LogError::NoMemory) => Err(Status::NoMemory),
-        Err(LogError::RecordTooLong) => unreachable!(),
-    }
+    };
+    let mut storing = Storing {
+        keeper: &mut keeper,
+        a: &mut *outside.a,
+        b: &mut *outside.b,
+        stored: Stored::begun(),
+    };
+    let mut around = Surroundings {
+        folder: &mut *outside.folder,
+        wires: &mut *outside.wires,
+        clock: &mut *outside.clock,
+        bell: &mut *outside.bell,
+    };
+    let worked = run_over(rt, context, passes, &scanned, &mut storing, &mut around)?;
+    ending_of(
+        alloc,
+        worked,
+        storing.keeper,
+        scanned.listed.as_slice(),
+        settings.output.attempts,
+    )
 }

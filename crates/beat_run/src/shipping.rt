@@ -1,31 +1,34 @@
-ghost use Rattle.std.specs.Prelude.{◌≡◌, ℕ, ◌<◌, ◌≤◌, ◌⊎◌, List, drop, length, take, vec_len, Option, IfSome, IsSome};
-ghost use Rattle.outside.specs.Counts.{IsAtEnd, Rose};
-ghost use Rattle.outside.specs.DiskImages.{LeavesOnly, Only};
-ghost use Rattle.outside.specs.Wires.{Outcome};
+ghost use Rattle.std.specs.Prelude.{◌≡◌, ◌⊎◌, ◌+◌, ◌-◌, ◌^◌, ◌<◌, ◌≤◌, IfSome, IsSome, List, Ok, Some, ℕ, map, take, vec_len};
 ghost use Rattle.beat_config.specs.Document.{AreSettingsOf, IsFirstFault};
 ghost use Rattle.command_line.specs.Words.{IsNoCommand};
 ghost use Rattle.event_tree.specs.declared.settings.Settings.{Settings};
+ghost use Rattle.outside.specs.Counts.{Rose};
+ghost use Rattle.outside.specs.DiskImages.{LeavesOnly};
 ghost use Rattle.prospect.specs.Lacks.{IsFirstLack};
+ghost use Rattle.registry_store.specs.Settled.{AreAtRest};
+ghost use Rattle.report.specs.Writing.{WritesAll};
+ghost use Rattle.rounds.specs.Making.{all_seen};
+ghost use Rattle.rounds.specs.Words.{disk_words, wire_words};
+ghost use Rattle.run_steps.specs.ClockOn.{MomentsGoOn};
+ghost use Rattle.run_steps.specs.Registry.{IsRefusedAt, IsWritten};
+ghost use Rattle.beat_run.specs.Accounted.{IsAccountedWhereTold};
 ghost use Rattle.beat_run.specs.Asked.{AskFor, AskForOnce, IsAsked};
-ghost use Rattle.beat_run.specs.Blamed.{FailsBySettings, ShowsTooMany};
-ghost use Rattle.beat_run.specs.Ends.{HasStored, IsPrintingEnd, IsRefusal, IsRunEnd, IsToCome, RefusesArea, RefusesKey, RefusesLack, RefusesSettings, RefusesWords};
-ghost use Rattle.beat_run.specs.Evidence.{MomentsGoOn, evidence_of};
-ghost use Rattle.report.specs.Report.{IsReport};
-ghost use Rattle.beat_run.specs.Printed.{IsPrinted, Prints};
-ghost use Rattle.beat_run.specs.Standing.{GoesOn, OnFirst};
-ghost use Rattle.beat_run.specs.Stored.{HasNoOtherRow, IsDone, IsStoredBy, StoresReported};
-ghost use Rattle.beat_run.specs.Untouched.{IsRefused, IsUntouched};
+ghost use Rattle.beat_run.specs.Cause.{Cause};
+ghost use Rattle.beat_run.specs.Ends.{IsBehindOpening, IsPrintingEnd, IsRefusal, IsReportEnd, IsRunEnd, IsUnprepared, RefusesArea, RefusesKey, RefusesLack, RefusesSettings, RefusesWords};
+ghost use Rattle.beat_run.specs.Printed.{IsPrinted, IsReportOf, Prints, ReportsStored};
+ghost use Rattle.beat_run.specs.Untouched.{IsRefused};
 ghost use Rattle.beat_run.specs.declared.settings.TheConstants.{LIMIT};
 
 use crate::ending::Ending;
+use crate::objects::Outside;
 use crate::run::run;
 use beat_config::SettingsError;
 use outside::{Bell, Clock, Disk, Folder, Sink, Source, Wire};
-use report::{Lack, Status, report_text, status_line, write_all};
+use report::{Lack, Status, status_line, write_all};
 use std::alloc::Global;
 use std::sync::Wait;
 use std::thread::Threads;
-use wire_base::{Full, Text, Which};
+use wire_base::{Text, Which};
 
 /// The whole run.
 pub fn ship<
@@ -45,9 +48,9 @@ pub fn ship<
     folder: &mut F,
     wires: &mut Vec<W>,
     area_a: &mut D,
-    _area_b: &mut D,
+    area_b: &mut D,
     clock: &mut K,
-    _bell: &mut B,
+    bell: &mut B,
     out: &mut S,
 ) -> Status
 where
@@ -71,128 +74,149 @@ where
     ensures keys_of_the_unbuilt_are_refused { (asked : Settings) (key : List ℕ) →
         IfSome (R.left settings.old) (λ bytes.
         AreSettingsOf (take LIMIT bytes) asked → IsFirstLack asked key → RefusesKey key result) }
-    ensures registry_bad_only_where_the_area_has_bytes { (area : Which) (at : ℕ) →
-        result ≡ Status.RegistryBad area at →
-        (area ≡ Which.A) × (at ≡ 0)
-        × IfSome (D.contents area_a.old) (λ bytes. 1 < length bytes) }
-    ensures area_with_bytes_is_refused { IfSome (D.contents area_a.old)
-        (λ bytes. 1 < length bytes → RefusesArea result) }
-    ensures refused_runs_change_nothing { IsRefused words.now (R.left settings.old)
-        (D.contents area_a.old) →
-        IsUntouched (D.contents area_a.old) (D.contents area_a.new)
-        folder.old folder.new wires.old.items wires.new.items }
-    ensures refused_runs_leave_no_new_image { IsRefused words.now (R.left settings.old)
-        (D.contents area_a.old) →
-        LeavesOnly D.moment D.images_since area_a.old area_a.new (D.images area_a.old) }
-    ensures area_kept_on_refusal { IsRefusal result →
+    ensures registry_bad_only_where_an_area_is_written { (first second : List ℕ) (area : Which) (at : ℕ) →
+        D.contents area_a.old ≡ Some first → D.contents area_b.old ≡ Some second →
+        result ≡ Status.RegistryBad area at → IsRefusedAt first second area at }
+    ensures written_area_is_refused { (first second : List ℕ) →
+        D.contents area_a.old ≡ Some first → D.contents area_b.old ≡ Some second →
+        IsWritten first ⊎ IsWritten second → RefusesArea result }
+
+    // Refused runs change nothing.
+    ensures refused_runs_keep_the_folder { IsRefused words.now (R.left settings.old)
+        (D.contents area_a.old) (D.contents area_b.old) → folder.new ≡ folder.old }
+    ensures refused_runs_keep_the_wires { IsRefused words.now (R.left settings.old)
+        (D.contents area_a.old) (D.contents area_b.old) → wires.new.items ≡ wires.old.items }
+    ensures refused_runs_keep_the_first_area { IsRefused words.now (R.left settings.old)
+        (D.contents area_a.old) (D.contents area_b.old) →
         D.contents area_a.new ≡ D.contents area_a.old }
-    ensures no_new_image_on_refusal { IsRefusal result →
+    ensures refused_runs_keep_the_second_area { IsRefused words.now (R.left settings.old)
+        (D.contents area_a.old) (D.contents area_b.old) →
+        D.contents area_b.new ≡ D.contents area_b.old }
+    ensures refused_runs_leave_no_image_of_the_first { IsRefused words.now (R.left settings.old)
+        (D.contents area_a.old) (D.contents area_b.old) →
         LeavesOnly D.moment D.images_since area_a.old area_a.new (D.images area_a.old) }
+    ensures refused_runs_leave_no_image_of_the_second { IsRefused words.now (R.left settings.old)
+        (D.contents area_a.old) (D.contents area_b.old) →
+        LeavesOnly D.moment D.images_since area_b.old area_b.new (D.images area_b.old) }
+    ensures first_area_unused_before_the_registry { IsUnprepared result → area_a.new ≡ area_a.old }
+    ensures second_area_unused_before_the_registry { IsUnprepared result → area_b.new ≡ area_b.old }
+    ensures first_area_kept_on_refusal { IsRefusal result →
+        IsSome (D.contents area_a.old) → IsSome (D.contents area_b.old) →
+        D.contents area_a.new ≡ D.contents area_a.old }
+    ensures second_area_kept_on_refusal { IsRefusal result →
+        D.contents area_b.new ≡ D.contents area_b.old }
+    ensures no_image_of_the_first_on_refusal { IsRefusal result →
+        IsSome (D.contents area_a.old) → IsSome (D.contents area_b.old) →
+        LeavesOnly D.moment D.images_since area_a.old area_a.new (D.images area_a.old) }
+    ensures no_image_of_the_second_on_refusal { IsRefusal result →
+        LeavesOnly D.moment D.images_since area_b.old area_b.new (D.images area_b.old) }
     ensures folder_kept_on_refusal { IsRefusal result → folder.new ≡ folder.old }
     ensures wires_kept_on_refusal { IsRefusal result → wires.new.items ≡ wires.old.items }
 
-    // What a run that is not refused has done, and what the area holds then, and held meanwhile.
-    ensures files_are_followed_only_with_once { HasStored result → AskForOnce words.now }
-    ensures done_only_where_every_file_was_drained { result ≡ Status.Done →
-        IfSome (F.told folder.old) (λ told.
-        OnFirst W.outcomes wires.old wires.new (λ before outcomes.
-        IsDone (R.left settings.old) told
-        (evidence_of (K.moments clock.old) (K.moments clock.new) before outcomes)
-        (F.told folder.new) (D.contents area_a.old) (D.contents area_a.new)
-        (S.written out.old) (S.written out.new))) }
-    ensures reported_rows_are_stored { result ≡ Status.Done →
-        IfSome (D.contents area_a.old) (λ _.
-        IfSome (S.written out.old) (λ written.
-        StoresReported written (D.contents area_a.new) (S.written out.new))) }
-    ensures stored_rows_are_kept { IfSome (F.told folder.old) (λ told.
-        OnFirst W.outcomes wires.old wires.new (λ before outcomes.
-        IsStoredBy (R.left settings.old) told
-        (evidence_of (K.moments clock.old) (K.moments clock.new) before outcomes)
-        (F.told folder.new) (D.faults area_a.old) (D.faults area_a.new)
-        (D.contents area_a.old) (D.contents area_a.new) result)) }
-    ensures no_other_row_is_stored { Only (D.contents area_a.old) (D.images area_a.old) →
-        IfSome (F.told folder.old) (λ told.
-        OnFirst W.outcomes wires.old wires.new (λ before outcomes.
-        HasNoOtherRow (R.left settings.old) told
-        (evidence_of (K.moments clock.old) (K.moments clock.new) before outcomes)
-        (F.told folder.new) (D.contents area_a.old) (D.contents area_a.new)
-        (LeavesOnly D.moment D.images_since area_a.old area_a.new))) }
-    ensures stored_rows_are_durable { HasStored result →
-        Only (D.contents area_a.new) (D.images area_a.new) }
-    ensures area_still_tells { IsSome (D.contents area_a.old) → IsSome (D.contents area_a.new) }
+    // What a run that is not refused has done.
+    ensures files_are_followed_only_with_once { IsBehindOpening result → AskForOnce words.now }
+    ensures first_area_still_tells { IsSome (D.contents area_a.old) →
+        IsSome (D.contents area_a.new) }
+    ensures second_area_still_tells { IsSome (D.contents area_b.old) →
+        IsSome (D.contents area_b.new) }
     ensures last_line_is_printed { IfSome (S.written out.old) (λ written.
         IsPrinted written (S.written out.new) result) }
 
-    // Whom the other statuses blame.
-    ensures first_failure_of_the_only_worker { (worker failures : ℕ) →
-        result ≡ Status.Unreachable worker failures → (worker ≡ 0) × (failures ≡ 1) }
-    ensures unreachable_only_where_the_wire_or_a_peer_failed { (worker failures : ℕ) →
-        result ≡ Status.Unreachable worker failures →
-        OnFirst {A = ℕ × Option (List Outcome)} (λ wire. (W.faults wire, W.outcomes wire))
-        wires.old wires.new (λ before now. FailsBySettings (R.left settings.old)
-        (evidence_of (K.moments clock.old) (K.moments clock.new) before.1 now.1) now.0) }
-    ensures too_many_only_where_the_listings_show_more { (what : Full) (path : List ℕ) →
-        result ≡ Status.TooMany what path → (what ≡ Full.Files) × IfSome (F.told folder.old)
-        (λ told. ShowsTooMany (R.left settings.old) told path (F.told folder.new)) }
-    ensures disk_fault_only_where_the_area_failed { result ≡ Status.DiskFault →
-        Rose (D.faults area_a.old) (D.faults area_a.new) }
-    ensures folder_fault_only_where_the_folder_failed { result ≡ Status.FolderFault →
-        Rose (F.faults folder.old) (F.faults folder.new) }
-    ensures out_fault_only_where_the_sink_failed { result ≡ Status.OutFault →
-        Rose (S.faults out.old) (S.faults out.new) }
-    ensures source_fault_only_where_the_source_failed { result ≡ Status.SourceFault →
-        Rose (R.faults settings.old) (R.faults settings.new) }
+    // The account of the run, and its rows.
+    ensures accounted_for_where_all_tell { IsAccountedWhereTold
+        (disk_words D.contents D.images D.moment D.images_since D.faults)
+        (R.left settings.old) (record {
+          before = record {
+            folder = F.told folder.old;
+            moments = K.moments clock.old;
+            outcomes = map W.outcomes wires.old.items;
+            a = area_a.old;
+            b = area_b.old;
+          };
+          after = record {
+            folder = F.told folder.new;
+            moments = K.moments clock.new;
+            outcomes = map W.outcomes wires.new.items;
+            a = area_a.new;
+            b = area_b.new;
+          };
+        }) result }
+    ensures reported_rows_are_stored { IsSome (F.told folder.old) →
+        AreAtRest D.contents D.images area_a.old area_b.old →
+        IsReportEnd result → IfSome (S.written out.old) (λ written. Prints (ReportsStored
+        (disk_words D.contents D.images D.moment D.images_since D.faults)
+        area_a.new area_b.new result) written (S.written out.new)) }
+    ensures areas_are_at_rest_again { IsSome (F.told folder.old) →
+        AreAtRest D.contents D.images area_a.old area_b.old →
+        IsBehindOpening result → AreAtRest D.contents D.images area_a.new area_b.new }
 
-    ensures neither_stopped_nor_without_native_numbers { ¬ (IsToCome result) }
+    // Whom the status blames.
+    ensures each_status_only_for_its_cause { Cause (R.left settings.old)
+        (record {
+          signs = record {
+            folder = F.told folder.old;
+            moments = K.moments clock.old;
+            wires = all_seen (wire_words W.outcomes W.open_links W.faults W.idles) wires.old.items;
+            counts = record {
+              a_faults = D.faults area_a.old;
+              b_faults = D.faults area_b.old;
+              folder_faults = F.faults folder.old;
+              rings = B.rings bell.old;
+            };
+          };
+          source_faults = R.faults settings.old;
+          sink_faults = S.faults out.old;
+        })
+        (record {
+          signs = record {
+            folder = F.told folder.new;
+            moments = K.moments clock.new;
+            wires = all_seen (wire_words W.outcomes W.open_links W.faults W.idles) wires.new.items;
+            counts = record {
+              a_faults = D.faults area_a.new;
+              b_faults = D.faults area_b.new;
+              folder_faults = F.faults folder.new;
+              rings = B.rings bell.new;
+            };
+          };
+          source_faults = R.faults settings.new;
+          sink_faults = S.faults out.new;
+        })
+        result }
 
-    // What is closed, what goes on, and what is as it was.
+    // What is closed, and what goes on.
     ensures clock_goes_on { MomentsGoOn (K.moments clock.old) (K.moments clock.new) }
-    ensures wire_goes_on { OnFirst W.outcomes wires.old wires.new GoesOn }
-    ensures links_finished { OnFirst W.open_links wires.old wires.new
-        (λ old new. ¬ (IsAtEnd old) → new ≡ old) }
     ensures as_many_wires { vec_len wires.new ≡ vec_len wires.old }
-    ensures other_wires_kept { drop 1 wires.new.items ≡ drop 1 wires.old.items }
-    ensures tails_closed { ¬ (IsAtEnd (F.open_tails folder.old)) →
+    ensures tails_closed { F.open_tails folder.old + 65_536 < 2 ^ 64 - 1 →
         F.open_tails folder.new ≡ F.open_tails folder.old }
-    ensures other_area_kept { _area_b.new ≡ _area_b.old }
-    ensures bell_kept { _bell.new ≡ _bell.old }
 {
-    match run(
-        rt,
-        alloc,
-        words,
-        settings,
-        folder,
-        &mut wires[0],
-        area_a,
-        clock,
-    ) {
-        Ok(ending) => print_report(alloc, &ending, out),
+    let mut outside = Outside {
+        folder: &mut *folder,
+        wires: &mut *wires,
+        a: &mut *area_a,
+        b: &mut *area_b,
+        clock: &mut *clock,
+        bell: &mut *bell,
+    };
+    match run(rt, alloc, words, settings, &mut outside) {
+        Ok(ending) => print_report(ending, out),
         Err(status) => print_status(status, out),
     }
 }
 
-fn print_report<S: Sink>(alloc: Global, ending: &Ending, out: &mut S) -> Status
-    ensures ends { IsPrintingEnd (S.faults out.old) (S.faults out.new) result }
-    ensures printed { result ≡ Status.Done → IfSome (S.written out.old) (λ written.
-        Prints (IsReport ending.now.rows ending.now.passed.items ending.now.shipped
-        ending.now.dropped Status.Done) written (S.written out.new)) }
+fn print_report<S: Sink>(ending: Ending, out: &mut S) -> Status
+    requires with_report { IsReportEnd ending.status }
+    requires report { IsReportOf ending.status ending.report }
+    ensures ends { IsPrintingEnd (S.faults out.old) (S.faults out.new) ending.status result }
+    ensures printed { result ≡ ending.status → WritesAll (S.written out.old) ending.report (Ok tt)
+        (S.written out.new) }
     ensures told { IfSome (S.written out.old) (λ written.
         IsPrinted written (S.written out.new) result) }
 {
-    match report_text(
-        alloc,
-        &ending.rows,
-        &ending.passed,
-        ending.shipped,
-        ending.dropped,
-        &Status::Done,
-    ) {
-        Ok(text) => match write_all(out, text.bytes()) {
-            Ok(()) => Status::Done,
-            Err(_) => Status::OutFault,
-        },
-        Err(_) => print_status(Status::NoMemory, out),
+    let Ending { report, status } = ending;
+    match write_all(out, report.bytes()) {
+        Ok(()) => status,
+        Err(_) => Status::OutFault,
     }
 }
 

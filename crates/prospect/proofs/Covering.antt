@@ -10,7 +10,7 @@ use Rattle.prospect.specs.declared.listed.Listed.{Listed}
 use Rattle.prospect.specs.declared.scan_error.ScanError.{ScanError}
 use Rattle.prospect.specs.declared.scan_error.ScanError.TheVariants.{Failed, NoMemory, TooMany}
 use Rattle.prospect.specs.declared.scan_input.ScanInput.{ScanInput}
-use Rattle.prospect.specs.declared.listings.TheConstants.{MAX_FILES}
+use Rattle.prospect.specs.declared.files.TheConstants.{MAX_FILES}
 use Rattle.prospect.specs.Covered.{AddsCovered, AreCovered, CoversEntry, IsFileOf, IsOneMore, Pair, StopsAt, file_of, pair_of, pairs_of, pairs_with}
 use Rattle.prospect.specs.Readings.{Reading, reading_of}
 

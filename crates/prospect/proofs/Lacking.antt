@@ -23,6 +23,5 @@ of_next lacks before after inputs i input within is before_is after_is =
     ∙ ap (λ (x : InputRule). lacks ++ lacks_of_inputs 0 (take i inputs ++ x ∷ [])) is
     ∙ ap (λ (l : List InputRule). lacks ++ lacks_of_inputs 0 l) (sym (take_more inputs i input within))
 
-pub eight_more : (old first second third fourth fifth sixth seventh eighth a b c d e f g h : List (List ℕ)) → first ≡ old ++ a → second ≡ first ++ b → third ≡ second ++ c → fourth ≡ third ++ d → fifth ≡ fourth ++ e → sixth ≡ fifth ++ f → seventh ≡ sixth ++ g → eighth ≡ seventh ++ h →
-    eighth ≡ old ++ (a ++ b ++ c ++ d ++ e ++ f ++ g ++ h)
-eight_more old first second third fourth fifth sixth seventh eighth a b c d e f g h one two three four five six seven eight = rw (eight, seven, six, five, four, three, two, one) (simp append_assoc)
+pub three_more : (old first second third a b c : List (List ℕ)) → first ≡ old ++ a → second ≡ first ++ b → third ≡ second ++ c → third ≡ old ++ (a ++ b ++ c)
+three_more old first second third a b c one two three = rw (three, two, one) (simp append_assoc)

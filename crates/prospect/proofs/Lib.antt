@@ -1,8 +1,6 @@
-pub mod Adding
 pub mod Covering
 pub mod Lacking
-pub mod Listing
-pub mod Naming
+pub mod LacksNone
 pub mod Numbering
 pub mod Showing
 pub mod Telling

@@ -1,5 +1,5 @@
 -- The entries that the listings of a scan showed, one listing after the other.
-use Rattle.std.proofs.Common.{◌≡◌, ◌⊎◌, inl, inr, ⊎_elim, ℕ, ◌+◌, ◌<◌, Bool, true, false, cond, List, [], ◌∷◌, ◌++◌, length, map, take, get_or, All, Option, Some, None, Ok, IfSome, IsSome, Vec, refl, sym, ◌∙◌, ap, subst, append-nil, append_assoc, rules}
+use Rattle.std.proofs.Common.{◌≡◌, ◌⊎◌, inl, inr, ⊎_elim, ℕ, zero, suc, ◌+◌, ◌<◌, Bool, true, false, cond, List, [], ◌∷◌, ◌++◌, length, map, take, get_or, All, Contains, Option, Some, None, Ok, IfSome, IsSome, Vec, refl, sym, ◌∙◌, ap, subst, append-nil, append_assoc, arith, lit<, rules}
 use Rattle.std.specs.BTreeMap.{get, is_at, Updates}
 use Rattle.std.specs.declared.alloc.Global.{Global}
 use Rattle.std.proofs.lemmas.List.{map-append, take_more}
@@ -18,7 +18,18 @@ use Rattle.prospect.specs.Entries.{Adds, ByPath, IsOne, Lists, ShowEntries}
 use Rattle.prospect.specs.ListedFiles.{shown_in}
 use Rattle.prospect.specs.Readings.{globs_read}
 use Rattle.prospect.specs.Scan.{event_of, Listing, with_events}
-use Rattle.prospect.proofs.Adding.{contains_none, contains_one, only_one}
+
+-- ---- lists of none and of one
+
+pub contains_none : {X : Type 0} (x : X) → Contains [] x → ⊥
+contains_none x (k, within, is) = omega arith
+
+contains_one : {X : Type 0} (x : X) → Contains (x ∷ []) x
+contains_one x = (0, lit< tt, refl)
+
+only_one : {X : Type 0} (x y : X) → Contains (x ∷ []) y → x ≡ y
+only_one x y (zero, within, is) = is
+only_one x y (suc k, within, is) = absurd (omega arith)
 
 -- ---- what was added
 

@@ -38,12 +38,17 @@ use Rattle.prospect.specs.Members.{globs_of, HaveShortIds, IsCovered}
 use Rattle.prospect.specs.Readings.{Reading, globs_read, reading, reading_of, readings_from}
 use Rattle.prospect.specs.Scan.{AreListed, TellsPath}
 use Rattle.prospect.specs.Unfinished.{ListsSome}
-use Rattle.prospect.proofs.Adding.{contains_none}
 use Rattle.prospect.proofs.Covering.{covered_append, entry_by}
-use Rattle.prospect.proofs.Naming.{any_later, contains_later}
+use Rattle.prospect.proofs.Showing.{contains_none}
 use Rattle.prospect.proofs.Unfinished.{all_listed}
 
 -- ---- lists, one element after the other
+
+contains_later : {X : Type 0} (first x : X) (more : List X) → Contains more x → Contains (first ∷ more) x
+contains_later first x more (k, within, is) = (suc k, omega arith, is)
+
+any_later : {X : Type 0} (P : X → Type 0) (first : X) (more : List X) → Any P more → Any P (first ∷ more)
+any_later P first more (k, x, within, is, holds) = (suc k, x, omega arith, is, holds)
 
 abbrev IsIn : {X : Type 0} → List X → X → Type 0
 IsIn [] x = ⊥

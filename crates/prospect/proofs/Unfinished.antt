@@ -1,5 +1,5 @@
 -- What was listed where a scan ends before it tells its files.
-use Rattle.std.proofs.Common.{◌≡◌, inl, inr, ℕ, ◌+◌, ◌<◌, List, [], ◌∷◌, ◌++◌, length, map, take, drop, get_or, Option, Some, None, IfSome, refl, sym, ◌∙◌, ap, subst, append-nil, append_assoc}
+use Rattle.std.proofs.Common.{◌≡◌, inl, inr, ℕ, ◌+◌, ◌<◌, List, [], ◌∷◌, ◌++◌, length, map, take, drop, get_or, Option, Some, None, Result, Ok, Err, IfSome, OnErr, refl, sym, ◌∙◌, ap, subst, append-nil, append_assoc}
 use Rattle.std.proofs.lemmas.List.{take_more, take-append-drop}
 use Rattle.std.proofs.lemmas.List.Concat.{flat_map-append}
 use Rattle.event_tree.specs.declared.input_rule.InputRule.{InputRule}
@@ -14,6 +14,10 @@ use Rattle.prospect.specs.Members.{globs_of}
 use Rattle.prospect.specs.Readings.{globs_read}
 use Rattle.prospect.specs.Scan.{IsErrorOf, Listing, event_of, with_events}
 use Rattle.prospect.specs.Unfinished.{ListSome, ListsSome}
+
+pub on_err : {T E : Type 0} (P : Type 0) (result : Result T E) → P → OnErr result P
+on_err P (Ok value) holds = tt
+on_err P (Err error) holds = holds
 
 abbrev glob_in : Listing → List ℕ
 glob_in listing = listing.glob

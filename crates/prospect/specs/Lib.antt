@@ -1,4 +1,3 @@
-pub mod Collecting
 pub mod Covered
 pub mod Entries
 pub mod Lacks

@@ -13,7 +13,7 @@ use Rattle.outside.specs.Folders.{FolderHistory}
 use Rattle.wire_base.specs.KeyOrder.{compare}
 use Rattle.wire_base.specs.Ranges.{IsKey, IsPath, IsPlace}
 use Rattle.prospect.specs.declared.listed.Listed.{Listed}
-use Rattle.prospect.specs.declared.listings.TheConstants.{MAX_FILES}
+use Rattle.prospect.specs.declared.files.TheConstants.{MAX_FILES}
 use Rattle.prospect.specs.declared.scan_error.ScanError.{ScanError}
 use Rattle.prospect.specs.declared.scan_error.ScanError.TheVariants.{Failed, NoMemory, TooMany}
 use Rattle.prospect.specs.Members.{IsCovered, globs_of}

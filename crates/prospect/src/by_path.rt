@@ -6,7 +6,7 @@ ghost use Rattle.prospect.specs.Readings.{reading_of};
 ghost use Rattle.wire_base.specs.KeyOrder.{compare};
 
 use crate::entries::Entries;
-use crate::listings::MAX_FILES;
+use crate::files::MAX_FILES;
 use crate::scan_input::ScanInput;
 use crate::{Listed, ScanError};
 use file_identity::{IdentityError, listed_key};

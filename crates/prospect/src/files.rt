@@ -10,13 +10,15 @@ ghost use Rattle.prospect.specs.Unfinished.{ListsSome};
 
 use crate::by_path::list_entries;
 use crate::entries::{Entries, add_entries};
-use crate::listings::MAX_FILES;
 use crate::scan_input::{ScanInput, number_inputs};
 use crate::{Listed, ScanError};
 use event_tree::InputRule;
 use glob_paths::Glob;
 use outside::{Folder, FolderError};
 use std::alloc::Global;
+
+/// The most files that a scan tells.
+pub const MAX_FILES: usize = 65_536;
 
 /// Lists the root of each glob once, in the order of the settings, and tells each path that a glob
 /// covers once for its input, in byte order of the paths and then by the inputs' places.

@@ -1,15 +1,12 @@
 ghost use Rattle.std.specs.Prelude.{◌≡◌, ◌++◌, [], IfOk, MatchOption, OnOk};
-ghost use Rattle.prospect.specs.Lacks.{IsFirstLack, input_key, is_auto, is_path, is_single, lacks_of, lacks_of_input, lacks_of_inputs, unless_built};
+ghost use Rattle.prospect.specs.Lacks.{IsFirstLack, input_key, is_path, lacks_of, lacks_of_input, lacks_of_inputs, unless_built};
 
-use event_tree::{GroupRule, IdentityRule, InputRule, Settings, Terminator};
+use event_tree::{IdentityRule, InputRule, Settings};
 use std::alloc::Global;
 use wire_base::{NoMemory, Text};
 
-/// The most bytes of a message that are kept by default (Filebeat reference, message_max_bytes).
-const DEFAULT_MESSAGE_MAX_BYTES: u64 = 10_485_760;
-
 /// The first key in byte order by which valid settings ask for what is not built, as
-/// `inputs.0.file_identity` or `output.workers`.
+/// `inputs.0.file_identity` or `inputs.1.ignore_older`.
 pub fn first_lack(alloc: Global, settings: &Settings) -> Result<Option<Text>, NoMemory>
     ensures first { IfOk result (λ found. MatchOption found (lacks_of settings.now ≡ []) (IsFirstLack settings.now)) }
 {
@@ -23,10 +20,6 @@ fn lacks_of(alloc: Global, settings: &Settings) -> Result<Vec<Text>, NoMemory>
 {
     let mut lacks = Vec::new(alloc);
     add_inputs(alloc, &mut lacks, settings.inputs.as_slice())?;
-    let one_worker = settings.output.workers == 1;
-    add(alloc, &mut lacks, one_worker, "output.workers")?;
-    let no_processor = settings.processors.as_slice().is_empty();
-    add(alloc, &mut lacks, no_processor, "processors")?;
     Ok(lacks)
 }
 
@@ -53,16 +46,6 @@ fn add_input(
     add_of(alloc, lacks, number, takes_old, "ignore_older")?;
     let keeps_inactive = input.clean_inactive == 0;
     add_of(alloc, lacks, number, keeps_inactive, "clean_inactive")?;
-    let auto = is_auto(input.lines.terminator);
-    add_of(alloc, lacks, number, auto, "line_terminator")?;
-    let default_size = input.lines.message_max_bytes == DEFAULT_MESSAGE_MAX_BYTES;
-    add_of(alloc, lacks, number, default_size, "message_max_bytes")?;
-    let all_included = input.include_lines.as_slice().is_empty();
-    add_of(alloc, lacks, number, all_included, "include_lines")?;
-    let none_excluded = input.exclude_lines.as_slice().is_empty();
-    add_of(alloc, lacks, number, none_excluded, "exclude_lines")?;
-    let single = is_single(&input.multiline);
-    add_of(alloc, lacks, number, single, "multiline")?;
     Ok(())
 }
 
@@ -70,18 +53,6 @@ fn is_path(rule: IdentityRule) -> bool
     ensures { result ≡ is_path rule }
 {
     matches!(rule, IdentityRule::Path)
-}
-
-fn is_auto(terminator: Terminator) -> bool
-    ensures { result ≡ is_auto terminator }
-{
-    matches!(terminator, Terminator::Auto)
-}
-
-fn is_single(rule: &GroupRule) -> bool
-    ensures { result ≡ is_single rule.now }
-{
-    matches!(rule, GroupRule::Single { .. })
 }
 
 /// Adds the key of a setting of an input, unless what it asks for is built.
@@ -96,17 +67,6 @@ fn add_of(
 {
     if !built {
         let key = format!(in alloc; "inputs.{number}.{name}")?;
-        lacks.push(Text::from_string(key))?;
-    }
-    Ok(())
-}
-
-/// Adds the key, unless what it asks for is built.
-fn add(alloc: Global, lacks: &mut Vec<Text>, built: bool, key: &str) -> Result<(), NoMemory>
-    ensures { OnOk result (lacks.new.items ≡ lacks.old.items ++ unless_built built key.now) }
-{
-    if !built {
-        let key = String::from_str(alloc, key)?;
         lacks.push(Text::from_string(key))?;
     }
     Ok(())

@@ -4,14 +4,14 @@ use std::error::Error;
 use std::fmt;
 use wire_base::{NoMemory, Text};
 
-/// Why a scan gave no members.
+/// Why a scan told no files.
 #[derive(Debug, Drop, PartialEq, Eq)]
 pub enum ScanError {
     /// A listing failed; the folder's count of faults rose in it.
     Failed,
     NoMemory,
-    /// There are more than `MAX_FILES` keys; the path is that of the first one too many, in byte
-    /// order of the keys, or of the paths where files are told by path.
+    /// There are more than `MAX_FILES` files; the path is that of the first one too many, in byte
+    /// order of the paths and then by the inputs' places.
     TooMany { path: Text },
 }
 

@@ -1,10 +1,10 @@
-ghost use Rattle.std.specs.Prelude.{◌≡◌, ◌↔◌, IfOk, IsTrue, map};
+ghost use Rattle.std.specs.Prelude.{◌≡◌, ◌↔◌, None, IfOk, IsTrue, map};
+ghost use Rattle.glob_paths.specs.Fault.{fault_of};
 ghost use Rattle.prospect.specs.Members.{AreGlobs, HaveGlobs, IsCovered};
 ghost use Rattle.prospect.specs.Readings.{reading, reading_of, readings_from};
 
-use crate::input_globs::read_globs;
 use event_tree::{IdentityRule, InputRule};
-use glob_paths::Glob;
+use glob_paths::{Glob, GlobError};
 use std::alloc::Global;
 use wire_base::{NoMemory, Text};
 
@@ -44,6 +44,30 @@ fn number_input(alloc: Global, number: usize, input: &InputRule) -> Result<ScanI
         identity: input.file_identity,
         globs: read_globs(alloc, input.paths.as_slice())?,
     })
+}
+
+/// The globs of texts without a fault.
+fn read_globs(alloc: Global, texts: &[Text]) -> Result<Vec<Glob>, NoMemory>
+    requires { AreGlobs texts.now }
+    ensures { IfOk result (λ globs. globs.items ≡ texts.now) }
+{
+    let mut globs = Vec::new(alloc);
+    for text in texts {
+        globs.push(read_glob(alloc, text)?)?;
+    }
+    Ok(globs)
+}
+
+fn read_glob(alloc: Global, text: &Text) -> Result<Glob, NoMemory>
+    requires { fault_of text.now ≡ None }
+    ensures { IfOk result (λ glob. glob ≡ text.now) }
+{
+    match Glob::read(alloc, text) {
+        Ok(glob) => Ok(glob),
+        Err(GlobError::NoMemory) => Err(NoMemory),
+        // The text has no fault.
+        Err(_) => unreachable!(),
+    }
 }
 
 impl ScanInput {

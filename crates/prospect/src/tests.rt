@@ -50,58 +50,13 @@ const INPUTS: [(&str, &[&str]); 3] = [
 ];
 
 #[test]
-fn each_covered_path_is_a_member_once_for_its_input(rt: HostRuntime) -> Result<(), Fail> {
-    let alloc = rt.alloc();
-    let inputs = inputs(alloc, &INPUTS, &[])?;
-    let mut folder = folder(alloc, &PATHS, usize::MAX)?;
-    let members = scan(alloc, &mut folder, &inputs)?;
-    let mut found = String::new(alloc);
-    for member in &members {
-        let (key, path) = (member.key.as_str(), member.path.as_str());
-        writeln!(&mut found, "{key} {path}")?;
-    }
-    // A `-` comes before a `:`.
-    let wanted = "\
-filestream::w-x::path::/w/a.log /w/a.log
-filestream::w-x::path::/w/x/a.log /w/x/a.log
-filestream::w::path::/w/a.log /w/a.log
-filestream::w::path::/w/a.txt /w/a.txt
-filestream::w::path::/w/b.log /w/b.log
-";
-    assert_eq!(rt; found.as_str(), wanted);
-    assert_eq!(rt; folder.listings.as_str(), "/w 1\n/w 1\n/w 9\n/none 1\n");
-    Ok(())
-}
-
-#[test]
 fn failed_listing_ends_the_scan(rt: HostRuntime) -> Result<(), Fail> {
     let alloc = rt.alloc();
     let inputs = inputs(alloc, &INPUTS, &[])?;
     let mut folder = folder(alloc, &PATHS, 2)?;
-    let scanned = scan(alloc, &mut folder, &inputs);
-    assert!(rt; matches!(scanned, Err(ScanError::Failed)));
+    let listed = list_files(alloc, &mut folder, &inputs);
+    assert!(rt; matches!(listed, Err(ScanError::Failed)));
     assert_eq!(rt; folder.listings.as_str(), "/w 1\n/w 1\n");
-    Ok(())
-}
-
-#[test]
-fn one_file_above_the_limit_is_too_many(rt: HostRuntime) -> Result<(), Fail> {
-    let alloc = rt.alloc();
-    let inputs = inputs(alloc, &[("w", &["/w/*.log"])], &[])?;
-    let mut folder = folder(alloc, &[], usize::MAX)?;
-    for number in (0..65_536u32).rev() {
-        let path = format!(in alloc; "/w/{number:05}.log")?;
-        folder.paths.push(Text::from_string(path))?;
-    }
-    let count = scan(alloc, &mut folder, &inputs)?.len();
-    folder.paths.push(Text::from_bytes(alloc, b"/w/0.log")?)?;
-    let scanned = scan(alloc, &mut folder, &inputs);
-    let path = match &scanned {
-        Err(ScanError::TooMany { path }) => path.as_str(),
-        _ => "",
-    };
-    assert_eq!(rt; count, 65_536);
-    assert_eq!(rt; path, "/w/65535.log");
     Ok(())
 }
 
@@ -175,11 +130,10 @@ fn first_file_too_many_is_told_by_its_path(rt: HostRuntime) -> Result<(), Fail> 
     Ok(())
 }
 
-const LACKS: [(usize, &[(usize, Ask)], Option<&str>); 14] = [
+const LACKS: [(usize, &[(usize, Ask)], Option<&str>); 11] = [
     (1, &[], None),
     (1, &[(0, Ask::Fingerprint)], Some("inputs.0.file_identity")),
     (1, &[(0, Ask::Native)], Some("inputs.0.file_identity")),
-    (1, &[(0, Ask::LineFeed)], Some("inputs.0.line_terminator")),
     (
         1,
         &[(0, Ask::Older), (0, Ask::Include)],
@@ -192,35 +146,37 @@ const LACKS: [(usize, &[(usize, Ask)], Option<&str>); 14] = [
     ),
     (
         1,
-        &[(0, Ask::Include), (0, Ask::Exclude)],
-        Some("inputs.0.exclude_lines"),
+        &[(0, Ask::Older), (0, Ask::Inactive)],
+        Some("inputs.0.clean_inactive"),
     ),
     (
         2,
-        &[(0, Ask::Multiline), (1, Ask::Native)],
-        Some("inputs.0.multiline"),
-    ),
-    (
-        2,
-        &[(1, Ask::Size), (1, Ask::LineFeed), (0, Ask::Workers)],
-        Some("inputs.1.line_terminator"),
+        &[(0, Ask::Older), (1, Ask::Native)],
+        Some("inputs.0.ignore_older"),
     ),
     (
         11,
-        &[(2, Ask::Native), (10, Ask::Size)],
-        Some("inputs.10.message_max_bytes"),
+        &[(2, Ask::Native), (10, Ask::Older)],
+        Some("inputs.10.ignore_older"),
     ),
     (
         11,
-        &[(1, Ask::Multiline), (10, Ask::Native)],
-        Some("inputs.1.multiline"),
+        &[(1, Ask::Older), (10, Ask::Native)],
+        Some("inputs.1.ignore_older"),
     ),
     (
         1,
-        &[(0, Ask::Workers), (0, Ask::Processors)],
-        Some("output.workers"),
+        &[
+            (0, Ask::LineFeed),
+            (0, Ask::Size),
+            (0, Ask::Include),
+            (0, Ask::Exclude),
+            (0, Ask::Multiline),
+            (0, Ask::Workers),
+            (0, Ask::Processors),
+        ],
+        None,
     ),
-    (1, &[(0, Ask::Processors)], Some("processors")),
     (0, &[], None),
 ];
 

@@ -164,11 +164,6 @@ fn unbuilt_line<S: Sink>(lack: &Lack, out: &mut S) -> Result<(), Failed>
     ensures failed_only_where_faults_rose { OnErr result (Rose (S.faults out.old) (S.faults out.new)) }
 {
     match lack {
-        Lack::Byte(at) => write_parts(
-            out,
-            &[Plain(b"status 13 unbuilt byte "), Number(*at), Plain(b"\n")],
-        ),
-        Lack::Life => write_all(out, b"status 13 unbuilt life\n"),
         Lack::Key(key) => write_parts(
             out,
             &[

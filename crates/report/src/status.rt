@@ -8,10 +8,6 @@ use wire_base::{Full, NoMemory, Text, Which};
 /// What is asked for and not built yet.
 #[derive(Debug, Drop, PartialEq, Eq)]
 pub enum Lack {
-    /// A byte of a file that cannot be sent yet, at this place.
-    Byte(u64),
-    /// A file that became shorter than what was read of it.
-    Life,
     /// A key of the settings, as its dotted path.
     Key(Text),
     /// A run that goes on at the end of the files.

@@ -33,7 +33,7 @@ fn ends(rt: &impl Abort, alloc: Global, status: Status, code: u8, line: &str) ->
 #[test]
 fn each_end_has_its_code_and_last_line(rt: HostRuntime) -> Result<(), Fail> {
     let alloc = rt.alloc();
-    let cases: [(Status, u8, &str); 17] = [
+    let cases: [(Status, u8, &str); 15] = [
         (Status::Done, 0, "status 0 done\n"),
         (Status::Stopped, 1, "status 1 stopped\n"),
         (
@@ -80,18 +80,6 @@ fn each_end_has_its_code_and_last_line(rt: HostRuntime) -> Result<(), Fail> {
         (Status::OutFault, 8, ""),
         (Status::SourceFault, 9, "status 9 source fault\n"),
         (Status::NoMemory, 12, "status 12 no memory\n"),
-        (
-            Status::Unbuilt {
-                what: Lack::Byte(7),
-            },
-            13,
-            "status 13 unbuilt byte 7\n",
-        ),
-        (
-            Status::Unbuilt { what: Lack::Life },
-            13,
-            "status 13 unbuilt life\n",
-        ),
         (
             Status::Unbuilt { what: Lack::Follow },
             13,

@@ -1,154 +1,256 @@
-//! Objects that fail, and peers that break the protocol or fall silent.
+//! Objects that fail, and peers that break the protocol, close or fall silent.
 
-use crate::tests::wanted::{Area, Event, Wanted};
-use crate::tests::world::{Case, Object, PLAIN, Peer, Start, check, check_each};
+use crate::tests::wanted::{Case, Sent, Wanted, check_each};
+use crate::tests::world::{Object, PLAIN, Peer, Start, run};
+use registry_store::Store;
+use std::process::Abort;
+use std::sync::Wait;
 use std::test::Fail;
+use std::thread::Threads;
+use wire_base::Text;
 
-const SOURCE_FAULT: &str = "status 9 source fault\n";
+const ROW_AT_0: &str = "file \"filestream::w::path::/w/a.log\" 0 0 \"/w/a.log\"\n";
 
-const DISK_FAULT: &str = "status 5 disk fault\n";
+const ROW_AT_2: &str = "file \"filestream::w::path::/w/a.log\" 0 2 \"/w/a.log\"\n";
 
-const FOLDER_FAULT: &str = "status 6 folder fault\n";
+const ROW_AT_4: &str = "file \"filestream::w::path::/w/a.log\" 0 4 \"/w/a.log\"\n";
+
+/// The whole report of a run that ships all.
+const DONE: &str =
+    "file \"filestream::w::path::/w/a.log\" 0 4 \"/w/a.log\"\nshipped 2 dropped 0\nstatus 0 done\n";
 
 const UNREACHABLE: &str = "status 7 unreachable worker 0 failures 1\n";
 
-const DONE: &str = r#"file "filestream::w::path::/w/a.log" 0 4 "/w/a.log"
-shipped 2 dropped 0
-status 0 done
-"#;
+/// One failure ends the run.
+const ONE_ATTEMPT: Start = Start {
+    output: "attempts = 1",
+    ..PLAIN
+};
 
-const NO_ROW: Area = Area::Started(&[]);
+/// So does silence of a second, and each window has one event.
+const ONE_SECOND: Start = Start {
+    output: "attempts = 1\ntimeout = '1s'\nbulk_max_size = 1\npipelining = 1",
+    ..PLAIN
+};
 
-const ROW_AT_0: Area = Area::Started(&[("w", "/w/a.log", 0)]);
-
-const ROW_AT_2: Area = Area::Started(&[("w", "/w/a.log", 2)]);
-
-const ROW_AT_4: Area = Area::Started(&[("w", "/w/a.log", 4)]);
-
-/// The object and the number of its failing call, the exit status, all that is printed, and the area.
-const FAILING: [(Object, u64, u8, &str, Area); 15] = [
-    (Object::Source, 0, 9, SOURCE_FAULT, Area::Kept),
-    (Object::Source, 1, 9, SOURCE_FAULT, Area::Kept),
-    (Object::Area, 0, 5, DISK_FAULT, Area::Kept),
-    (Object::Area, 2, 5, DISK_FAULT, Area::Kept),
-    (Object::Area, 3, 5, DISK_FAULT, Area::Holds(".")),
-    (Object::Folder, 0, 6, FOLDER_FAULT, NO_ROW),
-    (Object::Folder, 1, 6, FOLDER_FAULT, NO_ROW),
-    (Object::Tail, 0, 6, FOLDER_FAULT, ROW_AT_0),
-    (Object::Tail, 1, 6, FOLDER_FAULT, ROW_AT_0),
-    (Object::Tail, 2, 6, FOLDER_FAULT, ROW_AT_4),
-    (Object::Wire, 0, 7, UNREACHABLE, ROW_AT_0),
-    (Object::LinkSend, 1, 7, UNREACHABLE, ROW_AT_0),
-    (Object::LinkReceive, 0, 7, UNREACHABLE, ROW_AT_0),
-    (Object::Sink, 0, 8, "", ROW_AT_4),
-    (Object::Sink, 1, 0, DONE, ROW_AT_4),
-];
-
-#[test]
-fn failing_call_ends_the_run_by_its_object(rt: HostRuntime) -> Result<(), Fail> {
-    for (object, call, status, printed, area) in FAILING {
-        let start = Start {
-            failing: &[(object, call)],
-            ..PLAIN
-        };
-        let wanted = Wanted {
-            status,
-            printed,
-            area,
-            windows: None,
-            moment: 0,
-        };
-        check(&rt, printed, start, wanted)?;
-    }
-    Ok(())
-}
-
-const BOTH: &[&[Event]] = &[&[("/w/a.log", 0, "a"), ("/w/a.log", 2, "b")]];
-
-const ONE_BY_ONE: &[&[Event]] = &[&[("/w/a.log", 0, "a")], &[("/w/a.log", 2, "b")]];
-
-const SECOND_OF_TIMEOUT: &str = r#"
-[[inputs]]
-id = "w"
-paths = ["/w/*.log"]
-file_identity = "path"
-[output]
-hosts = ["h:5044"]
-bulk_max_size = 1
-timeout = "1s"
-"#;
-
-const UNSETTLED: Wanted = Wanted {
+/// The run ends with status 7 at once, and nothing was acknowledged.
+const GIVEN_UP: Wanted = Wanted {
     status: 7,
+    rows: Some(ROW_AT_0),
     printed: UNREACHABLE,
-    area: ROW_AT_0,
-    windows: Some(BOTH),
-    moment: 0,
+    sent: Sent::Open,
+    moment: Some(0),
 };
 
 const NO_FRAME: Case = Case {
     name: "no frame",
     start: Start {
         peer: Peer::Closes(b"3"),
-        ..PLAIN
+        ..ONE_ATTEMPT
     },
-    wanted: UNSETTLED,
+    wanted: GIVEN_UP,
+};
+
+const COMPRESSED: Case = Case {
+    name: "a compressed frame behind an acknowledgement",
+    start: Start {
+        peer: Peer::FallsSilent(b"2A\0\0\0\x012C"),
+        ..ONE_SECOND
+    },
+    wanted: Wanted {
+        rows: Some(ROW_AT_2),
+        ..GIVEN_UP
+    },
 };
 
 const ABOVE_THE_WINDOW: Case = Case {
     name: "above the window",
     start: Start {
         peer: Peer::Closes(b"2A\0\0\0\x03"),
-        ..PLAIN
+        ..ONE_ATTEMPT
     },
-    wanted: UNSETTLED,
+    wanted: GIVEN_UP,
 };
 
 const CLOSED_BEHIND_A_PART: Case = Case {
     name: "closed behind a part",
     start: Start {
         peer: Peer::Closes(b"2A\0\0\0\x01"),
-        ..PLAIN
+        ..ONE_ATTEMPT
     },
-    wanted: UNSETTLED,
+    wanted: Wanted {
+        rows: Some(ROW_AT_2),
+        ..GIVEN_UP
+    },
 };
 
 const SILENT_WITHIN_AN_ANSWER: Case = Case {
     name: "silent within an answer",
     start: Start {
         peer: Peer::FallsSilent(b"2A\0\0"),
-        ..PLAIN
+        ..ONE_SECOND
     },
     wanted: Wanted {
-        moment: 30_000,
-        ..UNSETTLED
+        sent: Sent::Lines(&[(0, "a")]),
+        moment: Some(1_000),
+        ..GIVEN_UP
     },
 };
 
 const SILENT_BEHIND_THE_FIRST_WINDOW: Case = Case {
     name: "silent behind the first window",
     start: Start {
-        settings: SECOND_OF_TIMEOUT,
         peer: Peer::FallsSilent(b"2A\0\0\0\x01"),
-        ..PLAIN
+        ..ONE_SECOND
     },
     wanted: Wanted {
-        area: ROW_AT_2,
-        windows: Some(ONE_BY_ONE),
-        moment: 1_000,
-        ..UNSETTLED
+        rows: Some(ROW_AT_2),
+        sent: Sent::Lines(&[(0, "a"), (2, "b")]),
+        moment: Some(1_000),
+        ..GIVEN_UP
+    },
+};
+
+const STOPPED_WHILE_SILENT: Case = Case {
+    name: "the bell rings while the peer is silent",
+    start: Start {
+        quiet: 5,
+        peer: Peer::FallsSilent(b"2A\0\0\0\x01"),
+        ..ONE_SECOND
+    },
+    wanted: Wanted {
+        status: 1,
+        rows: Some(ROW_AT_2),
+        printed: "shipped 1 dropped 0\nstatus 1 stopped\n",
+        sent: Sent::Lines(&[(0, "a"), (2, "b")]),
+        // in how many of these rounds nothing moved is left open
+        moment: None,
     },
 };
 
 const PEERS: &[Case] = &[
     NO_FRAME,
+    COMPRESSED,
     ABOVE_THE_WINDOW,
     CLOSED_BEHIND_A_PART,
     SILENT_WITHIN_AN_ANSWER,
     SILENT_BEHIND_THE_FIRST_WINDOW,
+    STOPPED_WHILE_SILENT,
 ];
 
 #[test]
-fn peer_that_breaks_off_is_unreachable(rt: HostRuntime) -> Result<(), Fail> {
+fn acknowledged_lines_are_kept_whatever_the_peer_does(rt: HostRuntime) -> Result<(), Fail> {
     check_each(&rt, PEERS)
+}
+
+/// More calls than a run makes of any object.
+const CALLS: u64 = 64;
+
+/// How many calls of the first worker's wire and link fail, one in each run.
+const PEER_CALLS: u64 = 6;
+
+/// The objects, and what the run ends with where one of their calls ends it: the exit status and
+/// the line.
+const OBJECTS: [(Object, u8, &str); 9] = [
+    (Object::Source, 9, "status 9 source fault\n"),
+    (Object::Area, 5, "status 5 disk fault\n"),
+    (Object::OtherArea, 5, "status 5 disk fault\n"),
+    (Object::Folder, 6, "status 6 folder fault\n"),
+    (Object::Tail, 6, "status 6 folder fault\n"),
+    (Object::Wire, 7, UNREACHABLE),
+    (Object::LinkSend, 7, UNREACHABLE),
+    (Object::LinkReceive, 7, UNREACHABLE),
+    (Object::Sink, 8, ""),
+];
+
+/// Whether the rows are none, or the one of the file at an end of a line.
+fn is_front(rows: &str) -> bool {
+    rows.is_empty() || rows == ROW_AT_0 || rows == ROW_AT_2 || rows == ROW_AT_4
+}
+
+/// Makes a run in which a call fails. It ends with the status of that call's object, or, where it
+/// needs no such call or has a further attempt, with 0. True where the fault ended it.
+fn ends<X: Threads + Wait + Sync + AllocGlobal + Abort>(
+    rt: &X,
+    start: Start,
+    status: u8,
+    line: &str,
+) -> Result<bool, Fail> {
+    let alloc = rt.alloc();
+    let mut ran = run(rt, start)?;
+    // A call that the run did not come to fails in one of these.
+    for _i in 0..CALLS {
+        let _ = Store::open(alloc, &mut ran.objects.area, &mut ran.objects.other_area);
+    }
+    let code = ran.status.code();
+    let rows = ran.stored(alloc)?;
+    let printed = Text::from_bytes(alloc, ran.objects.printed.bytes())?;
+    if code == 8 {
+        assert!(rt;
+            DONE.starts_with(printed.as_str()),
+            "printed: {}",
+            printed.as_str()
+        );
+        return Ok(true);
+    }
+    if code == status {
+        assert_eq!(rt; printed.as_str(), line);
+        assert!(rt;
+            is_front(rows.as_str()),
+            "rows behind {line}: {}",
+            rows.as_str()
+        );
+        return Ok(true);
+    }
+    assert_eq!(rt; code, 0, "in place of {line}");
+    assert_eq!(rt; rows.as_str(), ROW_AT_4, "rows in place of {line}");
+    assert_eq!(rt; printed.as_str(), DONE, "in place of {line}");
+    Ok(false)
+}
+
+/// How many calls of this object end the run where they fail: the first ones, each in a run of its
+/// own.
+fn ending_calls<X: Threads + Wait + Sync + AllocGlobal + Abort>(
+    rt: &X,
+    object: Object,
+    status: u8,
+    line: &str,
+) -> Result<u64, Fail> {
+    for call in 0..CALLS {
+        let failing = [(object, call)];
+        let start = Start {
+            failing: &failing,
+            ..ONE_ATTEMPT
+        };
+        if !ends(rt, start, status, line)? {
+            return Ok(call);
+        }
+    }
+    Ok(CALLS)
+}
+
+#[test]
+fn each_fault_ends_the_run_by_its_object(rt: HostRuntime) -> Result<(), Fail> {
+    for (object, status, line) in OBJECTS {
+        let calls = ending_calls(&rt, object, status, line)?;
+        assert!(&rt; 0 < calls && calls < CALLS, "{calls} calls, with {line}");
+    }
+    Ok(())
+}
+
+#[test]
+fn failures_of_a_peer_are_made_good(rt: HostRuntime) -> Result<(), Fail> {
+    for object in [Object::Wire, Object::LinkSend, Object::LinkReceive] {
+        for call in 0..PEER_CALLS {
+            let failing = [(object, call)];
+            let start = Start {
+                output: "workers = 2",
+                failing: &failing,
+                ..PLAIN
+            };
+            let ended = ends(&rt, start, 7, "")?;
+            assert!(&rt; !ended, "call {call} of the first worker's peer");
+        }
+    }
+    Ok(())
 }

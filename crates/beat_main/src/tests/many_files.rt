@@ -1,7 +1,7 @@
-//! Several inputs, globs and files.
+//! Several inputs, files, lanes and workers.
 
-use crate::tests::wanted::{Area, Wanted};
-use crate::tests::world::{Case, Later, Object, PLAIN, Peer, Start, check_each};
+use crate::tests::wanted::{Case, Sent, Wanted, check_each};
+use crate::tests::world::{Later, Object, PLAIN, Start};
 use std::test::Fail;
 
 const TWO_INPUTS: &str = r#"
@@ -20,46 +20,33 @@ hosts = ["h:5044"]
 const TWO_INPUTS_WITH_THREE_FILES: Case = Case {
     name: "two inputs with three files each",
     start: Start {
-        settings: TWO_INPUTS,
+        settings: Some(TWO_INPUTS),
         files: &[
-            ("/web/b/access.log", "GET /b\n", Later::Stays),
-            ("/app/c.log", "", Later::Stays),
-            ("/app/a.log", "a\nb\n", Later::Stays),
-            ("/app/a.txt", "not covered\n", Later::Stays),
-            ("/web/access.log", "GET /\nGET", Later::Stays),
-            ("/web/a/x/access.log", "\nGET /x\n", Later::Stays),
-            ("/app/x/a.log", "not covered\n", Later::Stays),
-            ("/app/b.log", "c\n", Later::Stays),
+            ("/web/b/access.log", b"GET /b\n", &[]),
+            ("/app/c.log", b"", &[]),
+            ("/app/a.log", b"a\nb\n", &[]),
+            ("/app/a.txt", b"not covered\n", &[]),
+            ("/web/access.log", b"GET /\nGET", &[]),
+            ("/web/a/x/access.log", b"\nGET /x\n", &[]),
+            ("/app/x/a.log", b"not covered\n", &[]),
+            ("/app/b.log", b"c\n", &[]),
         ],
         ..PLAIN
     },
     wanted: Wanted {
         status: 0,
-        printed: r#"file "filestream::app::path::/app/a.log" 0 4 "/app/a.log"
+        rows: Some(
+            r#"file "filestream::app::path::/app/a.log" 0 4 "/app/a.log"
 file "filestream::app::path::/app/b.log" 0 2 "/app/b.log"
 file "filestream::app::path::/app/c.log" 0 0 "/app/c.log"
 file "filestream::web::path::/web/a/x/access.log" 0 8 "/web/a/x/access.log"
 file "filestream::web::path::/web/access.log" 0 6 "/web/access.log"
 file "filestream::web::path::/web/b/access.log" 0 7 "/web/b/access.log"
-shipped 6 dropped 1
-status 0 done
 "#,
-        area: Area::Started(&[
-            ("app", "/app/a.log", 4),
-            ("app", "/app/b.log", 2),
-            ("app", "/app/c.log", 0),
-            ("web", "/web/a/x/access.log", 8),
-            ("web", "/web/access.log", 6),
-            ("web", "/web/b/access.log", 7),
-        ]),
-        windows: Some(&[
-            &[("/app/a.log", 0, "a"), ("/app/a.log", 2, "b")],
-            &[("/app/b.log", 0, "c")],
-            &[("/web/a/x/access.log", 1, "GET /x")],
-            &[("/web/access.log", 0, "GET /")],
-            &[("/web/b/access.log", 0, "GET /b")],
-        ]),
-        moment: 0,
+        ),
+        printed: "shipped 6 dropped 1\nstatus 0 done\n",
+        sent: Sent::Events(6),
+        moment: Some(0),
     },
 };
 
@@ -80,71 +67,90 @@ hosts = ["h:5044"]
 const COVERED_AND_GONE: Case = Case {
     name: "covered once for each input, and gone",
     start: Start {
-        settings: COVERED_TWICE,
+        settings: Some(COVERED_TWICE),
         files: &[
-            ("/w/c.log", "c\n", Later::RemovedAfter(3)),
-            ("/w/b.log", "b\n", Later::Stays),
-            ("/w/a.log", "a\n", Later::RemovedAfter(3)),
+            ("/w/c.log", b"c\n", &[Later::Removed(3)]),
+            ("/w/b.log", b"b\n", &[]),
+            ("/w/a.log", b"a\n", &[Later::Removed(3)]),
         ],
         ..PLAIN
     },
     wanted: Wanted {
         status: 0,
-        printed: r#"file "filestream::v::path::/w/b.log" 0 2 "/w/b.log"
+        rows: Some(
+            r#"file "filestream::v::path::/w/b.log" 0 2 "/w/b.log"
 file "filestream::w::path::/w/b.log" 0 2 "/w/b.log"
-passed "/w/a.log" gone
+"#,
+        ),
+        printed: r#"passed "/w/a.log" gone
 passed "/w/c.log" gone
 shipped 2 dropped 0
 status 0 done
 "#,
-        area: Area::Started(&[("v", "/w/b.log", 2), ("w", "/w/b.log", 2)]),
-        windows: Some(&[&[("/w/b.log", 0, "b")], &[("/w/b.log", 0, "b")]]),
-        moment: 0,
+        sent: Sent::Events(2),
+        moment: Some(0),
     },
 };
-
-const THREE_FILES: Start = Start {
-    files: &[
-        ("/w/c.log", "d\n", Later::Stays),
-        ("/w/a.log", "a\nb\n", Later::Stays),
-        ("/w/b.log", "c\n", Later::Stays),
-    ],
-    ..PLAIN
-};
-
-/// An acknowledgement of the two lines of the first file.
-const TWO: &[u8] = b"2A\0\0\0\x02";
 
 const UNOPENED: Case = Case {
     name: "the second file is not opened",
     start: Start {
+        files: &[
+            ("/w/c.log", b"d\n", &[]),
+            ("/w/a.log", b"a\nb\n", &[]),
+            ("/w/b.log", b"c\n", &[]),
+        ],
         failing: &[(Object::Folder, 2)],
-        ..THREE_FILES
+        ..PLAIN
     },
     wanted: Wanted {
         status: 6,
+        rows: Some("file \"filestream::w::path::/w/a.log\" 0 0 \"/w/a.log\"\n"),
         printed: "status 6 folder fault\n",
-        area: Area::Started(&[("w", "/w/a.log", 4)]),
-        windows: Some(&[&[("/w/a.log", 0, "a"), ("/w/a.log", 2, "b")]]),
-        moment: 0,
+        sent: Sent::Events(0),
+        moment: Some(0),
     },
 };
 
-const CLOSED: Case = Case {
-    name: "the peer closes at the second file",
+const LINES: &[u8] = b"0\n1\n2\n3\n4\n5\n6\n7\n8\n9\n0\n1\n2\n3\n4\n5\n6\n7\n8\n9\n";
+
+/// The queue has room for fewer events than there are, and each window for one.
+const CREW: Case = Case {
+    name: "two workers and four lanes over a small queue",
     start: Start {
-        peer: Peer::Closes(TWO),
-        ..THREE_FILES
+        output: r#"
+workers = 2
+bulk_max_size = 1
+pipelining = 3
+[queue]
+events = 32
+[harvest]
+lanes = 4
+"#,
+        files: &[
+            ("/w/a.log", LINES, &[]),
+            ("/w/b.log", LINES, &[]),
+            ("/w/c.log", LINES, &[]),
+            ("/w/d.log", LINES, &[]),
+            ("/w/e.log", LINES, &[]),
+            ("/w/f.log", b"", &[]),
+        ],
+        ..PLAIN
     },
     wanted: Wanted {
-        status: 7,
-        printed: "status 7 unreachable worker 0 failures 1\n",
-        area: Area::Started(&[("w", "/w/a.log", 4), ("w", "/w/b.log", 0)]),
-        windows: Some(&[
-            &[("/w/a.log", 0, "a"), ("/w/a.log", 2, "b")],
-            &[("/w/b.log", 0, "c")],
-        ]),
-        moment: 0,
+        status: 0,
+        rows: Some(
+            r#"file "filestream::w::path::/w/a.log" 0 40 "/w/a.log"
+file "filestream::w::path::/w/b.log" 0 40 "/w/b.log"
+file "filestream::w::path::/w/c.log" 0 40 "/w/c.log"
+file "filestream::w::path::/w/d.log" 0 40 "/w/d.log"
+file "filestream::w::path::/w/e.log" 0 40 "/w/e.log"
+file "filestream::w::path::/w/f.log" 0 0 "/w/f.log"
+"#,
+        ),
+        printed: "shipped 100 dropped 0\nstatus 0 done\n",
+        sent: Sent::Events(100),
+        moment: None,
     },
 };
 
@@ -152,10 +158,10 @@ const CASES: &[Case] = &[
     TWO_INPUTS_WITH_THREE_FILES,
     COVERED_AND_GONE,
     UNOPENED,
-    CLOSED,
+    CREW,
 ];
 
 #[test]
-fn files_are_followed_in_byte_order_of_their_keys(rt: HostRuntime) -> Result<(), Fail> {
+fn files_are_shipped_by_all_lanes_and_workers(rt: HostRuntime) -> Result<(), Fail> {
     check_each(&rt, CASES)
 }

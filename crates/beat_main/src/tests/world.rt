@@ -1,19 +1,16 @@
 //! A run over objects in memory: what it begins with, and what it leaves.
 ghost use Rattle.std.specs.Prelude.{◌≡◌, vec_len, IfOk};
 
-use crate::tests::wanted::{Area, Wanted, area_of, sent_of};
 use beat_run::{Status, ship};
-use outside::Clock;
 use outside_mem::{
-    Due, MemBell, MemChange, MemClock, MemDisk, MemFile, MemFolder, MemPiece, MemSink, MemSource,
-    MemStep, MemTalk, MemWire,
+    Due, MeetLink, MemBell, MemChange, MemClock, MemDisk, MemFile, MemFolder, MemPiece, MemSink,
+    MemSource, MemStep, MemTalk, MemWire,
 };
 use std::alloc::Global;
-use std::process::Abort;
 use std::sync::Wait;
 use std::test::Fail;
 use std::thread::Threads;
-use wire_base::{Blob, Moment, NoMemory, Piece, Text};
+use wire_base::{Blob, Moment, NoMemory, Text};
 
 /// How many wires a run is given.
 const WIRES: usize = 16;
@@ -23,9 +20,11 @@ const WIRES: usize = 16;
 pub enum Object {
     Source,
     Area,
+    OtherArea,
     Folder,
     /// Each tail of `/w/a.log`.
     Tail,
+    /// The first wire, and its first link.
     Wire,
     LinkSend,
     LinkReceive,
@@ -34,175 +33,149 @@ pub enum Object {
 
 /// What becomes of a file, once it is there.
 #[derive(Clone, Copy)]
-pub enum Later {
-    Stays,
+pub enum Later<'a> {
     /// It loses its bytes, once so many calls on its tail were made.
-    CutAfter(u64),
+    Cut(u64),
+    /// It gets these bytes, once so many calls on its tail were made.
+    Grows(u64, &'a [u8]),
     /// It is removed, once so many listings were made.
-    RemovedAfter(u64),
+    Removed(u64),
 }
 
-/// What the peer of the first wire does.
+/// The path and the bytes of a file, and what becomes of it.
+pub type File<'a> = (&'a str, &'a [u8], &'a [Later<'a>]);
+
+/// What the peers do.
 #[derive(Clone, Copy)]
 pub enum Peer<'a> {
     Acknowledges,
-    /// It sends these bytes once it has a window, and closes.
+    /// That of the first wire sends these bytes once it has a window, and closes. Later connections
+    /// acknowledge.
     Closes(&'a [u8]),
-    /// It sends these bytes once it has a window, and nothing more.
+    /// That of the first wire sends these bytes once it has a window, and nothing more.
     FallsSilent(&'a [u8]),
+    /// Those of the first two wires acknowledge once both were asked at the same time.
+    Meet,
 }
 
 /// What a run begins with, at moment 0.
 #[derive(Clone, Copy)]
 pub struct Start<'a> {
     pub words: &'a [&'a str],
-    pub settings: &'a str,
-    /// The path and the bytes of each file, in the order in which a listing shows them.
-    pub files: &'a [(&'a str, &'a str, Later)],
+    /// The settings, where they are not those of one input `w` over `/w/*.log` with these lines.
+    pub settings: Option<&'a str>,
+    /// Lines before the input, in it and in the output.
+    pub top: &'a str,
+    pub input: &'a str,
+    pub output: &'a str,
+    /// The files in the order in which a listing shows them.
+    pub files: &'a [File<'a>],
     pub area: &'a str,
     pub peer: Peer<'a>,
+    /// How often the bell may be asked before it rings.
+    pub quiet: u64,
     /// Calls that fail, each counted from 0 over the calls of its object.
     pub failing: &'a [(Object, u64)],
 }
 
+pub const ONCE: &[&str] = &["-c", "f", "--once"];
+
 pub const PLAIN: Start = Start {
-    words: &["-c", "f", "--once"],
-    settings: r#"
-[[inputs]]
-id = "w"
-paths = ["/w/*.log"]
-file_identity = "path"
-[output]
-hosts = ["h:5044"]
-"#,
-    files: &[("/w/a.log", "a\nb\n", Later::Stays)],
+    words: ONCE,
+    settings: None,
+    top: "",
+    input: "",
+    output: "",
+    files: &[("/w/a.log", b"a\nb\n", &[])],
     area: "",
     peer: Peer::Acknowledges,
+    quiet: u64::MAX,
     failing: &[],
 };
+
+/// What a run is given, and what it leaves of that.
+#[derive(Drop)]
+pub struct Objects {
+    settings: MemSource,
+    folder: MemFolder,
+    pub wires: Vec<MemWire>,
+    pub area: MemDisk,
+    pub other_area: MemDisk,
+    pub clock: MemClock,
+    bell: MemBell,
+    pub printed: MemSink,
+}
+
+impl Objects {
+    fn new(alloc: Global, start: Start) -> Result<Objects, Fail>
+        ensures { IfOk result (λ objects. vec_len objects.wires ≡ WIRES) }
+    {
+        let text = settings_of(alloc, start)?;
+        Ok(Objects {
+            settings: MemSource::new(alloc, text.as_bytes())?,
+            folder: folder_of(alloc, start.files)?,
+            wires: wires_of(alloc, start.peer)?,
+            area: MemDisk::new(alloc, start.area.as_bytes())?,
+            other_area: MemDisk::new(alloc, b"")?,
+            clock: MemClock::new(alloc, Moment(0))?,
+            bell: MemBell::new(alloc, start.quiet)?,
+            printed: MemSink::new(alloc)?,
+        })
+    }
+
+    /// The call of this number fails.
+    fn fail_at(&mut self, alloc: Global, object: Object, call: u64) -> Result<(), Fail>
+        requires { vec_len self.old.wires ≡ WIRES }
+        ensures { vec_len self.new.wires ≡ WIRES }
+    {
+        let calls = [call];
+        match object {
+            Object::Source => self.settings.fail_at(&calls)?,
+            Object::Area => self.area.fail_at(&calls)?,
+            Object::OtherArea => self.other_area.fail_at(&calls)?,
+            Object::Folder => self.folder.fail_at(&calls)?,
+            Object::Tail => {
+                let path = Text::from_bytes(alloc, b"/w/a.log")?;
+                self.folder.fail_tail_at(&path, &calls)?;
+            }
+            Object::Wire => self.wires[0].fail_at(&calls)?,
+            Object::LinkSend => self.wires[0].fail_link_at(0, &calls, &[])?,
+            Object::LinkReceive => self.wires[0].fail_link_at(0, &[], &calls)?,
+            Object::Sink => self.printed.fail_at(&calls)?,
+        }
+        Ok(())
+    }
+}
 
 /// What a run leaves.
 #[derive(Drop)]
 pub struct Ran {
     pub status: Status,
-    pub printed: MemSink,
-    pub area: MemDisk,
-    pub clock: MemClock,
-    pub wires: Vec<MemWire>,
-}
-
-impl Ran {
-    /// What was sent over the last link of each wire.
-    pub fn sent(&self, alloc: Global) -> Result<Vec<u8>, NoMemory> {
-        let mut bytes = Vec::new(alloc);
-        for wire in &self.wires {
-            append_sent(&mut bytes, wire.last_talk())?;
-        }
-        Ok(bytes)
-    }
-}
-
-fn append_sent(bytes: &mut Vec<u8>, talk: &[Piece]) -> Result<(), NoMemory> {
-    for piece in talk {
-        if let Piece::Out(blob) = piece {
-            bytes.extend_from_slice(blob.bytes())?;
-        }
-    }
-    Ok(())
-}
-
-/// A run, and what it has to leave.
-#[derive(Clone, Copy)]
-pub struct Case<'a> {
-    pub name: &'a str,
-    pub start: Start<'a>,
-    pub wanted: Wanted<'a>,
-}
-
-/// Makes one run after the other, and compares what each leaves.
-pub fn check_each<X: Threads + Wait + Sync + AllocGlobal + Abort>(
-    rt: &X,
-    cases: &[Case],
-) -> Result<(), Fail> {
-    for case in cases {
-        check(rt, case.name, case.start, case.wanted)?;
-    }
-    Ok(())
-}
-
-/// Makes a run, and compares all that it leaves with what is wanted.
-pub fn check<X: Threads + Wait + Sync + AllocGlobal + Abort>(
-    rt: &X,
-    case: &str,
-    start: Start,
-    wanted: Wanted,
-) -> Result<Ran, Fail> {
-    let alloc = rt.alloc();
-    let mut ran = run(rt, start)?;
-    let printed = Text::from_bytes(alloc, ran.printed.bytes())?;
-    let area = Text::from_bytes(alloc, ran.area.bytes())?;
-    let wanted_area = match wanted.area {
-        Area::Kept => String::from_str(alloc, start.area)?,
-        Area::Holds(text) => String::from_str(alloc, text)?,
-        Area::Started(rows) => area_of(alloc, rows)?,
-    };
-    assert_eq!(rt; printed.as_str(), wanted.printed, "printed: {case}");
-    assert_eq!(rt; ran.status.code(), wanted.status, "exit status: {case}");
-    assert_eq!(rt; area.as_str(), wanted_area.as_str(), "area: {case}");
-    assert_eq!(rt; ran.clock.now(), Moment(wanted.moment), "clock: {case}");
-    if let Some(windows) = wanted.windows {
-        let wanted_sent = sent_of(alloc, windows)?;
-        let sent = ran.sent(alloc)?;
-        assert_eq!(rt; sent.as_slice(), wanted_sent.as_slice(), "sent: {case}");
-    }
-    Ok(ran)
+    pub objects: Objects,
 }
 
 /// Makes a run.
 pub fn run<X: Threads + Wait + Sync + AllocGlobal>(rt: &X, start: Start) -> Result<Ran, Fail> {
     let alloc = rt.alloc();
     let words = words_of(alloc, start.words)?;
-    let mut settings = MemSource::new(alloc, start.settings.as_bytes())?;
-    let mut folder = folder_of(alloc, start.files)?;
-    let mut wires = wires_of(alloc, start.peer)?;
-    let mut area = MemDisk::new(alloc, start.area.as_bytes())?;
-    let mut other_area = MemDisk::new(alloc, b"")?;
-    let mut clock = MemClock::new(alloc, Moment(0))?;
-    let mut bell = MemBell::new(alloc, 0)?;
-    let mut printed = MemSink::new(alloc)?;
+    let mut objects = Objects::new(alloc, start)?;
     for (object, call) in start.failing {
-        let calls = [*call];
-        match object {
-            Object::Source => settings.fail_at(&calls)?,
-            Object::Area => area.fail_at(&calls)?,
-            Object::Folder => folder.fail_at(&calls)?,
-            Object::Tail => folder.fail_tail_at(&Text::from_bytes(alloc, b"/w/a.log")?, &calls)?,
-            Object::Wire => wires[0].fail_at(&calls)?,
-            Object::LinkSend => wires[0].fail_link_at(0, &calls, &[])?,
-            Object::LinkReceive => wires[0].fail_link_at(0, &[], &calls)?,
-            Object::Sink => printed.fail_at(&calls)?,
-        }
+        objects.fail_at(alloc, *object, *call)?;
     }
     let status = ship(
         rt,
         alloc,
         &words,
-        &mut settings,
-        &mut folder,
-        &mut wires,
-        &mut area,
-        &mut other_area,
-        &mut clock,
-        &mut bell,
-        &mut printed,
+        &mut objects.settings,
+        &mut objects.folder,
+        &mut objects.wires,
+        &mut objects.area,
+        &mut objects.other_area,
+        &mut objects.clock,
+        &mut objects.bell,
+        &mut objects.printed,
     );
-    Ok(Ran {
-        status,
-        printed,
-        area,
-        clock,
-        wires,
-    })
+    Ok(Ran { status, objects })
 }
 
 fn words_of(alloc: Global, words: &[&str]) -> Result<Vec<Text>, Fail> {
@@ -213,57 +186,87 @@ fn words_of(alloc: Global, words: &[&str]) -> Result<Vec<Text>, Fail> {
     Ok(texts)
 }
 
-fn folder_of(alloc: Global, files: &[(&str, &str, Later)]) -> Result<MemFolder, Fail> {
+fn settings_of(alloc: Global, start: Start) -> Result<String, Fail> {
+    let Start {
+        top,
+        input,
+        output,
+        ..
+    } = start;
+    match start.settings {
+        Some(settings) => Ok(String::from_str(alloc, settings)?),
+        None => Ok(format!(in alloc;
+            "{top}\n[[inputs]]\nid = \"w\"\npaths = [\"/w/*.log\"]\nfile_identity = \"path\"\n{input}\n[output]\nhosts = [\"h:5044\"]\n{output}\n"
+        )?),
+    }
+}
+
+fn folder_of(alloc: Global, files: &[File]) -> Result<MemFolder, Fail> {
     let mut listed = Vec::new(alloc);
     for (path, bytes, later) in files {
         listed.push(MemFile {
             path: Text::from_bytes(alloc, path.as_bytes())?,
             native: None,
-            steps: steps_of(alloc, bytes, *later)?,
+            steps: steps_of(alloc, bytes, later)?,
         })?;
     }
     Ok(MemFolder::new(alloc, listed)?)
 }
 
-fn steps_of(alloc: Global, bytes: &str, later: Later) -> Result<Vec<MemStep>, NoMemory> {
+fn steps_of(alloc: Global, bytes: &[u8], later: &[Later]) -> Result<Vec<MemStep>, NoMemory> {
     let mut steps = Vec::new(alloc);
     steps.push(MemStep {
         due: Due::Listings(0),
-        change: MemChange::Append(Blob::from_bytes(alloc, bytes.as_bytes())?),
+        change: MemChange::Append(Blob::from_bytes(alloc, bytes)?),
     })?;
-    match later {
-        Later::Stays => {}
-        Later::CutAfter(calls) => steps.push(MemStep {
-            due: Due::TailCalls(calls),
-            change: MemChange::Truncate(0),
-        })?,
-        Later::RemovedAfter(listings) => steps.push(MemStep {
-            due: Due::Listings(listings),
-            change: MemChange::Remove,
-        })?,
+    for change in later {
+        steps.push(step_of(alloc, *change)?)?;
     }
     Ok(steps)
+}
+
+fn step_of(alloc: Global, change: Later) -> Result<MemStep, NoMemory> {
+    let (due, change) = match change {
+        Later::Cut(calls) => (Due::TailCalls(calls), MemChange::Truncate(0)),
+        Later::Grows(calls, bytes) => {
+            let bytes = Blob::from_bytes(alloc, bytes)?;
+            (Due::TailCalls(calls), MemChange::Append(bytes))
+        }
+        Later::Removed(listings) => (Due::Listings(listings), MemChange::Remove),
+    };
+    Ok(MemStep { due, change })
 }
 
 fn wires_of(alloc: Global, peer: Peer) -> Result<Vec<MemWire>, NoMemory>
     ensures { IfOk result (λ wires. vec_len wires ≡ WIRES) }
 {
+    let (first, second) = talks_of(alloc, peer)?;
     let mut wires = Vec::new(alloc);
-    wires.push(MemWire::new(alloc, talks_of(alloc, peer)?)?)?;
-    for _ in 1..WIRES {
+    wires.push(wire_of(alloc, first)?)?;
+    wires.push(wire_of(alloc, second)?)?;
+    for _ in 2..WIRES {
         wires.push(MemWire::new(alloc, Vec::new(alloc))?)?;
     }
     Ok(wires)
 }
 
-fn talks_of(alloc: Global, peer: Peer) -> Result<Vec<MemTalk>, NoMemory> {
+fn wire_of(alloc: Global, talk: MemTalk) -> Result<MemWire, NoMemory> {
     let mut talks = Vec::new(alloc);
+    talks.push(talk)?;
+    MemWire::new(alloc, talks)
+}
+
+/// The first talks of the first two wires.
+fn talks_of(alloc: Global, peer: Peer) -> Result<(MemTalk, MemTalk), NoMemory> {
     match peer {
-        Peer::Acknowledges => talks.push(MemTalk::All)?,
-        Peer::Closes(bytes) => talks.push(talk_of(alloc, bytes, true)?)?,
-        Peer::FallsSilent(bytes) => talks.push(talk_of(alloc, bytes, false)?)?,
+        Peer::Acknowledges => Ok((MemTalk::All, MemTalk::All)),
+        Peer::Closes(bytes) => Ok((talk_of(alloc, bytes, true)?, MemTalk::All)),
+        Peer::FallsSilent(bytes) => Ok((talk_of(alloc, bytes, false)?, MemTalk::All)),
+        Peer::Meet => {
+            let (first, second) = MeetLink::pair(alloc)?;
+            Ok((MemTalk::Meet(first), MemTalk::Meet(second)))
+        }
     }
-    Ok(talks)
 }
 
 fn talk_of(alloc: Global, bytes: &[u8], closes: bool) -> Result<MemTalk, NoMemory> {

@@ -1,5 +1,5 @@
 use Rattle.std.proofs.Common.{◌≤◌, length, map}
-use Rattle.prospect.specs.declared.listings.TheConstants.{MAX_FILES}
+use Rattle.prospect.specs.declared.files.TheConstants.{MAX_FILES}
 use Rattle.prospect.specs.Covered.{AreCovered, pairs_of}
 use Rattle.prospect.specs.Readings.{reading_of}
 use Rattle.prospect.proofs.Covering.{entry_by}

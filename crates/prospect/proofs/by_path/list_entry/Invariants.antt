@@ -1,5 +1,5 @@
 use Rattle.std.proofs.Common.{◌≤◌, length, map, take}
-use Rattle.prospect.specs.declared.listings.TheConstants.{MAX_FILES}
+use Rattle.prospect.specs.declared.files.TheConstants.{MAX_FILES}
 use Rattle.prospect.specs.Covered.{AddsCovered, pairs_with}
 use Rattle.prospect.specs.Readings.{reading_of}
 use Rattle.prospect.proofs.by_path.list_entry.Given as goal

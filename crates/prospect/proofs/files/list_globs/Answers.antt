@@ -1,7 +1,6 @@
 use Rattle.std.proofs.Common.{refl, ◌∙◌, arith}
-use Rattle.prospect.proofs.Listing.{on_err}
 use Rattle.prospect.proofs.Showing.{lists_next, lists_nothing}
-use Rattle.prospect.proofs.Unfinished.{ends_at_glob}
+use Rattle.prospect.proofs.Unfinished.{ends_at_glob, on_err}
 use Rattle.prospect.proofs.files.list_globs.Goals as goal
 
 pub loop-glob-init : goal.loop-glob-init

@@ -1,7 +1,6 @@
 use Rattle.std.proofs.Common.{refl, ◌∙◌, arith}
-use Rattle.prospect.proofs.Listing.{on_err}
 use Rattle.prospect.proofs.Showing.{lists_next_input, lists_nothing}
-use Rattle.prospect.proofs.Unfinished.{ends_at_input}
+use Rattle.prospect.proofs.Unfinished.{ends_at_input, on_err}
 use Rattle.prospect.proofs.files.list_inputs.Goals as goal
 
 pub loop-input-init : goal.loop-input-init

@@ -2,4 +2,4 @@ use Rattle.std.proofs.Common.{◌≡◌, vec_len}
 use Rattle.beat_main.proofs.tests.world.run.Given as goal
 
 abbrev pub invariant-loop-object : goal.invariant-loop-object
-invariant-loop-object g l = vec_len l.wires ≡ 16
+invariant-loop-object g l = vec_len l.objects.wires ≡ 16

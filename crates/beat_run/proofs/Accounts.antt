@@ -1,0 +1,258 @@
+-- A run that ended before it opened a file is accounted for by what its scan listed, or by nothing; one that opened files by its account.
+use Rattle.std.proofs.Common.{◌≡◌, ◌≢◌, ◌⊎◌, inl, inr, ℕ, ◌<◌, true, false, List, [], ◌∷◌, ◌++◌, length, map, All, Option, Some, None, IfSome, IsSome, refl, sym, ap, subst, ◌∙◌, arith}
+use Rattle.std.specs.List.{AllByRecursion}
+use Rattle.batch_worker.specs.Seen.{Seen, seen}
+use Rattle.beat_config.specs.InRange.{AreInRange}
+use Rattle.event_tree.specs.declared.input_rule.IdentityRule.TheVariants.{Path}
+use Rattle.event_tree.specs.declared.input_rule.InputRule.{InputRule}
+use Rattle.event_tree.specs.declared.settings.Settings.{Settings as SettingsOf}
+use Rattle.outside.specs.Folders.{FolderHistory}
+use Rattle.outside.specs.Times.{GivesMoment}
+use Rattle.outside.specs.Wires.{Outcome}
+use Rattle.prospect.specs.ListedFiles.{ScansFiles}
+use Rattle.prospect.specs.Members.{globs_of}
+use Rattle.prospect.specs.Unfinished.{ListsSome}
+use Rattle.prospect.specs.declared.listed.Listed.{Listed}
+use Rattle.registry_log.specs.Starting.{Holds, IsBlank}
+use Rattle.registry_store.specs.Settled.{AreAtRest}
+use Rattle.report.specs.declared.status.Status.{Status}
+use Rattle.report.specs.declared.status.Status.TheVariants.{Done, Stopped, Usage, Settings, RegistryBad, DiskFault, FolderFault, Unreachable, OutFault, SourceFault, TooMany, NoNative, NoMemory, Unbuilt}
+use Rattle.prospect.specs.Scan.{event_of}
+use Rattle.rounds.specs.Making.{all_seen}
+use Rattle.rounds.specs.Words.{DiskWords, WireWords}
+use Rattle.run_steps.specs.AccountedFor.{AccountedFor, Objects, RunObjects}
+use Rattle.run_steps.specs.Areas.{HaveHeldFronts}
+use Rattle.run_steps.specs.Began.{Began}
+use Rattle.run_steps.specs.Met.{IsMetOf}
+use Rattle.run_steps.specs.Registry.{IsWritten}
+use Rattle.run_steps.specs.RunOf.{FolderTold}
+use Rattle.run_steps.specs.Scanned.{HasScanned}
+use Rattle.wire_base.specs.declared.limits.Full.TheVariants.{Epochs, Files, Slots}
+use Rattle.run_steps.specs.declared.met.Met.{Met}
+use Rattle.run_steps.specs.declared.met.Met.TheVariants as met
+use Rattle.run_steps.proofs.Giving.{first_given}
+use Rattle.run_steps.proofs.RunEarly.{early_is_accounted_for, ended_some, listed_all, still_is_accounted_for}
+use Rattle.run_steps.proofs.RunRows.{OneChoice}
+use Rattle.beat_run.specs.Accounted.{IsAccounted, IsAccountedByNamed, IsMetFor}
+use Rattle.beat_run.specs.Ended.{StandsForMet}
+use Rattle.beat_run.specs.Ends.{IsPrintingEnd, IsRunEnd, ShowsScanEnd}
+use Rattle.beat_run.proofs.Causes.{named_so}
+
+-- ---- what was met, by the status
+
+-- as it stands for a run that opened no file
+abbrev early_met : Status → Met
+early_met FolderFault = met.FolderFault
+early_met (Unreachable worker failures) = met.Unreachable worker
+early_met (TooMany full path) = met.FolderFault
+early_met _ = met.NoMemory
+
+early_met_for : (status : Status) → IsRunEnd status → IsMetFor status (early_met status)
+early_met_for Done ends = absurd ends
+early_met_for Stopped ends = absurd ends
+early_met_for Usage ends = tt
+early_met_for (Settings fault) ends = tt
+early_met_for (RegistryBad area at) ends = tt
+early_met_for DiskFault ends = tt
+early_met_for FolderFault ends = refl
+early_met_for (Unreachable worker failures) ends = refl
+early_met_for OutFault ends = tt
+early_met_for SourceFault ends = tt
+early_met_for (TooMany full path) ends = tt
+early_met_for (NoNative path) ends = tt
+early_met_for NoMemory ends = tt
+early_met_for (Unbuilt what) ends = tt
+
+early_not_done : (status : Status) → early_met status ≢ met.Done
+early_not_done Done is = absurd cc
+early_not_done Stopped is = absurd cc
+early_not_done Usage is = absurd cc
+early_not_done (Settings fault) is = absurd cc
+early_not_done (RegistryBad area at) is = absurd cc
+early_not_done DiskFault is = absurd cc
+early_not_done FolderFault is = absurd cc
+early_not_done (Unreachable worker failures) is = absurd cc
+early_not_done OutFault is = absurd cc
+early_not_done SourceFault is = absurd cc
+early_not_done (TooMany full path) is = absurd cc
+early_not_done (NoNative path) is = absurd cc
+early_not_done NoMemory is = absurd cc
+early_not_done (Unbuilt what) is = absurd cc
+
+-- as it was worked
+met_for : (listed : List Listed) (attempts : ℕ) (what : Met) (status : Status) → IsMetOf (length listed) what → StandsForMet listed attempts what status → IsMetFor status what
+met_for listed attempts met.Done status of stands = subst (λ (s : Status). IsMetFor s met.Done) (sym stands) refl
+met_for listed attempts met.Stopped status of stands = subst (λ (s : Status). IsMetFor s met.Stopped) (sym stands) refl
+met_for listed attempts met.NoMemory status of stands = subst (λ (s : Status). IsMetFor s met.NoMemory) (sym stands) tt
+met_for listed attempts met.DiskFault status of stands = subst (λ (s : Status). IsMetFor s met.DiskFault) (sym stands) tt
+met_for listed attempts met.FolderFault status of stands = subst (λ (s : Status). IsMetFor s met.FolderFault) (sym stands) refl
+met_for listed attempts (met.Unreachable worker) status of stands = subst (λ (s : Status). IsMetFor s (met.Unreachable worker)) (sym stands) refl
+met_for listed attempts (met.Epochs slot) status of stands = named_so listed slot.0 status (λ s. IsMetFor s (met.Epochs slot)) of stands tt (λ one is. tt)
+
+pub met_for_end : (listed : List Listed) (attempts : ℕ) (what : Met) (status : Status) → IsMetOf (length listed) what → (status ≡ NoMemory) ⊎ StandsForMet listed attempts what status → IsMetFor status what
+met_for_end listed attempts what status of (inl memory) = subst (λ (s : Status). IsMetFor s what) (sym memory) tt
+met_for_end listed attempts what status of (inr stands) = met_for listed attempts what status of stands
+
+-- ---- a run that opened no file
+
+-- its listings are some
+pub some_listed : (inputs : List InputRule) (told : FolderHistory) (after : Option FolderHistory) (status : Status) → ShowsScanEnd inputs told after status → ListsSome (globs_of inputs) told after
+some_listed inputs told after Done shows = absurd shows
+some_listed inputs told after Stopped shows = absurd shows
+some_listed inputs told after Usage shows = absurd shows
+some_listed inputs told after (Settings fault) shows = absurd shows
+some_listed inputs told after (RegistryBad area at) shows = absurd shows
+some_listed inputs told after DiskFault shows = absurd shows
+some_listed inputs told after FolderFault shows = shows
+some_listed inputs told after (Unreachable worker failures) shows = absurd shows
+some_listed inputs told after OutFault shows = absurd shows
+some_listed inputs told after SourceFault shows = absurd shows
+some_listed inputs told after (TooMany Files path) shows = listed_all (globs_of inputs) told shows.listings after shows.listed_is
+some_listed inputs told after (TooMany Epochs path) shows = absurd shows
+some_listed inputs told after (TooMany Slots path) shows = absurd shows
+some_listed inputs told after (NoNative path) shows = absurd shows
+some_listed inputs told after NoMemory shows = shows
+some_listed inputs told after (Unbuilt what) shows = absurd shows
+
+pub each_some : {A : Type 0} (o : Option A) (P Q : A → Type 0) → ((x : A) → P x → Q x) → IfSome o P → IfSome o Q
+each_some None P Q then is = tt
+each_some (Some x) P Q then is = then x is
+
+nothing : (A : Type 0) → IsSome {T = A} None → ⊥
+nothing A some = let never : false ≡ true = some in cc
+
+later_tells : (before later : Option (List ℕ)) (moment : ℕ) → GivesMoment before moment later → IsSome before → IsSome later
+later_tells None later moment gives some = absurd (nothing (List ℕ) some)
+later_tells (Some moments) later moment (inl same) some = subst (λ (o : Option (List ℕ)). IsSome o) (sym same.1) refl
+later_tells (Some moments) later moment (inr grows) some = subst (λ (o : Option (List ℕ)). IsSome o) (sym grows.1) refl
+
+module _ {D : Type 0} (disks : DiskWords D) (one : OneChoice) (settings : SettingsOf) (in_range : AreInRange settings) (paths : All (λ (input : InputRule). input.file_identity ≡ Path) settings.inputs)
+    (from_a from_b a b : D) (held : AreAtRest disks.contents disks.images from_a from_b → HaveHeldFronts disks [] from_a from_b a b) (outcomes : List (Option (List Outcome))) where
+  -- what all told before it, and behind it
+  abbrev pub early_run : Option FolderHistory → Option FolderHistory → Option (List ℕ) → Option (List ℕ) → RunObjects D
+  early_run told after before later = record {
+    before = record { folder = told; moments = before; outcomes = outcomes; a = from_a; b = from_b };
+    after = record { folder = after; moments = later; outcomes = outcomes; a = a; b = b };
+  }
+
+  -- it scanned
+  pub early : (told after : Option FolderHistory) (before later : Option (List ℕ)) (moment : ℕ) (status : Status) → IsSome told → IsSome before → GivesMoment before moment later →
+      IfSome told (λ history. ListsSome (globs_of settings.inputs) history after) → IsRunEnd status → IsAccounted disks settings (early_run told after before later) status
+  early None after before later moment status some clock gives lists ends = absurd (nothing FolderHistory some)
+  early (Some history) after before later moment status some clock gives lists ends =
+      let scanned : FolderHistory = record history { events = history.events ++ lists.more } in
+      let first = first_given moment before later gives in
+      let start : Began D = record { settings = settings; listed = []; moment = moment; shown = Some scanned; moments = before; heard = []; a = from_a; b = from_b } in
+      let folder : FolderTold = record { earlier = history; scanned = scanned; ended = scanned } in
+      record {
+        what = early_met status;
+        met_for = early_met_for status ends;
+        accounted = subst (λ (o : Option FolderHistory). AccountedFor disks settings (early_run (Some history) o before later) (early_met status)) (sym lists.kept)
+            (early_is_accounted_for disks start folder
+            (record { in_range = in_range; by_path = paths; lists = record { more = lists.more; in_order = lists.in_order; kept = refl } })
+            first.since later first.given (later_tells before later moment gives clock) outcomes a b one held (early_met status) (early_not_done status));
+      }
+
+-- it did not
+module _ {D : Type 0} (disks : DiskWords D) (one : OneChoice) (settings : SettingsOf) (from_a from_b a b : D)
+    (held : AreAtRest disks.contents disks.images from_a from_b → HaveHeldFronts disks [] from_a from_b a b) (outcomes : List (Option (List Outcome))) where
+  abbrev still_run : Option FolderHistory → Option (List ℕ) → RunObjects D
+  still_run told before = record {
+    before = record { folder = told; moments = before; outcomes = outcomes; a = from_a; b = from_b };
+    after = record { folder = told; moments = before; outcomes = outcomes; a = a; b = b };
+  }
+
+  pub still : (told : Option FolderHistory) (before : Option (List ℕ)) (status : Status) → IsSome told → IsSome before → IsRunEnd status → IsAccounted disks settings (still_run told before) status
+  still None before status some clock ends = absurd (nothing FolderHistory some)
+  still (Some history) None status some clock ends = absurd (nothing (List ℕ) clock)
+  still (Some history) (Some moments) status some clock ends = record {
+    what = early_met status;
+    met_for = early_met_for status ends;
+    accounted = still_is_accounted_for disks settings history moments outcomes from_a from_b a b one held (early_met status) (early_not_done status);
+  }
+
+-- ---- a run that opened files
+
+pub outcomes_seen : {W : Type 0} (words : WireWords W) (xs ys : List W) → all_seen words xs ≡ all_seen words ys → map words.outcomes xs ≡ map words.outcomes ys
+outcomes_seen {W} words xs ys same = sym (each xs) ∙ ap (map (λ (s : Seen). s.outcomes)) same ∙ each ys
+  where
+    each : (wires : List W) → map (λ (s : Seen). s.outcomes) (all_seen words wires) ≡ map words.outcomes wires
+    each [] = refl
+    each (w ∷ wires) = ap (λ (l : List (Option (List Outcome))). words.outcomes w ∷ l) (each wires)
+
+pub wires_tell : {W : Type 0} (outcomes : W → Option (List Outcome)) (wires : List W) → AllByRecursion (λ (o : Option (List Outcome)). IsSome o) (map outcomes wires) → AllByRecursion (λ wire. IsSome (outcomes wire)) wires
+wires_tell outcomes [] tell = tt
+wires_tell outcomes (w ∷ wires) tell = (tell.0, wires_tell outcomes wires tell.1)
+
+-- with what the folder told, where it tells
+module _ {D : Type 0} (disks : DiskWords D) (start : Began D) (in_range : AreInRange start.settings) (paths : All (λ (input : InputRule). input.file_identity ≡ Path) start.settings.inputs)
+    (outcomes : List (Option (List Outcome))) (after : Objects D) (what : Met) where
+  abbrev worked_run : Option FolderHistory → RunObjects D
+  worked_run told = record { before = record { folder = told; moments = start.moments; outcomes = outcomes; a = start.a; b = start.b }; after = after }
+
+  pub worked : (told : Option FolderHistory) (status : Status) → IsSome told → IfSome told (λ history. ScansFiles start.settings.inputs history start.listed start.shown) → IsMetFor status what →
+      ((folder : FolderTold) → HasScanned start folder → AccountedFor disks start.settings (worked_run (Some folder.earlier)) what) → IsAccounted disks start.settings (worked_run told) status
+  worked None status some scans is accounted = absurd (nothing FolderHistory some)
+  worked (Some history) status some scans is accounted =
+      let scanned : FolderHistory = record history { events = history.events ++ map event_of scans.listings } in
+      let folder : FolderTold = record { earlier = history; scanned = scanned; ended = scanned } in
+      record {
+        what = what;
+        met_for = is;
+        accounted = accounted folder (record { in_range = in_range; by_path = paths; shown = scans.listed_is.kept; scans = scans });
+      }
+
+-- ---- once it is printed
+
+-- where the sink failed, nothing is told of its settings
+pub out_fault : {D : Type 0} (disks : DiskWords D) (source : Option (List ℕ)) (objects : RunObjects D) (ended : Status) → IsAccountedByNamed disks source objects ended → IsAccountedByNamed disks source objects OutFault
+out_fault disks source objects ended by = record {
+  settings = by.settings;
+  named = λ behind. absurd behind;
+  is = record { what = by.is.what; met_for = tt; accounted = by.is.accounted };
+}
+
+pub printed : {D : Type 0} (disks : DiskWords D) (source : Option (List ℕ)) (objects : RunObjects D) (before now : ℕ) (ended status : Status) → IsPrintingEnd before now ended status →
+    IsAccountedByNamed disks source objects ended → IsAccountedByNamed disks source objects status
+printed disks source objects before now ended status ends is = by_case status ends
+  where
+    same : (s : Status) → s ≡ ended → IsAccountedByNamed disks source objects s
+    same s equal = subst (IsAccountedByNamed disks source objects) (sym equal) is
+
+    by_case : (s : Status) → IsPrintingEnd before now ended s → IsAccountedByNamed disks source objects s
+    by_case Done ends = same Done ends
+    by_case Stopped ends = same Stopped ends
+    by_case Usage ends = same Usage ends
+    by_case (Settings fault) ends = same (Settings fault) ends
+    by_case (RegistryBad area at) ends = same (RegistryBad area at) ends
+    by_case DiskFault ends = same DiskFault ends
+    by_case FolderFault ends = same FolderFault ends
+    by_case (Unreachable worker failures) ends = same (Unreachable worker failures) ends
+    by_case OutFault ends = out_fault disks source objects ended is
+    by_case SourceFault ends = same SourceFault ends
+    by_case (TooMany full path) ends = same (TooMany full path) ends
+    by_case (NoNative path) ends = same (NoNative path) ends
+    by_case NoMemory ends = same NoMemory ends
+    by_case (Unbuilt what) ends = same (Unbuilt what) ends
+
+-- ---- a run that was refused before its settings were known
+
+abbrev pub no_settings : SettingsOf
+no_settings = record {
+  inputs = [];
+  output = record { hosts = []; workers = 0; bulk_max_size = 0; pipelining = 0; timeout = 0; attempts = 0 };
+  processors = [];
+  events = 0;
+  lanes = 0;
+}
+
+-- an area that tells that it holds no registry yet
+pub record TellsBlank (contents : Option (List ℕ)) : Type 0 where
+  pub area : List ℕ
+  pub is : contents ≡ Some area
+  pub blank : IfSome contents IsBlank
+  pub never : ¬ (IsWritten area)
+
+pub tells_blank : (contents : Option (List ℕ)) → Holds IsBlank contents → TellsBlank contents
+tells_blank None holds = absurd holds
+tells_blank (Some area) holds = record { area = area; is = refl; blank = holds; never = λ written. absurd (omega (arith, holds, written)) }

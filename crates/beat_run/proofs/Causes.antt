@@ -1,0 +1,416 @@
+-- Why a run over its listed files ended as it did, by what it met; and how its areas are left.
+use Rattle.std.proofs.Common.{◌≡◌, ◌⊎◌, inl, inr, ℕ, zero, suc, ◌+◌, ◌<◌, ◌≤◌, List, [], ◌∷◌, ◌++◌, length, drop, map, All, Any, Contains, Option, Some, None, IfSome, IsSome, refl, sym, ap, subst, ◌∙◌, arith, length-append}
+use Rattle.std.proofs.Math.Seq.{drop-append_seam}
+use Rattle.std.proofs.lemmas.List.{drop-append-le}
+use Rattle.std.proofs.lemmas.List.Elements.{Contains-append_left, recursion_from_All}
+use Rattle.std.specs.Prelude.{slice_get}
+use Rattle.std.specs.List.{AllByRecursion}
+use Rattle.accounts.proofs.Ground.{item_of}
+use Rattle.event_tree.specs.declared.input_rule.InputRule.{InputRule}
+use Rattle.event_tree.specs.declared.settings.Settings.{Settings as SettingsOf}
+use Rattle.outside.specs.Counts.{Rose}
+use Rattle.outside.specs.Files.{File}
+use Rattle.outside.specs.Folders.{Event, FolderHistory}
+use Rattle.outside.specs.declared.history.Shown.{Shown}
+use Rattle.prospect.specs.ListedFiles.{IsListedBy, ScansFiles, shown_in}
+use Rattle.prospect.specs.Scan.{Listing, event_of}
+use Rattle.prospect.specs.declared.listed.Listed.{Listed}
+use Rattle.registry_store.specs.Choice.{GivesRows, IsChoice}
+use Rattle.registry_store.specs.Settled.{AreAtRest, AreSettled}
+use Rattle.registry_store.specs.Standing.{Standing, chosen_by}
+use Rattle.report.specs.declared.status.Status.{Status}
+use Rattle.report.specs.declared.status.Status.TheVariants.{Done, Stopped, Usage, Settings, RegistryBad, DiskFault, FolderFault, Unreachable, OutFault, SourceFault, TooMany, NoNative, NoMemory, Unbuilt}
+use Rattle.rounds.specs.Words.{DiskWords}
+use Rattle.run_steps.specs.Met.{AreLeft, IsMetOf}
+use Rattle.run_steps.specs.Shown.{HasShown}
+use Rattle.run_steps.specs.SoFar.{SoFar}
+use Rattle.run_steps.specs.Worked.{IsMetByRun, Tolls}
+use Rattle.run_steps.specs.declared.met.Met.{Met}
+use Rattle.run_steps.specs.declared.met.Met.TheVariants as met
+use Rattle.run_steps.specs.declared.registry_error.RegistryError.{RegistryError}
+use Rattle.run_steps.specs.declared.registry_error.RegistryError.TheVariants as registry
+use Rattle.ship_core.proofs.Members.{first_there, later_there, none_there, there_cases}
+use Rattle.wire_base.specs.declared.limits.Full.TheVariants.{Epochs, Files, Slots}
+use Rattle.beat_run.specs.Cause.{AllSigns, Cause, CauseBy, HasAreaFailed, HasFailedAt, Signs, WasListed, without_sink}
+use Rattle.beat_run.specs.Ended.{IsTelling, StandsForMet, StandsForRegistry}
+use Rattle.beat_run.specs.Ends.{IsBehindOpening, IsBehindSettings, IsPreparingEnd, IsReportEnd, IsRunEnd, IsScanEnd, IsScannedEnd, ShowsScanEnd}
+use Rattle.beat_run.specs.Named.{IsNamed}
+
+pub rose_since : (before mid now : ℕ) → before ≤ mid → Rose mid now → Rose before now
+rose_since before mid now no_less (inl more) = inl (omega (arith, no_less, more))
+rose_since before mid now no_less (inr ended) = inr ended
+
+-- ---- the status
+
+-- what is so of want of memory, and of the path of each file, is so of the status that names a file's path
+pub named_so : (listed : List Listed) (place : ℕ) (status : Status) (P : Status → Type 0) → place < length listed → (status ≡ NoMemory) ⊎ IfSome (slice_get listed place) (λ one. status ≡ TooMany Epochs one.path) →
+    P NoMemory → ((one : Listed) → slice_get listed place ≡ Some one → P (TooMany Epochs one.path)) → P status
+named_so listed place status P within (inl memory) wanting each = subst P (sym memory) wanting
+named_so listed place status P within (inr full) wanting each = of_file (slice_get listed place) refl full
+  where
+    past : (xs : List Listed) (k : ℕ) → k < length xs → slice_get xs k ≡ None → ⊥
+    past [] k inside none = omega (arith, inside)
+    past (x ∷ xs) zero inside none = cc
+    past (x ∷ xs) (suc k) inside none = past xs k (omega (arith, inside)) none
+
+    of_file : (one : Option Listed) → slice_get listed place ≡ one → IfSome one (λ file. status ≡ TooMany Epochs file.path) → P status
+    of_file None none is = absurd (past listed place within none)
+    of_file (Some file) some is = subst P (sym is) (each file some)
+
+-- ---- what was listed
+
+-- the folder did more behind its scan
+pub record GoesFurther (scanned after : Option FolderHistory) : Type 0 where
+  pub more : (history : FolderHistory) → scanned ≡ Some history → (events : List Event) × (after ≡ Some (record history { events = history.events ++ events }))
+
+pub shown_goes_further : (scanned after : Option FolderHistory) (so_far : SoFar) → HasShown scanned after so_far → GoesFurther scanned after
+shown_goes_further None after so_far shown = record { more = λ history none. absurd cc }
+shown_goes_further (Some before) None so_far shown = absurd shown
+shown_goes_further (Some before) (Some now) so_far shown = record {
+  more = λ history is.
+      let same : before ≡ history = cc in
+      subst (λ (h : FolderHistory). (events : List Event) × (Some now ≡ Some (record h { events = h.events ++ events }))) same
+      (shown.more, ap (λ (h : FolderHistory). Some h) (history_is now before shown.files shown.more shown.events));
+}
+  where
+    history_is : (one other : FolderHistory) → one.files ≡ other.files → (more : List Event) → one.events ≡ other.events ++ more → one ≡ record other { events = other.events ++ more }
+    history_is one other files more events = ap (λ (f : List File). record { files = f; events = one.events }) files ∙ ap (λ (e : List Event). record { files = other.files; events = e }) events
+
+in_rest : {A : Type 0} (front rest back : List A) (x : A) → Contains rest x → Contains (drop (length front) ((front ++ rest) ++ back)) x
+in_rest {A} front rest back x there =
+    subst (λ (l : List A). Contains l x) (sym (drop-append-le (length front) (front ++ rest) back (omega (arith, length-append front rest)) ∙ ap (λ (l : List A). l ++ back) (drop-append_seam front rest)))
+    (Contains-append_left rest back x there)
+
+map_there : {A B : Type 0} (f : A → B) (xs : List A) (x : A) → Contains xs x → Contains (map f xs) (f x)
+map_there f [] x there = absurd (none_there x there)
+map_there {A} {B} f (y ∷ xs) x there = by_case (there_cases y x xs there) (λ later. map_there f xs x later)
+  where
+    by_case : (y ≡ x) ⊎ Contains xs x → (Contains xs x → Contains (map f xs) (f x)) → Contains (map f (y ∷ xs)) (f x)
+    by_case (inl here) others = subst (λ (z : A). Contains (f y ∷ map f xs) (f z)) here (first_there (f y) (map f xs))
+    by_case (inr later) others = later_there (f y) (f x) (map f xs) (others later)
+
+module _ (inputs : List InputRule) (told : FolderHistory) (listed : List Listed) (scanned after : Option FolderHistory) (scans : ScansFiles inputs told listed scanned) (goes : GoesFurther scanned after) where
+  was_listed : (slot : ℕ) (one : Listed) → slice_get listed slot ≡ Some one → WasListed one.path told after
+  was_listed slot one is =
+      let by = shown_at listed slot one (recursion_from_All (λ (file : Listed). Any (λ shown. IsListedBy inputs file shown) (shown_in scans.listings)) listed scans.only) is in
+      let of = item_of (λ (listing : Listing). listing.shown) scans.listings by.1 (by.0, by.2, by.3) in
+      let history : FolderHistory = record told { events = told.events ++ map event_of scans.listings } in
+      let further = goes.more history scans.listed_is.kept in
+      record {
+        now = record history { events = history.events ++ further.0 };
+        tells = further.1;
+        root = _;
+        depth = _;
+        shown = of.item.shown;
+        among = in_rest told.events (map event_of scans.listings) further.0 (event_of of.item) (map_there event_of scans.listings of.item of.among);
+        shows = (of.there.0, by.1, of.there.1, of.there.2, sym by.4.path_is);
+      }
+    where
+      shown_at : (files : List Listed) (k : ℕ) (file : Listed) → AllByRecursion (λ (f : Listed). Any (λ shown. IsListedBy inputs f shown) (shown_in scans.listings)) files → slice_get files k ≡ Some file →
+          Any (λ shown. IsListedBy inputs file shown) (shown_in scans.listings)
+      shown_at [] k file each is = absurd cc
+      shown_at (f ∷ files) zero file each is = let same : f ≡ file = cc in subst (λ (g : Listed). Any (λ shown. IsListedBy inputs g shown) (shown_in scans.listings)) same each.0
+      shown_at (f ∷ files) (suc k) file each is = shown_at files k file each.1 is
+
+-- ---- its cause
+
+-- a worker that was met failed as often in a row as it may
+abbrev pub FailedIn : SettingsOf → Signs → Signs → Met → Type 0
+FailedIn settings before now (met.Unreachable worker) = HasFailedAt settings worker before now
+FailedIn settings before now _ = Unit {0}
+
+module _ (settings : SettingsOf) (listed : List Listed) (before now : Signs) (scanned : Option FolderHistory) (faults : ℕ) (no_less : before.counts.folder_faults ≤ faults)
+    (scans : IfSome before.folder (λ history. ScansFiles settings.inputs history listed scanned)) (goes : IsSome before.folder → GoesFurther scanned now.folder) where
+  listed_by : (history : Option FolderHistory) → (IsSome history → GoesFurther scanned now.folder) → IfSome history (λ one. ScansFiles settings.inputs one listed scanned) → (place : ℕ) (one : Listed) → slice_get listed place ≡ Some one → IfSome history (λ h. WasListed one.path h now.folder)
+  listed_by None further by place one is = tt
+  listed_by (Some history) further by place one is = was_listed settings.inputs history listed scanned now.folder by (further refl) place one is
+
+  pub caused : (what : Met) (status : Status) → IsMetByRun settings.output.workers (length listed) (record before.counts { folder_faults = faults }) now.counts what → FailedIn settings before now what → StandsForMet listed settings.output.attempts what status →
+      CauseBy settings before now status
+  caused met.Done status by failed stands = subst (CauseBy settings before now) (sym stands) tt
+  caused met.Stopped status by failed stands = subst (CauseBy settings before now) (sym stands) by
+  caused met.NoMemory status by failed stands = subst (CauseBy settings before now) (sym stands) tt
+  caused met.DiskFault status by failed stands = subst (CauseBy settings before now) (sym stands) by
+  caused met.FolderFault status by failed stands = subst (CauseBy settings before now) (sym stands) (rose_since before.counts.folder_faults faults now.counts.folder_faults no_less by)
+  caused (met.Unreachable worker) status by failed stands = subst (CauseBy settings before now) (sym stands) (record { number = refl; worker_is = by; failed = failed })
+  caused (met.Epochs slot) status by failed stands = named_so listed slot.0 status (CauseBy settings before now) by stands tt (λ one is. listed_by before.folder goes scans slot.0 one is)
+
+  pub caused_at_end : (what : Met) (status : Status) → IsMetByRun settings.output.workers (length listed) (record before.counts { folder_faults = faults }) now.counts what → FailedIn settings before now what →
+      (status ≡ NoMemory) ⊎ StandsForMet listed settings.output.attempts what status → CauseBy settings before now status
+  caused_at_end what status by failed (inl memory) = subst (CauseBy settings before now) (sym memory) tt
+  caused_at_end what status by failed (inr stands) = caused what status by failed stands
+
+-- a slot that was met is one of the listed files
+pub is_met_of : (workers files : ℕ) (before after : Tolls) (what : Met) → IsMetByRun workers files before after what → IsMetOf files what
+is_met_of workers files before after met.Done by = tt
+is_met_of workers files before after met.Stopped by = tt
+is_met_of workers files before after met.NoMemory by = tt
+is_met_of workers files before after met.DiskFault by = tt
+is_met_of workers files before after met.FolderFault by = tt
+is_met_of workers files before after (met.Unreachable worker) by = tt
+is_met_of workers files before after (met.Epochs slot) by = by
+
+-- ---- how it ended
+
+module _ (listed : List Listed) (attempts : ℕ) where
+  -- where no report is told
+  pub scanned_end : (what : Met) (status : Status) → IsMetOf (length listed) what → (status ≡ NoMemory) ⊎ StandsForMet listed attempts what status → IsRunEnd status → IsScannedEnd status
+  scanned_end what status of (inl memory) ends = subst IsScannedEnd (sym memory) tt
+  scanned_end met.Done status of (inr stands) ends = absurd (subst IsRunEnd stands ends)
+  scanned_end met.Stopped status of (inr stands) ends = absurd (subst IsRunEnd stands ends)
+  scanned_end met.NoMemory status of (inr stands) ends = subst IsScannedEnd (sym stands) tt
+  scanned_end met.DiskFault status of (inr stands) ends = subst IsScannedEnd (sym stands) tt
+  scanned_end met.FolderFault status of (inr stands) ends = subst IsScannedEnd (sym stands) tt
+  scanned_end (met.Unreachable worker) status of (inr stands) ends = subst IsScannedEnd (sym stands) tt
+  scanned_end (met.Epochs slot) status of (inr stands) ends = named_so listed slot.0 status IsScannedEnd of stands tt (λ one is. tt)
+
+  -- a run that followed its files made the last steps
+  pub left_by : (what : Met) (status : Status) → (status ≡ NoMemory) ⊎ StandsForMet listed attempts what status → IsBehindOpening status → AreLeft what
+  left_by what status (inl memory) followed = absurd (subst IsBehindOpening memory followed)
+  left_by met.Done status (inr stands) followed = tt
+  left_by met.Stopped status (inr stands) followed = tt
+  left_by met.NoMemory status (inr stands) followed = absurd (subst IsBehindOpening stands followed)
+  left_by met.DiskFault status (inr stands) followed = absurd (subst IsBehindOpening stands followed)
+  left_by met.FolderFault status (inr stands) followed = tt
+  left_by (met.Unreachable worker) status (inr stands) followed = tt
+  left_by (met.Epochs slot) status (inr stands) followed = tt
+
+pub left_telling : (what : Met) → IsTelling what → AreLeft what
+left_telling met.Done telling = tt
+left_telling met.Stopped telling = tt
+left_telling met.NoMemory telling = absurd telling
+left_telling met.DiskFault telling = absurd telling
+left_telling met.FolderFault telling = absurd telling
+left_telling (met.Unreachable worker) telling = absurd telling
+left_telling (met.Epochs slot) telling = absurd telling
+
+-- ---- its areas
+
+module _ {D : Type 0} (disks : DiskWords D) (a b : D) (store : Standing) (settled : AreSettled disks.contents disks.images a b (chosen_by store)) where
+  pub at_rest : AreAtRest disks.contents disks.images a b
+  at_rest = record {
+    a_told = subst (λ (o : Option (List ℕ)). IsSome o) (sym settled.a_holds) refl;
+    b_told = subst (λ (o : Option (List ℕ)). IsSome o) (sym settled.b_holds) refl;
+    a_settled = settled.a_settled;
+    b_settled = settled.b_settled;
+  }
+
+  pub gives_its_rows : (first second : List ℕ) → disks.contents a ≡ Some first → disks.contents b ≡ Some second → GivesRows first second store.rows
+  gives_its_rows first second a_is b_is =
+      let same_first : settled.first ≡ first = let q : Some settled.first ≡ Some first = sym settled.a_holds ∙ a_is in cc in
+      let same_second : settled.second ≡ second = let q : Some settled.second ≡ Some second = sym settled.b_holds ∙ b_is in cc in
+      record {
+        choice = chosen_by store;
+        chosen = subst (λ (l : List ℕ). IsChoice first l (chosen_by store)) same_second (subst (λ (l : List ℕ). IsChoice l settled.second (chosen_by store)) same_first settled.chosen);
+        given = refl;
+      }
+
+-- ---- a scan that told no files
+
+pub scan_caused : (settings : SettingsOf) (before now : Signs) (status : Status) → IsScanEnd before.counts.folder_faults now.counts.folder_faults status →
+    IfSome before.folder (λ history. ShowsScanEnd settings.inputs history now.folder status) → CauseBy settings before now status
+scan_caused settings before now Done ends shows = absurd ends
+scan_caused settings before now Stopped ends shows = absurd ends
+scan_caused settings before now Usage ends shows = absurd ends
+scan_caused settings before now (Settings fault) ends shows = absurd ends
+scan_caused settings before now (RegistryBad area at) ends shows = absurd ends
+scan_caused settings before now DiskFault ends shows = absurd ends
+scan_caused settings before now FolderFault ends shows = ends
+scan_caused settings before now (Unreachable worker failures) ends shows = absurd ends
+scan_caused settings before now OutFault ends shows = absurd ends
+scan_caused settings before now SourceFault ends shows = absurd ends
+scan_caused settings before now (TooMany Files path) ends shows = shows
+scan_caused settings before now (TooMany Epochs path) ends shows = absurd ends
+scan_caused settings before now (TooMany Slots path) ends shows = absurd ends
+scan_caused settings before now (NoNative path) ends shows = absurd ends
+scan_caused settings before now NoMemory ends shows = tt
+scan_caused settings before now (Unbuilt what) ends shows = absurd ends
+
+pub scan_ended : (before now : ℕ) (status : Status) → IsScanEnd before now status → IsScannedEnd status
+scan_ended before now Done ends = absurd ends
+scan_ended before now Stopped ends = absurd ends
+scan_ended before now Usage ends = absurd ends
+scan_ended before now (Settings fault) ends = absurd ends
+scan_ended before now (RegistryBad area at) ends = absurd ends
+scan_ended before now DiskFault ends = absurd ends
+scan_ended before now FolderFault ends = tt
+scan_ended before now (Unreachable worker failures) ends = absurd ends
+scan_ended before now OutFault ends = absurd ends
+scan_ended before now SourceFault ends = absurd ends
+scan_ended before now (TooMany Files path) ends = tt
+scan_ended before now (TooMany Epochs path) ends = absurd ends
+scan_ended before now (TooMany Slots path) ends = absurd ends
+scan_ended before now (NoNative path) ends = absurd ends
+scan_ended before now NoMemory ends = tt
+scan_ended before now (Unbuilt what) ends = absurd ends
+
+-- a scan or what comes behind it ends no run with a report
+pub ends_without_report : (status : Status) → IsScannedEnd status → IsRunEnd status
+ends_without_report Done ends = absurd ends
+ends_without_report Stopped ends = absurd ends
+ends_without_report Usage ends = absurd ends
+ends_without_report (Settings fault) ends = absurd ends
+ends_without_report (RegistryBad area at) ends = absurd ends
+ends_without_report DiskFault ends = tt
+ends_without_report FolderFault ends = tt
+ends_without_report (Unreachable worker failures) ends = tt
+ends_without_report OutFault ends = absurd ends
+ends_without_report SourceFault ends = absurd ends
+ends_without_report (TooMany full path) ends = tt
+ends_without_report (NoNative path) ends = absurd ends
+ends_without_report NoMemory ends = tt
+ends_without_report (Unbuilt what) ends = absurd ends
+
+-- ---- the registry
+
+pub registry_caused : (settings : SettingsOf) (before now : Signs) (error : RegistryError) (status : Status) → StandsForRegistry error status → (error ≡ registry.DiskFault → HasAreaFailed before.counts now.counts) → CauseBy settings before now status
+registry_caused settings before now (registry.Bad area at) status stands failed = subst (CauseBy settings before now) (sym stands) tt
+registry_caused settings before now registry.DiskFault status stands failed = subst (CauseBy settings before now) (sym stands) (failed refl)
+registry_caused settings before now registry.NoMemory status stands failed = subst (CauseBy settings before now) (sym stands) tt
+
+pub registry_ended : (error : RegistryError) (status : Status) → StandsForRegistry error status → IsRunEnd status
+registry_ended (registry.Bad area at) status stands = subst IsRunEnd (sym stands) tt
+registry_ended registry.DiskFault status stands = subst IsRunEnd (sym stands) tt
+registry_ended registry.NoMemory status stands = subst IsRunEnd (sym stands) tt
+
+pub registry_not_followed : (error : RegistryError) (status : Status) → StandsForRegistry error status → IsBehindOpening status → ⊥
+registry_not_followed (registry.Bad area at) status stands followed = subst IsBehindOpening stands followed
+registry_not_followed registry.DiskFault status stands followed = subst IsBehindOpening stands followed
+registry_not_followed registry.NoMemory status stands followed = subst IsBehindOpening stands followed
+
+-- a cause of what came behind the registry's opening is one of all since before it
+module _ (settings : SettingsOf) (before now : Signs) (a_faults b_faults : ℕ) (a_no_less : before.counts.a_faults ≤ a_faults) (b_no_less : before.counts.b_faults ≤ b_faults) where
+  abbrev mid : Signs
+  mid = record before { counts = record before.counts { a_faults = a_faults; b_faults = b_faults } }
+
+  failed_earlier : HasAreaFailed mid.counts now.counts → HasAreaFailed before.counts now.counts
+  failed_earlier (inl rose) = inl (rose_since before.counts.a_faults a_faults now.counts.a_faults a_no_less rose)
+  failed_earlier (inr rose) = inr (rose_since before.counts.b_faults b_faults now.counts.b_faults b_no_less rose)
+
+  pub caused_earlier : (status : Status) → CauseBy settings mid now status → CauseBy settings before now status
+  caused_earlier Done cause = tt
+  caused_earlier Stopped cause = cause
+  caused_earlier Usage cause = absurd cause
+  caused_earlier (Settings fault) cause = absurd cause
+  caused_earlier (RegistryBad area at) cause = tt
+  caused_earlier DiskFault cause = failed_earlier cause
+  caused_earlier FolderFault cause = cause
+  caused_earlier (Unreachable worker failures) cause = record { number = cause.number; worker_is = cause.worker_is; failed = cause.failed }
+  caused_earlier OutFault cause = absurd cause
+  caused_earlier SourceFault cause = absurd cause
+  caused_earlier (TooMany Files path) cause = cause
+  caused_earlier (TooMany Epochs path) cause = cause
+  caused_earlier (TooMany Slots path) cause = absurd cause
+  caused_earlier (NoNative path) cause = absurd cause
+  caused_earlier NoMemory cause = tt
+  caused_earlier (Unbuilt what) cause = absurd cause
+
+-- ---- words and settings
+
+pub prepare_caused : (source : Option (List ℕ)) (signs : Signs) (before now : ℕ) (status : Status) → IsPreparingEnd before now status → Cause source (without_sink signs before) (without_sink signs now) status
+prepare_caused source signs before now Done ends = absurd ends
+prepare_caused source signs before now Stopped ends = absurd ends
+prepare_caused source signs before now Usage ends = tt
+prepare_caused source signs before now (Settings fault) ends = tt
+prepare_caused source signs before now (RegistryBad area at) ends = absurd ends
+prepare_caused source signs before now DiskFault ends = absurd ends
+prepare_caused source signs before now FolderFault ends = absurd ends
+prepare_caused source signs before now (Unreachable worker failures) ends = absurd ends
+prepare_caused source signs before now OutFault ends = absurd ends
+prepare_caused source signs before now SourceFault ends = ends
+prepare_caused source signs before now (TooMany full path) ends = absurd ends
+prepare_caused source signs before now (NoNative path) ends = absurd ends
+prepare_caused source signs before now NoMemory ends = tt
+prepare_caused source signs before now (Unbuilt what) ends = tt
+
+pub prepare_ended : (before now : ℕ) (status : Status) → IsPreparingEnd before now status → IsRunEnd status
+prepare_ended before now Done ends = absurd ends
+prepare_ended before now Stopped ends = absurd ends
+prepare_ended before now Usage ends = tt
+prepare_ended before now (Settings fault) ends = tt
+prepare_ended before now (RegistryBad area at) ends = absurd ends
+prepare_ended before now DiskFault ends = absurd ends
+prepare_ended before now FolderFault ends = absurd ends
+prepare_ended before now (Unreachable worker failures) ends = absurd ends
+prepare_ended before now OutFault ends = absurd ends
+prepare_ended before now SourceFault ends = tt
+prepare_ended before now (TooMany full path) ends = absurd ends
+prepare_ended before now (NoNative path) ends = absurd ends
+prepare_ended before now NoMemory ends = tt
+prepare_ended before now (Unbuilt what) ends = tt
+
+pub prepare_not_followed : (before now : ℕ) (status : Status) → IsPreparingEnd before now status → IsBehindOpening status → ⊥
+prepare_not_followed before now Done ends followed = ends
+prepare_not_followed before now Stopped ends followed = ends
+prepare_not_followed before now FolderFault ends followed = ends
+prepare_not_followed before now (Unreachable worker failures) ends followed = ends
+prepare_not_followed before now (TooMany full path) ends followed = ends
+prepare_not_followed before now Usage ends followed = followed
+prepare_not_followed before now (Settings fault) ends followed = followed
+prepare_not_followed before now (RegistryBad area at) ends followed = followed
+prepare_not_followed before now DiskFault ends followed = followed
+prepare_not_followed before now OutFault ends followed = followed
+prepare_not_followed before now SourceFault ends followed = followed
+prepare_not_followed before now (NoNative path) ends followed = followed
+prepare_not_followed before now NoMemory ends followed = followed
+prepare_not_followed before now (Unbuilt what) ends followed = followed
+
+pub prepare_not_named : (before now : ℕ) (status : Status) → IsPreparingEnd before now status → IsBehindSettings status → ⊥
+prepare_not_named before now Done ends behind = ends
+prepare_not_named before now Stopped ends behind = ends
+prepare_not_named before now Usage ends behind = behind
+prepare_not_named before now (Settings fault) ends behind = behind
+prepare_not_named before now (RegistryBad area at) ends behind = ends
+prepare_not_named before now DiskFault ends behind = ends
+prepare_not_named before now FolderFault ends behind = ends
+prepare_not_named before now (Unreachable worker failures) ends behind = ends
+prepare_not_named before now OutFault ends behind = behind
+prepare_not_named before now SourceFault ends behind = behind
+prepare_not_named before now (TooMany full path) ends behind = ends
+prepare_not_named before now (NoNative path) ends behind = behind
+prepare_not_named before now NoMemory ends behind = behind
+prepare_not_named before now (Unbuilt what) ends behind = behind
+
+-- what is caused once the settings are known is so by those that the source names
+pub caused_by_named : (source : Option (List ℕ)) (settings : SettingsOf) (before now : Signs) (first last : ℕ) (status : Status) → IsNamed source settings → CauseBy settings before now status → Cause source (without_sink before first) (without_sink now last) status
+caused_by_named source settings before now first last Done named cause = tt
+caused_by_named source settings before now first last Stopped named cause = cause
+caused_by_named source settings before now first last Usage named cause = tt
+caused_by_named source settings before now first last (Settings fault) named cause = tt
+caused_by_named source settings before now first last (RegistryBad area at) named cause = tt
+caused_by_named source settings before now first last DiskFault named cause = cause
+caused_by_named source settings before now first last FolderFault named cause = cause
+caused_by_named source settings before now first last (Unreachable worker failures) named cause = record { settings = settings; named = named; by = cause }
+caused_by_named source settings before now first last OutFault named cause = absurd cause
+caused_by_named source settings before now first last SourceFault named cause = absurd cause
+caused_by_named source settings before now first last (TooMany full path) named cause = record { settings = settings; named = named; by = cause }
+caused_by_named source settings before now first last (NoNative path) named cause = absurd cause
+caused_by_named source settings before now first last NoMemory named cause = tt
+caused_by_named source settings before now first last (Unbuilt what) named cause = tt
+
+-- ---- what is printed
+
+-- by what the sink counted, too
+module _ (source : Option (List ℕ)) (before now : Signs) (first last sink sink_now : ℕ) where
+  abbrev all_before : AllSigns
+  all_before = record { signs = before; source_faults = first; sink_faults = sink }
+
+  abbrev all_now : AllSigns
+  all_now = record { signs = now; source_faults = last; sink_faults = sink_now }
+
+  pub caused_with_sink : (status : Status) → IsReportEnd status ⊎ IsRunEnd status → Cause source (without_sink before first) (without_sink now last) status → Cause source all_before all_now status
+  caused_with_sink Done ends cause = tt
+  caused_with_sink Stopped ends cause = cause
+  caused_with_sink Usage ends cause = tt
+  caused_with_sink (Settings fault) ends cause = tt
+  caused_with_sink (RegistryBad area at) ends cause = tt
+  caused_with_sink DiskFault ends cause = cause
+  caused_with_sink FolderFault ends cause = cause
+  caused_with_sink (Unreachable worker failures) ends cause = cause
+  caused_with_sink OutFault (inl ends) cause = absurd ends
+  caused_with_sink OutFault (inr ends) cause = absurd ends
+  caused_with_sink SourceFault ends cause = cause
+  caused_with_sink (TooMany full path) ends cause = cause
+  caused_with_sink (NoNative path) ends cause = absurd cause
+  caused_with_sink NoMemory ends cause = tt
+  caused_with_sink (Unbuilt what) ends cause = tt

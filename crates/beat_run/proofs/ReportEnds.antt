@@ -1,0 +1,66 @@
+-- What is so of a run by what it met, whether it tells a report or its status alone.
+use Rattle.std.proofs.Common.{◌≡◌, ◌⊎◌, inl, inr, ℕ, ◌≤◌, List, length, Option, IfErr, IfOk, IfSome, IsSome, Result, Ok, Err}
+use Rattle.event_tree.specs.declared.settings.Settings.{Settings as SettingsOf}
+use Rattle.keeper.specs.Keeping.{Keeping}
+use Rattle.outside.specs.Folders.{FolderHistory}
+use Rattle.prospect.specs.ListedFiles.{ScansFiles}
+use Rattle.prospect.specs.declared.listed.Listed.{Listed}
+use Rattle.registry_store.specs.Settled.{AreSettled}
+use Rattle.registry_store.specs.Standing.{chosen_by}
+use Rattle.report.specs.Report.{IsReport}
+use Rattle.report.specs.declared.passing.Passing.{Passing}
+use Rattle.report.specs.declared.status.Status.{Status}
+use Rattle.report.specs.declared.status.Status.TheVariants.{NoMemory}
+use Rattle.rounds.specs.Words.{DiskWords}
+use Rattle.run_steps.specs.Met.{AreLeft, IsMetOf}
+use Rattle.run_steps.specs.Worked.{IsMetByRun}
+use Rattle.run_steps.specs.declared.met.Met.{Met}
+use Rattle.beat_run.specs.Accounted.{IsMetFor}
+use Rattle.beat_run.specs.Cause.{CauseBy, Signs}
+use Rattle.beat_run.specs.Ended.{IsTelling, StandsForMet, ended}
+use Rattle.beat_run.specs.Ends.{IsBehindOpening, IsRunEnd, IsScannedEnd}
+use Rattle.beat_run.specs.Printed.{IsReportOf, ReportsStored}
+use Rattle.beat_run.specs.declared.ending.Ending.{Ending}
+use Rattle.beat_run.proofs.Accounts.{met_for_end}
+use Rattle.beat_run.proofs.Causes.{FailedIn, GoesFurther, caused_at_end, gives_its_rows, left_by, left_telling, scanned_end}
+
+abbrev EndsBy : List Listed → ℕ → Met → Status → Type 0
+EndsBy listed attempts what status = (status ≡ NoMemory) ⊎ StandsForMet listed attempts what status
+
+-- either status stands for what was met
+by : (listed : List Listed) (attempts : ℕ) (what : Met) (result : Result Ending Status) → IfOk result (λ ending. StandsForMet listed attempts what ending.status) → IfErr result (EndsBy listed attempts what) → EndsBy listed attempts what (ended result)
+by listed attempts what (Ok ending) stands refused = inr stands
+by listed attempts what (Err status) stands refused = refused
+
+pub met_for_ending : (listed : List Listed) (attempts : ℕ) (what : Met) (result : Result Ending Status) → IsMetOf (length listed) what → IfOk result (λ ending. StandsForMet listed attempts what ending.status) →
+    IfErr result (EndsBy listed attempts what) → IsMetFor (ended result) what
+met_for_ending listed attempts what result of stands refused = met_for_end listed attempts what (ended result) of (by listed attempts what result stands refused)
+
+pub left_by_ending : (listed : List Listed) (attempts : ℕ) (what : Met) (result : Result Ending Status) → IfOk result (λ ending. StandsForMet listed attempts what ending.status) →
+    IfErr result (EndsBy listed attempts what) → IsBehindOpening (ended result) → AreLeft what
+left_by_ending listed attempts what result stands refused followed = left_by listed attempts what (ended result) (by listed attempts what result stands refused) followed
+
+pub scanned_ending : (listed : List Listed) (attempts : ℕ) (what : Met) (result : Result Ending Status) → IsMetOf (length listed) what → IfErr result (EndsBy listed attempts what) → IfErr result IsRunEnd → IfErr result IsScannedEnd
+scanned_ending listed attempts what (Ok ending) of refused ends = tt
+scanned_ending listed attempts what (Err status) of refused ends = scanned_end listed attempts what status of refused ends
+
+pub caused_ending : (settings : SettingsOf) (listed : List Listed) (before now : Signs) (scanned : Option FolderHistory) (faults : ℕ) (no_less : before.counts.folder_faults ≤ faults)
+    (scans : IfSome before.folder (λ history. ScansFiles settings.inputs history listed scanned)) (goes : IsSome before.folder → GoesFurther scanned now.folder) (what : Met) (result : Result Ending Status) →
+    IsMetByRun settings.output.workers (length listed) (record before.counts { folder_faults = faults }) now.counts what → FailedIn settings before now what →
+    IfOk result (λ ending. StandsForMet listed settings.output.attempts what ending.status) → IfErr result (EndsBy listed settings.output.attempts what) → CauseBy settings before now (ended result)
+caused_ending settings listed before now scanned faults no_less scans goes what result cause failed stands refused =
+    caused_at_end settings listed before now scanned faults no_less scans goes what (ended result) cause failed (by listed settings.output.attempts what result stands refused)
+
+pub reports_stored : {D : Type 0} (disks : DiskWords D) (a b : D) (keeper : Keeping) (passed : List Passing) (what : Met) (result : Result Ending Status) → IfOk result (λ _. IsTelling what) →
+    IfOk result (λ ending. IsReport keeper.store.rows passed keeper.shipped keeper.dropped ending.status ending.report) → (AreLeft what → AreSettled disks.contents disks.images a b (chosen_by keeper.store)) →
+    IfOk result (λ ending. ReportsStored disks a b ending.status ending.report)
+reports_stored disks a b keeper passed what (Ok ending) telling report settled = record {
+  is = record { rows = keeper.store.rows; passed = passed; shipped = keeper.shipped; dropped = keeper.dropped; report = report };
+  stored = gives_its_rows disks a b keeper.store (settled (left_telling what telling));
+}
+reports_stored disks a b keeper passed what (Err status) telling report settled = tt
+
+pub report_of : (keeper : Keeping) (passed : List Passing) (result : Result Ending Status) → IfOk result (λ ending. IsReport keeper.store.rows passed keeper.shipped keeper.dropped ending.status ending.report) →
+    IfOk result (λ ending. IsReportOf ending.status ending.report)
+report_of keeper passed (Ok ending) report = record { rows = keeper.store.rows; passed = passed; shipped = keeper.shipped; dropped = keeper.dropped; report = report }
+report_of keeper passed (Err status) report = tt

@@ -1,0 +1,37 @@
+-- A run sets out over its scan, the store that was opened and a keeper made over it.
+use Rattle.std.proofs.Common.{◌≡◌, ℕ, All, List, Option, IfSome, IsSome, sym, ap, subst, ◌∙◌}
+use Rattle.atomic_table.specs.Seated.{TableId}
+use Rattle.beat_config.specs.InRange.{AreInRange}
+use Rattle.event_tree.specs.declared.input_rule.IdentityRule.TheVariants.{Path}
+use Rattle.event_tree.specs.declared.input_rule.InputRule.{InputRule}
+use Rattle.event_tree.specs.declared.settings.Settings.{Settings}
+use Rattle.keeper.specs.Keeping.{Keeping}
+use Rattle.outside.specs.Folders.{FolderHistory}
+use Rattle.outside.specs.Times.{GivesMoment}
+use Rattle.prospect.specs.ListedFiles.{ScansFiles}
+use Rattle.prospect.specs.declared.listed.Listed.{Listed}
+use Rattle.registry_store.specs.Settled.{AreAtRest, AreSettled}
+use Rattle.registry_store.specs.Standing.{Standing, chosen_by}
+use Rattle.rounds.specs.Words.{DiskWords, WireWords}
+use Rattle.run_steps.specs.BeginsAll.{IsOfInputs}
+use Rattle.run_steps.specs.Outset.{Earlier, IsFirstKeeper, Outset, SetsOut, began_with}
+use Rattle.run_steps.proofs.OutsetMade.{sets_out}
+use Rattle.beat_run.specs.Accounted.{Areas, IsOpenedFrom}
+
+module _ {W D : Type 0} (disks : DiskWords D) (wires : WireWords W) (settings : Settings) (in_range : AreInRange settings) (paths : All (λ (input : InputRule). input.file_identity ≡ Path) settings.inputs)
+    (desk : TableId) (keeper : Keeping) (store : Standing) (first : IsFirstKeeper desk keeper) (over : keeper.store ≡ store) (items : List W) (from : Areas D) (a b : D) (opened : IsOpenedFrom disks from store a b)
+    (listed : List Listed) (moment : ℕ) (before later : Option (List ℕ)) (gives : GivesMoment before moment later) (told scanned : Option FolderHistory) (some : IsSome told)
+    (of_inputs : All (IsOfInputs settings) listed) (scans : IfSome told (λ history. ScansFiles settings.inputs history listed scanned)) where
+  abbrev pub outset : Outset W D
+  outset = record { settings = settings; listed = listed; moment = moment; shown = scanned; moments = later; wires = items; keeper = keeper; a = a; b = b }
+
+  abbrev pub earlier : Earlier D
+  earlier = record { moments = before; a = from.a; b = from.b }
+
+  its_store : store ≡ first.store
+  its_store = sym over ∙ ap (λ (k : Keeping). k.store) first.is
+
+  pub set_out : SetsOut disks (began_with wires outset earlier) outset
+  set_out = sets_out disks wires outset earlier first.store first.pass first.is gives opened.held
+      (λ rest. subst (λ (s : Standing). AreSettled disks.contents disks.images a b (chosen_by s)) its_store (opened.settled rest))
+      in_range paths of_inputs told (λ shown. some) scans

@@ -1,0 +1,221 @@
+use Rattle.std.proofs.Common.{◌≡◌, ◌∙◌, ℕ, ◌+◌, ◌-◌, ◌^◌, ◌<◌, ◌≤◌, ap, length, map, refl, arith}
+use Rattle.std.proofs.lemmas.Result.{err_from_is_err_and}
+use Rattle.prospect.proofs.LacksNone.{inputs_are_by_path_where_nothing_lacks}
+use Rattle.prospect.specs.Members.{globs_of}
+use Rattle.report.specs.declared.status.Status.TheVariants.{NoMemory}
+use Rattle.rounds.specs.Making.{all_seen}
+use Rattle.rounds.specs.declared.storing.Storing.{Storing}
+use Rattle.rounds.specs.Words.{disk_words, wire_words}
+use Rattle.run_steps.proofs.Clocks.{clock_by_two}
+use Rattle.run_steps.proofs.RunEarly.{listed_all}
+use Rattle.run_steps.specs.Outset.{began_with}
+use Rattle.beat_run.proofs.Accounts.{each_some, early, outcomes_seen, some_listed, wires_tell, worked}
+use Rattle.beat_run.specs.Cause.{Signs}
+use Rattle.beat_run.specs.Ended.{ended}
+use Rattle.beat_run.proofs.Causes.{at_rest, ends_without_report, is_met_of, scan_caused, scan_ended, shown_goes_further}
+use Rattle.beat_run.proofs.ReportEnds.{caused_ending, left_by_ending, met_for_ending, report_of, reports_stored, scanned_ending}
+use Rattle.beat_run.proofs.SettingOut.{earlier, outset, set_out}
+use Rattle.beat_run.proofs.WiresFailed.{failed_by}
+use Rattle.beat_run.proofs.run.run_store.Goals as goal
+
+-- ---- the scan told no files
+
+pub returns-in_err-scanned-clause-cause : goal.returns-in_err-scanned-clause-cause
+returns-in_err-scanned-clause-cause g c = λ from opened.
+    let inputs : c.as_slice.result.now ≡ c.args.settings.now.inputs = c.as_slice.ensures in
+    let p = err_from_is_err_and c.from_residual.result c.from_residual.ensures.1 in
+    rw (p.1, p.2) (scan_caused c.args.settings.now _ _ _ c.in_err-scanned.ensures.ends (rw inputs at c.in_err-scanned.ensures.shows_end))
+
+pub returns-in_err-scanned-clause-accounted : goal.returns-in_err-scanned-clause-accounted
+returns-in_err-scanned-clause-accounted g c = λ from opened tells.
+    let inputs : c.as_slice.result.now ≡ c.args.settings.now.inputs = c.as_slice.ensures in
+    let p = err_from_is_err_and c.from_residual.result c.from_residual.ensures.1 in
+    let disks = disk_words g.D.Disk.contents g.D.Disk.images g.D.Disk.moment g.D.Disk.images_since g.D.Disk.faults in
+    rw (p.1, p.2)
+    (early disks c.one_choice.ensures c.args.settings.now c.requires.in_range (inputs_are_by_path_where_nothing_lacks c.args.settings.now c.requires.nothing_lacks)
+    from.a from.b c.args.outside.now.a.now c.args.outside.now.b.now opened.held (map g.W.Wire.outcomes c.args.outside.now.wires.now.items)
+    (g.F.Folder.told c.args.outside.now.folder.now) (g.F.Folder.told c.scan.new.folder) (g.K.Clock.moments c.args.outside.now.clock.now) (g.K.Clock.moments c.scan.new.clock)
+    c.in_err-scanned.ensures.moment_given_first.0 _ tells.folder tells.moments c.in_err-scanned.ensures.moment_given_first.1
+    (each_some (g.F.Folder.told c.args.outside.now.folder.now) _ _ (λ history shows. some_listed c.args.settings.now.inputs history (g.F.Folder.told c.scan.new.folder) _ shows) (rw inputs at c.in_err-scanned.ensures.shows_end))
+    (ends_without_report _ (scan_ended _ _ _ c.in_err-scanned.ensures.ends)))
+
+-- ---- there was no memory for a queue, a box or a keeper
+
+pub returns-in_err-parts-clause-accounted : goal.returns-in_err-parts-clause-accounted
+returns-in_err-parts-clause-accounted g c = λ from opened tells.
+    let inputs : c.as_slice.result.now ≡ c.args.settings.now.inputs = c.as_slice.ensures in
+    let p = err_from_is_err_and c.from_residual-in_err-parts.result c.from_residual-in_err-parts.ensures.1 in
+    let disks = disk_words g.D.Disk.contents g.D.Disk.images g.D.Disk.moment g.D.Disk.images_since g.D.Disk.faults in
+    rw (p.1, p.2)
+    (early disks c.one_choice.ensures c.args.settings.now c.requires.in_range (inputs_are_by_path_where_nothing_lacks c.args.settings.now c.requires.nothing_lacks)
+    from.a from.b c.args.outside.now.a.now c.args.outside.now.b.now opened.held (map g.W.Wire.outcomes c.args.outside.now.wires.now.items)
+    (g.F.Folder.told c.args.outside.now.folder.now) (g.F.Folder.told c.scan.new.folder) (g.K.Clock.moments c.args.outside.now.clock.now) (g.K.Clock.moments c.scan.new.clock)
+    c.in_ok-scanned.scanned.now.0 NoMemory tells.folder tells.moments c.in_ok-scanned.ensures.moment_given
+    (each_some (g.F.Folder.told c.args.outside.now.folder.now) _ _ (λ history scans. listed_all (globs_of c.args.settings.now.inputs) history scans.listings (g.F.Folder.told c.scan.new.folder) scans.listed_is) (rw inputs at c.in_ok-scanned.ensures.scanned)) tt)
+
+-- ---- or for a crew
+
+pub returns-in_err-worked-clause-accounted : goal.returns-in_err-worked-clause-accounted
+returns-in_err-worked-clause-accounted g c = λ from opened tells.
+    let inputs : c.as_slice.result.now ≡ c.args.settings.now.inputs = c.as_slice.ensures in
+    let p = err_from_is_err_and c.from_residual-in_err-worked.result c.from_residual-in_err-worked.ensures.1 in
+    let disks = disk_words g.D.Disk.contents g.D.Disk.images g.D.Disk.moment g.D.Disk.images_since g.D.Disk.faults in
+    let wires = wire_words g.W.Wire.outcomes g.W.Wire.open_links g.W.Wire.faults g.W.Wire.idles in
+    let back = outcomes_seen wires c.run_over.new.around.wires.now.items c.args.outside.now.wires.now.items c.in_err-worked.ensures.back in
+    let a_same : c.run_over.new.storing.a.now ≡ c.args.outside.now.a.now = ap (λ (s : Storing g.row.D.Denot). s.a.now) c.in_err-worked.ensures.untouched.0 in
+    let b_same : c.run_over.new.storing.b.now ≡ c.args.outside.now.b.now = ap (λ (s : Storing g.row.D.Denot). s.b.now) c.in_err-worked.ensures.untouched.0 in
+    rw (p.1, p.2, a_same, b_same, c.in_err-worked.ensures.untouched.1, c.in_err-worked.ensures.untouched.2, back)
+    (early disks c.one_choice.ensures c.args.settings.now c.requires.in_range (inputs_are_by_path_where_nothing_lacks c.args.settings.now c.requires.nothing_lacks)
+    from.a from.b c.args.outside.now.a.now c.args.outside.now.b.now opened.held (map g.W.Wire.outcomes c.args.outside.now.wires.now.items)
+    (g.F.Folder.told c.args.outside.now.folder.now) (g.F.Folder.told c.scan.new.folder) (g.K.Clock.moments c.args.outside.now.clock.now) (g.K.Clock.moments c.scan.new.clock)
+    c.in_ok-scanned.scanned.now.0 NoMemory tells.folder tells.moments c.in_ok-scanned.ensures.moment_given
+    (each_some (g.F.Folder.told c.args.outside.now.folder.now) _ _ (λ history scans. listed_all (globs_of c.args.settings.now.inputs) history scans.listings (g.F.Folder.told c.scan.new.folder) scans.listed_is) (rw inputs at c.in_ok-scanned.ensures.scanned)) tt)
+
+-- ---- files were followed
+
+pub returns-clause-cause : goal.returns-clause-cause
+returns-clause-cause g c = λ from opened.
+    let inputs : c.as_slice.result.now ≡ c.args.settings.now.inputs = c.as_slice.ensures in
+    let files : c.as_slice-2.result.now ≡ c.in_ok-scanned.scanned.listed.items = c.as_slice-2.ensures.value in
+    let disks = disk_words g.D.Disk.contents g.D.Disk.images g.D.Disk.moment g.D.Disk.images_since g.D.Disk.faults in
+    let wires = wire_words g.W.Wire.outcomes g.W.Wire.open_links g.W.Wire.faults g.W.Wire.idles in
+    let before : Signs = record {
+      folder = g.F.Folder.told c.args.outside.now.folder.now;
+      moments = g.K.Clock.moments c.args.outside.now.clock.now;
+      wires = all_seen wires c.args.outside.now.wires.now.items;
+      counts = record { a_faults = g.D.Disk.faults c.args.outside.now.a.now; b_faults = g.D.Disk.faults c.args.outside.now.b.now; folder_faults = g.F.Folder.faults c.args.outside.now.folder.now; rings = g.B.Bell.rings c.args.outside.now.bell.now };
+    } in
+    let now : Signs = record {
+      folder = g.F.Folder.told c.run_over.new.around.folder.now;
+      moments = g.K.Clock.moments c.run_over.new.around.clock.now;
+      wires = all_seen wires c.run_over.new.around.wires.now.items;
+      counts = record { a_faults = g.D.Disk.faults c.run_over.new.storing.a.now; b_faults = g.D.Disk.faults c.run_over.new.storing.b.now; folder_faults = g.F.Folder.faults c.run_over.new.around.folder.now; rings = g.B.Bell.rings c.run_over.new.around.bell.now };
+    } in
+    (caused_ending c.args.settings.now c.in_ok-scanned.scanned.listed.items before now (g.F.Folder.told c.scan.new.folder) (g.F.Folder.faults c.scan.new.folder) c.scan.ensures.folder_faults_never_fall
+    (rw inputs at c.in_ok-scanned.ensures.scanned)
+    (λ some. shown_goes_further (g.F.Folder.told c.scan.new.folder) _ _
+    (c.in_ok-worked.ensures.ends
+    (earlier disks wires c.args.settings.now c.requires.in_range (inputs_are_by_path_where_nothing_lacks c.args.settings.now c.requires.nothing_lacks)
+    c.in_ok-parts.parts.desk.id c.in_ok-parts.parts.keeper c.args.store c.in_ok-parts.ensures.keeper c.in_ok-parts.ensures.store c.args.outside.now.wires.now.items from
+    c.args.outside.now.a.now c.args.outside.now.b.now opened c.in_ok-scanned.scanned.listed.items c.in_ok-scanned.scanned.now.0
+    (g.K.Clock.moments c.args.outside.now.clock.now) (g.K.Clock.moments c.scan.new.clock) c.in_ok-scanned.ensures.moment_given (g.F.Folder.told c.args.outside.now.folder.now) (g.F.Folder.told c.scan.new.folder) some (rw inputs at c.in_ok-scanned.ensures.of_inputs) (rw inputs at c.in_ok-scanned.ensures.scanned))
+    (set_out disks wires c.args.settings.now c.requires.in_range (inputs_are_by_path_where_nothing_lacks c.args.settings.now c.requires.nothing_lacks)
+    c.in_ok-parts.parts.desk.id c.in_ok-parts.parts.keeper c.args.store c.in_ok-parts.ensures.keeper c.in_ok-parts.ensures.store c.args.outside.now.wires.now.items from
+    c.args.outside.now.a.now c.args.outside.now.b.now opened c.in_ok-scanned.scanned.listed.items c.in_ok-scanned.scanned.now.0
+    (g.K.Clock.moments c.args.outside.now.clock.now) (g.K.Clock.moments c.scan.new.clock) c.in_ok-scanned.ensures.moment_given (g.F.Folder.told c.args.outside.now.folder.now) (g.F.Folder.told c.scan.new.folder) some (rw inputs at c.in_ok-scanned.ensures.of_inputs) (rw inputs at c.in_ok-scanned.ensures.scanned))).1.ends.stands.shown)
+    c.in_ok-worked.worked.met c.ending_of.result c.in_ok-worked.ensures.cause
+    (failed_by wires c.args.settings.now c.args.outside.now.wires.now.items c.run_over.new.around.wires.now.items before now refl refl c.in_ok-scanned.scanned.now.0 (g.K.Clock.moments c.scan.new.clock)
+    c.in_ok-scanned.ensures.moment_given _ _ _ c.in_ok-worked.worked.met c.in_ok-worked.ensures.cause c.in_ok-worked.ensures.failing)
+    (rw files at c.ending_of.ensures.stands) (rw files at c.ending_of.ensures.refused))
+
+pub returns-clause-accounted : goal.returns-clause-accounted
+returns-clause-accounted g c = λ from opened tells.
+    let inputs : c.as_slice.result.now ≡ c.args.settings.now.inputs = c.as_slice.ensures in
+    let files : c.as_slice-2.result.now ≡ c.in_ok-scanned.scanned.listed.items = c.as_slice-2.ensures.value in
+    let disks = disk_words g.D.Disk.contents g.D.Disk.images g.D.Disk.moment g.D.Disk.images_since g.D.Disk.faults in
+    let wires = wire_words g.W.Wire.outcomes g.W.Wire.open_links g.W.Wire.faults g.W.Wire.idles in
+    let of = is_met_of c.args.settings.now.output.workers _ _ _ c.in_ok-worked.worked.met c.in_ok-worked.ensures.cause in
+    let before = earlier disks wires c.args.settings.now c.requires.in_range (inputs_are_by_path_where_nothing_lacks c.args.settings.now c.requires.nothing_lacks)
+    c.in_ok-parts.parts.desk.id c.in_ok-parts.parts.keeper c.args.store c.in_ok-parts.ensures.keeper c.in_ok-parts.ensures.store c.args.outside.now.wires.now.items from
+    c.args.outside.now.a.now c.args.outside.now.b.now opened c.in_ok-scanned.scanned.listed.items c.in_ok-scanned.scanned.now.0
+    (g.K.Clock.moments c.args.outside.now.clock.now) (g.K.Clock.moments c.scan.new.clock) c.in_ok-scanned.ensures.moment_given (g.F.Folder.told c.args.outside.now.folder.now) (g.F.Folder.told c.scan.new.folder) tells.folder (rw inputs at c.in_ok-scanned.ensures.of_inputs) (rw inputs at c.in_ok-scanned.ensures.scanned) in
+    let sets = set_out disks wires c.args.settings.now c.requires.in_range (inputs_are_by_path_where_nothing_lacks c.args.settings.now c.requires.nothing_lacks)
+    c.in_ok-parts.parts.desk.id c.in_ok-parts.parts.keeper c.args.store c.in_ok-parts.ensures.keeper c.in_ok-parts.ensures.store c.args.outside.now.wires.now.items from
+    c.args.outside.now.a.now c.args.outside.now.b.now opened c.in_ok-scanned.scanned.listed.items c.in_ok-scanned.scanned.now.0
+    (g.K.Clock.moments c.args.outside.now.clock.now) (g.K.Clock.moments c.scan.new.clock) c.in_ok-scanned.ensures.moment_given (g.F.Folder.told c.args.outside.now.folder.now) (g.F.Folder.told c.scan.new.folder) tells.folder (rw inputs at c.in_ok-scanned.ensures.of_inputs) (rw inputs at c.in_ok-scanned.ensures.scanned) in
+    let start = began_with wires (outset disks wires c.args.settings.now c.requires.in_range (inputs_are_by_path_where_nothing_lacks c.args.settings.now c.requires.nothing_lacks)
+    c.in_ok-parts.parts.desk.id c.in_ok-parts.parts.keeper c.args.store c.in_ok-parts.ensures.keeper c.in_ok-parts.ensures.store c.args.outside.now.wires.now.items from
+    c.args.outside.now.a.now c.args.outside.now.b.now opened c.in_ok-scanned.scanned.listed.items c.in_ok-scanned.scanned.now.0
+    (g.K.Clock.moments c.args.outside.now.clock.now) (g.K.Clock.moments c.scan.new.clock) c.in_ok-scanned.ensures.moment_given (g.F.Folder.told c.args.outside.now.folder.now) (g.F.Folder.told c.scan.new.folder) tells.folder (rw inputs at c.in_ok-scanned.ensures.of_inputs) (rw inputs at c.in_ok-scanned.ensures.scanned)) before in
+    (worked disks start c.requires.in_range (inputs_are_by_path_where_nothing_lacks c.args.settings.now c.requires.nothing_lacks) (map g.W.Wire.outcomes c.args.outside.now.wires.now.items) _ c.in_ok-worked.worked.met (g.F.Folder.told c.args.outside.now.folder.now) (ended c.ending_of.result) tells.folder
+    (rw inputs at c.in_ok-scanned.ensures.scanned) (met_for_ending c.in_ok-scanned.scanned.listed.items c.args.settings.now.output.attempts c.in_ok-worked.worked.met c.ending_of.result of (rw files at c.ending_of.ensures.stands) (rw files at c.ending_of.ensures.refused))
+    (λ folder has. c.in_ok-worked.ensures.accounted before folder sets has tells.moments (wires_tell g.W.Wire.outcomes c.run_over.new.around.wires.now.items tells.wires)))
+
+pub returns-clause-at_rest : goal.returns-clause-at_rest
+returns-clause-at_rest g c = λ from opened some rest followed.
+    let inputs : c.as_slice.result.now ≡ c.args.settings.now.inputs = c.as_slice.ensures in
+    let files : c.as_slice-2.result.now ≡ c.in_ok-scanned.scanned.listed.items = c.as_slice-2.ensures.value in
+    let disks = disk_words g.D.Disk.contents g.D.Disk.images g.D.Disk.moment g.D.Disk.images_since g.D.Disk.faults in
+    let wires = wire_words g.W.Wire.outcomes g.W.Wire.open_links g.W.Wire.faults g.W.Wire.idles in
+    let ends = c.in_ok-worked.ensures.ends
+    (earlier disks wires c.args.settings.now c.requires.in_range (inputs_are_by_path_where_nothing_lacks c.args.settings.now c.requires.nothing_lacks)
+    c.in_ok-parts.parts.desk.id c.in_ok-parts.parts.keeper c.args.store c.in_ok-parts.ensures.keeper c.in_ok-parts.ensures.store c.args.outside.now.wires.now.items from
+    c.args.outside.now.a.now c.args.outside.now.b.now opened c.in_ok-scanned.scanned.listed.items c.in_ok-scanned.scanned.now.0
+    (g.K.Clock.moments c.args.outside.now.clock.now) (g.K.Clock.moments c.scan.new.clock) c.in_ok-scanned.ensures.moment_given (g.F.Folder.told c.args.outside.now.folder.now) (g.F.Folder.told c.scan.new.folder) some (rw inputs at c.in_ok-scanned.ensures.of_inputs) (rw inputs at c.in_ok-scanned.ensures.scanned))
+    (set_out disks wires c.args.settings.now c.requires.in_range (inputs_are_by_path_where_nothing_lacks c.args.settings.now c.requires.nothing_lacks)
+    c.in_ok-parts.parts.desk.id c.in_ok-parts.parts.keeper c.args.store c.in_ok-parts.ensures.keeper c.in_ok-parts.ensures.store c.args.outside.now.wires.now.items from
+    c.args.outside.now.a.now c.args.outside.now.b.now opened c.in_ok-scanned.scanned.listed.items c.in_ok-scanned.scanned.now.0
+    (g.K.Clock.moments c.args.outside.now.clock.now) (g.K.Clock.moments c.scan.new.clock) c.in_ok-scanned.ensures.moment_given (g.F.Folder.told c.args.outside.now.folder.now) (g.F.Folder.told c.scan.new.folder) some (rw inputs at c.in_ok-scanned.ensures.of_inputs) (rw inputs at c.in_ok-scanned.ensures.scanned)) in
+    let left = left_by_ending c.in_ok-scanned.scanned.listed.items c.args.settings.now.output.attempts c.in_ok-worked.worked.met c.ending_of.result (rw files at c.ending_of.ensures.stands) (rw files at c.ending_of.ensures.refused) followed in
+    (at_rest disks c.run_over.new.storing.a.now c.run_over.new.storing.b.now c.run_over.new.storing.keeper.now.store (ends.1.left.at_rest left rest).settled)
+
+pub returns-clause-reported : goal.returns-clause-reported
+returns-clause-reported g c = λ from opened some rest.
+    let inputs : c.as_slice.result.now ≡ c.args.settings.now.inputs = c.as_slice.ensures in
+    let disks = disk_words g.D.Disk.contents g.D.Disk.images g.D.Disk.moment g.D.Disk.images_since g.D.Disk.faults in
+    let wires = wire_words g.W.Wire.outcomes g.W.Wire.open_links g.W.Wire.faults g.W.Wire.idles in
+    let ends = c.in_ok-worked.ensures.ends
+    (earlier disks wires c.args.settings.now c.requires.in_range (inputs_are_by_path_where_nothing_lacks c.args.settings.now c.requires.nothing_lacks)
+    c.in_ok-parts.parts.desk.id c.in_ok-parts.parts.keeper c.args.store c.in_ok-parts.ensures.keeper c.in_ok-parts.ensures.store c.args.outside.now.wires.now.items from
+    c.args.outside.now.a.now c.args.outside.now.b.now opened c.in_ok-scanned.scanned.listed.items c.in_ok-scanned.scanned.now.0
+    (g.K.Clock.moments c.args.outside.now.clock.now) (g.K.Clock.moments c.scan.new.clock) c.in_ok-scanned.ensures.moment_given (g.F.Folder.told c.args.outside.now.folder.now) (g.F.Folder.told c.scan.new.folder) some (rw inputs at c.in_ok-scanned.ensures.of_inputs) (rw inputs at c.in_ok-scanned.ensures.scanned))
+    (set_out disks wires c.args.settings.now c.requires.in_range (inputs_are_by_path_where_nothing_lacks c.args.settings.now c.requires.nothing_lacks)
+    c.in_ok-parts.parts.desk.id c.in_ok-parts.parts.keeper c.args.store c.in_ok-parts.ensures.keeper c.in_ok-parts.ensures.store c.args.outside.now.wires.now.items from
+    c.args.outside.now.a.now c.args.outside.now.b.now opened c.in_ok-scanned.scanned.listed.items c.in_ok-scanned.scanned.now.0
+    (g.K.Clock.moments c.args.outside.now.clock.now) (g.K.Clock.moments c.scan.new.clock) c.in_ok-scanned.ensures.moment_given (g.F.Folder.told c.args.outside.now.folder.now) (g.F.Folder.told c.scan.new.folder) some (rw inputs at c.in_ok-scanned.ensures.of_inputs) (rw inputs at c.in_ok-scanned.ensures.scanned)) in
+    (reports_stored disks c.run_over.new.storing.a.now c.run_over.new.storing.b.now c.run_over.new.storing.keeper.now c.in_ok-worked.worked.passed.items
+    c.in_ok-worked.worked.met c.ending_of.result c.ending_of.ensures.telling c.ending_of.ensures.report (λ left. (ends.1.left.at_rest left rest).settled))
+
+pub returns-clause-ends : goal.returns-clause-ends
+returns-clause-ends g c =
+    let files : c.as_slice-2.result.now ≡ c.in_ok-scanned.scanned.listed.items = c.as_slice-2.ensures.value in
+    let of = is_met_of c.args.settings.now.output.workers _ _ _ c.in_ok-worked.worked.met c.in_ok-worked.ensures.cause in
+    scanned_ending c.in_ok-scanned.scanned.listed.items c.args.settings.now.output.attempts c.in_ok-worked.worked.met c.ending_of.result of (rw files at c.ending_of.ensures.refused) c.ending_of.ensures.without_report
+
+-- ---- what goes on
+
+tails_by_two : (before mid after files : ℕ) → mid ≡ before → files ≤ 65_536 → (mid + files < 2 ^ 64 - 1 → after ≡ mid) → before + 65_536 < 2 ^ 64 - 1 → after ≡ before
+tails_by_two before mid after files kept few closed room = closed (omega (arith, kept, few, room)) ∙ kept
+
+pub returns-in_err-scanned-clause-goes_on : goal.returns-in_err-scanned-clause-goes_on
+returns-in_err-scanned-clause-goes_on g c = record {
+  clock = c.scan.ensures.clock_goes_on;
+  wires = refl;
+  tails = λ few. c.scan.ensures.open_tails_kept;
+  a_told = λ told. told;
+  b_told = λ told. told;
+}
+
+pub returns-in_err-parts-clause-goes_on : goal.returns-in_err-parts-clause-goes_on
+returns-in_err-parts-clause-goes_on g c = record {
+  clock = c.scan.ensures.clock_goes_on;
+  wires = refl;
+  tails = λ few. c.scan.ensures.open_tails_kept;
+  a_told = λ told. told;
+  b_told = λ told. told;
+}
+
+pub returns-in_err-worked-clause-goes_on : goal.returns-in_err-worked-clause-goes_on
+returns-in_err-worked-clause-goes_on g c =
+    record {
+      clock = clock_by_two (g.K.Clock.moments c.args.outside.now.clock.now) (g.K.Clock.moments c.scan.new.clock) (g.K.Clock.moments c.run_over.new.around.clock.now) c.scan.ensures.clock_goes_on c.run_over.ensures.clock_goes_on;
+      wires = c.run_over.ensures.as_many_wires;
+      tails = λ few. tails_by_two (g.F.Folder.open_tails c.args.outside.now.folder.now) (g.F.Folder.open_tails c.scan.new.folder) (g.F.Folder.open_tails c.run_over.new.around.folder.now) (length c.in_ok-scanned.scanned.listed.items)
+          c.scan.ensures.open_tails_kept c.in_ok-scanned.ensures.few c.run_over.ensures.tails_closed few;
+      a_told = c.run_over.ensures.still_tell.a;
+      b_told = c.run_over.ensures.still_tell.b;
+    }
+
+pub returns-clause-goes_on : goal.returns-clause-goes_on
+returns-clause-goes_on g c =
+    record {
+      clock = clock_by_two (g.K.Clock.moments c.args.outside.now.clock.now) (g.K.Clock.moments c.scan.new.clock) (g.K.Clock.moments c.run_over.new.around.clock.now) c.scan.ensures.clock_goes_on c.run_over.ensures.clock_goes_on;
+      wires = c.run_over.ensures.as_many_wires;
+      tails = λ few. tails_by_two (g.F.Folder.open_tails c.args.outside.now.folder.now) (g.F.Folder.open_tails c.scan.new.folder) (g.F.Folder.open_tails c.run_over.new.around.folder.now) (length c.in_ok-scanned.scanned.listed.items)
+          c.scan.ensures.open_tails_kept c.in_ok-scanned.ensures.few c.run_over.ensures.tails_closed few;
+      a_told = c.run_over.ensures.still_tell.a;
+      b_told = c.run_over.ensures.still_tell.b;
+    }
+
+pub returns-clause-report : goal.returns-clause-report
+returns-clause-report g c = report_of c.run_over.new.storing.keeper.now c.in_ok-worked.worked.passed.items c.ending_of.result c.ending_of.ensures.report

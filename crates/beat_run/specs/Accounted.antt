@@ -1,0 +1,64 @@
+-- A run that is accounted for, by the status that it ends with (this project's profile).
+use Rattle.std.specs.Prelude.{◌≡◌, ℕ, [], IsSome, List, Option}
+use Rattle.std.specs.List.{AllByRecursion}
+use Rattle.event_tree.specs.declared.settings.Settings.{Settings}
+use Rattle.registry_log.specs.Starting.{Holds, IsBlank}
+use Rattle.registry_store.specs.Settled.{AreAtRest, AreSettled}
+use Rattle.registry_store.specs.Standing.{Standing, chosen_by}
+use Rattle.report.specs.declared.status.Status.{Status}
+use Rattle.report.specs.declared.status.Status.TheVariants.{Done, FolderFault, Stopped, TooMany, Unreachable}
+use Rattle.rounds.specs.Words.{DiskWords}
+use Rattle.run_steps.specs.AccountedFor.{AccountedFor, Objects, RunObjects}
+use Rattle.run_steps.specs.Areas.{HaveHeldFronts}
+use Rattle.run_steps.specs.Met.{AreLeft}
+use Rattle.run_steps.specs.declared.met.Met.{Met}
+use Rattle.run_steps.specs.declared.met.Met.TheVariants as met
+use Rattle.beat_run.specs.Ends.{IsBehindSettings}
+use Rattle.beat_run.specs.Named.{IsNamed}
+
+-- what a run with this status may have met; where it was refused, found no memory, or a disk or the sink failed, anything
+abbrev pub IsMetFor : Status → Met → Type 0
+IsMetFor Done what = what ≡ met.Done
+IsMetFor Stopped what = what ≡ met.Stopped
+IsMetFor FolderFault what = what ≡ met.FolderFault
+IsMetFor (Unreachable worker failures) what = what ≡ met.Unreachable worker
+IsMetFor (TooMany full path) what = AreLeft what
+IsMetFor _ what = Unit {0}
+
+pub record IsAccounted {D : Type 0} (disks : DiskWords D) (settings : Settings) (objects : RunObjects D) (status : Status) : Type 0 where
+  pub what : Met
+  pub met_for : IsMetFor status what
+  pub accounted : AccountedFor disks settings objects what
+
+-- folder and clock tell before it, and each wire behind it
+pub record TellEnough {D : Type 0} (before after : Objects D) : Type 0 where
+  pub folder : IsSome before.folder
+  pub moments : IsSome before.moments
+  pub wires : AllByRecursion (λ outcomes. IsSome outcomes) after.outcomes
+
+-- and before it each area tells that it holds no registry yet
+pub record AllTell {D : Type 0} (disks : DiskWords D) (objects : RunObjects D) : Type 0 where
+  pub tell : TellEnough objects.before objects.after
+  pub a : Holds IsBlank (disks.contents objects.before.a)
+  pub b : Holds IsBlank (disks.contents objects.before.b)
+
+-- by the settings that the source spells, where the status tells that they were known
+pub record IsAccountedByNamed {D : Type 0} (disks : DiskWords D) (source : Option (List ℕ)) (objects : RunObjects D) (status : Status) : Type 0 where
+  pub settings : Settings
+  pub named : IsBehindSettings status → IsNamed source settings
+  pub is : IsAccounted disks settings objects status
+
+abbrev pub IsAccountedWhereTold : {D : Type 0} → DiskWords D → Option (List ℕ) → RunObjects D → Status → Type 0
+IsAccountedWhereTold disks source objects status = AllTell disks objects → IsAccountedByNamed disks source objects status
+
+-- ---- within a run
+
+-- the areas as the run began
+pub record Areas (D : Type 0) : Type 0 where
+  pub a : D
+  pub b : D
+
+-- the store was opened from them: where they were at rest they held no row since, and make the store's choice now
+pub record IsOpenedFrom {D : Type 0} (disks : DiskWords D) (from : Areas D) (store : Standing) (a b : D) : Type 0 where
+  pub held : AreAtRest disks.contents disks.images from.a from.b → HaveHeldFronts disks [] from.a from.b a b
+  pub settled : AreAtRest disks.contents disks.images from.a from.b → AreSettled disks.contents disks.images a b (chosen_by store)

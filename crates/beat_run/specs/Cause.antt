@@ -1,0 +1,111 @@
+-- Why a run ended as it did (this project's profile): one equation for each status. What shows of the objects is given as it was
+-- before the run and as it is now.
+use Rattle.std.specs.Prelude.{◌≡◌, ◌⊎◌, ◌-◌, ◌<◌, ℕ, List, Any, Contains, drop, length, slice_get, Option, Some, IfSome}
+use Rattle.batch_worker.specs.Seen.{Seen}
+use Rattle.event_tree.specs.declared.settings.Settings.{Settings as SettingsOf}
+use Rattle.kept_rows.specs.Failures.{HasLastFailures}
+use Rattle.outside.specs.Counts.{IsAtEnd, Rose}
+use Rattle.outside.specs.Folders.{FolderHistory, Listed}
+use Rattle.outside.specs.Wires.{Outcome}
+use Rattle.outside.specs.declared.history.Shown.{Shown}
+use Rattle.prospect.specs.ListedFiles.{FindsOneMore}
+use Rattle.report.specs.declared.status.Status.{Status}
+use Rattle.report.specs.declared.status.Status.TheVariants.{Done, Stopped, Usage, Settings, RegistryBad, DiskFault, FolderFault, Unreachable, OutFault, SourceFault, TooMany, NoNative, NoMemory, Unbuilt}
+use Rattle.run_steps.specs.Worked.{Tolls}
+use Rattle.wire_base.specs.declared.limits.Full.TheVariants.{Epochs, Files, Slots}
+use Rattle.beat_run.specs.Named.{IsNamed}
+
+-- what shows of the objects that a run uses once its settings are known: what folder, clock and each wire tell, and counts of faults
+-- and of rings
+pub record Signs : Type 0 where
+  pub folder : Option FolderHistory
+  pub moments : Option (List ℕ)
+  pub wires : List Seen
+  pub counts : Tolls
+
+-- and of all that it is handed
+pub record AllSigns : Type 0 where
+  pub signs : Signs
+  pub source_faults : ℕ
+  pub sink_faults : ℕ
+
+-- where no sink was used yet
+abbrev pub without_sink : Signs → ℕ → AllSigns
+without_sink signs source_faults = record { signs = signs; source_faults = source_faults; sink_faults = 0 }
+
+-- one of the areas failed
+abbrev pub HasAreaFailed : Tolls → Tolls → Type 0
+HasAreaFailed before now = Rose before.a_faults now.a_faults ⊎ Rose before.b_faults now.b_faults
+
+-- behind these outcomes the wire's last ones are failures, as many as end a run, by these moments; or its count of faults stands at its
+-- end, from where on failures are not listed
+pub record HasFailedSince (settings : SettingsOf) (moments : List ℕ) (earlier : List Outcome) (wire : Seen) : Type 0 where
+  pub all : List Outcome
+  pub tells : wire.outcomes ≡ Some all
+  pub failures : IsAtEnd wire.faults ⊎ HasLastFailures settings.output.timeout settings.output.attempts moments (drop (length earlier) all)
+
+-- so it is of the wire at this place, where it and the clock tell; with the last moment that the clock had given before
+abbrev pub HasFailedAt : SettingsOf → ℕ → Signs → Signs → Type 0
+HasFailedAt settings place before now = IfSome before.moments (λ first. IfSome now.moments (λ moments. (old new : Seen) → slice_get before.wires place ≡ Some old → slice_get now.wires place ≡ Some new →
+    IfSome old.outcomes (λ earlier. HasFailedSince settings (drop (length first - 1) moments) earlier new)))
+
+-- a worker of these settings, which failed as often in a row as they let it
+pub record IsFailedWorker (settings : SettingsOf) (before now : Signs) (worker failures : ℕ) : Type 0 where
+  pub number : failures ≡ settings.output.attempts
+  pub worker_is : worker < settings.output.workers
+  pub failed : HasFailedAt settings worker before now
+
+-- a listing since showed a file of this path
+pub record WasListed (path : List ℕ) (told : FolderHistory) (after : Option FolderHistory) : Type 0 where
+  pub now : FolderHistory
+  pub tells : after ≡ Some now
+  pub root : List ℕ
+  pub depth : ℕ
+  pub shown : List Shown
+  pub among : Contains (drop (length told.events) now.events) (Listed root depth shown)
+  pub shows : Any (λ one. one.entry.path ≡ path) shown
+
+-- ---- once the settings are known
+
+abbrev pub CauseBy : SettingsOf → Signs → Signs → Status → Type 0
+CauseBy settings before now Done = Unit {0}
+CauseBy settings before now Stopped = Rose before.counts.rings now.counts.rings
+CauseBy settings before now Usage = ⊥
+CauseBy settings before now (Settings fault) = ⊥
+CauseBy settings before now (RegistryBad area at) = Unit {0}
+CauseBy settings before now DiskFault = HasAreaFailed before.counts now.counts
+CauseBy settings before now FolderFault = Rose before.counts.folder_faults now.counts.folder_faults
+CauseBy settings before now (Unreachable worker failures) = IsFailedWorker settings before now worker failures
+CauseBy settings before now OutFault = ⊥
+CauseBy settings before now SourceFault = ⊥
+CauseBy settings before now (TooMany Files path) = IfSome before.folder (λ told. FindsOneMore settings.inputs told path now.folder)
+CauseBy settings before now (TooMany Epochs path) = IfSome before.folder (λ told. WasListed path told now.folder)
+CauseBy settings before now (TooMany Slots path) = ⊥
+CauseBy settings before now (NoNative path) = ⊥
+CauseBy settings before now NoMemory = Unit {0}
+CauseBy settings before now (Unbuilt what) = ⊥
+
+-- ---- of a run
+
+-- by the settings that its source spells
+pub record HasCauseByNamed (source : Option (List ℕ)) (before now : Signs) (status : Status) : Type 0 where
+  pub settings : SettingsOf
+  pub named : IsNamed source settings
+  pub by : CauseBy settings before now status
+
+-- which words, settings and areas are refused, and what is done, is told by clauses of their own
+abbrev pub Cause : Option (List ℕ) → AllSigns → AllSigns → Status → Type 0
+Cause source before now Done = Unit {0}
+Cause source before now Stopped = Rose before.signs.counts.rings now.signs.counts.rings
+Cause source before now Usage = Unit {0}
+Cause source before now (Settings fault) = Unit {0}
+Cause source before now (RegistryBad area at) = Unit {0}
+Cause source before now DiskFault = HasAreaFailed before.signs.counts now.signs.counts
+Cause source before now FolderFault = Rose before.signs.counts.folder_faults now.signs.counts.folder_faults
+Cause source before now (Unreachable worker failures) = HasCauseByNamed source before.signs now.signs (Unreachable worker failures)
+Cause source before now OutFault = Rose before.sink_faults now.sink_faults
+Cause source before now SourceFault = Rose before.source_faults now.source_faults
+Cause source before now (TooMany what path) = HasCauseByNamed source before.signs now.signs (TooMany what path)
+Cause source before now (NoNative path) = ⊥
+Cause source before now NoMemory = Unit {0}
+Cause source before now (Unbuilt what) = Unit {0}

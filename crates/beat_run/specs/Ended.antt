@@ -1,0 +1,49 @@
+-- The status that a part of a run ended with, and the one that stands for what was met, and for what registry and scan answered (this
+-- project's profile).
+use Rattle.std.specs.Prelude.{◌≡◌, ◌⊎◌, ℕ, List, slice_get, IfSome, Result, Ok, Err}
+use Rattle.prospect.specs.declared.listed.Listed.{Listed}
+use Rattle.prospect.specs.declared.scan_error.ScanError.{ScanError}
+use Rattle.prospect.specs.declared.scan_error.ScanError.TheVariants.{Failed as ScanFailed, NoMemory as ScanNoMemory, TooMany as ScanTooMany}
+use Rattle.report.specs.declared.status.Status.{Status}
+use Rattle.report.specs.declared.status.Status.TheVariants.{DiskFault, Done, FolderFault, NoMemory, RegistryBad, Stopped, TooMany, Unreachable}
+use Rattle.run_steps.specs.declared.met.Met.{Met}
+use Rattle.run_steps.specs.declared.met.Met.TheVariants as met
+use Rattle.run_steps.specs.declared.registry_error.RegistryError.{RegistryError}
+use Rattle.run_steps.specs.declared.registry_error.RegistryError.TheVariants as registry
+use Rattle.wire_base.specs.declared.limits.Full.TheVariants.{Epochs, Files}
+use Rattle.beat_run.specs.declared.ending.Ending.{Ending}
+
+abbrev pub ended : Result Ending Status → Status
+ended (Ok ending) = ending.status
+ended (Err status) = status
+
+-- the file of the slot is named by its path, for which there may be no memory
+abbrev pub StandsForMet : List Listed → ℕ → Met → Status → Type 0
+StandsForMet listed attempts met.Done status = status ≡ Done
+StandsForMet listed attempts met.Stopped status = status ≡ Stopped
+StandsForMet listed attempts met.NoMemory status = status ≡ NoMemory
+StandsForMet listed attempts met.DiskFault status = status ≡ DiskFault
+StandsForMet listed attempts met.FolderFault status = status ≡ FolderFault
+StandsForMet listed attempts (met.Unreachable worker) status = status ≡ Unreachable worker attempts
+StandsForMet listed attempts (met.Epochs slot) status =
+    (status ≡ NoMemory) ⊎ IfSome (slice_get listed slot.0) (λ one. status ≡ TooMany Epochs one.path)
+
+-- a run that met it tells a report
+abbrev pub IsTelling : Met → Type 0
+IsTelling met.Done = Unit {0}
+IsTelling met.Stopped = Unit {0}
+IsTelling met.NoMemory = ⊥
+IsTelling met.DiskFault = ⊥
+IsTelling met.FolderFault = ⊥
+IsTelling (met.Unreachable worker) = ⊥
+IsTelling (met.Epochs slot) = ⊥
+
+abbrev pub StandsForRegistry : RegistryError → Status → Type 0
+StandsForRegistry (registry.Bad area at) status = status ≡ RegistryBad area at
+StandsForRegistry registry.DiskFault status = status ≡ DiskFault
+StandsForRegistry registry.NoMemory status = status ≡ NoMemory
+
+abbrev pub StandsForScan : ScanError → Status → Type 0
+StandsForScan ScanFailed status = status ≡ FolderFault
+StandsForScan ScanNoMemory status = status ≡ NoMemory
+StandsForScan (ScanTooMany path) status = status ≡ TooMany Files path

@@ -1,0 +1,70 @@
+ghost use Rattle.std.specs.Prelude.{◌≡◌, ◌⊎◌, length};
+ghost use Rattle.run_steps.specs.Met.{IsMetOf};
+ghost use Rattle.wire_base.specs.declared.limits.Full.{Full};
+ghost use Rattle.beat_run.specs.Ended.{IsTelling, StandsForMet, StandsForRegistry, StandsForScan};
+ghost use Rattle.beat_run.specs.Ends.{IsReportEnd, IsRunEnd};
+
+use prospect::{Listed, ScanError};
+use report::Status;
+use run_steps::{Met, RegistryError};
+use std::alloc::Global;
+use wire_base::{Full, Text};
+
+/// The status that stands for what a run met. A slot is a place in the list, and `attempts` is how often a worker may fail in a row.
+/// For want of memory for the path of a file it is `NoMemory`.
+pub fn status_of(alloc: Global, met: Met, listed: &[Listed], attempts: u32) -> Status
+    requires of_these { IsMetOf (length listed.now) met }
+    ensures stands { StandsForMet listed.now attempts met result }
+    ensures without_report { IsTelling met ⊎ IsRunEnd result }
+    ensures with_report { IsTelling met → IsReportEnd result }
+{
+    match met {
+        Met::Done => Status::Done,
+        Met::Stopped => Status::Stopped,
+        Met::NoMemory => Status::NoMemory,
+        Met::DiskFault => Status::DiskFault,
+        Met::FolderFault => Status::FolderFault,
+        Met::Unreachable(worker) => Status::Unreachable {
+            worker,
+            failures: attempts,
+        },
+        Met::Epochs(slot) => too_many_epochs(alloc, &listed[slot.0 as usize].path),
+    }
+}
+
+fn too_many_epochs(alloc: Global, path: &Text) -> Status
+    ensures { (result ≡ Status.NoMemory) ⊎ (result ≡ Status.TooMany Full.Epochs path.now) }
+{
+    match path.copy(alloc) {
+        Ok(path) => Status::TooMany {
+            what: Full::Epochs,
+            path,
+        },
+        Err(_) => Status::NoMemory,
+    }
+}
+
+/// The status of an opening of the registry that failed.
+pub fn status_of_registry(error: RegistryError) -> Status
+    ensures { StandsForRegistry error result }
+{
+    match error {
+        RegistryError::Bad { area, at } => Status::RegistryBad { area, at },
+        RegistryError::DiskFault => Status::DiskFault,
+        RegistryError::NoMemory => Status::NoMemory,
+    }
+}
+
+/// The status of a scan that failed.
+pub fn status_of_scan(error: ScanError) -> Status
+    ensures { StandsForScan error result }
+{
+    match error {
+        ScanError::Failed => Status::FolderFault,
+        ScanError::NoMemory => Status::NoMemory,
+        ScanError::TooMany { path } => Status::TooMany {
+            what: Full::Files,
+            path,
+        },
+    }
+}
