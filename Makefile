@@ -4,7 +4,7 @@ PREFIX ?= /usr/local
 
 # ships the logs of examples/ by examples/beat.toml to a receiver on loopback, and shows what came in
 run:
-	python3 -B tests/end_to_end/first_run.py
+	python3 -B examples/demo.py
 
 # proves and builds the program alone, and runs it once over settings that name no file
 build:
@@ -34,6 +34,6 @@ e2e:
 fmt:
 	for crate in crates/*/; do (cd $$crate && rt fmt) || exit 1; done
 
-# times the program over one file and many, and single calls, into bench/RESULTS.md; wants rustc
+# times the program over one file and many, and single calls, into bench/RESULTS.md; needs rustc
 bench:
 	python3 -B bench/run.py

@@ -1,9 +1,11 @@
 """Several inputs, globs and files."""
 
+import json
+import os
 import shutil
 from pathlib import Path
 
-import first_run
+import example
 import program
 from area import MAX_BODY, key_of, row
 from peer import Peer
@@ -15,8 +17,29 @@ EXAMPLE = {
     "web": ("web/shop-1/access.log", "web/shop-2/access.log"),
 }
 SMALL_FILES = 2_000
+# so many files may be open at once in a run that is to follow more of them
+OPEN_FILES = 64
 # seconds that a run over them may take
 PATIENCE = 120
+
+# the contents of three files, what their inputs say besides, and what is sent of them: the file, the message and the tags
+EVENTS = ("[1\n x\n y\n[2\n", "keep\nkeep not\nleave\n", "plain\ndrop\n")
+MORE_OF_INPUTS = (
+    "multiline.pattern = '^ '\nmultiline.match = \"after\"\n",
+    "include_lines = ['^keep']\nexclude_lines = ['not$']\n",
+    "",
+)
+PROCESSORS = """processors = [
+    { add_tags = { tags = ["t"], when = { equals = { message = "plain" } } } },
+    { drop_event = { when = { equals = { message = "drop" } } } },
+]
+"""
+EVENTS_SENT = (
+    ("stacks", "[1\n x\n y", None),
+    ("stacks", "[2", None),
+    ("filtered", "keep", None),
+    ("processed", "plain", ["t"]),
+)
 
 
 class ManyFiles(Shipping):
@@ -26,7 +49,7 @@ class ManyFiles(Shipping):
         return program.finish(program.start(self.tested, words or ONCE, self.folder), PATIENCE)
 
     def assert_shipped(self, ran, peer, files, since):
-        """Each complete line of these files was sent or dropped, file after file in byte order of the keys."""
+        """Each complete line of these files was sent or dropped."""
         rows, events, dropped = [], [], 0
         for input_id, path in sorted(files, key=lambda it: key_of(it[1], it[0]).encode()):
             content = Path(path).read_bytes()
@@ -40,9 +63,9 @@ class ManyFiles(Shipping):
 
     def test_example_settings(self):
         since = now()
-        logs = Path(shutil.copytree(first_run.EXAMPLES / "logs", self.folder / "logs"))
+        logs = Path(shutil.copytree(example.FOLDER / "logs", self.folder / "logs"))
         with Peer() as peer:
-            ran = self.run_settings(first_run.settings_for(logs, peer.host))
+            ran = self.run_settings(example.settings_for(logs, peer.host))
         files = [(input_id, str(logs / name)) for input_id, names in EXAMPLE.items() for name in names]
         self.assert_shipped(ran, peer, files, since)
 
@@ -59,6 +82,36 @@ class ManyFiles(Shipping):
             ran = self.run_for(program.settings_text(logs / "*.log", peer.host))
         self.assert_shipped(ran, peer, [("w", str(path)) for path in logs.iterdir()], since)
         self.assertGreater(self.area.stat().st_size, MAX_BODY)
+
+    def test_more_files_than_may_be_open(self):
+        """All are opened before the first is read, so nothing is sent."""
+        logs = self.folder / "logs"
+        logs.mkdir()
+        for number in range(OPEN_FILES):
+            (logs / f"{number}.log").write_text("line\n")
+        with Peer() as peer:
+            self.write_settings(program.settings_text(logs / "*.log", peer.host))
+            words = ("-c", f'ulimit -n {OPEN_FILES} && exec "$0" "$@"', os.fspath(self.tested), *ONCE)
+            self.assert_wrote(program.run("sh", words, self.folder), "status 6 folder fault")
+        self.assertEqual(peer.connections, 0)
+        self.assertEqual({it["offset"] for it in self.stored_rows()}, {0})
+
+    def test_events_of_lines(self):
+        """Lines that belong together, filters and processors, each over the file of one input."""
+        names = ("stacks", "filtered", "processed")
+        for name, content in zip(names, EVENTS):
+            (self.folder / name).write_text(content)
+        paths = [str(self.folder / name) for name in names]
+        with Peer() as peer:
+            inputs = "".join(
+                f'[[inputs]]\nid = "{name}"\npaths = ["{path}"]\nfile_identity = "path"\n{more}'
+                for name, path, more in zip(names, paths, MORE_OF_INPUTS)
+            )
+            ran = self.run_settings(f'{PROCESSORS}{inputs}[output]\nhosts = ["{peer.host}"]\n')
+        self.assert_done(ran, [row(path, len(content), name) for name, path, content in zip(names, paths, EVENTS)], 4, 3)
+        sent = map(json.loads, peer.payloads)
+        sent = [(Path(it["log"]["file"]["path"]).name, it["message"], it.get("tags")) for it in sent]
+        self.assertEqual(sorted(sent, key=str), sorted(EVENTS_SENT, key=str))
 
     def test_globs_over_folders(self):
         """`**` stands for none to eight folders. Folders, symbolic links and files of another name are passed over."""

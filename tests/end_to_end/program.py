@@ -1,6 +1,7 @@
 """The program `beat_main`: where the gate leaves it, and how it is run."""
 
 import os
+import resource
 import subprocess
 from pathlib import Path
 
@@ -38,6 +39,12 @@ def proved_program():
         if source.stat().st_mtime > program.stat().st_mtime:
             raise Missing(f"{where} is older than {source.relative_to(ROOT)} (rt ci makes it anew)")
     return program
+
+
+def allow_open_files():
+    """Lets the programs that are started open as many files as this machine allows: a run keeps each file open that it follows."""
+    _, most = resource.getrlimit(resource.RLIMIT_NOFILE)
+    resource.setrlimit(resource.RLIMIT_NOFILE, (most, most))
 
 
 def settings_text(glob, host, *more):

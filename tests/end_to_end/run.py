@@ -74,6 +74,7 @@ def all_tests():
 
 
 def main():
+    program.allow_open_files()
     tests = all_tests()
     words = argparse.ArgumentParser(description="Tests the program from outside.")
     words.add_argument("--program", type=Path, help="the program (default: the one that rt ci built)")

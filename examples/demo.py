@@ -11,27 +11,15 @@ import sys
 import tempfile
 from pathlib import Path
 
-import program
-from area import rows_of
-from peer import Peer
+sys.path.append(str(Path(__file__).resolve().parents[1] / "tests" / "end_to_end"))
 
-EXAMPLES = program.ROOT / "examples"
-# what the example says of its user's machine
-LOGS = "/var/log/shop"
-HOST = "127.0.0.1:5044"
+import example  # noqa: E402
+import program  # noqa: E402
+from area import rows_of  # noqa: E402
+from peer import Peer  # noqa: E402
 
 # seconds that `rt try` may take to build the program and run it
 PATIENCE = 600
-
-
-def settings_for(logs, host):
-    """The example's settings, for logs in this folder and for this receiver."""
-    text = (EXAMPLES / "beat.toml").read_text()
-    for said, meant in ((f'"{LOGS}/', f'"{logs}/'), (f'"{HOST}"', f'"{host}"')):
-        if said not in text:
-            raise ValueError(f"examples/beat.toml does not say {said}")
-        text = text.replace(said, meant)
-    return text
 
 
 def run_unproved(words):
@@ -46,8 +34,8 @@ def show(payload):
 
 def ship(logs, folder, peer):
     settings = folder / "beat.toml"
-    settings.write_text(settings_for(logs, peer.host))
-    print(f"Settings: examples/beat.toml, with {logs} for {LOGS} and {peer.host} for {HOST}")
+    settings.write_text(example.settings_for(logs, peer.host))
+    print(f"Settings: examples/beat.toml, with {logs} for {example.LOGS} and {peer.host} for {example.HOST}")
     words = ["-c", str(settings), "--data", str(folder / "data"), "--once"]
     try:
         proved = program.proved_program()
@@ -81,7 +69,7 @@ def main():
         return 1
     with tempfile.TemporaryDirectory(prefix="beat-run-") as room:
         folder = Path(room).resolve()
-        logs = Path(shutil.copytree(EXAMPLES / "logs", folder / "logs"))
+        logs = Path(shutil.copytree(example.FOLDER / "logs", folder / "logs"))
         lines = 0
         print("Files, copied from examples/logs:")
         for log in sorted(logs.rglob("*.log")):
