@@ -1,8 +1,8 @@
 //! What the program's transport is compared with; no part of the product, and nothing of it is proved.
 //!
 //! `bare send FOLDER HOST` reads the lines of the files of a folder, one file after the other by their names, and sends
-//! them as the program does: the same payloads but for the moment, in windows of at most 2,048 lines of one file, each
-//! acknowledged in full before the next. `bare windows PORT DEPTH EVENTS` sends so many events of 240 bytes to that port of
+//! the program's payloads but for the moment, in windows of at most 2,048 lines of one file, each acknowledged in full
+//! before the next. `bare windows PORT DEPTH EVENTS` sends so many events of 240 bytes to that port of
 //! 127.0.0.1, in windows of which so many may wait for their acknowledgement. `bare receive TIMES LATE` prints the port at
 //! which it listens, takes so many connections one after another, acknowledges each window LATE milliseconds after it is
 //! there, and prints for each connection how many events it had.
