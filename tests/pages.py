@@ -1,7 +1,7 @@
 #!/usr/bin/env python3
-"""Compares the pages with the repository: the table of crates in docs/architecture.md with crates.txt, the files that
-pages link to with those that are there, the names in backticks with those of the code, the tests and the settings, and
-the example that has every key with docs/settings.md.
+"""Compares the pages with the repository: the table of crates in docs/architecture.md with crates.txt, the files and
+headings that pages link to with those that are there, the names in backticks with those of the code, the tests and the
+settings, a clause that is linked with its file, and the example that has every key with docs/settings.md.
 """
 
 import re
@@ -23,6 +23,8 @@ FENCE = re.compile(r"^```.*?^```$", re.MULTILINE | re.DOTALL)
 # an identifier, a call, a dotted key, or an option
 NAME = re.compile(r"[A-Za-z_]\w*(?:(?:::|\.)\w+)*(?:\(\))?|--\w[\w-]*")
 PATH = re.compile(r"[\w.*-]+(?:/[\w.*-]*)+")
+# what a link shows, the file that it names, which may be absent, and the heading in it
+LINK = re.compile(r"\[([^\[\]]*)\]\(([^)#:]*)(?:#([^)]*))?\)")
 TARGET = re.compile(r"make (\w+)\b.*")
 # such words, as NAME or ID, stand for any other
 PLACEHOLDER = re.compile(r"\b[A-Z]+\b")
@@ -97,11 +99,23 @@ def faults_of_crates():
             yield f"docs/architecture.md: {name} stands on {sorted(known[name] - {BASE})}, not on {sorted(below)}"
 
 
+def anchors_of(page):
+    """What a link to a heading of this page may have behind its #."""
+    for heading in re.findall(r"^#+ (.*)$", FENCE.sub("", page.read_text()), re.MULTILINE):
+        yield re.sub(r"[^\w -]", "", LINK.sub(r"\1", heading)).lower().replace(" ", "-")
+
+
 def faults_of_links():
     for page in PAGES:
-        for target in re.findall(r"\]\(([^)#:]+)(?:#[^)]*)?\)", page.read_text()):
-            if not (page.parent / target).exists():
-                yield f"{page.relative_to(ROOT)} links to {target}, which is not there"
+        for text, target, anchor in LINK.findall(FENCE.sub("", page.read_text())):
+            file = page.parent / target if target else page
+            said = f"{page.relative_to(ROOT)} links to {target}"
+            if not file.exists():
+                yield f"{said}, which is not there"
+            elif anchor and anchor not in anchors_of(file):
+                yield f"{said}#{anchor}, which is no heading there"
+            elif re.fullmatch(r"`\w+`", text) and file.suffix == ".rt" and text.strip("`") not in words_of_file(file):
+                yield f"{said} for {text}, which is not there"
 
 
 def files_of_code():
@@ -113,15 +127,22 @@ def files_of_code():
                 yield file
 
 
+def words_of_file(file):
+    """Each word of a file that stands outside of comments."""
+    words = set()
+    for line in file.read_text(errors="replace").splitlines():
+        code = line.partition(COMMENTS[file.suffix])[0]
+        words.update(re.findall(r"\b(?:test_)?(\w+)", code))
+    return words
+
+
 def words_of_code():
     """Each word that stands outside of comments, and each name of a file or folder."""
     words = set()
     for file in files_of_code():
         words.update(re.findall(r"[\w-]+", " ".join(file.relative_to(ROOT).with_suffix("").parts)))
         if file.suffix in COMMENTS:
-            for line in file.read_text(errors="replace").splitlines():
-                code = line.partition(COMMENTS[file.suffix])[0]
-                words.update(re.findall(r"\b(?:test_)?(\w+)", code))
+            words.update(words_of_file(file))
     return words
 
 
