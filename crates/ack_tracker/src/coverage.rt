@@ -7,7 +7,7 @@ use std::collections::BTreeMap;
 use std::marker::Model;
 use wire_base::{NoMemory, Span};
 
-// Up to where all is settled from a base on, and where settled intervals behind that begin and end.
+/// Up to where all is settled from a base on, and where settled intervals behind that begin and end.
 #[derive(Debug, Drop)]
 pub(crate) struct Coverage {
     end: u64,
@@ -35,7 +35,7 @@ impl Coverage {
         }
     }
 
-    // Up to where all is settled.
+    /// Up to where all is settled.
     pub(crate) fn end(&self) -> u64
         ensures end { result ≡ self.now.end }
         ensures in_range { IsPlace result }
@@ -43,7 +43,7 @@ impl Coverage {
         self.end
     }
 
-    // One span more is settled. `Err` is want of memory.
+    /// One span more is settled. `Err` is want of memory.
     pub(crate) fn settle(&mut self, span: Span) -> Result<(), NoMemory>
         requires { IsPlace span.end }
         ensures settled { OnOk result (AddsSpan self.old span self.new) }
@@ -72,7 +72,7 @@ impl Coverage {
     }
 }
 
-// The last interval that begins at the place or before it.
+/// The last interval that begins at the place or before it.
 fn last_before(ahead: &BTreeMap<u64, u64>, place: u64) -> Option<(u64, u64)>
     ensures { IsLastBefore ahead.now.entries place result }
 {
@@ -83,7 +83,7 @@ fn last_before(ahead: &BTreeMap<u64, u64>, place: u64) -> Option<(u64, u64)>
     }
 }
 
-// All from the start to the end is settled, and so is the interval that begins at the end.
+/// All from the start to the end is settled, and so is the interval that begins at the end.
 fn join(ahead: &mut BTreeMap<u64, u64>, start: u64, end: u64) -> Result<(), NoMemory>
     requires { start < end }
     ensures joined { OnOk result (Joins ahead.old.entries ahead.new.entries start end) }

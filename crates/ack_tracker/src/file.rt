@@ -11,19 +11,19 @@ use std::alloc::Global;
 use std::marker::Model;
 use wire_base::{Epoch, Moment, NoMemory, Note, Row, Slot, Span, Text};
 
-// What is kept of one file in place of its notes.
+/// What is kept of one file in place of its notes.
 #[derive(Debug, Drop)]
 pub(crate) struct File {
     key: Text,
     path: Text,
-    // The scan that found the path; none where the Begin told it.
+    /// The scan that found the path; none where the Begin told it.
     scan: Option<u64>,
-    // The greatest that was named.
+    /// The greatest that was named.
     epoch: u32,
     coverage: Coverage,
-    // The least from which on the file is to go.
+    /// The least from which on the file is to go.
     least: Option<Reach>,
-    // The greatest moment of change.
+    /// The greatest moment of change.
     changed: u64,
 }
 
@@ -71,7 +71,7 @@ impl File {
         }
     }
 
-    // The note by which the file of the slot began.
+    /// The note by which the file of the slot began.
     pub(crate) fn into_begin(self, slot: Slot) -> Note
         ensures { result ≡ Begin slot self.key self.path (record { 0 = self.epoch })
             self.covered.end (record { 0 = self.changed }) }
@@ -108,7 +108,7 @@ impl File {
         self.key == *key
     }
 
-    // Notes one thing more of the file. `Err` is want of memory, and gives the note back.
+    /// Notes one thing more of the file. `Err` is want of memory, and gives the note back.
     pub(crate) fn note(&mut self, alloc: Global, note: Note) -> Result<(), Note>
         requires { IsNote note }
         ensures noted { OnOk result ((notes : List Note) → MayAdd notes note →
@@ -157,7 +157,7 @@ impl File {
         }
     }
 
-    // A later epoch begins at the first byte.
+    /// A later epoch begins at the first byte.
     fn rise(&mut self, alloc: Global, epoch: u32)
         ensures { self.new ≡ risen epoch self.old }
     {
@@ -168,7 +168,7 @@ impl File {
         self.coverage = Coverage::new(alloc, 0);
     }
 
-    // A span is settled for the epoch; one of an older epoch changes nothing.
+    /// A span is settled for the epoch; one of an older epoch changes nothing.
     fn settle(&mut self, alloc: Global, epoch: u32, span: Span) -> Result<(), NoMemory>
         requires { IsPlace span.end }
         ensures settled { OnOk result (Settles self.old epoch span self.new) }
@@ -188,7 +188,7 @@ impl File {
         Ok(())
     }
 
-    // A scan found the path; that of the newest scan holds.
+    /// A scan found the path; that of the newest scan holds.
     fn rename(&mut self, scan: u64, path: Text)
         requires { IsPath path }
         ensures { self.new ≡ renamed scan path self.old }
@@ -206,7 +206,7 @@ impl File {
         self.changed = self.changed.max(changed.0);
     }
 
-    // The file is to go once it has come so far.
+    /// The file is to go once it has come so far.
     fn forget(&mut self, alloc: Global, reach: Reach)
         ensures { self.new ≡ forgotten reach self.old }
     {
@@ -227,7 +227,7 @@ impl File {
         }
     }
 
-    // How far the file is done; none where its row is gone.
+    /// How far the file is done; none where its row is gone.
     pub(crate) fn place(&self) -> Option<(Epoch, u64)>
         ensures place { result ≡ place_in self.now }
         ensures in_range { IfSome result (λ place. IsPlace place.1) }
@@ -239,7 +239,7 @@ impl File {
         }
     }
 
-    // The file's row; none where it is gone.
+    /// The file's row; none where it is gone.
     pub(crate) fn row(&self, alloc: Global) -> Result<Option<Row>, NoMemory>
         ensures row { IfOk result (λ row. row ≡ row_in self.now) }
         ensures in_range { IfOk result (λ row. IfSome row IsRow) }
@@ -257,7 +257,7 @@ impl File {
     }
 }
 
-// Whether the path was found by a scan before this one, or told by the Begin.
+/// Whether the path was found by a scan before this one, or told by the Begin.
 fn is_older(found: Option<u64>, scan: u64) -> bool
     ensures { result ≡ is_older found scan }
 {

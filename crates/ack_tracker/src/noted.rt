@@ -17,16 +17,16 @@ use std::alloc::Global;
 use std::collections::BTreeMap;
 use wire_base::{NoMemory, Note, Op, Row, Text};
 
-// The files by their slots.
+/// The files by their slots.
 pub(crate) type Files = BTreeMap<u32, File>;
 
-// The slots by the keys with which they began.
+/// The slots by the keys with which they began.
 pub(crate) type SlotsByKey = BTreeMap<Text, Slots>;
 
-// The keys that were noted since the last commit, each with the row that it had there.
+/// The keys that were noted since the last commit, each with the row that it had there.
 pub(crate) type Noted = BTreeMap<Text, Option<Row>>;
 
-// Before a note: the row that its key has is kept, and a key that begins is given its slot.
+/// Before a note: the row that its key has is kept, and a key that begins is given its slot.
 pub(crate) fn prepare(
     noted: &mut Noted,
     slots: &mut SlotsByKey,
@@ -57,7 +57,7 @@ pub(crate) fn prepare(
     }
 }
 
-// Keeps the row of a key that was not noted yet.
+/// Keeps the row of a key that was not noted yet.
 fn keep_row(
     noted: &mut Noted,
     alloc: Global,
@@ -98,7 +98,7 @@ fn row_before(
     }
 }
 
-// The row of a key that began; `None` where it did not.
+/// The row of a key that began; `None` where it did not.
 fn row_now(
     alloc: Global,
     files: &Files,
@@ -124,7 +124,7 @@ fn row_now(
     }
 }
 
-// Gives the key a slot more.
+/// Gives the key a slot more.
 fn give(slots: &mut SlotsByKey, alloc: Global, key: &Text, slot: u32) -> Result<(), NoMemory>
     ensures keeps { KeepsSlots slots.old.entries slots.new.entries }
     ensures given { OnOk result (Contains (slots_at slots.new.entries key.now) slot) }
@@ -146,7 +146,7 @@ fn give_first(slots: &mut SlotsByKey, alloc: Global, key: &Text, slot: u32) -> R
     Ok(())
 }
 
-// What leads from the kept rows to the present ones.
+/// What leads from the kept rows to the present ones.
 pub(crate) fn changes(
     alloc: Global,
     files: &Files,

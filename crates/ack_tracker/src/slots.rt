@@ -8,7 +8,7 @@ use std::collections::BTreeMap;
 use std::marker::Model;
 use wire_base::{NoMemory, Text};
 
-// The slots that Begins gave to one key.
+/// The slots that Begins gave to one key.
 #[derive(Debug, Drop)]
 pub(crate) struct Slots {
     slots: Vec<u32>,
@@ -39,14 +39,14 @@ impl Slots {
         Ok(())
     }
 
-    // Whether one of them began with the key.
+    /// Whether one of them began with the key.
     pub(crate) fn is_begun(&self, files: &BTreeMap<u32, File>, key: &Text) -> bool
         ensures { result ≡ is_begun files.now.entries key.now self.now }
     {
         is_begun(files, key, &self.slots)
     }
 
-    // The greatest of them that stands.
+    /// The greatest of them that stands.
     pub(crate) fn latest(&self, files: &BTreeMap<u32, File>, key: &Text) -> Option<u32>
         ensures { result ≡ latest_of files.now.entries key.now None self.now }
     {

@@ -245,7 +245,7 @@ fn spans_of_a_permutation(rt: HostRuntime) -> Result<(), Fail> {
     Ok(())
 }
 
-// A number that looks drawn by lot, and the next of them.
+/// A number that looks drawn by lot, and the next of them.
 fn next(state: &mut u64) -> u64 {
     *state = state
         .wrapping_mul(6_364_136_223_846_793_005)
@@ -253,7 +253,7 @@ fn next(state: &mut u64) -> u64 {
     *state >> 33
 }
 
-// A note of the slot, by these numbers. Spans lie in a grid, so that any two are one or apart.
+/// A note of the slot, by these numbers. Spans lie in a grid, so that any two are one or apart.
 fn scripted(alloc: Global, slot: Slot, step: u64, kind: u64, by: u64) -> Result<Note, Fail>
     ensures { IfOk result IsNote }
 {

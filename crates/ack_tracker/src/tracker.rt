@@ -28,7 +28,7 @@ pub struct Tracker {
     slots: SlotsByKey,
     noted: Noted,
     history: History,
-    // The notes before the last commit.
+    /// The notes before the last commit.
     committed: History,
 }
 
@@ -171,7 +171,7 @@ impl Tracker {
     }
 }
 
-// Notes one thing more of the file that it names.
+/// Notes one thing more of the file that it names.
 fn add(files: &mut Files, alloc: Global, note: Note) -> Result<(), Note>
     requires { IsNote note }
     ensures noted { OnOk result ((notes : List Note) → AreOf files.old.entries notes →
@@ -203,7 +203,7 @@ fn add(files: &mut Files, alloc: Global, note: Note) -> Result<(), Note>
     }
 }
 
-// The slot begins, unless it began already.
+/// The slot begins, unless it began already.
 fn begin(files: &mut Files, slot: Slot, file: File) -> Result<(), File>
     ensures begun { OnOk result (Begins files.old.entries files.new.entries slot.0 file) }
     ensures gone_stays { All (Contains (gone_among files.new.entries))
@@ -220,7 +220,7 @@ fn begin(files: &mut Files, slot: Slot, file: File) -> Result<(), File>
     }
 }
 
-// Notes one thing more of a file that began. Of a slot that was not begun a note says nothing.
+/// Notes one thing more of a file that began. Of a slot that was not begun a note says nothing.
 fn go_on(files: &mut Files, alloc: Global, note: Note) -> Result<(), Note>
     requires in_range { IsNote note }
     requires no_start { start_of note ≡ None }

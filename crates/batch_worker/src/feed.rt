@@ -6,8 +6,8 @@ ghost use Rattle.batch_worker.specs.Feeding.{Feeds};
 
 use lumber_client::{Heard, Window};
 
-// Gives the window these bytes of its peer, one by one, up to the first that makes a fault; the place
-// of that byte.
+/// Gives the window these bytes of its peer, one by one, up to the first that makes a fault; the place
+/// of that byte.
 pub(crate) fn feed(window: &mut Window, bytes: &[u8]) -> Option<u64>
     requires all_is_out { window.old.out ≡ [] }
     requires no_fault { window.old.hearing.failed ≡ false }

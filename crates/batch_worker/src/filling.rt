@@ -11,8 +11,8 @@ use outside::Link;
 use std::sync::Wait;
 
 impl<L: Link> Worker<L> {
-    // Takes parcels, as many as are there, until so many wait as a window may have; whether the queue
-    // was empty.
+    /// Takes parcels, as many as are there, until so many wait as a window may have; whether the queue
+    /// was empty.
     pub(crate) fn fill<R: Wait>(&mut self, rt: &R, queue: &EventQueue) -> bool
         requires of_this_queue { TakesOf queue.now.id self.old.take }
         requires nothing_to_settle { self.old.window.acknowledged ≡ 0 }
@@ -55,7 +55,7 @@ impl<L: Link> Worker<L> {
         self.window.can_offer()
     }
 
-    // Takes parcels, where a further window may be begun; whether some wait to be begun.
+    /// Takes parcels, where a further window may be begun; whether some wait to be begun.
     pub(crate) fn gather<R: Wait>(&mut self, rt: &R, queue: &EventQueue) -> bool
         requires of_this_queue { TakesOf queue.now.id self.old.take }
         requires nothing_to_settle { self.old.window.acknowledged ≡ 0 }

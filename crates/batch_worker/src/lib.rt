@@ -10,7 +10,8 @@
 //! acknowledged or carried, each that is acknowledged is posted or owed, all in order, and the talks
 //! of its links acknowledge just these. A turn's answer comes by its cause.
 //!
-//! All memory is taken by `Worker::new`. A turn sends at most one piece of 64 KiB, or receives once.
+//! All memory is taken by `Worker::new`. A turn sends at most one piece, of 128 KiB or of one
+//! payload that is larger, or receives once.
 #![tactic(auto)]
 
 mod answer;

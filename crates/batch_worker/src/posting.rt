@@ -41,7 +41,7 @@ impl<L: Link> Worker<L> {
         self.refused.is_some() || self.window.has_settled()
     }
 
-    // Posts the note that the box refused before, if there is one.
+    /// Posts the note that the box refused before, if there is one.
     fn post_refused<R: Wait>(&mut self, rt: &R, desk: &SettleBox) -> bool
         requires of_this_box { PostsOf desk.now.id self.old.post }
         ensures posted { OnTrue result (self.new ≡ record self.old {
@@ -67,7 +67,7 @@ impl<L: Link> Worker<L> {
         }
     }
 
-    // Owes the note of the next parcel that is acknowledged; whether there was one.
+    /// Owes the note of the next parcel that is acknowledged; whether there was one.
     fn settle_next(&mut self) -> bool
         requires { self.old.refused ≡ None }
         ensures settled { OnTrue result (SettlesOne self.old self.new) }

@@ -11,11 +11,11 @@ use wire_base::Moment;
 /// How many bytes are received at once; an acknowledgement has six.
 const RECEIVED: usize = 192;
 
-// What one receiving came to.
+/// What one receiving came to.
 #[derive(Clone, Copy)]
 pub(crate) enum Received {
     Bytes,
-    // The byte at this place makes a fault of the peer.
+    /// The byte at this place makes a fault of the peer.
     Fault(u64),
     Nothing,
     Closed,
@@ -23,7 +23,7 @@ pub(crate) enum Received {
 }
 
 impl<L: Link> Worker<L> {
-    // Receives once, and gives the window what came, up to the first fault.
+    /// Receives once, and gives the window what came, up to the first fault.
     pub(crate) fn receive(&mut self, now: Moment) -> Received
         requires all_is_out { self.old.window.out ≡ [] }
         requires in_flight { 0 < length self.old.window.flights }
@@ -44,7 +44,7 @@ impl<L: Link> Worker<L> {
         }
     }
 
-    // Gives the window these bytes. Behind a fault it is made again, since nothing counts there.
+    /// Gives the window these bytes. Behind a fault it is made again, since nothing counts there.
     fn hear(&mut self, bytes: &[u8], now: Moment) -> Option<u64>
         requires all_is_out { self.old.window.out ≡ [] }
         ensures { Hears now self.old self.new bytes.now result }
@@ -66,7 +66,7 @@ impl<L: Link> Worker<L> {
     }
 }
 
-// Keeps the last so many moments.
+/// Keeps the last so many moments.
 fn forget_oldest(outs: &mut VecDeque<Moment>, kept: usize)
     ensures kept { outs.new.items ≡ outs_kept outs.old.items kept }
     ensures capacity { deque_capacity outs.new ≡ deque_capacity outs.old }
@@ -76,7 +76,7 @@ fn forget_oldest(outs: &mut VecDeque<Moment>, kept: usize)
     }
 }
 
-// The failures that still stand in a row; none where something was acknowledged.
+/// The failures that still stand in a row; none where something was acknowledged.
 fn failures_since(acknowledged: bool, failures: u32) -> u32
     ensures { result ≡ (if acknowledged then 0 else failures) }
 {

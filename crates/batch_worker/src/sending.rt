@@ -13,7 +13,7 @@ use std::mem;
 use wire_base::Moment;
 
 impl<L: Link> Worker<L> {
-    // Sends a front of the next piece.
+    /// Sends a front of the next piece.
     pub(crate) fn send_piece(&mut self, now: Moment) -> Result<(), Failed>
         requires going_out { 0 < length self.old.window.out }
         ensures sent { OnOk result (SendsSome L.told now self.old self.new) }
@@ -37,7 +37,7 @@ impl<L: Link> Worker<L> {
         !self.window.out().is_empty()
     }
 
-    // Makes a link where there is none; whether there is one.
+    /// Makes a link where there is none; whether there is one.
     pub(crate) fn connect<W: Wire<Link = L>>(&mut self, wire: &mut W) -> bool
         ensures goes { WorkerGoes L.told
             (seen (W.outcomes wire.old) (W.open_links wire.old) (W.faults wire.old) (W.idles wire.old))
@@ -64,7 +64,7 @@ impl<L: Link> Worker<L> {
         true
     }
 
-    // Begins a window of the parcels that wait.
+    /// Begins a window of the parcels that wait.
     pub(crate) fn begin(&mut self)
         requires all_is_out { self.old.window.out ≡ [] }
         requires some { 0 < length (waiting_in self.old.window) }

@@ -69,7 +69,7 @@ impl<L: Link> Worker<L> {
         }
     }
 
-    // Begins a further window, where one may be begun and parcels are there, or receives.
+    /// Begins a further window, where one may be begun and parcels are there, or receives.
     fn go_on<R: Wait, W: Wire<Link = L>>(
         &mut self,
         rt: &R,
@@ -105,7 +105,7 @@ impl<L: Link> Worker<L> {
         WorkerTurn::Worked
     }
 
-    // Receives once.
+    /// Receives once.
     fn listen<W: Wire<Link = L>>(&mut self, wire: &mut W, now: Moment) -> WorkerTurn
         requires nothing_to_settle { self.old.window.acknowledged ≡ 0 }
         requires all_is_out { self.old.window.out ≡ [] }
@@ -142,7 +142,7 @@ impl<L: Link> Worker<L> {
         }
     }
 
-    // Since when the peer is silent.
+    /// Since when the peer is silent.
     fn silent_since(&self) -> Moment
         ensures is { result.0 ≡ silent_since self.now }
         ensures some_outs { self.now.window.out ≡ [] → 0 < length self.now.window.flights → 0 < length self.now.outs }
@@ -154,7 +154,7 @@ impl<L: Link> Worker<L> {
         Moment(out.max(self.heard.0))
     }
 
-    // The peer was silent for the timeout.
+    /// The peer was silent for the timeout.
     fn is_over(&self, since: Moment, now: Moment) -> bool
         ensures over { OnTrue result (since.0 + self.now.timeout ≤ now.0) }
         ensures early { OnFalse result (now.0 < since.0 + self.now.timeout) }
@@ -170,7 +170,7 @@ impl<L: Link> Worker<L> {
         self.window.is_full()
     }
 
-    // Windows are in flight.
+    /// Windows are in flight.
     fn is_waited_for(&self) -> bool
         ensures in_flight { OnTrue result (0 < length self.now.window.flights) }
         ensures none { OnFalse result (self.now.window.in_flight ≡ 0) }

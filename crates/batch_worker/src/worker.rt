@@ -35,11 +35,11 @@ pub struct Worker<L> {
     pub(crate) post: Option<PostPass>,
     pub(crate) link: Option<L>,
     pub(crate) window: Window,
-    // The note of the parcel that was handed out last, where the box refused it.
+    /// The note of the parcel that was handed out last, where the box refused it.
     pub(crate) refused: Option<Note>,
     pub(crate) failures: u32,
     pub(crate) failed: Moment,
-    // When each window in flight was out, the oldest first.
+    /// When each window in flight was out, the oldest first.
     pub(crate) outs: VecDeque<Moment>,
     pub(crate) heard: Moment,
 }
@@ -133,7 +133,7 @@ impl<L: Link> Worker<L> {
         self.post = Some(post);
     }
 
-    // Until when it rests.
+    /// Until when it rests.
     pub(crate) fn rest_until(&self, now: Moment) -> Option<Moment>
         ensures { MatchOption result (¬ (IsResting self.now now.0))
             (λ until. IsResting self.now now.0 × (until.0 ≡ rest_end self.now)) }
@@ -151,7 +151,7 @@ impl<L: Link> Worker<L> {
     }
 }
 
-// How long a worker rests after so many failures in a row, in milliseconds.
+/// How long a worker rests after so many failures in a row, in milliseconds.
 fn rest_after(failures: u32) -> u64
     requires { 0 < failures }
     ensures { result ≡ rest_after failures }
@@ -167,7 +167,7 @@ fn rest_after(failures: u32) -> u64
     }
 }
 
-// What a worker takes memory for: its host's name, its window, and room for moments.
+/// What a worker takes memory for: its host's name, its window, and room for moments.
 fn parts(
     alloc: Global,
     number: u32,

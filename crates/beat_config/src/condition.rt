@@ -74,7 +74,7 @@ impl ConditionKind {
     }
 }
 
-// The kind of a table: the first of which it has the key.
+/// The kind of a table: the first of which it has the key.
 #[tactic(auto, unfolding(crate::specs::Conditions::kind_of))]
 fn kind_of(table: &Table) -> Option<ConditionKind>
     ensures { result ≡ kind_of (table_view table.now) }
@@ -252,7 +252,7 @@ impl Noted {
         Ok(rules)
     }
 
-    // Notes a condition that stands too deep, with so many levels left below it.
+    /// Notes a condition that stands too deep, with so many levels left below it.
     #[tactic(auto, unfolding(crate::specs::Finding::note_all, crate::specs::Conditions::deep_findings))]
     fn check_depth(&mut self, key: &Text, levels: usize) -> Result<(), NoMemory>
         ensures { OnOk result (seen_of self.new ≡ note_all (seen_of self.old) (deep_findings levels key.now)) }

@@ -154,7 +154,7 @@ fn side_at(place: usize) -> Side
     }
 }
 
-// A `type` of no or another value is read as `pattern`.
+/// A `type` of no or another value is read as `pattern`.
 #[tactic(auto, unfolding(crate::specs::Multiline::is_count))]
 fn is_count(value: &Value) -> bool
     ensures { result ≡ is_count (view value.now) }

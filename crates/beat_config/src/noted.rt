@@ -44,7 +44,7 @@ fn comes_before(fault: &SettingsError, other: &SettingsError) -> bool
     rank.cmp(&other_rank).then(key.cmp(other_key)).is_lt()
 }
 
-// The place of the kind, and the key.
+/// The place of the kind, and the key.
 fn place_of(fault: &SettingsError) -> (u8, &[u8])
     ensures rank { result.0 ≡ rank fault.now }
     ensures key { result.1.now ≡ key_of fault.now }

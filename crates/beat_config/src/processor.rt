@@ -84,7 +84,7 @@ impl ProcessorKind {
     }
 }
 
-// The kind of a table: the first of which it has the key.
+/// The kind of a table: the first of which it has the key.
 #[tactic(auto, unfolding(crate::specs::Processors::kind_of))]
 fn kind_of(table: &Table) -> Option<ProcessorKind>
     ensures { result ≡ kind_of (table_view table.now) }
@@ -230,7 +230,7 @@ impl Noted {
         Ok(rule)
     }
 
-    // The condition under which a processor runs.
+    /// The condition under which a processor runs.
     fn when(
         &mut self,
         path: &str,

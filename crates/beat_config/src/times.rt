@@ -51,7 +51,7 @@ impl Noted {
         Ok(times)
     }
 
-    // Notes that rows would be cleaned too soon.
+    /// Notes that rows would be cleaned too soon.
     #[tactic(auto, unfolding(crate::specs::Finding::note_all, crate::specs::Times::clean_findings))]
     fn check_clean(&mut self, path: &str, times: Times) -> Result<(), NoMemory>
         requires { times.ignore_older + times.check_interval < 2 ^ 64 }

@@ -7,7 +7,7 @@ use std::alloc::Global;
 use std::collections::BTreeMap;
 use wire_base::{NoMemory, Op, Row, Slot, Text};
 
-// A tracker of so many files that have begun and were committed.
+/// A tracker of so many files that have begun and were committed.
 fn tracker_of(alloc: Global, count: u32) -> Result<Tracker, NoMemory> {
     let mut tracker = Tracker::new(alloc, &Rows::new(alloc))?;
     for number in 0..count {

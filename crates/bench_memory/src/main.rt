@@ -28,7 +28,7 @@ use std::env;
 use std::process::ExitCode;
 use wire_base::{Text, read_decimal};
 
-// What the parts in memory print; none for any other.
+/// What the parts in memory print; none for any other.
 fn memory_figure(alloc: Global, name: &str, count: u64, turns: u64) -> anyhow::Result<Option<u64>> {
     Ok(Some(match name {
         "tracked-order" => tracked(alloc, Order::InOrder, count, turns)?,
@@ -43,7 +43,7 @@ fn memory_figure(alloc: Global, name: &str, count: u64, turns: u64) -> anyhow::R
     }))
 }
 
-// What the parts on the disk print; none for any other.
+/// What the parts on the disk print; none for any other.
 fn disk_figure(
     rt: &HostRuntime,
     name: &str,

@@ -5,7 +5,7 @@ ghost use Rattle.wire_base.specs.Ranges.{IsNote, IsOp, IsRow};
 use std::alloc::Global;
 use wire_base::{Epoch, MAX_PATH, MAX_PLACE, Moment, NoMemory, Note, Op, Row, Slot, Text};
 
-// The text, where it is no longer than a path.
+/// The text, where it is no longer than a path.
 fn short(text: String) -> Result<Text, NoMemory>
     ensures { IfOk result (λ text. length text ≤ MAX_PATH) }
 {

@@ -23,7 +23,7 @@ pub(crate) enum Order {
     Backwards,
 }
 
-// The number of the span that comes at this place of so many.
+/// The number of the span that comes at this place of so many.
 fn number_of(order: Order, place: u64, count: u64) -> u64 {
     match order {
         Order::InOrder => place,

@@ -118,7 +118,7 @@ pub(crate) fn long_line(alloc: Global, piece: &[u8], times: u64) -> Result<u64, 
     Ok(count)
 }
 
-// How many events end with the lines that were fed; there are at most so many.
+/// How many events end with the lines that were fed; there are at most so many.
 fn ended(
     alloc: Global,
     cutter: &mut Cutter,

@@ -87,7 +87,7 @@ fn escaped_size(alloc: Global, length: usize, turns: u64) -> anyhow::Result<u64>
     Ok(size as u64)
 }
 
-// A piece of about 16 kilobytes of lines, or of stack traces, or of letters alone.
+/// A piece of about 16 kilobytes of lines, or of stack traces, or of letters alone.
 fn piece(alloc: Global, kind: &str, length: usize) -> anyhow::Result<String> {
     let letters = "a".repeat(alloc, length)?;
     let text = match kind {
@@ -117,7 +117,7 @@ fn found_feeds(alloc: Global, kind: &str, length: usize, turns: u64) -> anyhow::
     Ok(line_feeds(piece(alloc, kind, length)?.as_bytes(), turns))
 }
 
-// What the parts on filters, processors, fingerprints and scans print; none for any other.
+/// What the parts on filters, processors, fingerprints and scans print; none for any other.
 fn leaf_figure(
     alloc: Global,
     name: &str,

@@ -48,7 +48,7 @@ impl Disk for CountingDisk {
         Ok(self.length.min(MAX_PLACE))
     }
 
-    // All that it holds reads as zeros.
+    /// All that it holds reads as zeros.
     fn read(&mut self, at: u64, into: &mut [u8]) -> Result<usize, Failed> {
         let left = self.length.min(MAX_PLACE).saturating_sub(at);
         let count = into.len().min(left.min(1 << 30) as usize);

@@ -35,7 +35,7 @@ pub(crate) struct Carrier<L> {
     ghost collects: { collect.desk ≡ desk.id },
 }
 
-// None where there is no memory.
+/// None where there is no memory.
 fn parcel(alloc: Global) -> Option<Parcel>
     ensures { IfSome result IsParcel }
 {

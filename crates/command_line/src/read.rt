@@ -56,7 +56,7 @@ fn words_of(alloc: Global, matches: &ArgMatches) -> Result<Option<Words>, NoMemo
     }))
 }
 
-// Whether the argument has its value from the words, and not from a default.
+/// Whether the argument has its value from the words, and not from a default.
 fn is_in_words(matches: &ArgMatches, id: &str) -> bool
     ensures { IsTrue result ↔ (source_of id.now (rows_of (found_of matches.now)) ≡ Some ValueSource.CommandLine) }
 {

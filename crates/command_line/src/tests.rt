@@ -82,7 +82,7 @@ fn usage_refusals(rt: HostRuntime) -> Result<(), Fail> {
     Ok(())
 }
 
-// The words, and the settings file, the folder, `--once` and the count that they ask for.
+/// The words, and the settings file, the folder, `--once` and the count that they ask for.
 type Taken = (
     &'static [&'static str],
     &'static str,

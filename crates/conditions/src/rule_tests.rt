@@ -92,7 +92,7 @@ pub(crate) fn presence_tests(alloc: Global, paths: &[Text]) -> Result<Vec<FieldT
     Ok(tests)
 }
 
-// The path that settings gave, whose form was looked at there.
+/// The path that settings gave, whose form was looked at there.
 fn path_of(alloc: Global, text: &Text) -> Result<FieldPath, NoMemory>
     requires { IsFieldPath text.now }
     ensures { IfOk result (λ path. path ≡ parts_of text.now) }

@@ -97,7 +97,7 @@ impl Fields {
         }
     }
 
-    // Puts the value below the key and the later parts, of which none is blocked.
+    /// Puts the value below the key and the later parts, of which none is blocked.
     #[cycle(put)]
     pub(crate) fn put_below(
         &mut self,
@@ -123,7 +123,7 @@ impl Fields {
         }
     }
 
-    // Takes out what stands below the key and the later parts.
+    /// Takes out what stands below the key and the later parts.
     #[cycle(take)]
     pub(crate) fn take_below(&mut self, key: &Text, later: &[Text]) -> Option<Tree>
         ensures taken { option_map value_of result ≡ get_at (key.now ∷ later.now) (map_of self.old) }
@@ -154,7 +154,7 @@ impl Fields {
     }
 }
 
-// Where the key stands, or where it belongs.
+/// Where the key stands, or where it belongs.
 fn place(entries: &[(Text, Tree)], key: &Text) -> Result<usize, usize>
     requires { IsInOrder key_of (pairs_of entries.now) }
     ensures found { IfOk result (IsAt key_of (pairs_of entries.now) key.now) }
@@ -163,7 +163,7 @@ fn place(entries: &[(Text, Tree)], key: &Text) -> Result<usize, usize>
     entries.binary_search_by(|entry| entry.0.cmp(key))
 }
 
-// The value below maps of one field each.
+/// The value below maps of one field each.
 fn branch(alloc: Global, parts: &[Text], value: Tree) -> Result<Tree, NoMemory>
     ensures { IfOk result (λ tree. value_of tree ≡ put_at parts.now (value_of value) (map_of [])) }
 {

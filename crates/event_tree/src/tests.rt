@@ -11,7 +11,7 @@ fn path(alloc: Global, dotted: &str) -> Result<FieldPath, Fail> {
     Ok(FieldPath::read(alloc, &text(alloc, dotted)?)?)
 }
 
-// The tree's value in few words.
+/// The tree's value in few words.
 fn word(tree: Option<&Tree>) -> &str {
     match tree {
         None => "absent",
@@ -29,7 +29,7 @@ fn set(alloc: Global, fields: &mut Fields, key: &str, value: Tree) -> Result<(),
     Ok(())
 }
 
-// A map with a value of each kind, set in no order.
+/// A map with a value of each kind, set in no order.
 fn every_kind(alloc: Global) -> Result<Tree, Fail> {
     let mut list = Trees::new(alloc);
     list.push(Tree::Str(text(alloc, "x")?))

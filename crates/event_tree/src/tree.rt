@@ -51,7 +51,7 @@ impl Tree {
         Ok(())
     }
 
-    // Puts the value below parts of which none is blocked.
+    /// Puts the value below parts of which none is blocked.
     #[cycle(put)]
     pub(crate) fn put_parts(
         &mut self,
@@ -87,7 +87,7 @@ impl Tree {
         self.take_parts(path.parts())
     }
 
-    // Takes out what stands at the parts.
+    /// Takes out what stands at the parts.
     #[cycle(take)]
     pub(crate) fn take_parts(&mut self, parts: &[Text]) -> Option<Tree>
         requires { 0 < length parts.now }
@@ -154,7 +154,7 @@ impl Tree {
         }
     }
 
-    // The number of the first part whose holder is there and is no map.
+    /// The number of the first part whose holder is there and is no map.
     fn blocked(&self, parts: &[Text]) -> Option<usize>
         ensures { result ≡ blocked_at parts.now (value_of self.now) }
     {

@@ -126,7 +126,7 @@ fn fingerprint_key(rt: HostRuntime) -> Result<(), Fail> {
     Ok(())
 }
 
-// Digests of FIPS 180-4's examples and of those that NIST added to them.
+/// Digests of FIPS 180-4's examples and of those that NIST added to them.
 #[test]
 fn digests_of_longer_messages(rt: HostRuntime) -> Result<(), Fail> {
     let alloc = rt.alloc();

@@ -24,8 +24,8 @@ impl Keeper {
         !self.pending && self.held.is_none()
     }
 
-    // Notes what is held, and then what the box gives, and tells how many notes were collected. After
-    // a refusal a note is held.
+    /// Notes what is held, and then what the box gives, and tells how many notes were collected. After
+    /// a refusal a note is held.
     pub(crate) fn collect<R: Wait>(
         &mut self,
         rt: &R,
@@ -54,7 +54,7 @@ impl Keeper {
         Ok(count)
     }
 
-    // Collects a note and notes it; whether there was one.
+    /// Collects a note and notes it; whether there was one.
     fn collect_one<R: Wait>(
         &mut self,
         rt: &R,
@@ -79,7 +79,7 @@ impl Keeper {
         Ok(true)
     }
 
-    // Notes what is held, if there is something.
+    /// Notes what is held, if there is something.
     fn note_held(&mut self, alloc: Global) -> Result<(), NoMemory>
         ensures gathers { Gathers self.old self.new }
         ensures pass_stays { self.new.pass ≡ self.old.pass }
@@ -92,7 +92,7 @@ impl Keeper {
         }
     }
 
-    // Notes one thing more, or holds it.
+    /// Notes one thing more, or holds it.
     fn note(&mut self, alloc: Global, note: Note) -> Result<(), NoMemory>
         requires kind { IsPostable note }
         requires range { IsNote note }
@@ -118,7 +118,7 @@ impl Keeper {
         }
     }
 
-    // Counts a note that was collected.
+    /// Counts a note that was collected.
     fn count(&mut self, note: &Note)
         ensures { self.new ≡ record self.old {
           shipped = added_counts self.old.shipped (count_by is_shipped (note.now ∷ []));
@@ -132,7 +132,7 @@ impl Keeper {
         self.collected = self.collected.saturating_add(1);
     }
 
-    // What it has stored. It computes nothing.
+    /// What it has stored. It computes nothing.
     pub(crate) fn tell_stored(&self)
         ensures { Stores self.now.tracked self.now.store }
     {
@@ -140,7 +140,7 @@ impl Keeper {
     }
 }
 
-// Whether a note settles what a peer acknowledged, and whether what a rule dropped: 1 or 0 each.
+/// Whether a note settles what a peer acknowledged, and whether what a rule dropped: 1 or 0 each.
 fn settled_by(note: &Note) -> (u64, u64)
     ensures shipped { result.0 ≡ count_by is_shipped (note.now ∷ []) }
     ensures dropped { result.1 ≡ count_by is_dropped (note.now ∷ []) }

@@ -35,9 +35,9 @@ pub struct Keeper {
     pub(crate) tracker: Tracker,
     pub(crate) store: Store,
     pub(crate) pass: CollectPass,
-    // A note that was collected, and that memory refused.
+    /// A note that was collected, and that memory refused.
     pub(crate) held: Option<Note>,
-    // Whether something was noted since the last commit.
+    /// Whether something was noted since the last commit.
     pub(crate) pending: bool,
     pub(crate) shipped: u64,
     pub(crate) dropped: u64,
@@ -246,7 +246,7 @@ impl Keeper {
     }
 }
 
-// Rows are in the order of their keys, one for each key.
+/// Rows are in the order of their keys, one for each key.
 fn are_in_order(rows: &Rows)
     ensures { IsInOrder rows.now }
 {

@@ -11,7 +11,7 @@ use ship_core::{orderly_by_one_more, rows_by_key, update_by_key};
 use std::alloc::Global;
 
 impl Keeper {
-    // Commits what leads from the stored rows to those over all notes.
+    /// Commits what leads from the stored rows to those over all notes.
     pub(crate) fn commit<D: Disk>(
         &mut self,
         alloc: Global,

@@ -83,7 +83,7 @@ impl<T: Tail> Lane<T> {
         Some(seat.harvester)
     }
 
-    // At which place a harvester of this slot stands.
+    /// At which place a harvester of this slot stands.
     fn place_of(&self, slot: Slot) -> Option<usize>
         ensures stands { IfSome result (StandsAt slot (laning self.now).harvesters) }
         ensures none { IfNone result (All (IsOfAnother slot) (laning self.now).harvesters) }

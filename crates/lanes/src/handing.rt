@@ -45,7 +45,7 @@ impl<T: Tail> Lane<T> {
         }
     }
 
-    // Hands on what a turn gave, or what was held; whether it went through.
+    /// Hands on what a turn gave, or what was held; whether it went through.
     pub(crate) fn hand<R: Wait>(&mut self, rt: &R, outlets: Outlets<'_>, given: Given) -> bool
         requires of_this_queue { PutsOf outlets.queue.now.id self.old.put }
         requires of_this_box { PostsOf outlets.desk.now.id self.old.post }

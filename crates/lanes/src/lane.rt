@@ -13,6 +13,6 @@ pub struct Lane<T> {
     pub(crate) held: Given,
     pub(crate) spans: u64,
     pub(crate) tally: Tally,
-    // With which harvester the next round begins, so that where each round is refused all have their turns.
+    /// With which harvester the next round begins, so that where each round is refused all have their turns.
     pub(crate) next: usize,
 }

@@ -51,7 +51,7 @@ impl<T: Tail> Lane<T> {
         let _ = self.turn_all(rt, alloc, outlets, when);
     }
 
-    // Turns each harvester once, and then those that go on.
+    /// Turns each harvester once, and then those that go on.
     fn turn_all<R: Wait>(
         &mut self,
         rt: &R,

@@ -17,7 +17,7 @@ use wire_base::{Cause, MAX_PLACE, Note};
 #[derive(Drop)]
 pub(crate) struct Seat<T> {
     pub(crate) harvester: Harvester<T>,
-    // Whether a further turn in this round may find more.
+    /// Whether a further turn in this round may find more.
     pub(crate) goes_on: bool,
 }
 
@@ -72,7 +72,7 @@ impl<T: Tail> Seat<T> {
         self.harvester.changed() || self.harvester.idle_since().is_some()
     }
 
-    // A file that is to be forgotten is at its end.
+    /// A file that is to be forgotten is at its end.
     fn give_at_end(&self) -> Given
         ensures { Gives T.numbers T.told self.now.harvester Turn.AtEnd result }
     {
@@ -91,7 +91,7 @@ impl<T: Tail> Seat<T> {
     }
 }
 
-// Whether a further turn in this round may find more.
+/// Whether a further turn in this round may find more.
 fn goes_on(turn: &Turn) -> bool {
     match turn {
         Turn::Issued(_) | Turn::Passed(_, _) | Turn::More | Turn::NewLife(_) => true,

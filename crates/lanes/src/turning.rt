@@ -21,7 +21,7 @@ use std::sync::Wait;
 pub(crate) struct Refused;
 
 impl<T: Tail> Lane<T> {
-    // Turns each harvester once, beginning with `next`.
+    /// Turns each harvester once, beginning with `next`.
     pub(crate) fn turn_each<R: Wait>(
         &mut self,
         rt: &R,
@@ -44,7 +44,7 @@ impl<T: Tail> Lane<T> {
         self.turn_each_of(rt, alloc, outlets, when, 0..next)
     }
 
-    // Turns those that go on, in passes, and makes at most so many turns.
+    /// Turns those that go on, in passes, and makes at most so many turns.
     pub(crate) fn turn_on<R: Wait>(
         &mut self,
         rt: &R,
@@ -72,7 +72,7 @@ impl<T: Tail> Lane<T> {
         Ok(())
     }
 
-    // One turn of each that goes on, but at most so many. How many it made.
+    /// One turn of each that goes on, but at most so many. How many it made.
     fn turn_those<R: Wait>(
         &mut self,
         rt: &R,
@@ -100,7 +100,7 @@ impl<T: Tail> Lane<T> {
         Ok(turned)
     }
 
-    // One turn of this harvester, if it goes on. How many turns that were.
+    /// One turn of this harvester, if it goes on. How many turns that were.
     fn turn_if_on<R: Wait>(
         &mut self,
         rt: &R,
@@ -127,7 +127,7 @@ impl<T: Tail> Lane<T> {
         Ok(1)
     }
 
-    // Turns each of these harvesters once.
+    /// Turns each of these harvesters once.
     fn turn_each_of<R: Wait>(
         &mut self,
         rt: &R,
@@ -155,7 +155,7 @@ impl<T: Tail> Lane<T> {
         Ok(())
     }
 
-    // Turns this harvester, unless it has changed, and hands on what it gives.
+    /// Turns this harvester, unless it has changed, and hands on what it gives.
     fn turn_at<R: Wait>(
         &mut self,
         rt: &R,
@@ -184,7 +184,7 @@ impl<T: Tail> Lane<T> {
         Err(Refused)
     }
 
-    // One turn of this harvester, unless it has changed.
+    /// One turn of this harvester, unless it has changed.
     fn turn(&mut self, alloc: Global, when: When, index: usize) -> Option<Given>
         requires moment { IsMoment when.now }
         requires within { index < length self.old.seats.items }

@@ -78,7 +78,7 @@ fn compiled(alloc: Global, patterns: &[Text]) -> Result<Vec<LinePattern>, NoMemo
     Ok(compiled)
 }
 
-// Whether there are patterns to include, and none of them matches.
+/// Whether there are patterns to include, and none of them matches.
 fn is_left_out(alloc: Global, include: &mut [LinePattern], message: &[u8]) -> Result<bool, NoMemory>
     ensures left_out { IfOk result (λ left_out.
         left_out ≡ is_not_included include.old message.now) }
@@ -91,7 +91,7 @@ fn is_left_out(alloc: Global, include: &mut [LinePattern], message: &[u8]) -> Re
     Ok(!matched)
 }
 
-// Whether some pattern matches.
+/// Whether some pattern matches.
 fn is_matched(alloc: Global, patterns: &mut [LinePattern], message: &[u8]) -> Result<bool, NoMemory>
     ensures matched { IfOk result (λ matched. matched ≡ is_matched patterns.old message.now) }
     ensures same { patterns.new ≡ patterns.old }

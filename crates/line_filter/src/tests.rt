@@ -13,7 +13,7 @@ const NOT_INCLUDED: Verdict = Verdict::Drop(RuleNo(1));
 
 const EXCLUDED: Verdict = Verdict::Drop(RuleNo(2));
 
-// The texts, where each is a pattern.
+/// The texts, where each is a pattern.
 fn patterns(alloc: Global, texts: &[&str]) -> Result<Vec<Text>, NoMemory>
     ensures { IfOk result (λ patterns. All IsLinePattern patterns.items) }
 {

@@ -27,7 +27,7 @@ pub fn acknowledged(alloc: Global, talk: &[Piece]) -> Result<Vec<Blob>, NoMemory
     Ok(payloads)
 }
 
-// The greatest number that was given for each window, by its number from 1 on; 0 stands for none.
+/// The greatest number that was given for each window, by its number from 1 on; 0 stands for none.
 fn greatest_numbers(
     alloc: Global,
     windows: &[Vec<Blob>],
@@ -54,7 +54,7 @@ fn greatest_numbers(
     Ok(mosts)
 }
 
-// Of so many windows, the number of the first that was not acknowledged in full, or of the last.
+/// Of so many windows, the number of the first that was not acknowledged in full, or of the last.
 fn oldest_open(windows: &[Vec<Blob>], mosts: &[u32], whole: usize) -> usize
     requires whole { whole ≤ length windows.now }
     requires each { length mosts.now ≡ length windows.now + 1 }
@@ -71,7 +71,7 @@ fn oldest_open(windows: &[Vec<Blob>], mosts: &[u32], whole: usize) -> usize
     whole
 }
 
-// The number of the acknowledgement that the bytes begin with.
+/// The number of the acknowledgement that the bytes begin with.
 fn acknowledgement_at(bytes: &[u8]) -> Option<u32>
     ensures { MatchOption result
         (acknowledgements bytes.now ≡ [])
@@ -87,7 +87,7 @@ fn acknowledgement_at(bytes: &[u8]) -> Option<u32>
     }
 }
 
-// How many windows end within the first `out` bytes.
+/// How many windows end within the first `out` bytes.
 fn whole_within(windows: &[Vec<Blob>], out: usize) -> usize
     ensures most { result ≤ length windows.now }
     ensures whole { result ≡ whole_within (map (λ w. w.items) windows.now) out }
@@ -104,7 +104,7 @@ fn whole_within(windows: &[Vec<Blob>], out: usize) -> usize
     whole
 }
 
-// How many bytes are left behind the window's, where so many are there.
+/// How many bytes are left behind the window's, where so many are there.
 fn after_window(window: &[Blob], out: usize) -> Option<usize>
     ensures { SomeIff result (length (window_bytes window.now) ≤ out)
         (out - length (window_bytes window.now)) }
@@ -123,7 +123,7 @@ fn after_window(window: &[Blob], out: usize) -> Option<usize>
     Some(left)
 }
 
-// The count of the window of this number, from 1 on; 0 where there is none.
+/// The count of the window of this number, from 1 on; 0 where there is none.
 fn count_at(windows: &[Vec<Blob>], number: usize) -> usize
     ensures { result ≡ count_at (map (λ w. w.items) windows.now) number }
 {

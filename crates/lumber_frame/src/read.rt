@@ -66,7 +66,7 @@ fn read_json<'a>(bytes: &'a [u8]) -> FrameRead<'a>
     }
 }
 
-// The number in the four bytes from `at` on, the highest first, where they are there.
+/// The number in the four bytes from `at` on, the highest first, where they are there.
 fn number_at(bytes: &[u8], at: usize) -> Option<u32>
     requires { at + 4 < 2 ^ 64 }
     ensures { SomeIff result (at + 4 ≤ length bytes.now)

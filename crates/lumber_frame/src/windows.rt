@@ -22,7 +22,7 @@ pub fn windows_of(alloc: Global, bytes: &[u8]) -> Result<Vec<Vec<Blob>>, NoMemor
     Ok(windows)
 }
 
-// The window that the bytes begin with, and what follows it.
+/// The window that the bytes begin with, and what follows it.
 fn window_at<'a>(alloc: Global, bytes: &'a [u8]) -> Result<Option<(Vec<Blob>, &'a [u8])>, NoMemory>
     ensures { IfOk result (λ found. MatchOption found
         ((payloads : List (List ℕ)) (rest : List ℕ) → BeginsWithWindow bytes.now payloads rest → ⊥)
@@ -37,7 +37,7 @@ fn window_at<'a>(alloc: Global, bytes: &'a [u8]) -> Result<Option<(Vec<Blob>, &'
     numbered_at(alloc, count, rest)
 }
 
-// The payloads of JSON frames that are numbered from 1 to the count, and what follows them.
+/// The payloads of JSON frames that are numbered from 1 to the count, and what follows them.
 fn numbered_at<'a>(
     alloc: Global,
     count: u32,
@@ -60,7 +60,7 @@ fn numbered_at<'a>(
     Ok(Some((payloads, rest)))
 }
 
-// The count of the window frame that the bytes begin with, and what follows it.
+/// The count of the window frame that the bytes begin with, and what follows it.
 fn window_frame_at<'a>(bytes: &'a [u8]) -> Option<(u32, &'a [u8])>
     ensures { MatchOption result
         ((count : ℕ) (rest : List ℕ) → count < 2 ^ 32 →
@@ -76,7 +76,7 @@ fn window_frame_at<'a>(bytes: &'a [u8]) -> Option<(u32, &'a [u8])>
     }
 }
 
-// The payload of the JSON frame of this sequence that the bytes begin with, and what follows it.
+/// The payload of the JSON frame of this sequence that the bytes begin with, and what follows it.
 fn json_at<'a>(sequence: u32, bytes: &'a [u8]) -> Option<(&'a [u8], &'a [u8])>
     ensures { MatchOption result
         ((payload rest : List ℕ) → IsFrame (Json sequence payload) →

@@ -134,7 +134,7 @@ impl Grouper {
         self.kind.step(alloc, waiting, line)
     }
 
-    // The line is one of the event that waits, or its first.
+    /// The line is one of the event that waits, or its first.
     fn join(&mut self, line: Line, now: Moment) -> Result<(), Line>
         requires { ForSome self.old.gathered (λ gathered. gathered.end ≡ line.span.start) }
         ensures joined { OnOk result (self.new ≡ (record self.old {
@@ -159,7 +159,7 @@ impl Grouper {
         }
     }
 
-    // The line is the first of an event.
+    /// The line is the first of an event.
     fn begin(&mut self, line: Line, now: Moment)
         ensures { self.new ≡ (record self.old { gathered = Some (gathered_by self.old.rule None line now) }) }
     {
@@ -167,7 +167,7 @@ impl Grouper {
         self.pending = Some(Pending::first(line, now, most));
     }
 
-    // The event that waits; none waits then.
+    /// The event that waits; none waits then.
     fn take(&mut self) -> Option<Group>
         ensures group { result ≡ option_map group_from self.old.gathered }
         ensures empty { self.new ≡ (record self.old { gathered = None }) }

@@ -140,7 +140,7 @@ fn count_step(waiting: u64, count_lines: u64) -> Step
     }
 }
 
-// What a line that does not flush does.
+/// What a line that does not flush does.
 fn pattern_step(waiting: u64, goes_on: bool, side: Side) -> Step
     ensures { result ≡ unflushed_step waiting goes_on side }
 {

@@ -103,7 +103,7 @@ impl Pending {
     }
 }
 
-// Joins one more head to the message, and cuts it to so many bytes.
+/// Joins one more head to the message, and cuts it to so many bytes.
 fn extend_message(
     message: &mut Vec<u8>,
     most: usize,
@@ -131,7 +131,7 @@ fn separator(skip_newline: bool) -> &'static [u8]
     if skip_newline { b"" } else { b"\n" }
 }
 
-// Puts so many of the bytes behind the message that it has at most `most`.
+/// Puts so many of the bytes behind the message that it has at most `most`.
 fn extend_to(message: &mut Vec<u8>, most: usize, bytes: &[u8]) -> Result<(), NoMemory>
     requires { length message.old.items ≤ most }
     ensures longer { OnOk result (message.new.items ≡ message.old.items ++ take (most - length message.old.items) bytes.now) }

@@ -17,7 +17,7 @@ const DEFAULT_LIMIT: u64 = 10_485_760;
 
 const TIMEOUT: u64 = 5_000;
 
-// The text, where it is a pattern.
+/// The text, where it is a pattern.
 fn pattern(alloc: Global, text: &str) -> Result<Text, NoMemory>
     ensures { IfOk result IsLinePattern }
 {
@@ -59,7 +59,7 @@ fn rule_of(alloc: Global, case: &Case) -> Result<GroupRule, NoMemory>
     })
 }
 
-// Writes an event as its span, its number of lines and its message.
+/// Writes an event as its span, its number of lines and its message.
 fn write_group(alloc: Global, group: &Group, written: &mut Vec<u8>) -> Result<(), NoMemory> {
     let (start, end, lines) = (group.span.start(), group.span.end(), group.lines);
     let numbers = format!(in alloc; "{start}-{end} {lines} ")?;
@@ -69,7 +69,7 @@ fn write_group(alloc: Global, group: &Group, written: &mut Vec<u8>) -> Result<()
     Ok(())
 }
 
-// The events of the text, of which the last is flushed.
+/// The events of the text, of which the last is flushed.
 fn events_of(alloc: Global, rule: &GroupRule, text: &[u8]) -> Result<Vec<u8>, NoMemory>
     requires { IsGroupRule rule.now }
 {

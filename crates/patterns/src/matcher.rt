@@ -87,7 +87,7 @@ impl Matcher {
         self.starts_between_characters(alloc, text)
     }
 
-    // Whether a match is known to begin where the text does.
+    /// Whether a match is known to begin where the text does.
     fn begins(&mut self, text: &str) -> bool
         ensures found { IsTrue result →
             IsTrue (is_found_in_text (pattern_of self.old.program) text.now) }
@@ -116,7 +116,7 @@ impl Matcher {
     }
 }
 
-// What the grammar reads is never malformed.
+/// What the grammar reads is never malformed.
 fn want_of(error: Error) -> NoMemory
     requires { error ≢ Error.Malformed }
 {

@@ -55,7 +55,7 @@ impl FieldDrops {
     }
 }
 
-// Removes each path that is there.
+/// Removes each path that is there.
 fn remove_all(paths: &[NamedPath], tree: &mut Tree)
     ensures { fields_dropped true paths.now (value_of tree.old) ≡ Done (value_of tree.new) }
 {
@@ -66,7 +66,7 @@ fn remove_all(paths: &[NamedPath], tree: &mut Tree)
     }
 }
 
-// The first path that is absent, or will be once the paths before it are removed.
+/// The first path that is absent, or will be once the paths before it are removed.
 fn first_missing<'a>(paths: &'a [NamedPath], tree: &Tree) -> Option<&'a NamedPath>
     ensures { option_map (λ path. path.now) result ≡ missing_of paths.now (value_of tree.now) }
 {
@@ -90,7 +90,7 @@ fn is_missing(earlier: &[NamedPath], path: &NamedPath, tree: &Tree) -> bool
     is_hidden(earlier, path)
 }
 
-// Whether the removal of an earlier path takes this one away.
+/// Whether the removal of an earlier path takes this one away.
 fn is_hidden(earlier: &[NamedPath], path: &NamedPath) -> bool
     ensures { result ≡ list_any (λ one. hides one (parts_of path.now)) earlier.now }
 {
@@ -108,7 +108,7 @@ fn hides(one: &NamedPath, path: &NamedPath) -> bool
     !is_left(one) && path.path().parts().starts_with(one.path().parts())
 }
 
-// Whether the path is left in silence.
+/// Whether the path is left in silence.
 fn is_left(path: &NamedPath) -> bool
     ensures { result ≡ is_left path.now }
 {

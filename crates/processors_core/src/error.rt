@@ -43,7 +43,7 @@ fn error_path(alloc: Global) -> Result<FieldPath, NoMemory>
     }
 }
 
-// The texts so far and this one, where nothing but a text stands there.
+/// The texts so far and this one, where nothing but a text stands there.
 fn texts_with(alloc: Global, text: &Text, found: Option<&Tree>) -> Result<Option<Text>, NoMemory>
     ensures { IfOk result (λ texts.
         option_map str texts ≡ with_text text.now (option_map (λ tree. value_of tree.now) found.entry)) }

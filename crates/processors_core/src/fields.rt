@@ -55,7 +55,7 @@ pub(crate) fn put_over(alloc: Global, members: &Fields, fields: &mut Fields) -> 
     Ok(())
 }
 
-// The value over what stands at its place.
+/// The value over what stands at its place.
 #[cycle(merge)]
 #[tactic(auto, using(crate::proofs::Overs::map_over))]
 fn merged_value(alloc: Global, value: &Tree, old: Option<&Tree>) -> Result<Tree, NoMemory>

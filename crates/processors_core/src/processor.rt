@@ -115,7 +115,7 @@ impl Action {
     }
 }
 
-// The condition under which the processor runs.
+/// The condition under which the processor runs.
 fn when_of(alloc: Global, rule: &ProcessorRule) -> Result<Option<Condition>, NoMemory>
     requires { IsProcessorInRange rule.now }
     ensures { IfOk result (AsksWhen (when_of rule.now)) }

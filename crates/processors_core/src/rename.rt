@@ -74,7 +74,7 @@ impl Renames {
         }
     }
 
-    // Moves each field, up to an error that fails; its text is given then.
+    /// Moves each field, up to an error that fails; its text is given then.
     fn move_all(&self, alloc: Global, tree: &mut Tree) -> Result<Option<Text>, NoMemory>
         ensures moved { IfOk result (λ error.
             renamed_by self.now (value_of tree.old) ≡ attempt_of error (value_of tree.new)) }
@@ -104,7 +104,7 @@ impl NamedPair {
         Ok(NamedPair { from, to })
     }
 
-    // Moves the field, or says why not; then the tree is as it was.
+    /// Moves the field, or says why not; then the tree is as it was.
     fn move_field(
         &self,
         alloc: Global,
@@ -134,7 +134,7 @@ impl NamedPair {
         ignore_missing && tree.get(self.from.path()).is_none()
     }
 
-    // The text of the error, if there is one.
+    /// The text of the error, if there is one.
     fn fault(&self, alloc: Global, tree: &Tree) -> Result<Option<Text>, NoMemory>
         ensures { IfOk result (λ fault.
             fault ≡ rename_fault (pair_of self.now) (value_of tree.now)) }

@@ -170,7 +170,7 @@ fn events_are_dropped_by_the_place_of_the_processor(rt: HostRuntime) -> Result<(
     compare_rows(&rt, rt.alloc(), &rows)
 }
 
-// The first two lines of `/w/a.log`, `a` and `b`.
+/// The first two lines of `/w/a.log`, `a` and `b`.
 #[test]
 fn processors_in_order(rt: HostRuntime) -> Result<(), Fail> {
     let alloc = rt.alloc();

@@ -60,8 +60,8 @@ fn failed_listing_ends_the_scan(rt: HostRuntime) -> Result<(), Fail> {
     Ok(())
 }
 
-// What each input asks of identities, and the files: the input, its key, the path, its size and its
-// moment of change.
+/// What each input asks of identities, and the files: the input, its key, the path, its size and its
+/// moment of change.
 const FILES: [(&[(usize, Ask)], &str); 2] = [
     (
         &[],

@@ -41,7 +41,7 @@ pub fn set_text(alloc: Global, row: &Row) -> Result<String, NoMemory>
     )?)
 }
 
-// The field of a row's moment of change, with the comma behind it; empty for a row that has none.
+/// The field of a row's moment of change, with the comma behind it; empty for a row that has none.
 fn moment_text(alloc: Global, changed: Moment) -> Result<String, NoMemory>
     ensures { IfOk result (λ text. string_bytes text ≡ moment_bytes changed.0) }
 {
@@ -62,7 +62,7 @@ fn remove_text(alloc: Global, key: &Text) -> Result<String, NoMemory>
     Ok(format!(in alloc; "{{\"key\":{key},\"op\":\"remove\"}}")?)
 }
 
-// The JSON text of a key or a path.
+/// The JSON text of a key or a path.
 fn quoted_text(alloc: Global, text: &Text) -> Result<String, NoMemory>
     ensures spelled { IfOk result (λ written. string_bytes written ≡ quoted text.now) }
     ensures utf8 { IsUtf8 text.now }

@@ -38,7 +38,7 @@ pub fn read_body(alloc: Global, bytes: &[u8]) -> Result<Vec<Op>, BodyError>
     Ok(ops)
 }
 
-// Of a body these are the operations; of any other text something or nothing.
+/// Of a body these are the operations; of any other text something or nothing.
 fn read_text(alloc: Global, text: &str) -> Result<Vec<Op>, BodyError>
     ensures reads { (ops : List OpOf) → IsBodyOf ops text.now →
         MatchResult result (λ read. read.items ≡ ops) IsNoMemory }

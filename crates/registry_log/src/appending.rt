@@ -65,7 +65,7 @@ pub fn append<D: Disk>(alloc: Global, disk: &mut D, end: u64, ops: &[Op]) -> Res
     Ok(end + text.len() as u64)
 }
 
-// A record behind its gate, and a closed gate behind it.
+/// A record behind its gate, and a closed gate behind it.
 fn record_text(alloc: Global, body: &[u8]) -> Result<Vec<u8>, NoMemory>
     ensures { IfOk result (λ text. 0x7B ∷ text.items ≡ record_of body.now ++ codes ".") }
 {

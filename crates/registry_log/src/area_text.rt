@@ -18,14 +18,14 @@ pub const MAX_BODY: usize = 1_048_576;
 /// The text of an area while it is written.
 #[derive(Drop)]
 struct AreaText {
-    // what is whole
+    /// what is whole
     text: Vec<u8>,
-    // the body of the next record, without its last bracket
+    /// the body of the next record, without its last bracket
     body: Vec<u8>,
 }
 
 impl AreaText {
-    // Adds an operation by its text.
+    /// Adds an operation by its text.
     fn add(&mut self, alloc: Global, operation: &str) -> Result<(), NoMemory>
         ensures { (op : Op) (ops : List Op) → operation.now ≡ operation_bytes op → OnOk result (self.new.text.items ++ records_behind self.new.body.items ops ≡ self.old.text.items ++ records_behind self.old.body.items (op ∷ ops)) }
     {

@@ -48,7 +48,7 @@ pub(crate) fn read_head(bytes: &[u8]) -> Head
     }
 }
 
-// `None` exactly where these are not the seven digits of a body's length.
+/// `None` exactly where these are not the seven digits of a body's length.
 fn read_size(digits: &[u8]) -> Option<usize>
     requires { length digits.now ≡ 7 }
     ensures { MatchOption result ((size : ℕ) → size ≤ MAX_BODY → ¬ (digits.now ≡ padded 7 size)) (λ size. (size ≤ MAX_BODY) × (digits.now ≡ padded 7 size)) }

@@ -49,7 +49,7 @@ pub(crate) fn read_records<D: Disk>(
     }
 }
 
-// Reads one record and applies it; or tells that the records end here.
+/// Reads one record and applies it; or tells that the records end here.
 fn read_record<D: Disk>(
     alloc: Global,
     disk: &mut D,

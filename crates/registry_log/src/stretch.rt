@@ -14,10 +14,10 @@ const BLOCK: usize = 16_384;
 /// The bytes of an area that were read and not yet passed over.
 #[derive(Drop)]
 pub(crate) struct Stretch {
-    // the place of the first of them
+    /// the place of the first of them
     pub(crate) place: u64,
     bytes: Vec<u8>,
-    // how many of `bytes` were passed over
+    /// how many of `bytes` were passed over
     passed: usize,
     ghost within: { passed ≤ vec_len bytes },
     ghost in_range: { IsPlace (place + (vec_len bytes - passed)) },
@@ -85,7 +85,7 @@ impl Stretch {
     }
 }
 
-// Adds to the bytes of an area from a place on, until there are `wanted` of them or the area ends.
+/// Adds to the bytes of an area from a place on, until there are `wanted` of them or the area ends.
 fn read_up_to<D: Disk>(
     disk: &mut D,
     bytes: &mut Vec<u8>,
@@ -111,7 +111,7 @@ fn read_up_to<D: Disk>(
     Ok(())
 }
 
-// Adds what one call of the disk gives, and answers how much that was; nothing is at the area's end alone.
+/// Adds what one call of the disk gives, and answers how much that was; nothing is at the area's end alone.
 fn read_block<D: Disk>(disk: &mut D, bytes: &mut Vec<u8>, place: u64) -> Result<usize, LogError>
     requires in_range { IsPlace (place + vec_len bytes.old) }
     ensures in_range { IsPlace (place + vec_len bytes.new) }

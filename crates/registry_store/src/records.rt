@@ -44,7 +44,7 @@ pub(crate) fn append_all<D: Disk>(
     Ok(gate)
 }
 
-// How many of the operations, from the first one on, fit into one record.
+/// How many of the operations, from the first one on, fit into one record.
 fn count_fitting(alloc: Global, ops: &[Op]) -> Result<usize, NoMemory>
     requires some { ops.now ≢ [] }
     requires in_range { All IsOp ops.now }

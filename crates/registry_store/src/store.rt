@@ -192,7 +192,7 @@ impl Store {
     }
 }
 
-// Starts area A without a row.
+/// Starts area A without a row.
 fn start_empty<D: Disk>(alloc: Global, a: &mut D) -> Result<Store, LogError>
     ensures store { IfOk result IsEmpty }
     ensures holds { IsSome (D.contents a.old) → IfOk result (λ store. HoldsOpened D.contents D.images a.new 1 [] store.end) }
@@ -216,7 +216,7 @@ fn start_empty<D: Disk>(alloc: Global, a: &mut D) -> Result<Store, LogError>
     })
 }
 
-// After a refusal the rows are those after some of the operations.
+/// After a refusal the rows are those after some of the operations.
 fn apply_all(alloc: Global, rows: &mut Rows, ops: &[Op]) -> Result<(), NoMemory>
     requires { All IsOp ops.now }
     ensures all { OnOk result (rows.new ≡ replay_on rows.old ops.now) }

@@ -39,7 +39,7 @@ impl From<LogError> for StoreError {
 
     ghost from_gives = { λ log e. e ≡ store_error_of log };
 
-    // The operations of a record always fit.
+    /// The operations of a record always fit.
     fn from(error: LogError) -> Self {
         match error {
             LogError::DiskFault => StoreError::DiskFault,

@@ -29,14 +29,14 @@ pub const MAX_PAST_START: u64 = 10_485_760;
 pub(crate) struct Used {
     pub(crate) area: Which,
     pub(crate) generation: u64,
-    // the place of the first gate behind the checkpoint
+    /// the place of the first gate behind the checkpoint
     pub(crate) start: u64,
-    // the place of the last gate
+    /// the place of the last gate
     pub(crate) end: u64,
 }
 
-// Writes operations to `near`, the disk of the area that is used, or a checkpoint and the operations to `far`, the other
-// one.
+/// Writes operations to `near`, the disk of the area that is used, or a checkpoint and the operations to `far`, the other
+/// one.
 fn write<D: Disk>(
     alloc: Global,
     used: Used,
@@ -82,7 +82,7 @@ fn write<D: Disk>(
     })
 }
 
-// A checkpoint is due before these operations.
+/// A checkpoint is due before these operations.
 fn is_worn(used: Used, ops: &[Op]) -> bool
     ensures { result ≡ is_worn used.generation used.start used.end ops.now }
 {

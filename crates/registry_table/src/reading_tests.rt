@@ -14,11 +14,11 @@ const VERSION_1: &[u8] =
 const VERSION_2: &[u8] =
     b"{beat 2 00000000000000000001\n{0000091 [{\"epoch\":0,\"key\":\"filestream::w::path::/w/a.log\",\"offset\":4,\"op\":\"set\",\"path\":\"/w/a.log\"}]\n.";
 
-// With the row of offset 6 and moment 5 appended.
+/// With the row of offset 6 and moment 5 appended.
 const TWO_RECORDS: &[u8] =
     b"{beat 1 00000000000000000001\n{0000091 [{\"epoch\":0,\"key\":\"filestream::w::path::/w/a.log\",\"offset\":4,\"op\":\"set\",\"path\":\"/w/a.log\"}]\n{0000103 [{\"changed\":5,\"epoch\":0,\"key\":\"filestream::w::path::/w/a.log\",\"offset\":6,\"op\":\"set\",\"path\":\"/w/a.log\"}]\n.";
 
-// What an area reads as, with the offset of its one row.
+/// What an area reads as, with the offset of its one row.
 #[derive(Clone, Copy, Debug, PartialEq, Eq)]
 enum Reading {
     Blank,
@@ -149,8 +149,8 @@ fn appended_area_has_exactly_these_bytes(rt: HostRuntime) -> Result<(), Fail> {
     Ok(())
 }
 
-// A byte within a body may make another body, of other rows; no checksum tells. Every other byte leaves what the area held
-// before or after a record, or no rows at all.
+/// A byte within a body may make another body, of other rows; no checksum tells. Every other byte leaves what the area held
+/// before or after a record, or no rows at all.
 #[test]
 fn damaged_area_never_gives_rows_that_were_not_stored(rt: HostRuntime) -> Result<(), Fail> {
     let alloc = rt.alloc();

@@ -16,11 +16,11 @@ const FIRST: &[u8] =
 const LATER: &[u8] =
     b"{beat 2 00000000000000000001\n{0000091 [{\"epoch\":0,\"key\":\"filestream::w::path::/w/a.log\",\"offset\":6,\"op\":\"set\",\"path\":\"/w/a.log\"}]\n.";
 
-// All that a checkpoint of generation 2 writes, but for the opening of its first gate.
+/// All that a checkpoint of generation 2 writes, but for the opening of its first gate.
 const ABANDONED: &[u8] =
     b".beat 2 00000000000000000002\n{0000091 [{\"epoch\":0,\"key\":\"filestream::w::path::/w/a.log\",\"offset\":4,\"op\":\"set\",\"path\":\"/w/a.log\"}]\n.";
 
-// What stands behind the gate of a record with the offset 6.
+/// What stands behind the gate of a record with the offset 6.
 const RECORD: &[u8] =
     b"0000091 [{\"epoch\":0,\"key\":\"filestream::w::path::/w/a.log\",\"offset\":6,\"op\":\"set\",\"path\":\"/w/a.log\"}]\n.";
 
@@ -57,7 +57,7 @@ fn commit(
     store.commit(alloc, a, b, ops)
 }
 
-// The offset of the one row that two areas choose; 0 where there is none.
+/// The offset of the one row that two areas choose; 0 where there is none.
 fn offset_of(alloc: Global, a: &[u8], b: &[u8]) -> Result<u64, StoreError> {
     let mut a = MemDisk::new(alloc, a)?;
     let mut b = MemDisk::new(alloc, b)?;
@@ -110,7 +110,7 @@ fn abandoned_checkpoint_is_never_chosen(rt: HostRuntime) -> Result<(), Fail> {
     Ok(())
 }
 
-// An image with the bytes of the last sync shows each sync: whether it has the record, and what it is opened with.
+/// An image with the bytes of the last sync shows each sync: whether it has the record, and what it is opened with.
 #[test]
 fn commit_is_two_writes_and_two_syncs(rt: HostRuntime) -> Result<(), Fail> {
     let alloc = rt.alloc();
@@ -160,7 +160,7 @@ fn setting_key(rt: &impl Abort, alloc: Global, key: &[u8]) -> Result<Op, Fail>
     }))
 }
 
-// Operations whose body has 1,048,566 bytes, so that their record has 1,048,576.
+/// Operations whose body has 1,048,566 bytes, so that their record has 1,048,576.
 fn full_record(rt: &impl Abort, alloc: Global) -> Result<Vec<Op>, Fail>
     ensures { IfOk result (λ ops. All IsOp ops.items) }
 {
@@ -174,7 +174,7 @@ fn full_record(rt: &impl Abort, alloc: Global) -> Result<Vec<Op>, Fail>
     Ok(ops)
 }
 
-// The area that is chosen, its generation and how many rows it has.
+/// The area that is chosen, its generation and how many rows it has.
 fn chosen_of(
     alloc: Global,
     a: &mut MemDisk,
@@ -191,8 +191,8 @@ fn chosen_of(
     }
 }
 
-// Ten records of 1,048,576 bytes make the part behind the start exactly as long as it may be; the next commit still appends,
-// and the one behind it starts B.
+/// Ten records of 1,048,576 bytes make the part behind the start exactly as long as it may be; the next commit still appends,
+/// and the one behind it starts B.
 #[test]
 fn checkpoint_behind_ten_full_records(rt: HostRuntime) -> Result<(), Fail> {
     let alloc = rt.alloc();

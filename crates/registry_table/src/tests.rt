@@ -48,7 +48,7 @@ fn started_area_has_exactly_these_bytes(rt: HostRuntime) -> Result<(), Fail> {
     Ok(())
 }
 
-// Twenty-one rows with the longest keys, each byte but the first of which is escaped, and one with a shorter key.
+/// Twenty-one rows with the longest keys, each byte but the first of which is escaped, and one with a shorter key.
 fn many_rows(rt: &impl Abort, alloc: Global, plain: usize) -> Result<Rows, Fail> {
     let mut rows = Rows::new(alloc);
     for first in b'a'..b'v' {

@@ -21,7 +21,7 @@ fn text(alloc: Global, text: &str) -> Result<Text, TextError>
     Text::from_bytes(alloc, text.as_bytes())
 }
 
-// The status ends so, by its number and its last line.
+/// The status ends so, by its number and its last line.
 fn ends(rt: &impl Abort, alloc: Global, status: Status, code: u8, line: &str) -> Result<(), Fail> {
     let mut page = Page::new(alloc);
     assert_eq!(rt; status_line(&status, &mut page), Ok(()));

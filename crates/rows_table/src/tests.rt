@@ -63,7 +63,7 @@ fn begun(rt: &impl Abort, alloc: Global) -> Result<Told, Fail>
     Ok(told)
 }
 
-// One more note of the slot 0, after which the machine's row and the tracker have this epoch and offset.
+/// One more note of the slot 0, after which the machine's row and the tracker have this epoch and offset.
 fn check(
     rt: &impl Abort,
     alloc: Global,
@@ -131,7 +131,7 @@ fn commit(alloc: Global, told: &mut Told, wanted: bool) -> Result<(), Fail>
     Ok(())
 }
 
-// Two files that begin, perhaps a commit, and then a span of the first, the going of the second and a third that begins.
+/// Two files that begin, perhaps a commit, and then a span of the first, the going of the second and a third that begins.
 fn three_files(rt: &impl Abort, alloc: Global, commits: bool) -> Result<Told, Fail>
     ensures runs { IfOk result (λ told. told.world.runs ≡ true) }
     ensures same { IfOk result (λ told. told.world.notes ≡ told.notes.items) }
@@ -151,7 +151,7 @@ fn three_files(rt: &impl Abort, alloc: Global, commits: bool) -> Result<Told, Fa
     Ok(told)
 }
 
-// The rows are these, by their keys and offsets.
+/// The rows are these, by their keys and offsets.
 fn check_rows(rt: &impl Abort, rows: &Rows, expected: &[(&[u8], u64)]) {
     assert_eq!(rt; rows.len(), expected.len());
     for (key, offset) in expected {
@@ -159,7 +159,7 @@ fn check_rows(rt: &impl Abort, rows: &Rows, expected: &[(&[u8], u64)]) {
     }
 }
 
-// The first file begins again where its row left it, and its next span is settled.
+/// The first file begins again where its row left it, and its next span is settled.
 fn go_on(rt: &impl Abort, alloc: Global, told: &mut Told) -> Result<(), Fail>
     requires runs { told.old.world.runs ≡ true }
     requires same { told.old.world.notes ≡ told.old.notes.items }
@@ -174,7 +174,7 @@ fn go_on(rt: &impl Abort, alloc: Global, told: &mut Told) -> Result<(), Fail>
     Ok(())
 }
 
-// With no commit the updates are a and c; with one they are a and b, and then a, the end of b, and c.
+/// With no commit the updates are a and c; with one they are a and b, and then a, the end of b, and c.
 #[test]
 fn crash_leaves_the_rows_of_as_many_updates(rt: HostRuntime) -> Result<(), Fail> {
     let alloc = rt.alloc();

@@ -4,7 +4,7 @@ use std::alloc::Global;
 use std::test::Fail;
 use wire_base::Text;
 
-// The printed fault of a document, or `ok`.
+/// The printed fault of a document, or `ok`.
 fn answer(alloc: Global, document: &[u8]) -> Result<String, Fail> {
     match read_settings(alloc, document) {
         Ok(_) => Ok(String::from_str(alloc, "ok")?),

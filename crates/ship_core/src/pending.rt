@@ -15,7 +15,7 @@ use crate::rows::Rows;
 use std::alloc::Global;
 use wire_base::{NoMemory, Note, Op, Row, Text};
 
-// What was stored, what is there now, and what leads from one to the other.
+/// What was stored, what is there now, and what leads from one to the other.
 #[derive(Debug, Drop)]
 pub(crate) struct Ahead {
     pub(crate) durable: Rows,
@@ -24,7 +24,7 @@ pub(crate) struct Ahead {
 }
 
 impl Ahead {
-    // Renews the row of the slot's key.
+    /// Renews the row of the slot's key.
     pub(crate) fn renew(
         &mut self,
         alloc: Global,
@@ -81,7 +81,7 @@ impl Ahead {
     }
 }
 
-// The key has this row, or none.
+/// The key has this row, or none.
 fn put(alloc: Global, rows: &mut Rows, key: &Text, row: Option<Row>) -> Result<(), NoMemory>
     requires key { IsKey key.now }
     requires row { IfSome row IsRow }
@@ -93,7 +93,7 @@ fn put(alloc: Global, rows: &mut Rows, key: &Text, row: Option<Row>) -> Result<(
     }
 }
 
-// The key's operation in place of an earlier one, or none.
+/// The key's operation in place of an earlier one, or none.
 fn replace(ops: &mut Vec<Op>, key: &Text, op: Option<Op>) -> Result<(), NoMemory>
     requires ascending { AreAscending ops.old.items }
     requires own { IfSome op (λ o. key_in o ≡ key.now) }
@@ -116,7 +116,7 @@ fn replace(ops: &mut Vec<Op>, key: &Text, op: Option<Op>) -> Result<(), NoMemory
     Ok(())
 }
 
-// Where the key's operation stands, or where it belongs.
+/// Where the key's operation stands, or where it belongs.
 fn place(ops: &[Op], key: &Text) -> Result<usize, usize>
     requires { AreAscending ops.now }
     ensures found { IfOk result (IsAt key_in ops.now key.now) }
@@ -134,7 +134,7 @@ fn key_in(op: &Op) -> &Text
     }
 }
 
-// The rows after these operations.
+/// The rows after these operations.
 pub(crate) fn replayed(alloc: Global, rows: &Rows, ops: &[Op]) -> Result<Rows, NoMemory>
     requires { All IsOp ops.now }
     ensures { IfOk result (λ after. after ≡ replay_on rows.now ops.now) }

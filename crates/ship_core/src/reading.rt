@@ -103,7 +103,7 @@ fn greatest_moment(notes: &[Note], slot: u32) -> u64
         .fold(0, |greatest, moment| moment.max(greatest))
 }
 
-// The span that begins at the place.
+/// The span that begins at the place.
 fn span_at(notes: &[Note], slot: u32, epoch: u32, place: u64) -> Option<Span>
     ensures { result ≡ first_that (λ span. (span.start == place) && nat_lt place span.end)
         (spans_in epoch (notes_of slot notes.now)) }
@@ -125,7 +125,7 @@ fn count_of_spans(notes: &[Note], slot: u32, epoch: u32) -> usize
         .count()
 }
 
-// Up to where all is settled from the base on.
+/// Up to where all is settled from the base on.
 fn covered_end(notes: &[Note], slot: u32, epoch: u32, base: u64) -> u64
     ensures { result ≡ covered_end (spans_in epoch (notes_of slot notes.now)) base }
 {
@@ -148,14 +148,14 @@ fn begins(note: &Note, slot: u32) -> bool
     }
 }
 
-// The note with which the slot begins.
+/// The note with which the slot begins.
 fn begin_of(notes: &[Note], slot: u32) -> Option<&Note>
     ensures { option_copied result ≡ first_that (begins slot) notes.now }
 {
     notes.iter().find(|note| begins(note, slot))
 }
 
-// The path of the newest scan, or else the first one.
+/// The path of the newest scan, or else the first one.
 fn newest_path<'a>(notes: &'a [Note], slot: u32, first: &'a Text) -> &'a Text
     ensures { result.now ≡ unwrap_or (option_map (λ naming. naming.path)
         (fold newer None (filter_map naming_of (notes_of slot notes.now)))) first.now }
@@ -187,7 +187,7 @@ fn is_newer(newest: Option<u64>, scan: u64) -> bool
     }
 }
 
-// How a slot begins.
+/// How a slot begins.
 #[derive(Clone, Copy, Debug)]
 pub(crate) struct Begun<'a> {
     pub(crate) key: &'a Text,
@@ -235,14 +235,14 @@ pub(crate) fn start_over(notes: &[Note], slot: u32) -> Option<Begun<'_>>
     }
 }
 
-// From where an epoch is read, where the first one was read from the base.
+/// From where an epoch is read, where the first one was read from the base.
 fn base_in(first: u32, base: u64, epoch: u32) -> u64
     ensures { result ≡ (if epoch == first then base else 0) }
 {
     if epoch == first { base } else { 0 }
 }
 
-// How far the slot's file is done: its epoch and offset; none where it did not begin or its row is gone.
+/// How far the slot's file is done: its epoch and offset; none where it did not begin or its row is gone.
 fn place_over(notes: &[Note], slot: u32) -> Option<(u32, u64)>
     ensures { result ≡ place_of (row_over slot notes.now) }
 {
@@ -261,7 +261,7 @@ fn place_over(notes: &[Note], slot: u32) -> Option<(u32, u64)>
     }
 }
 
-// The slot's row.
+/// The slot's row.
 fn row_over(alloc: Global, notes: &[Note], slot: u32) -> Result<Option<Row>, NoMemory>
     requires { All IsNote notes.now }
     ensures row { IfOk result (λ row. row ≡ row_over slot notes.now) }
@@ -322,7 +322,7 @@ fn later(latest: Option<u32>, slot: u32) -> Option<u32>
     }
 }
 
-// The greatest slot of the key that has a row.
+/// The greatest slot of the key that has a row.
 fn latest(notes: &[Note], key: &Text) -> Option<u32>
     ensures { result ≡ fold later None
         (filter (λ slot. is_some (row_over slot notes.now)) (slots_for key.now notes.now)) }

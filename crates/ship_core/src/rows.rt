@@ -118,7 +118,7 @@ impl Rows {
     }
 }
 
-// Where the key's row stands, or where it belongs.
+/// Where the key's row stands, or where it belongs.
 fn place(rows: &[Row], key: &[u8]) -> Result<usize, usize>
     requires { IsInOrder rows.now }
     ensures found { IfOk result (IsAt key_of rows.now key.now) }

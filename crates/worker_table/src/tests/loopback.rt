@@ -134,7 +134,7 @@ where
     })
 }
 
-// The peer stays silent. A receiving waits 10 milliseconds.
+// The peer stays silent. A receiving behind one that found nothing waits 10 milliseconds.
 #[test]
 fn silent_peer_holds_a_round_for_hundredths_of_a_second(rt: HostRuntime) -> Result<(), Fail> {
     let Rounds {
