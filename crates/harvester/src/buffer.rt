@@ -16,7 +16,7 @@ pub(crate) const READ_SIZE: usize = 16_384;
 pub(crate) struct Buffer {
     alloc: Global,
     small: [u8; 1],
-    // Empty while one byte is enough.
+    /// Empty while one byte is enough.
     large: Vec<u8>,
 }
 

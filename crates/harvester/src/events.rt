@@ -23,10 +23,10 @@ pub(crate) struct Events {
     pub(crate) lines: LineRule,
     pub(crate) cutter: Cutter,
     pub(crate) grouper: Grouper,
-    // A line that is cut and, for want of memory, not gathered yet.
+    /// A line that is cut and, for want of memory, not gathered yet.
     pub(crate) line: Option<Line>,
     pub(crate) closed: Option<Group>,
-    // When the last line was read that was gathered.
+    /// When the last line was read that was gathered.
     pub(crate) last_line: Moment,
 }
 

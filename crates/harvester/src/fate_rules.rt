@@ -9,7 +9,7 @@ ghost use Rattle.event_json.specs.Envelope.{envelope_of};
 ghost use Rattle.processors_core.specs.Outcome.{outcome_of};
 ghost use Rattle.harvester.specs.Deciding.{ChainRuns, Decides, shown};
 
-use event_json::{envelope, event_payload, payload};
+use event_json::{Stamp, envelope, event_payload_at, payload};
 use event_tree::{InputRule, ProcessorRule};
 use line_filter::{Filter, Verdict};
 use multiline_core::Group;
@@ -31,8 +31,10 @@ pub(crate) enum EventFate {
 #[derive(Drop)]
 pub(crate) struct FateRules {
     filter: Filter,
-    // None without processors: then no tree is made of an event.
+    /// None without processors: then no tree is made of an event.
     chain: Option<Chain>,
+    /// The moment of the event that was decided last.
+    stamp: Stamp,
 }
 
 impl FateRules {
@@ -55,6 +57,7 @@ impl FateRules {
                 rule.exclude_lines.as_slice(),
             )?,
             chain: compiled(alloc, processors)?,
+            stamp: Stamp::new(Moment(0)),
         })
     }
 
@@ -74,7 +77,10 @@ impl FateRules {
     {
         match self.filter.verdict(alloc, group.message.bytes())? {
             Verdict::Drop(rule) => Ok(EventFate::Dropped(rule)),
-            Verdict::Keep => kept_fate(&mut self.chain, alloc, path, group, now),
+            Verdict::Keep => {
+                self.stamp.set(now);
+                kept_fate(&mut self.chain, alloc, path, group, &self.stamp)
+            }
         }
     }
 }
@@ -96,23 +102,22 @@ fn kept_fate(
     alloc: Global,
     path: &Text,
     group: &Group,
-    now: Moment,
+    stamp: &Stamp,
 ) -> Result<EventFate, NoMemory>
     requires place { IsPlace group.now.span.start }
-    requires moment { IsMoment now }
     ensures fate { IfOk result (λ fate. (processors : List ProcessorRule) →
         ChainRuns processors chain.old →
         shown fate ≡ fate_of_outcome (outcome_of processors
-        (envelope_of path.now group.now.span.start group.now.message now.0))) }
+        (envelope_of path.now group.now.span.start group.now.message stamp.now))) }
     ensures same { (processors : List ProcessorRule) → ChainRuns processors chain.old →
         ChainRuns processors chain.new }
 {
     let start = group.span.start();
     let message = group.message.bytes();
     match chain {
-        None => Ok(payload_fate(event_payload(alloc, path, start, message, now)?)),
+        None => Ok(payload_fate(event_payload_at(alloc, path, start, message, stamp)?)),
         Some(chain) => {
-            let tree = envelope(alloc, path, start, message, now)?;
+            let tree = envelope(alloc, path, start, message, stamp.moment())?;
             match chain.run(alloc, tree)? {
                 Fate::Dropped(rule) => Ok(EventFate::Dropped(rule)),
                 Fate::Ship(tree) => Ok(payload_fate(payload(alloc, &tree)?)),

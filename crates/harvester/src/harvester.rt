@@ -25,7 +25,7 @@ pub struct Harvester<T> {
     pub(crate) tail: T,
     pub(crate) reader: Reader,
     pub(crate) rules: FateRules,
-    // The last turn found the file's end, and nothing was heard of the file since.
+    /// The last turn found the file's end, and nothing was heard of the file since.
     pub(crate) rests: bool,
 }
 

@@ -27,14 +27,14 @@ pub(crate) struct Reader {
     pub(crate) begin: Begin,
     pub(crate) input: Text,
     pub(crate) identity: IdentityRule,
-    // The path that was given last, where it is not that of the opening.
+    /// The path that was given last, where it is not that of the opening.
     pub(crate) renamed: Option<Text>,
     pub(crate) epoch: Epoch,
     pub(crate) told_to: u64,
     pub(crate) events: Events,
     pub(crate) position: u64,
     buffer: Buffer,
-    // How many bytes of the buffer were read and not fed yet.
+    /// How many bytes of the buffer were read and not fed yet.
     filled: usize,
     read_at: Moment,
     pub(crate) stage: Stage,
@@ -127,6 +127,7 @@ impl Reader {
         ensures fed { OnOk result (self.new.filled ≡ 0) }
         ensures others { self.new ≡ (record self.old {
           events = self.new.events;
+          buffer = self.new.buffer;
           filled =
               self.new.filled;
         }) }
@@ -135,7 +136,7 @@ impl Reader {
         self.find(alloc)
     }
 
-    /// Feeds what was read.
+    /// Feeds what was read, and gives its room back.
     fn feed(&mut self) -> Result<(), NoMemory>
         requires reads { self.old.stage ≡ Stage.Reading }
         ensures stands { (history : History) → StandsFor history self.old →
@@ -143,6 +144,7 @@ impl Reader {
         ensures fed { OnOk result (self.new.filled ≡ 0) }
         ensures others { self.new ≡ (record self.old {
           events = self.new.events;
+          buffer = self.new.buffer;
           filled =
               self.new.filled;
         }) }
@@ -152,6 +154,7 @@ impl Reader {
         }
         self.events.feed(self.buffer.front(self.filled))?;
         self.filled = 0;
+        self.shrink();
         Ok(())
     }
 

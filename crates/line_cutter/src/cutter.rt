@@ -111,7 +111,7 @@ impl Cutter {
         }
     }
 
-    // The place among the unread bytes at which the present line's terminator ends.
+    /// The place among the unread bytes at which the present line's terminator ends.
     fn unread_end(&self) -> Option<usize>
         ensures { IsFirst (λ place. is_end self.now.rule.terminator self.now.after_return self.now.unread place ≡ true)
             0 (length self.now.unread) result }
@@ -123,7 +123,7 @@ impl Cutter {
         )
     }
 
-    // The line whose terminator ends at this place of the unread bytes.
+    /// The line whose terminator ends at this place of the unread bytes.
     fn take_line(&mut self, at: usize) -> Result<Line, NoMemory>
         requires { at < length self.old.unread }
         ensures line { IfOk result (λ line. line ≡ line_to self.old at) }
@@ -160,7 +160,7 @@ impl Cutter {
         })
     }
 
-    // Passes all unread bytes; no terminator ends in them.
+    /// Passes all unread bytes; no terminator ends in them.
     fn pass_all(&mut self) -> Result<(), NoMemory>
         ensures behind { OnOk result (self.new ≡ behind_all self.old) }
         ensures unchanged_on_refusal { OnErr result (self.new ≡ self.old) }
@@ -169,13 +169,13 @@ impl Cutter {
         extend_head(&mut self.head, self.rule.message_max_bytes as usize, unread)?;
         self.after_return = return_before(unread, unread.len(), self.after_return);
         self.passed += unread.len() as u64;
-        self.fed.clear();
+        self.fed = Vec::new(self.alloc);
         self.read = 0;
         Ok(())
     }
 }
 
-// Puts so many of the bytes behind the head that it has at most `most`.
+/// Puts so many of the bytes behind the head that it has at most `most`.
 fn extend_head(head: &mut Vec<u8>, most: usize, bytes: &[u8]) -> Result<(), NoMemory>
     requires { length head.old.items ≤ most }
     ensures longer { OnOk result (head.new.items ≡ head.old.items ++ take (most - length head.old.items) bytes.now) }

@@ -17,7 +17,7 @@ pub fn line_end(terminator: Terminator, bytes: &[u8], after_return: bool) -> Opt
     }
 }
 
-// The place of the first line feed with a carriage return before it.
+/// The place of the first line feed with a carriage return before it.
 fn pair_end(bytes: &[u8], after_return: bool) -> Option<usize>
     ensures { IsFirst (λ place. is_end Terminator.CarriageReturnLineFeed after_return bytes.now place ≡ true)
         0 (length bytes.now) result }

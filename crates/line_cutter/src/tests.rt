@@ -12,7 +12,7 @@ const MOST_LINES: usize = 8;
 
 const DEFAULT_LIMIT: u64 = 10_485_760;
 
-// Writes each line of all that was fed as its span, its full length and its head.
+/// Writes each line of all that was fed as its span, its full length and its head.
 fn write_lines(alloc: Global, cutter: &mut Cutter, written: &mut Vec<u8>) -> Result<(), NoMemory>
     ensures { fed_to cutter.new ≡ fed_to cutter.old }
 {
@@ -152,7 +152,7 @@ fn every_cut_into_pieces_gives_the_same_lines(rt: HostRuntime) -> Result<(), Fai
     Ok(())
 }
 
-// So many bytes `x`.
+/// So many bytes `x`.
 fn crosses(alloc: Global, count: usize) -> Result<Vec<u8>, NoMemory> {
     Ok(vec![in alloc; b'x'; count]?)
 }

@@ -16,7 +16,7 @@ pub returns-in-Keep-clause-fate : goal.returns-in-Keep-clause-fate
 returns-in-Keep-clause-fate c =
     kept c.args.self.now c.args.path.now c.args.group.now.span.start c.args.group.now.message c.args.now.0 c.kept_fate.result
     (ap (λ (v : Verdict). dropped_by v) (sym c.in-Keep.is) ∙ c.in_ok-rule.ensures.verdict
-    ∙ ap (λ (m : List ℕ). verdict_of c.args.self.now.filter.include c.args.self.now.filter.exclude m) c.bytes.ensures) c.kept_fate.ensures.fate
+    ∙ ap (λ (m : List ℕ). verdict_of c.args.self.now.filter.include c.args.self.now.filter.exclude m) c.bytes.ensures) (rw c.set.ensures at c.kept_fate.ensures.fate)
 
 pub returns-in-Keep-clause-same : goal.returns-in-Keep-clause-same
 returns-in-Keep-clause-same c = λ rules decides. record {

@@ -19,7 +19,8 @@ invariant_of-self-2 c =
 
 pub returns-clause-stands : goal.returns-clause-stands
 returns-clause-stands c = λ h stands.
-    feeds_on h _ (subst (λ (held : Held). StandsFor h held) (sym c.self.view_is) stands)
+    c.shrink.ensures.stands h
+    (feeds_on h _ (subst (λ (held : Held). StandsFor h held) (sym c.self.view_is) stands)
     (ap (λ (held : Held). held.stage) c.self.view_is ∙ c.requires.reads) c.feed.new.self
     (λ rules start fed licences of is. subst (λ (piece : List ℕ). IsGathered rules start (fed ++ piece) licences of c.feed.new.self) c.front.ensures
-    (c.in_ok-feed.ensures.fed rules start fed licences of is)) c.feed.ensures.last_line
+    (c.in_ok-feed.ensures.fed rules start fed licences of is)) c.feed.ensures.last_line)
