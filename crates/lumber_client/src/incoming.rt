@@ -8,7 +8,7 @@ use std::marker::Model;
 /// How many bytes of an acknowledgement are kept until its last one comes.
 const KEPT: usize = 5;
 
-// What one more byte makes of the frame.
+/// What one more byte makes of the frame.
 #[derive(Clone, Copy)]
 pub(crate) enum Taken {
     /// The front of an acknowledgement.
@@ -19,12 +19,12 @@ pub(crate) enum Taken {
     Fault,
 }
 
-// The bytes of the peer's present frame.
+/// The bytes of the peer's present frame.
 #[derive(Drop)]
 pub(crate) struct Incoming {
     frame: [u8; KEPT],
     filled: usize,
-    // Whether the frame asks of the oldest window in flight, and not of the last one before it.
+    /// Whether the frame asks of the oldest window in flight, and not of the last one before it.
     asks_oldest: bool,
     given: u64,
     failed: bool,
@@ -59,7 +59,7 @@ impl Incoming {
         }
     }
 
-    // Takes one more byte. `oldest` says whether a window is in flight.
+    /// Takes one more byte. `oldest` says whether a window is in flight.
     pub(crate) fn take(&mut self, byte: u8, oldest: bool) -> Taken
         requires { self.old.failed ≡ false }
         ensures taken { IsTakenAs (self.old.frame ++ byte ∷ []) result }
@@ -87,7 +87,7 @@ impl Incoming {
         self.asks_oldest
     }
 
-    // How many bytes were given.
+    /// How many bytes were given.
     pub(crate) fn given(&self) -> u64
         ensures { result ≡ self.now.given }
     {
@@ -107,14 +107,14 @@ impl Incoming {
     }
 }
 
-// Which window a frame asks of is settled as its first byte comes.
+/// Which window a frame asks of is settled as its first byte comes.
 fn asked(filled: usize, kept: bool, now: bool) -> bool
     ensures { result ≡ (if filled == 0 then now else kept) }
 {
     if filled == 0 { now } else { kept }
 }
 
-// Whether the byte may stand behind so many bytes of an acknowledgement.
+/// Whether the byte may stand behind so many bytes of an acknowledgement.
 fn may_stand(filled: usize, byte: u8) -> bool
     ensures { IsTrue result ↔ ((filled ≡ 0 → byte ≡ 0x32) × (filled ≡ 1 → byte ≡ 0x41)) }
 {

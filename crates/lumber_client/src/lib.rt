@@ -14,7 +14,7 @@
 //! nothing of it.
 //!
 //! All memory is taken by `Window::new`: room for the parcels of the windows in flight and of one
-//! more, and a buffer of 64 KiB in which small frames are laid one behind the other, so that one
+//! more, and a buffer of 128 KiB in which small frames are laid one behind the other, so that one
 //! sending carries many. No payload is copied but into that buffer. Nothing here sends or receives,
 //! waits or reconnects.
 #![tactic(auto)]

@@ -12,7 +12,7 @@ use std::marker::Model;
 use wire_base::{NoMemory, Parcel};
 
 /// How many bytes of frames are laid one behind the other, so that one sending carries many.
-const LAID_BYTES: usize = 65_536;
+const LAID_BYTES: usize = 131_072;
 
 /// How many bytes stand in front of a payload.
 const JSON_HEAD_BYTES: usize = 10;
@@ -20,20 +20,20 @@ const JSON_HEAD_BYTES: usize = 10;
 /// How many bytes a window's frame has.
 const WINDOW_HEAD_BYTES: usize = 6;
 
-// What goes out next. The parcels are the window's: those in front, `begun` of them, were begun.
+/// What goes out next. The parcels are the window's: those in front, `begun` of them, were begun.
 #[derive(Drop)]
 pub(crate) struct Outgoing {
-    // Frames, of which `start` bytes went out.
+    /// Frames, of which `start` bytes went out.
     buffer: Vec<u8>,
     start: usize,
-    // How many bytes went out of the payload that follows them as it is.
+    /// How many bytes went out of the payload that follows them as it is.
     lent: Option<usize>,
-    // Of the window that is laid, how many frames are, and how many are left.
+    /// Of the window that is laid, how many frames are, and how many are left.
     laid: u32,
     left: u32,
-    // The counts of the windows behind it.
+    /// The counts of the windows behind it.
     unlaid: VecDeque<u32>,
-    // How many frames are left in all of them.
+    /// How many frames are left in all of them.
     to_lay: usize,
 }
 
@@ -74,7 +74,7 @@ impl Outgoing {
         })
     }
 
-    // Forgets all that was to go out.
+    /// Forgets all that was to go out.
     pub(crate) fn clear(&mut self)
         ensures { self.new ≡ nothing_laid self.old.depth }
     {
@@ -87,7 +87,7 @@ impl Outgoing {
         self.to_lay = 0;
     }
 
-    // The next piece.
+    /// The next piece.
     pub(crate) fn piece<'a>(&'a self, parcels: &'a VecDeque<Parcel>, begun: usize) -> &'a [u8]
         requires begun { begun ≤ deque_len parcels.now }
         requires lent { Lends self.now (payloads_of parcels.now.items) begun begun }
@@ -102,7 +102,7 @@ impl Outgoing {
         }
     }
 
-    // So many bytes of the next piece went out.
+    /// So many bytes of the next piece went out.
     pub(crate) fn pass(&mut self, n: usize, parcels: &VecDeque<Parcel>, begun: usize)
         requires begun { begun ≤ deque_len parcels.now }
         requires range { All IsParcel parcels.now.items }
@@ -121,7 +121,7 @@ impl Outgoing {
         self.lent = (sent < size).then_some(sent);
     }
 
-    // Puts a window of so many parcels behind what is to go out.
+    /// Puts a window of so many parcels behind what is to go out.
     pub(crate) fn add(&mut self, count: u32)
         requires room { length self.old.unlaid < self.old.depth }
         requires few { self.old.to_lay + count < 2 ^ 64 }
@@ -131,7 +131,7 @@ impl Outgoing {
         self.to_lay += count as usize;
     }
 
-    // Lays frames where nothing is left of those that were laid.
+    /// Lays frames where nothing is left of those that were laid.
     pub(crate) fn refill(&mut self, parcels: &VecDeque<Parcel>, begun: usize)
         requires begun { begun ≤ deque_len parcels.now }
         requires to_lay { self.old.to_lay ≤ begun }
@@ -145,7 +145,7 @@ impl Outgoing {
         }
     }
 
-    // Lays frames until one does not fit.
+    /// Lays frames until one does not fit.
     fn lay(&mut self, parcels: &VecDeque<Parcel>, begun: usize)
         requires begun { begun ≤ deque_len parcels.now }
         requires to_lay { self.old.to_lay ≤ begun }
@@ -159,7 +159,7 @@ impl Outgoing {
         while self.lay_next(parcels, begun) {}
     }
 
-    // The buffer is free again.
+    /// The buffer is free again.
     fn empty(&mut self)
         ensures { self.new ≡ record self.old { buffer = []; start = 0 } }
     {
@@ -167,8 +167,8 @@ impl Outgoing {
         self.start = 0;
     }
 
-    // Lays one more frame. False where none is left, where it has no room, and behind a payload
-    // that is lent.
+    /// Lays one more frame. False where none is left, where it has no room, and behind a payload
+    /// that is lent.
     fn lay_next(&mut self, parcels: &VecDeque<Parcel>, begun: usize) -> bool
         requires begun { begun ≤ deque_len parcels.now }
         requires to_lay { self.old.to_lay ≤ begun }
@@ -188,7 +188,7 @@ impl Outgoing {
         self.lay_frame(payload.bytes())
     }
 
-    // Lays the frame of the next window.
+    /// Lays the frame of the next window.
     fn lay_head(&mut self) -> bool
         requires left { self.old.left ≡ 0 }
         requires counted { IsCounted self.old }
@@ -209,8 +209,8 @@ impl Outgoing {
         }
     }
 
-    // Lays the next frame of the window, or its head alone where the payload is larger than the
-    // buffer.
+    /// Lays the next frame of the window, or its head alone where the payload is larger than the
+    /// buffer.
     fn lay_frame(&mut self, payload: &[u8]) -> bool
         requires left { 0 < self.old.left }
         requires counted { IsCounted self.old }
@@ -240,7 +240,7 @@ impl Outgoing {
     }
 }
 
-// There is room for the bytes.
+/// There is room for the bytes.
 fn append(buffer: &mut Vec<u8>, bytes: &[u8])
     requires { vec_len buffer.old + length bytes.now ≤ vec_capacity buffer.old }
     ensures items { buffer.new.items ≡ buffer.old.items ++ bytes.now }

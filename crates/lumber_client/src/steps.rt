@@ -34,7 +34,7 @@ impl Window {
         })
     }
 
-    // How many parcels wait to be begun.
+    /// How many parcels wait to be begun.
     pub(crate) fn waiting(&self) -> usize
         ensures { result ≡ length (waiting_in self.now) }
     {
@@ -79,7 +79,7 @@ impl Window {
         self.outgoing.refill(&self.parcels, begun);
     }
 
-    // How many bytes were given.
+    /// How many bytes were given.
     pub(crate) fn given(&self) -> u64
         ensures { result ≡ self.now.hearing.given }
     {
@@ -96,7 +96,7 @@ impl Window {
         self.incoming.take(byte, oldest)
     }
 
-    // What a whole acknowledgement tells, the last byte of which stands at this place.
+    /// What a whole acknowledgement tells, the last byte of which stands at this place.
     pub(crate) fn answer(&mut self, number: u32, place: u64) -> Heard
         requires { self.old.out ≡ [] }
         ensures { Answers self.old number place result self.new }
@@ -117,14 +117,14 @@ impl Window {
         Heard::Acked { from, to: number }
     }
 
-    // The count of the oldest window in flight.
+    /// The count of the oldest window in flight.
     fn oldest(&self) -> Option<u32>
         ensures { result ≡ oldest_of self.now.flights }
     {
         self.flights.front().copied()
     }
 
-    // The count of the oldest window in flight, where the frame asks of it.
+    /// The count of the oldest window in flight, where the frame asks of it.
     fn asked(&self) -> Option<u32>
         ensures { result ≡ asked_in self.now }
     {
@@ -141,7 +141,7 @@ impl Window {
         self.incoming.fail();
     }
 
-    // The oldest window in flight, of this count, is acknowledged up to this number.
+    /// The oldest window in flight, of this count, is acknowledged up to this number.
     fn acknowledge(&mut self, number: u32, count: u32)
         requires all_is_out { self.old.out ≡ [] }
         requires oldest { oldest_of self.old.flights ≡ Some count }

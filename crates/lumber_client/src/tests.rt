@@ -30,7 +30,7 @@ fn offer(alloc: Global, window: &mut Window, payload: &[u8]) -> Result<(), Fail>
     Ok(())
 }
 
-// Begins the next window and sends its one piece.
+/// Begins the next window and sends its one piece.
 fn send(alloc: Global, window: &mut Window) -> Result<Vec<u8>, Fail> {
     if !window.can_begin() {
         return Err(Fail::new("nothing waits"));
@@ -42,7 +42,7 @@ fn send(alloc: Global, window: &mut Window) -> Result<Vec<u8>, Fail> {
     Ok(bytes)
 }
 
-// Sends a window of parcels whose payloads are these single bytes.
+/// Sends a window of parcels whose payloads are these single bytes.
 fn send_names(alloc: Global, window: &mut Window, names: &[u8]) -> Result<Vec<u8>, Fail> {
     for name in names {
         offer(alloc, window, &[*name])?;
@@ -50,7 +50,7 @@ fn send_names(alloc: Global, window: &mut Window, names: &[u8]) -> Result<Vec<u8
     send(alloc, window)
 }
 
-// Gives the bytes up to the first fault, and says what each but `More` told.
+/// Gives the bytes up to the first fault, and says what each but `More` told.
 fn give(alloc: Global, window: &mut Window, bytes: &[u8]) -> Result<Vec<Heard>, Fail> {
     let mut told = Vec::new(alloc);
     for byte in bytes {
@@ -68,7 +68,7 @@ fn give(alloc: Global, window: &mut Window, bytes: &[u8]) -> Result<Vec<Heard>, 
 /// No test settles more parcels.
 const MOST_SETTLED: usize = 8;
 
-// The payloads of the parcels that are handed out, one behind the other.
+/// The payloads of the parcels that are handed out, one behind the other.
 fn settle(alloc: Global, window: &mut Window) -> Result<Vec<u8>, Fail> {
     let mut payloads = Vec::new(alloc);
     for _i in 0..MOST_SETTLED {
@@ -259,7 +259,7 @@ fn small_frames_go_out_together_and_large_payloads_as_they_are(
     for _i in 0..500 {
         offer(alloc, &mut window, &line)?;
     }
-    let large = vec![in alloc; b'y'; 70_000]?;
+    let large = vec![in alloc; b'y'; 200_000]?;
     offer(alloc, &mut window, &large)?;
     if !window.can_begin() {
         return Err(Fail::new("nothing waits"));
@@ -269,6 +269,6 @@ fn small_frames_go_out_together_and_large_payloads_as_they_are(
     assert_eq!(rt; window.out().len(), 6 + 500 * 130 + 10);
     let laid = window.out().len();
     window.sent(laid);
-    assert_eq!(rt; window.out().len(), 70_000);
+    assert_eq!(rt; window.out().len(), 200_000);
     Ok(())
 }

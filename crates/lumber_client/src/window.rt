@@ -22,15 +22,15 @@ use wire_base::{NoMemory, Parcel};
 pub struct Window {
     pub(crate) most: u32,
     pub(crate) depth: u32,
-    // In the order in which they were offered: those that are acknowledged and not handed out,
-    // those in flight, and those that wait to be begun.
+    /// In the order in which they were offered: those that are acknowledged and not handed out,
+    /// those in flight, and those that wait to be begun.
     pub(crate) parcels: VecDeque<Parcel>,
     pub(crate) acknowledged: usize,
     pub(crate) in_flight: usize,
-    // The counts of the windows in flight, and how many parcels of the oldest are acknowledged.
+    /// The counts of the windows in flight, and how many parcels of the oldest are acknowledged.
     pub(crate) flights: VecDeque<u32>,
     pub(crate) done: u32,
-    // The count of the last window that was acknowledged in full.
+    /// The count of the last window that was acknowledged in full.
     pub(crate) last: u32,
     pub(crate) outgoing: Outgoing,
     pub(crate) incoming: Incoming,
