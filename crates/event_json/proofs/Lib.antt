@@ -4,4 +4,5 @@ mod MomentTexts
 mod PayloadTexts
 mod ReplacedTexts
 mod Sendings
+mod TokenTexts
 mod Worked

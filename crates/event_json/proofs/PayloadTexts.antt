@@ -1,5 +1,5 @@
 -- What `serde_json` writes of a value is its payload, where it is not too long.
-use Rattle.std.proofs.Common.{◌≡◌, ℕ, ℤ, pos, List, [], Some, ap, ◌∙◌}
+use Rattle.std.proofs.Common.{◌≡◌, ℕ, pos, List, [], Some, ap, ◌∙◌}
 use Rattle.serde.specs.Event.{Log}
 use Rattle.serde_json.specs.Events.{SendsValue}
 use Rattle.serde_json.specs.Sent.{IsTextOf}
@@ -25,12 +25,3 @@ pub event_payload_is : (path : List ℕ) (offset : ℕ) (message : List ℕ) (no
 unfolding payload_of_event
 event_payload_is path offset message now text replaced =
     ap (λ t. payload_of_value (event_fields (moment_text now) path (pos offset) t)) replaced
-
--- what is written of an event's parts
-pub event_written : (timestamp path : List ℕ) (signed : ℤ) (message : List ℕ) (offset now : ℕ) (text : List ℕ)
-    → timestamp ≡ moment_text now → signed ≡ pos offset
-    → (log : Log) × SendsValue (data_of (event_fields timestamp path signed message)) (Some []) log × IsTextOf log text
-    → within_bound text ≡ payload_of_value (event_fields (moment_text now) path (pos offset) message)
-event_written timestamp path signed message offset now text printed place sent =
-    payload_written (event_fields timestamp path signed message) text sent
-    ∙ (λ i. payload_of_value (event_fields (printed i) path (place i) message))

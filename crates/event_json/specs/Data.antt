@@ -1,7 +1,11 @@
 -- A value as the JSON data that `serde_json` writes (RFC 8259).
+use Rattle.std.specs.Prelude.{List}
 use Rattle.event_tree.specs.Value.{TreeValue, null, flag, int, str, list, fields, Values, no_values, value, Members, no_members, member}
+use Rattle.json.specs.Token.{Token}
+use Rattle.json.specs.Tree.{json_tokens}
 use Rattle.serde_json.specs.Data as json
 use Rattle.serde_json.specs.Data.{Data, Items}
+use Rattle.serde_json.specs.Written.{outline}
 
 abbrev mutual
   pub data_of : TreeValue → Data
@@ -19,3 +23,7 @@ abbrev mutual
   pub members_of : Members → json.Members
   members_of no_members = json.no_members
   members_of (member k v ms) = json.member k (data_of v) (members_of ms)
+
+-- the tokens of its text, as `json` writes them
+abbrev pub tokens_of : TreeValue → List Token
+tokens_of v = json_tokens (outline (data_of v))

@@ -2,19 +2,19 @@
 //!
 //! The envelope of an event and the text of a value are definitions of `specs/`, and so are the text
 //! of a moment, by the rules of the calendar alone, and the replacement of bytes that are no UTF-8.
-//! Each call is told equal to its definition. The text is written by `serde_json`, which is told
-//! what a tree sends to it, and a moment's by `jiff`.
+//! Each call is told equal to its definition. The text of a tree is written by `serde_json`, which is
+//! told what a tree sends to it, that of an event by the writer of `json`, and a moment's by `jiff`.
 #![tactic(auto)]
 
 mod event;
-mod json_event;
 mod json_text;
 mod json_tree;
 mod moment;
 mod replaced_text;
 
 pub use event::envelope;
-pub use json_text::{event_payload, payload};
+pub use json_text::{event_payload, event_payload_at, payload};
+pub use moment::Stamp;
 
 #[cfg(test)]
 mod tests;

@@ -8,7 +8,7 @@ fn text(alloc: Global, chars: &str) -> Result<Text, Fail> {
     Ok(Text::from_bytes(alloc, chars.as_bytes())?)
 }
 
-// The bytes of a text in the tree, or none.
+/// The bytes of a text in the tree, or none.
 fn bytes_at<'a>(alloc: Global, tree: &'a Tree, path: &str) -> Result<&'a [u8], Fail> {
     match tree.get(&FieldPath::read(alloc, &text(alloc, path)?)?) {
         Some(Tree::Str(text)) => Ok(text.bytes()),
