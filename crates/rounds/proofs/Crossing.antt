@@ -29,6 +29,7 @@ use Rattle.conditions.specs.contracts.compiled.Compiled.TheInside as compiled
 use Rattle.conditions.specs.contracts.compiled.Patterns as Patterns
 use Rattle.conditions.specs.contracts.condition.Condition as Condition
 use Rattle.conditions.specs.contracts.node.Node as Node
+use Rattle.event_json.proofs.moment.Stamp.TheSendSync as stamp
 use Rattle.event_tree.proofs.fields.Fields.TheLaws.TheKnot as fields_knot
 use Rattle.event_tree.specs.contracts.fields.Fields as Fields
 use Rattle.event_tree.proofs.input_rule.IdentityRule.TheSendSync as identity_rule
@@ -158,7 +159,7 @@ pub reader_send : IsSend Reader.the_row
 reader_send = view_send reader.the_row _ _ _ _ (declared_send reader.the_type (begin.the_send, (text.the_send, (identity_rule.the_send, (search (sendable, crosses, text.the_send) depth 20, (epoch.the_send, (search sendable depth 20, (events_send, (search sendable depth 20, (buffer.the_send, (search sendable depth 20, (moment.the_send, (stage.the_send, (search sendable depth 20, (search sendable depth 20, tt)))))))))))))))
 
 pub fate_rules_send : IsSend FateRules.the_row
-fate_rules_send = declared_send FateRules.the_type (filter_send, (search (sendable, crosses, chain_send) depth 20, tt))
+fate_rules_send = declared_send FateRules.the_type (filter_send, (search (sendable, crosses, chain_send) depth 20, (stamp.the_send, tt)))
 
 pub harvester_send : (T : RattleType) → IsSend T → IsSend (Harvester.the_row T)
 harvester_send T s = declared_send (Harvester.the_type T) (search sendable depth 20, (reader_send, (fate_rules_send, (search sendable depth 20, tt))))

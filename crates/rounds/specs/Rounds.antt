@@ -1,4 +1,5 @@
--- One round (this project's profile): lanes, workers and the keeper have their turns, all at once; then all passes meet.
+-- One round (this project's profile): lanes, workers and the keeper have their turns, at once or in any order; then all
+-- passes meet.
 use Rattle.std.specs.Prelude.{◌≡◌, ◌≢◌, ◌⊎◌, ◌+◌, ◌-◌, ◌^◌, ◌++◌, ℕ, min, All, Bool, true, false, []}
 use Rattle.atomic_table.specs.Seated.{TableId}
 use Rattle.mem_queue.specs.BoundedQueue.{BoundedQueue}

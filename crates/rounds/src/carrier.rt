@@ -71,7 +71,7 @@ impl<L: Link, W: Wire<Link = L>> Carrier<W, L> {
         }
     }
 
-    // One turn; whether it worked.
+    /// One turn; whether it worked.
     fn turn<R: Wait>(&mut self, rt: &R, outlets: Outlets<'_>, now: Moment) -> bool
         requires of_this_queue { TakesOf outlets.queue.now.id self.old.worker.take }
         requires of_this_box { PostsOf outlets.desk.now.id self.old.worker.post }
@@ -86,7 +86,7 @@ impl<L: Link, W: Wire<Link = L>> Carrier<W, L> {
         self.count(&turn)
     }
 
-    // Counts a turn; whether it worked.
+    /// Counts a turn; whether it worked.
     fn count(&mut self, turn: &WorkerTurn) -> bool
         ensures { Counts turn.now result self.old self.new }
     {

@@ -12,12 +12,12 @@ pub const MAX_ROUNDS_WITHOUT: u32 = 32;
 /// What is known of the box as a round ended, and what decides when the keeper has turns.
 #[derive(Clone, Copy, Debug, PartialEq, Eq)]
 pub struct Pace {
-    // How many notes the box can hold, and how many it held as the last round ended.
+    /// How many notes the box can hold, and how many it held as the last round ended.
     pub(crate) room: u32,
     pub(crate) boxed: u64,
-    // How many notes had been posted in all as the last round ended. The count stands still at 2^64 - 1.
+    /// How many notes had been posted in all as the last round ended. The count stands still at 2^64 - 1.
     pub(crate) posted: u64,
-    // For how many rounds the keeper has gone without turns.
+    /// For how many rounds the keeper has gone without turns.
     pub(crate) without: u32,
 }
 
@@ -62,8 +62,8 @@ impl<T: Tail, L: Link, W: Wire<Link = L>> Crew<T, W, L> {
         (lanes, carriers)
     }
 
-    // Whether the keeper has turns beside the others: where half of the box's room is taken, and where it has gone without for
-    // 32 rounds. A commit is two syncs, so a busy round does not wait for the disk.
+    /// Whether the keeper has turns beside the others: where half of the box's room is taken, and where it has gone without for
+    /// 32 rounds. A commit is two syncs, so a busy round does not wait for the disk.
     pub(crate) fn is_due(&self) -> bool
         ensures due { OnTrue result (IsDue self.now.pace) }
         ensures early { OnFalse result (¬ (IsDue self.now.pace)) }

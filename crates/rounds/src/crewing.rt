@@ -51,7 +51,7 @@ pub fn lanes_of<T: Tail>(
     Ok(lanes)
 }
 
-// One more lane behind the others, with these passes.
+/// One more lane behind the others, with these passes.
 fn add_lane<T: Tail>(alloc: Global, put: PutPass, post: PostPass, lanes: &mut Vec<Lane<T>>)
     requires room { vec_len lanes.old < vec_capacity lanes.old }
     ensures adds { AddsLane put post (lanings lanes.old.items) (lanings lanes.new.items) }
@@ -61,7 +61,7 @@ fn add_lane<T: Tail>(alloc: Global, put: PutPass, post: PostPass, lanes: &mut Ve
     lanes.push_reserved(Lane::new(alloc, put, post));
 }
 
-// One more lane behind the others, with a part of each of these passes.
+/// One more lane behind the others, with a part of each of these passes.
 fn part_lane<T: Tail>(
     alloc: Global,
     outlets: Outlets<'_>,
@@ -132,14 +132,14 @@ pub fn carriers_of<L: Link, W: Wire<Link = L>>(
     Err(NoMemory)
 }
 
-// What workers have together.
+/// What workers have together.
 #[derive(Drop)]
 struct WorkerPasses {
     take: TakePass,
     post: PostPass,
 }
 
-// A worker for each of the first wires; whether there was memory for all. The last one has what is left of the passes.
+/// A worker for each of the first wires; whether there was memory for all. The last one has what is left of the passes.
 fn fill<L: Link, W: Wire<Link = L>>(
     alloc: Global,
     outlets: Outlets<'_>,
@@ -182,7 +182,7 @@ fn fill<L: Link, W: Wire<Link = L>>(
     add_carrier(alloc, made - 1, last, rule, wires, carriers)
 }
 
-// One more worker behind the others, with the first of these wires; whether there was memory for it.
+/// One more worker behind the others, with the first of these wires; whether there was memory for it.
 fn add_carrier<L: Link, W: Wire<Link = L>>(
     alloc: Global,
     number: u32,
@@ -216,7 +216,7 @@ fn add_carrier<L: Link, W: Wire<Link = L>>(
     }
 }
 
-// Lets workers go that have no link, and puts their wires before the others.
+/// Lets workers go that have no link, and puts their wires before the others.
 fn give_back<L: Link, W: Wire<Link = L>>(
     rule: &OutputRule,
     mut carriers: Vec<Carrier<W, L>>,

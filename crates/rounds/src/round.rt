@@ -21,7 +21,8 @@ use std::thread::Threads;
 
 impl<T: Tail + Send, L: Link + Send, W: Wire<Link = L> + Send> Crew<T, W, L> {
     /// One round. Lanes, workers and the keeper have their turns at once, each lane and each worker in a thread of its own where
-    /// one can be made. Then all passes of the queue and the box meet, and are parted again.
+    /// one can be made; but one worker alone has its turns behind the lanes, and the keeper beside it before them. Then all passes
+    /// of the queue and the box meet, and are parted again.
     pub fn round<D: Disk + Send, R: Threads + Wait + Sync>(
         &mut self,
         rt: &R,
@@ -101,7 +102,7 @@ impl<T: Tail + Send, L: Link + Send, W: Wire<Link = L> + Send> Crew<T, W, L> {
         }
     }
 
-    // All at once.
+    /// The turns of lanes, workers and the keeper.
     fn run_all<D: Disk + Send, R: Threads + Wait + Sync>(
         &mut self,
         rt: &R,
@@ -130,7 +131,7 @@ impl<T: Tail + Send, L: Link + Send, W: Wire<Link = L> + Send> Crew<T, W, L> {
         );
     }
 
-    // Lanes and workers at once.
+    /// The turns of lanes and workers.
     fn run_both<R: Threads + Wait + Sync>(&mut self, rt: &R, shift: Shift<'_>)
         requires lanes_ready { All (IsLaneReady (tail_words T.numbers T.told T.faults)
             shift.outlets.queue.now.id shift.outlets.desk.now.id) (lanings self.old.lanes.items) }
@@ -152,7 +153,7 @@ impl<T: Tail + Send, L: Link + Send, W: Wire<Link = L> + Send> Crew<T, W, L> {
         );
     }
 
-    // The keeper's turns, where nothing else moved.
+    /// The keeper's turns, where nothing else moved.
     fn store_where_still<D: Disk, R: Wait>(
         &mut self,
         rt: &R,
@@ -173,7 +174,7 @@ impl<T: Tail + Send, L: Link + Send, W: Wire<Link = L> + Send> Crew<T, W, L> {
         }
     }
 
-    // All passes meet, and are parted again.
+    /// All passes meet, and are parted again.
     pub(crate) fn meet<D: Disk>(&mut self, outlets: Outlets<'_>, storing: &mut Storing<'_, D>)
         requires have { CanMeet outlets.queue.now.id outlets.desk.now.id
             (crewing self.old storing.old) }

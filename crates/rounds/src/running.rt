@@ -44,7 +44,7 @@ pub(crate) fn run_lanes<T: Tail + Send, R: Threads + Wait + Sync>(
     thread::for_each_mut(rt, lanes, threads, &|_, lane| run_lane(rt, shift, lane));
 }
 
-// How many lanes have a harvester, or hold something.
+/// How many lanes have a harvester, or hold something.
 fn busy_lanes<T: Tail>(lanes: &[Lane<T>]) -> usize {
     match lanes.split_first() {
         Some((lane, lanes)) => busy_lanes(lanes).saturating_add(usize::from(!lane.is_at_rest())),
@@ -109,7 +109,7 @@ fn run_storing<D: Disk, R: Wait>(rt: &R, shift: Shift<'_>, storing: &mut Storing
     storing.run(rt, shift.alloc, shift.outlets.desk);
 }
 
-/// Runs lanes and workers at once.
+/// Runs lanes and workers: two workers or more beside the lanes, at once, and one alone behind them.
 pub(crate) fn run_both<
     T: Tail + Send,
     L: Link + Send,
@@ -128,6 +128,12 @@ pub(crate) fn run_both<
         (wire_words W.outcomes W.open_links W.faults W.idles)
         shift.entry.outlets.desk.now.capacity shift.entry.when.now) carriers.old carriers.new }
 {
+    // One worker alone finds here all that the lanes gave; a thread for it costs more than it gives.
+    if carriers.len() == 1 {
+        run_lanes(rt, shift, lanes);
+        run_carriers(rt, shift, carriers);
+        return;
+    }
     // Each thread reads a shift of its own.
     let other = shift;
     let mut carrying = ||
@@ -143,7 +149,7 @@ pub(crate) fn run_both<
     thread::join_mut(rt, &mut carrying, &mut turning);
 }
 
-/// Runs lanes, workers and the keeper at once.
+/// Runs lanes, workers and the keeper: the keeper beside two workers or more, at once, and before one alone.
 pub(crate) fn run_all<
     T: Tail + Send,
     L: Link + Send,
@@ -173,6 +179,12 @@ pub(crate) fn run_all<
         (disk_words D.contents D.images D.moment D.images_since D.faults)
         storing.old storing.new }
 {
+    // Beside one worker alone the keeper stores first what is in the box, and no thread is begun for it.
+    if carriers.len() == 1 {
+        run_storing(rt, shift, storing);
+        run_both(rt, shift, lanes, carriers);
+        return;
+    }
     // Each thread reads a shift of its own.
     let other = shift;
     let mut keeping = ||

@@ -72,7 +72,7 @@ impl<T: Tail + Send, L: Link + Send, W: Wire<Link = L> + Send> Crew<T, W, L> {
         Round::of(storing.stored)
     }
 
-    // Posts what lanes and workers still hold of notes.
+    /// Posts what lanes and workers still hold of notes.
     fn hand_on<R: Wait>(&mut self, rt: &R, outlets: Outlets<'_>)
         requires lanes { AllByRecursion (CanHandOn outlets.desk.now.id)
             (lanings self.old.lanes.items) }

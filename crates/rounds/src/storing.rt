@@ -69,7 +69,7 @@ impl<D: Disk> Storing<'_, D> {
         self.stored = Stored::begun();
     }
 
-    // One turn; whether it kept something.
+    /// One turn; whether it kept something.
     fn turn<R: Wait>(&mut self, rt: &R, alloc: Global, desk: &SettleBox) -> bool
         requires of_this_box { self.old.keeper.now.pass.desk ≡ desk.now.id }
         requires open { self.old.keeper.now.store.closed ≡ false }
@@ -80,7 +80,7 @@ impl<D: Disk> Storing<'_, D> {
         self.count(turn)
     }
 
-    // Counts a turn; whether it kept something.
+    /// Counts a turn; whether it kept something.
     fn count(&mut self, turn: KeeperTurn) -> bool
         ensures { Counts turn result self.old self.new }
     {
