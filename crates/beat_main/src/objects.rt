@@ -72,7 +72,7 @@ fn wires_of<R: Net<Stream = TcpStream> + Clock>(
     Ok(wires)
 }
 
-// The words behind the program's name; none where one of them is not UTF-8, which no command takes.
+/// The words behind the program's name; none where one of them is not UTF-8, which no command takes.
 fn words_of(rt: &(impl Env + AllocGlobal), alloc: Global) -> Result<Vec<Text>, NoMemory> {
     let mut words = Vec::new(alloc);
     match env::args(rt) {

@@ -3,6 +3,7 @@
 mod faults;
 mod many_files;
 mod refusals;
+mod restarts;
 mod rows;
 mod wanted;
 mod world;

@@ -1,7 +1,7 @@
 -- A run that ended before it opened a file is accounted for by what its scan listed, or by nothing; one that opened files by its account.
-use Rattle.std.proofs.Common.{◌≡◌, ◌≢◌, ◌⊎◌, inl, inr, ℕ, ◌<◌, true, false, List, [], ◌∷◌, ◌++◌, length, map, All, Option, Some, None, IfSome, IsSome, refl, sym, ap, subst, ◌∙◌, arith}
+use Rattle.std.proofs.Common.{◌≡◌, ◌≢◌, ◌⊎◌, inl, inr, ℕ, true, false, List, [], ◌∷◌, ◌++◌, length, map, All, Option, Some, None, IfSome, IsSome, Result, Ok, Err, IfErr, refl, sym, ap, subst, ◌∙◌}
 use Rattle.std.specs.List.{AllByRecursion}
-use Rattle.batch_worker.specs.Seen.{Seen, seen}
+use Rattle.batch_worker.specs.Seen.{Seen}
 use Rattle.beat_config.specs.InRange.{AreInRange}
 use Rattle.event_tree.specs.declared.input_rule.IdentityRule.TheVariants.{Path}
 use Rattle.event_tree.specs.declared.input_rule.InputRule.{InputRule}
@@ -13,29 +13,32 @@ use Rattle.prospect.specs.ListedFiles.{ScansFiles}
 use Rattle.prospect.specs.Members.{globs_of}
 use Rattle.prospect.specs.Unfinished.{ListsSome}
 use Rattle.prospect.specs.declared.listed.Listed.{Listed}
-use Rattle.registry_log.specs.Starting.{Holds, IsBlank}
-use Rattle.registry_store.specs.Settled.{AreAtRest}
+use Rattle.registry_store.specs.Choice.{GivesRows}
+use Rattle.registry_store.specs.Settled.{AreAtRest, AreSettled}
+use Rattle.registry_store.specs.Standing.{Standing, chosen_by}
 use Rattle.report.specs.declared.status.Status.{Status}
 use Rattle.report.specs.declared.status.Status.TheVariants.{Done, Stopped, Usage, Settings, RegistryBad, DiskFault, FolderFault, Unreachable, OutFault, SourceFault, TooMany, NoNative, NoMemory, Unbuilt}
 use Rattle.prospect.specs.Scan.{event_of}
 use Rattle.rounds.specs.Making.{all_seen}
 use Rattle.rounds.specs.Words.{DiskWords, WireWords}
 use Rattle.run_steps.specs.AccountedFor.{AccountedFor, Objects, RunObjects}
-use Rattle.run_steps.specs.Areas.{HaveHeldFronts}
+use Rattle.run_steps.specs.Areas.{GiveTheRows, HaveHeldFronts}
 use Rattle.run_steps.specs.Began.{Began}
 use Rattle.run_steps.specs.Met.{IsMetOf}
-use Rattle.run_steps.specs.Registry.{IsWritten}
 use Rattle.run_steps.specs.RunOf.{FolderTold}
 use Rattle.run_steps.specs.Scanned.{HasScanned}
 use Rattle.wire_base.specs.declared.limits.Full.TheVariants.{Epochs, Files, Slots}
+use Rattle.wire_base.specs.declared.row.Row.{Row}
 use Rattle.run_steps.specs.declared.met.Met.{Met}
 use Rattle.run_steps.specs.declared.met.Met.TheVariants as met
 use Rattle.run_steps.proofs.Giving.{first_given}
-use Rattle.run_steps.proofs.RunEarly.{early_is_accounted_for, ended_some, listed_all, still_is_accounted_for}
+use Rattle.run_steps.proofs.RunEarly.{early_is_accounted_for, listed_all, still_is_accounted_for}
+use Rattle.run_steps.proofs.HeldRows.{some_of}
+use Rattle.run_steps.proofs.Members.{some_is}
 use Rattle.run_steps.proofs.RunRows.{OneChoice}
-use Rattle.beat_run.specs.Accounted.{IsAccounted, IsAccountedByNamed, IsMetFor}
+use Rattle.beat_run.specs.Accounted.{IsAccounted, IsAccountedByNamed, IsMetFor, IsOpenedFrom, TellRows}
 use Rattle.beat_run.specs.Ended.{StandsForMet}
-use Rattle.beat_run.specs.Ends.{IsPrintingEnd, IsRunEnd, ShowsScanEnd}
+use Rattle.beat_run.specs.Ends.{IsPrintingEnd, IsRunEnd, IsStartEnd, ShowsScanEnd}
 use Rattle.beat_run.proofs.Causes.{named_so}
 
 -- ---- what was met, by the status
@@ -107,12 +110,39 @@ some_listed inputs told after FolderFault shows = shows
 some_listed inputs told after (Unreachable worker failures) shows = absurd shows
 some_listed inputs told after OutFault shows = absurd shows
 some_listed inputs told after SourceFault shows = absurd shows
-some_listed inputs told after (TooMany Files path) shows = listed_all (globs_of inputs) told shows.listings after shows.listed_is
-some_listed inputs told after (TooMany Epochs path) shows = absurd shows
+some_listed inputs told after (TooMany Files path) (inl shows) = listed_all (globs_of inputs) told shows.listings after shows.listed_is
+some_listed inputs told after (TooMany Files path) (inr shows) = listed_all (globs_of inputs) told shows.scans.listings after shows.scans.listed_is
+some_listed inputs told after (TooMany Epochs path) shows = listed_all (globs_of inputs) told shows.scans.listings after shows.scans.listed_is
 some_listed inputs told after (TooMany Slots path) shows = absurd shows
 some_listed inputs told after (NoNative path) shows = absurd shows
 some_listed inputs told after NoMemory shows = shows
 some_listed inputs told after (Unbuilt what) shows = absurd shows
+
+-- files that were listed, and could not all be started
+start_shows_one : (inputs : List InputRule) (told : FolderHistory) (after : Option FolderHistory) (listed : List Listed) (status : Status) → ScansFiles inputs told listed after → IsStartEnd listed status →
+    ShowsScanEnd inputs told after status
+start_shows_one inputs told after listed Done scans ends = absurd ends
+start_shows_one inputs told after listed Stopped scans ends = absurd ends
+start_shows_one inputs told after listed Usage scans ends = absurd ends
+start_shows_one inputs told after listed (Settings fault) scans ends = absurd ends
+start_shows_one inputs told after listed (RegistryBad area at) scans ends = absurd ends
+start_shows_one inputs told after listed DiskFault scans ends = absurd ends
+start_shows_one inputs told after listed FolderFault scans ends = absurd ends
+start_shows_one inputs told after listed (Unreachable worker failures) scans ends = absurd ends
+start_shows_one inputs told after listed OutFault scans ends = absurd ends
+start_shows_one inputs told after listed SourceFault scans ends = absurd ends
+start_shows_one inputs told after listed (TooMany Files path) scans ends = inr (record { listed = listed; scans = scans; among = ends })
+start_shows_one inputs told after listed (TooMany Epochs path) scans ends = record { listed = listed; scans = scans; among = ends }
+start_shows_one inputs told after listed (TooMany Slots path) scans ends = absurd ends
+start_shows_one inputs told after listed (NoNative path) scans ends = absurd ends
+start_shows_one inputs told after listed NoMemory scans ends = listed_all (globs_of inputs) told scans.listings after scans.listed_is
+start_shows_one inputs told after listed (Unbuilt what) scans ends = absurd ends
+
+pub start_shows : {A : Type 0} (inputs : List InputRule) (before after : Option FolderHistory) (listed : List Listed) (result : Result A Status) → IfSome before (λ told. ScansFiles inputs told listed after) →
+    IfErr result (IsStartEnd listed) → IfErr result (λ status. IfSome before (λ told. ShowsScanEnd inputs told after status))
+start_shows inputs before after listed (Ok scanned) scans ends = tt
+start_shows inputs None after listed (Err status) scans ends = tt
+start_shows inputs (Some told) after listed (Err status) scans ends = start_shows_one inputs told after listed status scans ends
 
 pub each_some : {A : Type 0} (o : Option A) (P Q : A → Type 0) → ((x : A) → P x → Q x) → IfSome o P → IfSome o Q
 each_some None P Q then is = tt
@@ -127,7 +157,8 @@ later_tells (Some moments) later moment (inl same) some = subst (λ (o : Option 
 later_tells (Some moments) later moment (inr grows) some = subst (λ (o : Option (List ℕ)). IsSome o) (sym grows.1) refl
 
 module _ {D : Type 0} (disks : DiskWords D) (one : OneChoice) (settings : SettingsOf) (in_range : AreInRange settings) (paths : All (λ (input : InputRule). input.file_identity ≡ Path) settings.inputs)
-    (from_a from_b a b : D) (held : AreAtRest disks.contents disks.images from_a from_b → HaveHeldFronts disks [] from_a from_b a b) (outcomes : List (Option (List Outcome))) where
+    (opening : List Row) (from_a from_b a b : D) (gave : AreAtRest disks.contents disks.images from_a from_b → GiveTheRows disks from_a from_b opening)
+    (held : AreAtRest disks.contents disks.images from_a from_b → HaveHeldFronts disks opening [] from_a from_b a b) (outcomes : List (Option (List Outcome))) where
   -- what all told before it, and behind it
   abbrev pub early_run : Option FolderHistory → Option FolderHistory → Option (List ℕ) → Option (List ℕ) → RunObjects D
   early_run told after before later = record {
@@ -142,7 +173,7 @@ module _ {D : Type 0} (disks : DiskWords D) (one : OneChoice) (settings : Settin
   early (Some history) after before later moment status some clock gives lists ends =
       let scanned : FolderHistory = record history { events = history.events ++ lists.more } in
       let first = first_given moment before later gives in
-      let start : Began D = record { settings = settings; listed = []; moment = moment; shown = Some scanned; moments = before; heard = []; a = from_a; b = from_b } in
+      let start : Began D = record { settings = settings; opening = opening; listed = []; moment = moment; shown = Some scanned; moments = before; heard = []; a = from_a; b = from_b } in
       let folder : FolderTold = record { earlier = history; scanned = scanned; ended = scanned } in
       record {
         what = early_met status;
@@ -150,12 +181,13 @@ module _ {D : Type 0} (disks : DiskWords D) (one : OneChoice) (settings : Settin
         accounted = subst (λ (o : Option FolderHistory). AccountedFor disks settings (early_run (Some history) o before later) (early_met status)) (sym lists.kept)
             (early_is_accounted_for disks start folder
             (record { in_range = in_range; by_path = paths; lists = record { more = lists.more; in_order = lists.in_order; kept = refl } })
-            first.since later first.given (later_tells before later moment gives clock) outcomes a b one held (early_met status) (early_not_done status));
+            first.since later first.given (later_tells before later moment gives clock) outcomes a b one gave held (early_met status) (early_not_done status));
       }
 
 -- it did not
-module _ {D : Type 0} (disks : DiskWords D) (one : OneChoice) (settings : SettingsOf) (from_a from_b a b : D)
-    (held : AreAtRest disks.contents disks.images from_a from_b → HaveHeldFronts disks [] from_a from_b a b) (outcomes : List (Option (List Outcome))) where
+module _ {D : Type 0} (disks : DiskWords D) (one : OneChoice) (settings : SettingsOf) (opening : List Row) (from_a from_b a b : D)
+    (gave : AreAtRest disks.contents disks.images from_a from_b → GiveTheRows disks from_a from_b opening)
+    (held : AreAtRest disks.contents disks.images from_a from_b → HaveHeldFronts disks opening [] from_a from_b a b) (outcomes : List (Option (List Outcome))) where
   abbrev still_run : Option FolderHistory → Option (List ℕ) → RunObjects D
   still_run told before = record {
     before = record { folder = told; moments = before; outcomes = outcomes; a = from_a; b = from_b };
@@ -168,7 +200,7 @@ module _ {D : Type 0} (disks : DiskWords D) (one : OneChoice) (settings : Settin
   still (Some history) (Some moments) status some clock ends = record {
     what = early_met status;
     met_for = early_met_for status ends;
-    accounted = still_is_accounted_for disks settings history moments outcomes from_a from_b a b one held (early_met status) (early_not_done status);
+    accounted = still_is_accounted_for disks settings opening history moments outcomes from_a from_b a b one gave held (early_met status) (early_not_done status);
   }
 
 -- ---- a run that opened files
@@ -246,13 +278,23 @@ no_settings = record {
   lanes = 0;
 }
 
--- an area that tells that it holds no registry yet
-pub record TellsBlank (contents : Option (List ℕ)) : Type 0 where
-  pub area : List ℕ
-  pub is : contents ≡ Some area
-  pub blank : IfSome contents IsBlank
-  pub never : ¬ (IsWritten area)
+-- what the areas give is what they gave
+pub rows_given : {D : Type 0} (disks : DiskWords D) (a b : D) (tell : TellRows disks a b) → GiveTheRows disks a b tell.rows
+rows_given disks a b tell first second a_is b_is =
+    let same_first : tell.first ≡ first = some_is tell.first first (sym tell.a_is ∙ a_is) in
+    let same_second : tell.second ≡ second = some_is tell.second second (sym tell.b_is ∙ b_is) in
+    subst (λ (l : List ℕ). GivesRows first l tell.rows) same_second (subst (λ (l : List ℕ). GivesRows l tell.second tell.rows) same_first tell.gives)
 
-pub tells_blank : (contents : Option (List ℕ)) → Holds IsBlank contents → TellsBlank contents
-tells_blank None holds = absurd holds
-tells_blank (Some area) holds = record { area = area; is = refl; blank = holds; never = λ written. absurd (omega (arith, holds, written)) }
+-- a store that was opened from areas at rest
+pub opened_from : {D : Type 0} (disks : DiskWords D) (from_a from_b a b : D) (store : Standing) → GiveTheRows disks from_a from_b store.rows →
+    ((first second : List ℕ) (rows : List Row) → AreAtRest disks.contents disks.images from_a from_b → disks.contents from_a ≡ Some first → disks.contents from_b ≡ Some second → GivesRows first second rows →
+    HaveHeldFronts disks rows [] from_a from_b a b) →
+    (AreAtRest disks.contents disks.images from_a from_b → AreSettled disks.contents disks.images a b (chosen_by store)) → IsOpenedFrom disks (record { a = from_a; b = from_b }) store a b
+opened_from disks from_a from_b a b store gave held settled = record {
+  gave = λ rest. gave;
+  held = λ rest.
+      let (first, a_is) = some_of (disks.contents from_a) rest.a_told in
+      let (second, b_is) = some_of (disks.contents from_b) rest.b_told in
+      held first second store.rows rest a_is b_is (gave first second a_is b_is);
+  settled = settled;
+}

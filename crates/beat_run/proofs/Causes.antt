@@ -1,5 +1,5 @@
 -- Why a run over its listed files ended as it did, by what it met; and how its areas are left.
-use Rattle.std.proofs.Common.{◌≡◌, ◌⊎◌, inl, inr, ℕ, zero, suc, ◌+◌, ◌<◌, ◌≤◌, List, [], ◌∷◌, ◌++◌, length, drop, map, All, Any, Contains, Option, Some, None, IfSome, IsSome, refl, sym, ap, subst, ◌∙◌, arith, length-append}
+use Rattle.std.proofs.Common.{◌≡◌, ◌⊎◌, inl, inr, ℕ, zero, suc, ◌<◌, ◌≤◌, List, [], ◌∷◌, ◌++◌, length, drop, map, Any, Contains, Option, Some, None, IfSome, IsSome, refl, sym, ap, subst, ◌∙◌, arith, append-nil, length-append}
 use Rattle.std.proofs.Math.Seq.{drop-append_seam}
 use Rattle.std.proofs.lemmas.List.{drop-append-le}
 use Rattle.std.proofs.lemmas.List.Elements.{Contains-append_left, recursion_from_All}
@@ -11,8 +11,7 @@ use Rattle.event_tree.specs.declared.settings.Settings.{Settings as SettingsOf}
 use Rattle.outside.specs.Counts.{Rose}
 use Rattle.outside.specs.Files.{File}
 use Rattle.outside.specs.Folders.{Event, FolderHistory}
-use Rattle.outside.specs.declared.history.Shown.{Shown}
-use Rattle.prospect.specs.ListedFiles.{IsListedBy, ScansFiles, shown_in}
+use Rattle.prospect.specs.ListedFiles.{FindsOneMore, IsListedBy, ScansFiles, shown_in}
 use Rattle.prospect.specs.Scan.{Listing, event_of}
 use Rattle.prospect.specs.declared.listed.Listed.{Listed}
 use Rattle.registry_store.specs.Choice.{GivesRows, IsChoice}
@@ -33,7 +32,7 @@ use Rattle.ship_core.proofs.Members.{first_there, later_there, none_there, there
 use Rattle.wire_base.specs.declared.limits.Full.TheVariants.{Epochs, Files, Slots}
 use Rattle.beat_run.specs.Cause.{AllSigns, Cause, CauseBy, HasAreaFailed, HasFailedAt, Signs, WasListed, without_sink}
 use Rattle.beat_run.specs.Ended.{IsTelling, StandsForMet, StandsForRegistry}
-use Rattle.beat_run.specs.Ends.{IsBehindOpening, IsBehindSettings, IsPreparingEnd, IsReportEnd, IsRunEnd, IsScanEnd, IsScannedEnd, ShowsScanEnd}
+use Rattle.beat_run.specs.Ends.{IsBehindOpening, IsBehindSettings, IsPreparingEnd, IsReportEnd, IsRunEnd, IsScanEnd, IsScannedEnd, ListsPath, ShowsScanEnd}
 use Rattle.beat_run.specs.Named.{IsNamed}
 
 pub rose_since : (before mid now : ℕ) → before ≤ mid → Rose mid now → Rose before now
@@ -207,6 +206,25 @@ module _ {D : Type 0} (disks : DiskWords D) (a b : D) (store : Standing) (settle
 
 -- ---- a scan that told no files
 
+-- the folder did nothing more behind it
+stays_so : (shown : Option FolderHistory) → GoesFurther shown shown
+stays_so shown = record { more = λ history is. ([], is ∙ ap (λ (l : List Event). Some (record { files = history.files; events = l })) (sym (append-nil history.events))) }
+
+path_was_listed : (inputs : List InputRule) (path : List ℕ) (told : FolderHistory) (after : Option FolderHistory) → ListsPath inputs told path after → WasListed path told after
+path_was_listed inputs path told after lists =
+    subst (λ (p : List ℕ). WasListed p told after) (sym lists.among.path_is)
+    (was_listed inputs told lists.listed after after lists.scans (stays_so after) lists.among.place lists.among.one lists.among.listed_there)
+
+path_listed : (inputs : List InputRule) (path : List ℕ) (told after : Option FolderHistory) → IfSome told (λ history. ListsPath inputs history path after) → IfSome told (λ history. WasListed path history after)
+path_listed inputs path None after lists = tt
+path_listed inputs path (Some history) after lists = path_was_listed inputs path history after lists
+
+too_many : (inputs : List InputRule) (path : List ℕ) (told after : Option FolderHistory) → IfSome told (λ history. FindsOneMore inputs history path after ⊎ ListsPath inputs history path after) →
+    IfSome told (λ history. FindsOneMore inputs history path after ⊎ WasListed path history after)
+too_many inputs path None after shows = tt
+too_many inputs path (Some history) after (inl more) = inl more
+too_many inputs path (Some history) after (inr lists) = inr (path_was_listed inputs path history after lists)
+
 pub scan_caused : (settings : SettingsOf) (before now : Signs) (status : Status) → IsScanEnd before.counts.folder_faults now.counts.folder_faults status →
     IfSome before.folder (λ history. ShowsScanEnd settings.inputs history now.folder status) → CauseBy settings before now status
 scan_caused settings before now Done ends shows = absurd ends
@@ -219,8 +237,8 @@ scan_caused settings before now FolderFault ends shows = ends
 scan_caused settings before now (Unreachable worker failures) ends shows = absurd ends
 scan_caused settings before now OutFault ends shows = absurd ends
 scan_caused settings before now SourceFault ends shows = absurd ends
-scan_caused settings before now (TooMany Files path) ends shows = shows
-scan_caused settings before now (TooMany Epochs path) ends shows = absurd ends
+scan_caused settings before now (TooMany Files path) ends shows = too_many settings.inputs path before.folder now.folder shows
+scan_caused settings before now (TooMany Epochs path) ends shows = path_listed settings.inputs path before.folder now.folder shows
 scan_caused settings before now (TooMany Slots path) ends shows = absurd ends
 scan_caused settings before now (NoNative path) ends shows = absurd ends
 scan_caused settings before now NoMemory ends shows = tt
@@ -238,7 +256,7 @@ scan_ended before now (Unreachable worker failures) ends = absurd ends
 scan_ended before now OutFault ends = absurd ends
 scan_ended before now SourceFault ends = absurd ends
 scan_ended before now (TooMany Files path) ends = tt
-scan_ended before now (TooMany Epochs path) ends = absurd ends
+scan_ended before now (TooMany Epochs path) ends = tt
 scan_ended before now (TooMany Slots path) ends = absurd ends
 scan_ended before now (NoNative path) ends = absurd ends
 scan_ended before now NoMemory ends = tt

@@ -1,24 +1,19 @@
 -- The first key by which settings ask for what is not built: all settings of the same bytes have the same.
-use Rattle.std.proofs.Common.{◌≡◌, ℕ, suc, ◌==◌, true, false, List, [], ◌∷◌, ◌++◌, length, take, Contains, Option, Some, None, IfSome, codes, refl, sym, ap, ◌∙◌, subst, arith}
+use Rattle.std.proofs.Common.{◌≡◌, ℕ, true, false, List, [], take, Contains, Option, Some, None, IfSome, refl, sym, ap, ◌∙◌, subst, arith}
 use Rattle.std.proofs.lemmas.List.Elements.{All-contains}
 use Rattle.std.proofs.lemmas.Option.{same_Some}
 use Rattle.std.specs.Ordering.{is_lt}
 use Rattle.std.specs.declared.cmp.Ordering.{Ordering}
 use Rattle.std.specs.declared.cmp.Ordering.TheVariants.{Less}
 use Rattle.beat_config.specs.Document.{AreSettings, AreSettingsOf, IsFirstFault}
-use Rattle.beat_config.specs.Each.{AreEach}
-use Rattle.beat_config.specs.Processors.{AreListed, AreProcessorsOf, IsProcessor}
 use Rattle.beat_config.specs.declared.settings_error.SettingsError.{SettingsError}
 use Rattle.event_tree.specs.declared.input_rule.InputRule.{InputRule}
-use Rattle.event_tree.specs.declared.output_rule.OutputRule.{OutputRule}
-use Rattle.event_tree.specs.declared.processor_rule.ProcessorRule.{ProcessorRule}
 use Rattle.event_tree.specs.declared.settings.Settings.{Settings}
-use Rattle.prospect.specs.Lacks.{IsFirstLack, lacks_of, lacks_of_inputs, unless_built}
+use Rattle.prospect.specs.Lacks.{IsFirstLack, lacks_of, lacks_of_inputs}
 use Rattle.wire_base.specs.KeyOrder.{compare}
 use Rattle.report.specs.declared.status.Lack.TheVariants.{Key, Follow, Generate}
 use Rattle.report.specs.declared.status.Status.{Status}
 use Rattle.report.specs.declared.status.Status.TheVariants.{Done, Stopped, Usage, Settings as SettingsFault, RegistryBad, DiskFault, FolderFault, Unreachable, OutFault, SourceFault, TooMany, NoNative, NoMemory, Unbuilt}
-use Rattle.toml.specs.Data.{Data, Items, no_items, item, as_array}
 use Rattle.beat_run.specs.declared.settings.TheConstants.{LIMIT}
 use Rattle.beat_run.specs.Ends.{IsLackEnd, IsSettingsEnd, RefusesKey}
 use Rattle.beat_run.specs.Named.{IsNamed}

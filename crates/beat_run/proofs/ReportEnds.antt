@@ -1,5 +1,5 @@
 -- What is so of a run by what it met, whether it tells a report or its status alone.
-use Rattle.std.proofs.Common.{◌≡◌, ◌⊎◌, inl, inr, ℕ, ◌≤◌, List, length, Option, IfErr, IfOk, IfSome, IsSome, Result, Ok, Err}
+use Rattle.std.proofs.Common.{◌≡◌, ◌⊎◌, inr, ℕ, ◌≤◌, List, length, Option, IfErr, IfOk, IfSome, IsSome, Result, Ok, Err}
 use Rattle.event_tree.specs.declared.settings.Settings.{Settings as SettingsOf}
 use Rattle.keeper.specs.Keeping.{Keeping}
 use Rattle.outside.specs.Folders.{FolderHistory}

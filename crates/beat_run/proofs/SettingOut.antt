@@ -1,5 +1,5 @@
 -- A run sets out over its scan, the store that was opened and a keeper made over it.
-use Rattle.std.proofs.Common.{◌≡◌, ℕ, All, List, Option, IfSome, IsSome, sym, ap, subst, ◌∙◌}
+use Rattle.std.proofs.Common.{◌≡◌, ℕ, All, List, [], Option, IfSome, IsSome, sym, ap, subst, ◌∙◌}
 use Rattle.atomic_table.specs.Seated.{TableId}
 use Rattle.beat_config.specs.InRange.{AreInRange}
 use Rattle.event_tree.specs.declared.input_rule.IdentityRule.TheVariants.{Path}
@@ -10,9 +10,11 @@ use Rattle.outside.specs.Folders.{FolderHistory}
 use Rattle.outside.specs.Times.{GivesMoment}
 use Rattle.prospect.specs.ListedFiles.{ScansFiles}
 use Rattle.prospect.specs.declared.listed.Listed.{Listed}
-use Rattle.registry_store.specs.Settled.{AreAtRest, AreSettled}
+use Rattle.registry_store.specs.Settled.{AreSettled}
 use Rattle.registry_store.specs.Standing.{Standing, chosen_by}
 use Rattle.rounds.specs.Words.{DiskWords, WireWords}
+use Rattle.wire_base.specs.declared.row.Row.{Row}
+use Rattle.run_steps.specs.Areas.{GiveTheRows, HaveHeldFronts}
 use Rattle.run_steps.specs.BeginsAll.{IsOfInputs}
 use Rattle.run_steps.specs.Outset.{Earlier, IsFirstKeeper, Outset, SetsOut, began_with}
 use Rattle.run_steps.proofs.OutsetMade.{sets_out}
@@ -31,7 +33,10 @@ module _ {W D : Type 0} (disks : DiskWords D) (wires : WireWords W) (settings : 
   its_store : store ≡ first.store
   its_store = sym over ∙ ap (λ (k : Keeping). k.store) first.is
 
+  its_rows : store.rows ≡ keeper.store.rows
+  its_rows = ap (λ (s : Standing). s.rows) (sym over)
+
   pub set_out : SetsOut disks (began_with wires outset earlier) outset
-  set_out = sets_out disks wires outset earlier first.store first.pass first.is gives opened.held
+  set_out = sets_out disks wires outset earlier first.store first.pass first.is gives (λ rest. subst (GiveTheRows disks from.a from.b) its_rows (opened.gave rest)) (λ rest. subst (λ (rows : List Row). HaveHeldFronts disks rows [] from.a from.b a b) its_rows (opened.held rest))
       (λ rest. subst (λ (s : Standing). AreSettled disks.contents disks.images a b (chosen_by s)) its_store (opened.settled rest))
       in_range paths of_inputs told (λ shown. some) scans

@@ -1,15 +1,16 @@
 -- A run that is accounted for, by the status that it ends with (this project's profile).
-use Rattle.std.specs.Prelude.{◌≡◌, ℕ, [], IsSome, List, Option}
+use Rattle.std.specs.Prelude.{◌≡◌, ℕ, [], IsSome, List, Option, Some}
 use Rattle.std.specs.List.{AllByRecursion}
 use Rattle.event_tree.specs.declared.settings.Settings.{Settings}
-use Rattle.registry_log.specs.Starting.{Holds, IsBlank}
+use Rattle.registry_store.specs.Choice.{GivesRows}
 use Rattle.registry_store.specs.Settled.{AreAtRest, AreSettled}
 use Rattle.registry_store.specs.Standing.{Standing, chosen_by}
 use Rattle.report.specs.declared.status.Status.{Status}
 use Rattle.report.specs.declared.status.Status.TheVariants.{Done, FolderFault, Stopped, TooMany, Unreachable}
 use Rattle.rounds.specs.Words.{DiskWords}
+use Rattle.wire_base.specs.declared.row.Row.{Row}
 use Rattle.run_steps.specs.AccountedFor.{AccountedFor, Objects, RunObjects}
-use Rattle.run_steps.specs.Areas.{HaveHeldFronts}
+use Rattle.run_steps.specs.Areas.{GiveTheRows, HaveHeldFronts}
 use Rattle.run_steps.specs.Met.{AreLeft}
 use Rattle.run_steps.specs.declared.met.Met.{Met}
 use Rattle.run_steps.specs.declared.met.Met.TheVariants as met
@@ -36,11 +37,19 @@ pub record TellEnough {D : Type 0} (before after : Objects D) : Type 0 where
   pub moments : IsSome before.moments
   pub wires : AllByRecursion (λ outcomes. IsSome outcomes) after.outcomes
 
--- and before it each area tells that it holds no registry yet
+-- both areas tell what they hold, and that gives rows
+pub record TellRows {D : Type 0} (disks : DiskWords D) (a b : D) : Type 0 where
+  pub first : List ℕ
+  pub second : List ℕ
+  pub rows : List Row
+  pub a_is : disks.contents a ≡ Some first
+  pub b_is : disks.contents b ≡ Some second
+  pub gives : GivesRows first second rows
+
+-- and so do both areas before it
 pub record AllTell {D : Type 0} (disks : DiskWords D) (objects : RunObjects D) : Type 0 where
   pub tell : TellEnough objects.before objects.after
-  pub a : Holds IsBlank (disks.contents objects.before.a)
-  pub b : Holds IsBlank (disks.contents objects.before.b)
+  pub areas : TellRows disks objects.before.a objects.before.b
 
 -- by the settings that the source spells, where the status tells that they were known
 pub record IsAccountedByNamed {D : Type 0} (disks : DiskWords D) (source : Option (List ℕ)) (objects : RunObjects D) (status : Status) : Type 0 where
@@ -58,7 +67,8 @@ pub record Areas (D : Type 0) : Type 0 where
   pub a : D
   pub b : D
 
--- the store was opened from them: where they were at rest they held no row since, and make the store's choice now
+-- the store was opened from them: where they were at rest they gave its rows, gave no others since, and make the store's choice now
 pub record IsOpenedFrom {D : Type 0} (disks : DiskWords D) (from : Areas D) (store : Standing) (a b : D) : Type 0 where
-  pub held : AreAtRest disks.contents disks.images from.a from.b → HaveHeldFronts disks [] from.a from.b a b
+  pub gave : AreAtRest disks.contents disks.images from.a from.b → GiveTheRows disks from.a from.b store.rows
+  pub held : AreAtRest disks.contents disks.images from.a from.b → HaveHeldFronts disks store.rows [] from.a from.b a b
   pub settled : AreAtRest disks.contents disks.images from.a from.b → AreSettled disks.contents disks.images a b (chosen_by store)

@@ -5,6 +5,8 @@ use Rattle.prospect.specs.declared.listed.Listed.{Listed}
 use Rattle.prospect.specs.declared.scan_error.ScanError.{ScanError}
 use Rattle.prospect.specs.declared.scan_error.ScanError.TheVariants.{Failed as ScanFailed, NoMemory as ScanNoMemory, TooMany as ScanTooMany}
 use Rattle.report.specs.declared.status.Status.{Status}
+use Rattle.restart_join.specs.declared.join_error.JoinError.{JoinError}
+use Rattle.restart_join.specs.declared.join_error.JoinError.TheVariants.{NoMemory as JoinNoMemory, TooMany as JoinTooMany}
 use Rattle.report.specs.declared.status.Status.TheVariants.{DiskFault, Done, FolderFault, NoMemory, RegistryBad, Stopped, TooMany, Unreachable}
 use Rattle.run_steps.specs.declared.met.Met.{Met}
 use Rattle.run_steps.specs.declared.met.Met.TheVariants as met
@@ -47,3 +49,7 @@ abbrev pub StandsForScan : ScanError → Status → Type 0
 StandsForScan ScanFailed status = status ≡ FolderFault
 StandsForScan ScanNoMemory status = status ≡ NoMemory
 StandsForScan (ScanTooMany path) status = status ≡ TooMany Files path
+
+abbrev pub StandsForJoin : JoinError → Status → Type 0
+StandsForJoin (JoinTooMany what path) status = status ≡ TooMany what path
+StandsForJoin JoinNoMemory status = status ≡ NoMemory

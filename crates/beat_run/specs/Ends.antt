@@ -1,12 +1,13 @@
 -- Which statuses end which part of the run, and the count that has to have risen where one blames the outside (this
 -- project's profile). A count is given as it was before and as it is now.
-use Rattle.std.specs.Prelude.{◌≡◌, ◌⊎◌, ℕ, List, Option}
+use Rattle.std.specs.Prelude.{◌≡◌, ◌⊎◌, ℕ, List, slice_get, Option, Some}
 use Rattle.beat_config.specs.declared.settings_error.SettingsError.{SettingsError}
 use Rattle.event_tree.specs.declared.input_rule.InputRule.{InputRule}
 use Rattle.outside.specs.Folders.{FolderHistory}
-use Rattle.prospect.specs.ListedFiles.{FindsOneMore}
+use Rattle.prospect.specs.ListedFiles.{FindsOneMore, ScansFiles}
 use Rattle.prospect.specs.Members.{globs_of}
 use Rattle.prospect.specs.Unfinished.{ListsSome}
+use Rattle.prospect.specs.declared.listed.Listed.{Listed}
 use Rattle.wire_base.specs.declared.limits.Full.TheVariants.{Epochs, Files}
 use Rattle.outside.specs.Counts.{Rose}
 use Rattle.report.specs.declared.status.Lack.TheVariants.{Key, Follow, Generate}
@@ -52,19 +53,41 @@ IsPreparingEnd before now (Unbuilt Follow) = Unit {0}
 IsPreparingEnd before now (Unbuilt Generate) = Unit {0}
 IsPreparingEnd before now _ = ⊥
 
--- a scan
+-- a scan, and where its files start
 abbrev pub IsScanEnd : ℕ → ℕ → Status → Type 0
 IsScanEnd before now FolderFault = Rose before now
 IsScanEnd before now NoMemory = Unit {0}
 IsScanEnd before now (TooMany Files path) = Unit {0}
+IsScanEnd before now (TooMany Epochs path) = Unit {0}
 IsScanEnd before now _ = ⊥
+
+-- a file of this path is listed
+pub record IsPathOf (listed : List Listed) (path : List ℕ) : Type 0 where
+  pub place : ℕ
+  pub one : Listed
+  pub listed_there : slice_get listed place ≡ Some one
+  pub path_is : path ≡ one.path
+
+-- all was listed, and a file of this path
+pub record ListsPath (inputs : List InputRule) (told : FolderHistory) (path : List ℕ) (after : Option FolderHistory) : Type 0 where
+  pub listed : List Listed
+  pub scans : ScansFiles inputs told listed after
+  pub among : IsPathOf listed path
 
 -- what its listings show then: those that were made, or a file too many
 abbrev pub ShowsScanEnd : List InputRule → FolderHistory → Option FolderHistory → Status → Type 0
 ShowsScanEnd inputs told after FolderFault = ListsSome (globs_of inputs) told after
 ShowsScanEnd inputs told after NoMemory = ListsSome (globs_of inputs) told after
-ShowsScanEnd inputs told after (TooMany Files path) = FindsOneMore inputs told path after
+ShowsScanEnd inputs told after (TooMany Files path) = FindsOneMore inputs told path after ⊎ ListsPath inputs told path after
+ShowsScanEnd inputs told after (TooMany Epochs path) = ListsPath inputs told path after
 ShowsScanEnd inputs told after _ = ⊥
+
+-- files that could not all be started
+abbrev pub IsStartEnd : List Listed → Status → Type 0
+IsStartEnd listed NoMemory = Unit {0}
+IsStartEnd listed (TooMany Files path) = IsPathOf listed path
+IsStartEnd listed (TooMany Epochs path) = IsPathOf listed path
+IsStartEnd listed _ = ⊥
 
 -- a run that tells a report
 abbrev pub IsReportEnd : Status → Type 0
@@ -148,7 +171,7 @@ abbrev pub IsPrintingEnd : ℕ → ℕ → Status → Status → Type 0
 IsPrintingEnd before now ended OutFault = Rose before now
 IsPrintingEnd before now ended status = status ≡ ended
 
--- an area with more than one byte ends the run so, where nothing else went wrong before
+-- areas that are refused end the run so, where nothing else went wrong before
 abbrev pub RefusesArea : Status → Type 0
 RefusesArea Usage = Unit {0}
 RefusesArea SourceFault = Unit {0}

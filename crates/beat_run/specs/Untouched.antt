@@ -6,7 +6,8 @@ use Rattle.command_line.specs.Words.{IsNoCommand}
 use Rattle.event_tree.specs.declared.settings.Settings.{Settings}
 use Rattle.prospect.specs.Lacks.{IsFirstLack}
 use Rattle.report.specs.declared.status.Lack.{Lack}
-use Rattle.run_steps.specs.Registry.{IsWritten}
+use Rattle.run_steps.specs.Registry.{AreRefusedAt}
+use Rattle.wire_base.specs.declared.limits.Which.{Which}
 use Rattle.beat_run.specs.Asked.{AskFor}
 use Rattle.beat_run.specs.declared.settings.TheConstants.{LIMIT}
 
@@ -17,11 +18,11 @@ pub record AskByKey (bytes key : List ℕ) : Type 0 where
   pub first : IsFirstLack settings key
 
 -- the command refuses the words, or they ask for what is not built; the settings have a fault, or ask for what is not
--- built; or both areas tell, and one has more than a gate
+-- built; or both areas tell, and are refused
 abbrev pub IsRefused : List (List ℕ) → Option (List ℕ) → Option (List ℕ) → Option (List ℕ) → Type 0
 IsRefused words source first second =
     IsNoCommand words
     ⊎ (((lack : Lack) × AskFor words lack)
     ⊎ (IsSomeAnd source (λ bytes. (fault : SettingsError) × IsFirstFault (take LIMIT bytes) fault)
     ⊎ (IsSomeAnd source (λ bytes. (key : List ℕ) × AskByKey (take LIMIT bytes) key)
-    ⊎ IsSomeAnd first (λ one. IsSomeAnd second (λ other. IsWritten one ⊎ IsWritten other)))))
+    ⊎ IsSomeAnd first (λ one. IsSomeAnd second (λ other. (area : Which) × (at : ℕ) × AreRefusedAt one other area at)))))

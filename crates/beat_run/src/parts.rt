@@ -1,4 +1,5 @@
-ghost use Rattle.std.specs.Prelude.{◌≡◌, ◌<◌, [], IfOk, false};
+ghost use Rattle.std.specs.Prelude.{◌≡◌, ◌<◌, IfOk, false};
+ghost use Rattle.ship_core.specs.Rows.{IsInOrder};
 ghost use Rattle.run_steps.specs.BegunCrew.{AreFirstPasses};
 ghost use Rattle.run_steps.specs.Outset.{IsFirstKeeper};
 
@@ -7,6 +8,7 @@ use mem_queue::EventQueue;
 use registry_store::Store;
 use run_steps::{BOX_NOTES, Passes};
 use settle_box::SettleBox;
+use ship_core::Rows;
 use std::alloc::Global;
 use wire_base::NoMemory;
 
@@ -23,12 +25,12 @@ pub struct Parts {
 pub fn parts_of(alloc: Global, events: u32, store: Store) -> Result<Parts, NoMemory>
     requires some { 0 < events }
     requires open { store.closed ≡ false }
-    requires no_rows { store.rows ≡ [] }
     ensures passes { IfOk result (λ parts. AreFirstPasses parts.queue.id parts.desk.id
         parts.passes.put parts.passes.take parts.passes.post) }
     ensures keeper { IfOk result (λ parts. IsFirstKeeper parts.desk.id parts.keeper) }
     ensures store { IfOk result (λ parts. parts.keeper.store ≡ store) }
 {
+    are_in_order(store.rows());
     let (queue, put, take) = EventQueue::new(alloc, events)?;
     let (desk, post, collect) = SettleBox::new(alloc, BOX_NOTES)?;
     let Ok(keeper) = Keeper::new(alloc, store, collect) else {
@@ -40,4 +42,11 @@ pub fn parts_of(alloc: Global, events: u32, store: Store) -> Result<Parts, NoMem
         passes: Passes { put, take, post },
         keeper,
     })
+}
+
+/// Rows are in the order of their keys, one for each key.
+fn are_in_order(rows: &Rows)
+    ensures { IsInOrder rows.now }
+{
+    rows.get(&[]);
 }

@@ -6,7 +6,7 @@ ghost use Rattle.prospect.specs.Lacks.{IsFirstLack, lacks_of};
 ghost use Rattle.registry_log.specs.OnlyRead.{IsOnlyRead};
 ghost use Rattle.registry_store.specs.Settled.{AreAtRest};
 ghost use Rattle.rounds.specs.Words.{disk_words, wire_words};
-ghost use Rattle.run_steps.specs.Registry.{IsRefusedAt, IsWritten};
+ghost use Rattle.run_steps.specs.Registry.{AreRefusedAt};
 ghost use Rattle.wire_base.specs.declared.limits.Which.{Which};
 ghost use Rattle.beat_run.specs.Accounted.{AllTell, Areas, IsAccounted, IsAccountedWhereTold, IsOpenedFrom, TellEnough};
 ghost use Rattle.beat_run.specs.Asked.{AskFor, AskForOnce, IsAsked};
@@ -75,10 +75,10 @@ where
         IsFirstLack settings key → MatchResult result (λ _. ⊥) (RefusesKey key)) }
     ensures registry_bad { (first second : List ℕ) (area : Which) (at : ℕ) →
         D.contents outside.old.a.now ≡ Some first → D.contents outside.old.b.now ≡ Some second →
-        IsErrOf result (Status.RegistryBad area at) → IsRefusedAt first second area at }
-    ensures area_refused { (first second : List ℕ) →
+        IsErrOf result (Status.RegistryBad area at) → AreRefusedAt first second area at }
+    ensures areas_refused { (first second : List ℕ) (area : Which) (at : ℕ) →
         D.contents outside.old.a.now ≡ Some first → D.contents outside.old.b.now ≡ Some second →
-        IsWritten first ⊎ IsWritten second → MatchResult result (λ _. ⊥) RefusesArea }
+        AreRefusedAt first second area at → MatchResult result (λ _. ⊥) RefusesArea }
     ensures a_unused { IfErr result (λ status. IsUnprepared status →
         outside.new.a.now ≡ outside.old.a.now) }
     ensures b_unused { IfErr result (λ status. IsUnprepared status →
@@ -163,7 +163,7 @@ where
     run_settings(rt, alloc, &settings, outside)
 }
 
-// Opens the registry, and then follows the files of the settings.
+/// Opens the registry, and then follows the files of the settings.
 fn run_settings<
     X: Threads + Wait + Sync,
     F: Folder,
@@ -185,10 +185,10 @@ where
     requires wires { vec_len outside.old.wires.now ≡ 16 }
     ensures registry_bad { (first second : List ℕ) (area : Which) (at : ℕ) →
         D.contents outside.old.a.now ≡ Some first → D.contents outside.old.b.now ≡ Some second →
-        IsErrOf result (Status.RegistryBad area at) → IsRefusedAt first second area at }
-    ensures area_refused { (first second : List ℕ) →
+        IsErrOf result (Status.RegistryBad area at) → AreRefusedAt first second area at }
+    ensures areas_refused { (first second : List ℕ) (area : Which) (at : ℕ) →
         D.contents outside.old.a.now ≡ Some first → D.contents outside.old.b.now ≡ Some second →
-        IsWritten first ⊎ IsWritten second → MatchResult result (λ _. ⊥) RefusesArea }
+        AreRefusedAt first second area at → MatchResult result (λ _. ⊥) RefusesArea }
     ensures a_only_read_where_bad { (area : Which) (at : ℕ) →
         IsSome (D.contents outside.old.a.now) → IsSome (D.contents outside.old.b.now) →
         IsErrOf result (Status.RegistryBad area at) →
@@ -202,23 +202,23 @@ where
     ensures wires_kept_where_bad { (area : Which) (at : ℕ) →
         IsErrOf result (Status.RegistryBad area at) →
         outside.new.wires.now.items ≡ outside.old.wires.now.items }
-    ensures a_only_read_where_written { (first second : List ℕ) →
+    ensures a_only_read_where_areas_are_refused { (first second : List ℕ) (area : Which) (at : ℕ) →
         D.contents outside.old.a.now ≡ Some first → D.contents outside.old.b.now ≡ Some second →
-        IsWritten first ⊎ IsWritten second →
+        AreRefusedAt first second area at →
         IsOnlyRead D.contents D.images D.moment D.images_since D.faults
         outside.old.a.now outside.new.a.now }
-    ensures b_only_read_where_written { (first second : List ℕ) →
+    ensures b_only_read_where_areas_are_refused { (first second : List ℕ) (area : Which) (at : ℕ) →
         D.contents outside.old.a.now ≡ Some first → D.contents outside.old.b.now ≡ Some second →
-        IsWritten first ⊎ IsWritten second →
+        AreRefusedAt first second area at →
         IsOnlyRead D.contents D.images D.moment D.images_since D.faults
         outside.old.b.now outside.new.b.now }
-    ensures folder_kept_where_written { (first second : List ℕ) →
+    ensures folder_kept_where_areas_are_refused { (first second : List ℕ) (area : Which) (at : ℕ) →
         D.contents outside.old.a.now ≡ Some first → D.contents outside.old.b.now ≡ Some second →
-        IsWritten first ⊎ IsWritten second →
+        AreRefusedAt first second area at →
         outside.new.folder.now ≡ outside.old.folder.now }
-    ensures wires_kept_where_written { (first second : List ℕ) →
+    ensures wires_kept_where_areas_are_refused { (first second : List ℕ) (area : Which) (at : ℕ) →
         D.contents outside.old.a.now ≡ Some first → D.contents outside.old.b.now ≡ Some second →
-        IsWritten first ⊎ IsWritten second →
+        AreRefusedAt first second area at →
         outside.new.wires.now.items ≡ outside.old.wires.now.items }
     ensures cause { CausedIn (outside_words F.told F.open_tails F.faults
         (wire_words W.outcomes W.open_links W.faults W.idles)
@@ -278,7 +278,7 @@ where
     }
 }
 
-// Scans once, and follows what was listed.
+/// Scans once, and follows what was listed.
 fn run_store<
     X: Threads + Wait + Sync,
     F: Folder,
@@ -299,7 +299,6 @@ where
     requires in_range { AreInRange settings.now }
     requires nothing_lacks { lacks_of settings.now ≡ [] }
     requires open { store.closed ≡ false }
-    requires no_rows { store.rows ≡ [] }
     requires wires { vec_len outside.old.wires.now ≡ 16 }
     ensures cause { (from : Areas D) → IsOpenedFrom
         (disk_words D.contents D.images D.moment D.images_since D.faults)
@@ -365,6 +364,7 @@ where
     let scanned = scan(
         alloc,
         settings.inputs.as_slice(),
+        store.rows(),
         outside.folder,
         outside.clock,
     )?;

@@ -1,32 +1,40 @@
-ghost use Rattle.std.specs.Prelude.{◌<◌, ◌≡◌, ◌≤◌, ℕ, length, map, All, IfErr, IfOk, IfSome, OnErr};
+ghost use Rattle.std.specs.Prelude.{◌<◌, ◌≡◌, ◌≤◌, ℕ, length, map, All, IfErr, IfOk, IfSome, OnErr, OnOk};
 ghost use Rattle.std.specs.List.Sorted.{IsStrictlySortedBy};
 ghost use Rattle.outside.specs.Times.{GivesMoment};
 ghost use Rattle.prospect.specs.ListedFiles.{IsListedInRange, ScansFiles, place_of, place_order};
 ghost use Rattle.prospect.specs.Members.{HaveGlobs, HaveShortIds};
 ghost use Rattle.wire_base.specs.Ranges.{IsMoment};
-ghost use Rattle.beat_run.specs.Ends.{IsScanEnd, ShowsScanEnd};
+ghost use Rattle.run_steps.specs.Starting.{AreFewFiles, starts_among};
+ghost use Rattle.beat_run.specs.Ends.{IsScanEnd, IsStartEnd, ShowsScanEnd};
 ghost use Rattle.run_steps.specs.ClockOn.{MomentsGoOn};
 
-use crate::status::status_of_scan;
+use crate::status::{status_of_join, status_of_scan};
 use event_tree::InputRule;
 use outside::{Clock, Folder};
-use prospect::list_files;
+use prospect::{Listed, list_files};
 use report::Status;
-use run_steps::Scanned;
+use run_steps::{Scanned, starts_of};
+use ship_core::Rows;
 use std::alloc::Global;
+use wire_base::Moment;
 
-/// The files that the folder shows, at the moment before the scan.
+/// The files that the folder shows, at the moment before the scan, and where each starts by its row.
 pub fn scan<F: Folder, K: Clock>(
     alloc: Global,
     inputs: &[InputRule],
+    rows: &Rows,
     folder: &mut F,
     clock: &mut K,
 ) -> Result<Scanned, Status>
     requires globs { HaveGlobs inputs.now }
     requires short_ids { HaveShortIds inputs.now }
+    requires few_rows { length rows.now ≤ 65_536 }
     ensures scanned { IfOk result (λ scanned. IfSome (F.told folder.old) (λ told.
         ScansFiles inputs.now told scanned.listed.items (F.told folder.new))) }
-    ensures few { IfOk result (λ scanned. length scanned.listed.items ≤ 65_536) }
+    ensures few_listed { IfOk result (λ scanned. length scanned.listed.items ≤ 65_536) }
+    ensures few { IfOk result (λ scanned. AreFewFiles rows.now scanned.listed.items) }
+    ensures starts { IfOk result (λ scanned.
+        scanned.starts.items ≡ starts_among rows.now scanned.listed.items) }
     ensures in_order { IfOk result (λ scanned.
         IsStrictlySortedBy place_order (map place_of scanned.listed.items)) }
     ensures of_inputs { IfOk result (λ scanned.
@@ -47,7 +55,33 @@ pub fn scan<F: Folder, K: Clock>(
 {
     let now = clock.now();
     match list_files(alloc, folder, inputs) {
-        Ok(listed) => Ok(Scanned { listed, now }),
+        Ok(listed) => start_files(alloc, rows, listed, now),
         Err(error) => Err(status_of_scan(error)),
+    }
+}
+
+/// The listed files, with where each starts.
+fn start_files(
+    alloc: Global,
+    rows: &Rows,
+    listed: Vec<Listed>,
+    now: Moment,
+) -> Result<Scanned, Status>
+    requires few_rows { length rows.now ≤ 65_536 }
+    requires few_listed { length listed.items ≤ 65_536 }
+    ensures listed { IfOk result (λ scanned. scanned.listed.items ≡ listed.items) }
+    ensures now { IfOk result (λ scanned. scanned.now ≡ now) }
+    ensures few { OnOk result (AreFewFiles rows.now listed.items) }
+    ensures starts { IfOk result (λ scanned.
+        scanned.starts.items ≡ starts_among rows.now listed.items) }
+    ensures refused { IfErr result (IsStartEnd listed.items) }
+{
+    match starts_of(alloc, rows, listed.as_slice()) {
+        Ok(starts) => Ok(Scanned {
+            listed,
+            starts,
+            now,
+        }),
+        Err(error) => Err(status_of_join(error)),
     }
 }

@@ -39,7 +39,7 @@ pub fn read_source<R: Source>(alloc: Global, source: &mut R) -> Result<Settings,
     }
 }
 
-// Reads until the source's end or until the limit.
+/// Reads until the source's end or until the limit.
 fn read_all<R: Source>(alloc: Global, source: &mut R) -> Result<Vec<u8>, Status>
     ensures read { IfOk result (λ all. IfSome (R.left source.old) (λ bytes. all.items ≡ take LIMIT bytes)) }
     ensures ends { IfErr result (IsReadEnd (R.faults source.old) (R.faults source.new)) }

@@ -10,7 +10,7 @@ ghost use Rattle.report.specs.Writing.{WritesAll};
 ghost use Rattle.rounds.specs.Making.{all_seen};
 ghost use Rattle.rounds.specs.Words.{disk_words, wire_words};
 ghost use Rattle.run_steps.specs.ClockOn.{MomentsGoOn};
-ghost use Rattle.run_steps.specs.Registry.{IsRefusedAt, IsWritten};
+ghost use Rattle.run_steps.specs.Registry.{AreRefusedAt};
 ghost use Rattle.beat_run.specs.Accounted.{IsAccountedWhereTold};
 ghost use Rattle.beat_run.specs.Asked.{AskFor, AskForOnce, IsAsked};
 ghost use Rattle.beat_run.specs.Cause.{Cause};
@@ -74,12 +74,12 @@ where
     ensures keys_of_the_unbuilt_are_refused { (asked : Settings) (key : List ℕ) →
         IfSome (R.left settings.old) (λ bytes.
         AreSettingsOf (take LIMIT bytes) asked → IsFirstLack asked key → RefusesKey key result) }
-    ensures registry_bad_only_where_an_area_is_written { (first second : List ℕ) (area : Which) (at : ℕ) →
+    ensures registry_bad_only_where_the_areas_are_refused { (first second : List ℕ) (area : Which) (at : ℕ) →
         D.contents area_a.old ≡ Some first → D.contents area_b.old ≡ Some second →
-        result ≡ Status.RegistryBad area at → IsRefusedAt first second area at }
-    ensures written_area_is_refused { (first second : List ℕ) →
+        result ≡ Status.RegistryBad area at → AreRefusedAt first second area at }
+    ensures refused_areas_end_the_run { (first second : List ℕ) (area : Which) (at : ℕ) →
         D.contents area_a.old ≡ Some first → D.contents area_b.old ≡ Some second →
-        IsWritten first ⊎ IsWritten second → RefusesArea result }
+        AreRefusedAt first second area at → RefusesArea result }
 
     // Refused runs change nothing.
     ensures refused_runs_keep_the_folder { IsRefused words.now (R.left settings.old)

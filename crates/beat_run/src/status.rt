@@ -1,11 +1,12 @@
 ghost use Rattle.std.specs.Prelude.{◌≡◌, ◌⊎◌, length};
 ghost use Rattle.run_steps.specs.Met.{IsMetOf};
 ghost use Rattle.wire_base.specs.declared.limits.Full.{Full};
-ghost use Rattle.beat_run.specs.Ended.{IsTelling, StandsForMet, StandsForRegistry, StandsForScan};
+ghost use Rattle.beat_run.specs.Ended.{IsTelling, StandsForJoin, StandsForMet, StandsForRegistry, StandsForScan};
 ghost use Rattle.beat_run.specs.Ends.{IsReportEnd, IsRunEnd};
 
 use prospect::{Listed, ScanError};
 use report::Status;
+use restart_join::JoinError;
 use run_steps::{Met, RegistryError};
 use std::alloc::Global;
 use wire_base::{Full, Text};
@@ -66,5 +67,15 @@ pub fn status_of_scan(error: ScanError) -> Status
             what: Full::Files,
             path,
         },
+    }
+}
+
+/// The status of files that could not all be started.
+pub fn status_of_join(error: JoinError) -> Status
+    ensures { StandsForJoin error result }
+{
+    match error {
+        JoinError::TooMany { what, path } => Status::TooMany { what, path },
+        JoinError::NoMemory => Status::NoMemory,
     }
 }

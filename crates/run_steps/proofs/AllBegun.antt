@@ -89,7 +89,7 @@ module _ {T W L D : Type 0} (words : Words T W L D) (start : Began D) (moments :
   none_begun = stands.begun.are ∙ ap (λ (l : List Note). map (λ (o : Opened). noted_begin o.begin) so_far.opened ++ l) (none_seen stands.begun.seen stands.begun.seen_are)
       ∙ append-nil (map (λ (o : Opened). noted_begin o.begin) so_far.opened)
     where
-      none_seen : (seen : List Note) → AllByRecursion (IsSeenOf start.listed so_far.opened) seen → seen ≡ []
+      none_seen : (seen : List Note) → AllByRecursion (IsSeenOf start.opening start.listed so_far.opened) seen → seen ≡ []
       none_seen [] are = refl
       none_seen (note ∷ seen) are = absurd (none_there are.0.file (subst (λ (l : List Opened). Contains l are.0.file) none_opened are.0.among))
 
@@ -136,7 +136,7 @@ module _ {T W L D : Type 0} (words : Words T W L D) (reads : (disk : D) → IfSo
   front_to_begin (suc count) slot [] are = tt
   front_to_begin (suc count) slot (one ∷ listed) are = (are.0, front_to_begin count (suc slot) listed are.1)
 
-  begins_from : (slot : ℕ) (listed : List Listed) (passed : List Passing) (old new : Beginning T W L) → AreToBegin slot listed → BeginsFrom words.tails start.settings now slot listed passed old new →
+  begins_from : (slot : ℕ) (listed : List Listed) (passed : List Passing) (old new : Beginning T W L) → AreToBegin slot listed → BeginsFrom words.tails start.settings start.opening now slot listed passed old new →
       BeginsBelow words reads counts start moments a b now slot old → BeginsBelow words reads counts start moments a b now (length listed + slot) new
   begins_from slot [] passed old new to is begins =
       subst (λ (n : ℕ). BeginsBelow words reads counts start moments a b now n new) (none_longer slot)
@@ -178,16 +178,16 @@ module _ {T W L D : Type 0} (words : Words T W L D) (reads : (disk : D) → IfSo
     at_first : BeginsBelow words reads counts start moments a b now 0 old
     at_first = nothing_begun words start moments a b now old so_far stands none_opened ends
 
-    behind_some : (count : ℕ) (passed : List Passing) (mid : Beginning T W L) → BeginsFrom words.tails start.settings now 0 (take count start.listed) passed old mid →
+    behind_some : (count : ℕ) (passed : List Passing) (mid : Beginning T W L) → BeginsFrom words.tails start.settings start.opening now 0 (take count start.listed) passed old mid →
         BeginsBelow words reads counts start moments a b now (length (take count start.listed) + 0) mid
     behind_some count passed mid is = begins_from 0 (take count start.listed) passed old mid (front_to_begin count 0 start.listed to_begin) is at_first
 
-    behind_all : (passed : List Passing) (mid : Beginning T W L) → BeginsFrom words.tails start.settings now 0 start.listed passed old mid →
+    behind_all : (passed : List Passing) (mid : Beginning T W L) → BeginsFrom words.tails start.settings start.opening now 0 start.listed passed old mid →
         BeginsBelow words reads counts start moments a b now (length start.listed + 0) mid
     behind_all passed mid is = begins_from 0 start.listed passed old mid to_begin is at_first
 
     told_then : (slot : ℕ) (listed : List Listed) (mid : Beginning T W L) (keeper : Keeping) → BeginsBelow words reads counts start moments a b now slot mid → AreListedFrom start.listed 0 listed →
-        TellMoments 0 listed mid.keeper keeper →
+        TellMoments start.opening 0 listed mid.keeper keeper →
         (begins : SoFar) × Stands words start (at_phase words start moments a b mid.folder.told mid.crew keeper Reading) begins
     told_then slot listed mid keeper begins there tell =
         let is = all_seen words reads counts start moments a b mid.folder.told mid.crew Reading begins.so_far.opened 0 listed mid.keeper keeper there tell
@@ -195,7 +195,7 @@ module _ {T W L D : Type 0} (words : Words T W L D) (reads : (disk : D) → IfSo
         (is.so_far, is.stands)
 
     -- files are read on
-    pub all_begun : (passed : List Passing) (new : Beginning T W L) → BeginsAll words.tails start.settings now start.listed passed old new →
+    pub all_begun : (passed : List Passing) (new : Beginning T W L) → BeginsAll words.tails start.settings start.opening now start.listed passed old new →
         Further words start (at_phase words start moments a b new.folder.told new.crew new.keeper Reading)
     all_begun passed new is =
         let told = told_then (length start.listed + 0) start.listed is.mid new.keeper (behind_all passed is.mid is.begins) (listed_from 0 start.listed to_begin) is.tell in
@@ -203,7 +203,7 @@ module _ {T W L D : Type 0} (words : Words T W L D) (reads : (disk : D) → IfSo
         (record { so_far = told.0; stands = told.1 })
 
     -- the keeper was told when each file was changed that was begun
-    pub all_are_seen : (passed : List Passing) (new : Beginning T W L) → BeginsAll words.tails start.settings now start.listed passed old new → AreAllSeen start.listed new.keeper.tracked.notes
+    pub all_are_seen : (passed : List Passing) (new : Beginning T W L) → BeginsAll words.tails start.settings start.opening now start.listed passed old new → AreAllSeen start.opening start.listed new.keeper.tracked.notes
     all_are_seen passed new is =
         let begins = behind_all passed is.mid is.begins in
         let there = listed_from 0 start.listed to_begin in
@@ -213,7 +213,7 @@ module _ {T W L D : Type 0} (words : Words T W L D) (reads : (disk : D) → IfSo
         (all_seen words reads counts start moments a b is.mid.folder.told is.mid.crew Reading begins.so_far.opened 0 start.listed is.mid.keeper new.keeper there is.tell before)
 
     -- or the run is left
-    pub some_begun : (what : Met) (new : Beginning T W L) → BeginsSome words.tails start.settings now start.listed what old new → Leaves words reads counts start moments a b now new
+    pub some_begun : (what : Met) (new : Beginning T W L) → BeginsSome words.tails start.settings start.opening now start.listed what old new → Leaves words reads counts start moments a b now new
     some_begun what new (inl is) =
         let begins = subst (λ (n : ℕ). BeginsBelow words reads counts start moments a b now n is.mid) (none_more (length (take is.count start.listed)) ∙ front_long start.listed is.count is.one is.is)
         (behind_some is.count is.passed is.mid is.begins) in
@@ -233,8 +233,8 @@ module _ {T W L D : Type 0} (words : Words T W L D) (reads : (disk : D) → IfSo
         })
 
     -- by what beginning them answered
-    pub stands_begun : (result : Result (Vec Passing Global) Met) (new : Beginning T W L) → IfOk result (λ passed. BeginsAll words.tails start.settings now start.listed passed.items old new) →
-        IfErr result (λ what. BeginsSome words.tails start.settings now start.listed what old new) →
+    pub stands_begun : (result : Result (Vec Passing Global) Met) (new : Beginning T W L) → IfOk result (λ passed. BeginsAll words.tails start.settings start.opening now start.listed passed.items old new) →
+        IfErr result (λ what. BeginsSome words.tails start.settings start.opening now start.listed what old new) →
         Further words start (at_phase words start moments a b new.folder.told new.crew new.keeper (phase_begun result))
     stands_begun (Ok passed) new begun ended = all_begun passed.items new begun
     stands_begun (Err what) new begun ended = some_begun what new ended

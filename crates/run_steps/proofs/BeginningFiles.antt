@@ -28,7 +28,7 @@ use Rattle.ship_core.proofs.Members.{first_there}
 use Rattle.wire_base.specs.declared.note.Begin.{Begin}
 use Rattle.wire_base.specs.declared.numbers.Moment.{Moment}
 use Rattle.run_steps.specs.Began.{Began}
-use Rattle.run_steps.specs.BeginFor.{begin_for}
+use Rattle.run_steps.specs.BeginFor.{begin_for, start_among}
 use Rattle.run_steps.specs.Beginning.{AdmitsAt, Beginning, BeginsFile, BeginsOne, GivesFileUp, IsOpenedFor, OpensNone, SameLanes}
 use Rattle.run_steps.specs.BeginsAll.{file_at}
 use Rattle.run_steps.specs.Begun.{noted_begin}
@@ -102,28 +102,28 @@ module _ {T W L D : Type 0} (words : Words T W L D) (reads : (disk : D) → IfSo
 
     -- ---- none was opened
 
-    pub none_opened : (new : Beginning T W L) → OpensNone words.tails (file_at slot listed now) (Ok None) old new → BeginsBelow (suc slot) new
+    pub none_opened : (new : Beginning T W L) → OpensNone words.tails (file_at start.opening slot listed now) (Ok None) old new → BeginsBelow (suc slot) new
     none_opened new none = later_slot new slot (moved new slot none.crew none.keeper (with_shown new.folder.told
         (none_shown begins.so_far listed.path words.tails old.folder.states old.folder.present start.shown old.folder.told new.folder.told begins.stands.shown none.opens.told)))
 
-    pub failed_opening : (new : Beginning T W L) → OpensNone words.tails (file_at slot listed now) (Err Failed) old new → Leaves new
+    pub failed_opening : (new : Beginning T W L) → OpensNone words.tails (file_at start.opening slot listed now) (Err Failed) old new → Leaves new
     failed_opening new none = leaves new slot (moved new slot none.crew none.keeper (with_shown new.folder.told
         (error_shown begins.so_far listed.path words.tails old.folder.states old.folder.present Failed start.shown old.folder.told new.folder.told begins.stands.shown none.opens.told)))
 
-    pub without_memory : (new : Beginning T W L) → OpensNone words.tails (file_at slot listed now) (Err WithoutMemory) old new → Leaves new
+    pub without_memory : (new : Beginning T W L) → OpensNone words.tails (file_at start.opening slot listed now) (Err WithoutMemory) old new → Leaves new
     without_memory new none = leaves new slot (moved new slot none.crew none.keeper (with_shown new.folder.told
         (error_shown begins.so_far listed.path words.tails old.folder.states old.folder.present WithoutMemory start.shown old.folder.told new.folder.told begins.stands.shown none.opens.told)))
 
     -- ---- one was opened
 
     -- by the rule of its input
-    begun_so : (key : List ℕ) → listed.key ≡ Some key → (one : Opened) → one.begin ≡ begin_for (record { 0 = slot }) listed key → one.rule ≡ to.rule → IsBegunSo words start moments a b slot one
+    begun_so : (key : List ℕ) → listed.key ≡ Some key → (one : Opened) → one.begin ≡ begin_for (record { 0 = slot }) listed key (start_among start.opening listed) → one.rule ≡ to.rule → IsBegunSo words start moments a b slot one
     begun_so key key_is one begin_is rule_is = record {
       as_listed = record {
         one = listed;
         listed_there = ap (λ (g : Begin). slice_get start.listed g.slot.0) begin_is ∙ to.there;
         keyed = key_is ∙ ap (λ (g : Begin). Some g.key) (sym begin_is);
-        begin_is = begin_is ∙ ap (λ (g : Begin). begin_for g.slot listed g.key) (sym begin_is);
+        begin_is = begin_is ∙ ap (λ (g : Begin). begin_for g.slot listed g.key (start_among start.opening listed)) (sym begin_is);
         rule_is = to.rule_is ∙ ap Some (sym rule_is);
         by_path = ap (λ (r : InputRule). r.file_identity) rule_is ∙ to.by_path;
         in_range = subst (λ (r : InputRule). IsGroupRule r.multiline) (sym rule_is) to.in_range;
@@ -136,19 +136,19 @@ module _ {T W L D : Type 0} (words : Words T W L D) (reads : (disk : D) → IfSo
     module _ (mid : Option FolderHistory) (tail : T) (opens : TellsOpening words.tails.told words.tails.numbers old.folder.told old.folder.states old.folder.present listed.path (Ok (Some tail)) mid)
         (key : List ℕ) (key_is : listed.key ≡ Some key) where
       begin : Begin
-      begin = begin_for (record { 0 = slot }) listed key
+      begin = begin_for (record { 0 = slot }) listed key (start_among start.opening listed)
 
-      has : HasTail words.tails (begin_for (record { 0 = slot }) listed key) to.rule old.folder.told tail mid
-      has = has_tail words.tails (begin_for (record { 0 = slot }) listed key) to.rule old.folder.states old.folder.present tail old.folder.told mid opens
+      has : HasTail words.tails (begin_for (record { 0 = slot }) listed key (start_among start.opening listed)) to.rule old.folder.told tail mid
+      has = has_tail words.tails (begin_for (record { 0 = slot }) listed key (start_among start.opening listed)) to.rule old.folder.states old.folder.present tail old.folder.told mid opens
 
       so : IsBegunSo words start moments a b slot has.one
       so = begun_so key key_is has.one has.begin_is has.rule_is
 
-      tells_it : (keeper new : Keeping) → TellsNotes (noted_begin (begin_for (record { 0 = slot }) listed key) ∷ []) keeper new → TellsNotes (noted_begin has.one.begin ∷ []) keeper new
+      tells_it : (keeper new : Keeping) → TellsNotes (noted_begin (begin_for (record { 0 = slot }) listed key (start_among start.opening listed)) ∷ []) keeper new → TellsNotes (noted_begin has.one.begin ∷ []) keeper new
       tells_it keeper new tells = subst (λ (g : Begin). TellsNotes (noted_begin g ∷ []) keeper new) (sym has.begin_is) tells
 
       -- a harvester over it stands for it
-      turns : (harvester : Harvester T) → IsOpenedFor words.tails start.settings (file_at slot listed now) tail harvester →
+      turns : (harvester : Harvester T) → IsOpenedFor words.tails start.settings (file_at start.opening slot listed now) tail harvester →
           IsTurnedSo words.tails.numbers words.tails.told start.settings.processors (begins.so_far.opened ++ has.one ∷ []) begins.so_far.moments (opened_now start.settings.processors has.one now.0) harvester
       turns harvester is =
           stands_opened words.tails.numbers words.tails.told start.settings.processors (begins.so_far.opened ++ has.one ∷ []) begins.so_far.moments has.one now.0 harvester
@@ -165,7 +165,7 @@ module _ {T W L D : Type 0} (words : Words T W L D) (reads : (disk : D) → IfSo
               same x y e = cc
 
           begin_same : is.begin ≡ has.one.begin
-          begin_same = is.begins.is ∙ ap (begin_for (record { 0 = slot }) listed) (same is.begins.key key (sym is.begins.key_is ∙ key_is)) ∙ sym has.begin_is
+          begin_same = is.begins.is ∙ ap (λ (k : List ℕ). begin_for (record { 0 = slot }) listed k (start_among start.opening listed)) (same is.begins.key key (sym is.begins.key_is ∙ key_is)) ∙ sym has.begin_is
             where
               same : (x y : List ℕ) → Some x ≡ Some y → x ≡ y
               same x y e = cc
@@ -176,11 +176,11 @@ module _ {T W L D : Type 0} (words : Words T W L D) (reads : (disk : D) → IfSo
               (subst (λ (g : Begin). HasTold words.tails.numbers words.tails.told (history.opened is.rule start.settings.processors g [] now.0) harvester) begin_same
               (subst (λ (l : List Look). HasTold words.tails.numbers words.tails.told (history.opened is.rule start.settings.processors is.begin l now.0) harvester) has.no_looks is.told))
 
-      not_over : (harvester : Harvester T) → IsOpenedFor words.tails start.settings (file_at slot listed now) tail harvester → harvester.reader.stage ≢ stage.Over
+      not_over : (harvester : Harvester T) → IsOpenedFor words.tails start.settings (file_at start.opening slot listed now) tail harvester → harvester.reader.stage ≢ stage.Over
       not_over harvester is over = let no : history.Over ≡ history.Reads = sym (ap stage_of over) ∙ is.told.held.holds.follows.stage in cc
 
     -- it is followed
-    pub file_begun : (new : Beginning T W L) → BeginsFile words.tails start.settings (file_at slot listed now) old new → BeginsBelow (suc slot) new
+    pub file_begun : (new : Beginning T W L) → BeginsFile words.tails start.settings (file_at start.opening slot listed now) old new → BeginsBelow (suc slot) new
     file_begun new is =
         let taken = is.follows.taken in
         let key = taken.tells.key in
@@ -200,7 +200,7 @@ module _ {T W L D : Type 0} (words : Words T W L D) (reads : (disk : D) → IfSo
         (subst (λ (t : T). IsShown old.folder.told of.one (words.tails.told t) is.mid.folder.told) (sym kept) of.shown))
 
     -- its tail was closed again
-    pub given_up : (new : Beginning T W L) → GivesFileUp words.tails (file_at slot listed now) old new → Leaves new
+    pub given_up : (new : Beginning T W L) → GivesFileUp words.tails (file_at start.opening slot listed now) old new → Leaves new
     given_up new is = by_case is.gives_up.keeper
       where
         lanes_so : SameLanes old.crew new.crew
@@ -213,7 +213,7 @@ module _ {T W L D : Type 0} (words : Words T W L D) (reads : (disk : D) → IfSo
               (stands_same words start moments a b new.folder.told old.crew new.crew keeper Leaving so_far lanes_so stands);
         }
 
-        by_case : (new.keeper ≡ is.mid.keeper) ⊎ TellsBegin (record { 0 = slot }) listed is.mid.keeper new.keeper → Leaves new
+        by_case : (new.keeper ≡ is.mid.keeper) ⊎ TellsBegin (record { 0 = slot }) listed (start_among start.opening listed) is.mid.keeper new.keeper → Leaves new
         by_case (inl same) =
             let of = opened_some is.mid.folder.told is.tail is.opened.opens.told in
             at_end old.keeper begins.so_far (same ∙ is.opened.keeper)
@@ -223,8 +223,8 @@ module _ {T W L D : Type 0} (words : Words T W L D) (reads : (disk : D) → IfSo
           where
             -- whatever its key
             opened_some : (mid : Option FolderHistory) (tail : T) → TellsOpening words.tails.told words.tails.numbers old.folder.told old.folder.states old.folder.present listed.path (Ok (Some tail)) mid →
-                HasTail words.tails (begin_for (record { 0 = slot }) listed []) to.rule old.folder.told tail mid
-            opened_some mid tail opens = has_tail words.tails (begin_for (record { 0 = slot }) listed []) to.rule old.folder.states old.folder.present tail old.folder.told mid opens
+                HasTail words.tails (begin_for (record { 0 = slot }) listed [] (start_among start.opening listed)) to.rule old.folder.told tail mid
+            opened_some mid tail opens = has_tail words.tails (begin_for (record { 0 = slot }) listed [] (start_among start.opening listed)) to.rule old.folder.states old.folder.present tail old.folder.told mid opens
         by_case (inr told) =
             let opens = is.opened.opens.told in
             let of = has is.mid.folder.told is.tail opens told.key told.key_is in
@@ -238,11 +238,11 @@ module _ {T W L D : Type 0} (words : Words T W L D) (reads : (disk : D) → IfSo
 
     -- ---- whatever it came to
 
-    pub one_more : (found : Bool) (new : Beginning T W L) → BeginsOne words.tails start.settings (file_at slot listed now) (Ok found) old new → BeginsBelow (suc slot) new
+    pub one_more : (found : Bool) (new : Beginning T W L) → BeginsOne words.tails start.settings (file_at start.opening slot listed now) (Ok found) old new → BeginsBelow (suc slot) new
     one_more true new is = file_begun new is
     one_more false new is = none_opened new is
 
-    pub one_ends : (what : Met) (new : Beginning T W L) → BeginsOne words.tails start.settings (file_at slot listed now) (Err what) old new → Leaves new
+    pub one_ends : (what : Met) (new : Beginning T W L) → BeginsOne words.tails start.settings (file_at start.opening slot listed now) (Err what) old new → Leaves new
     one_ends met.FolderFault new is = failed_opening new is
     one_ends met.NoMemory new (inl none) = without_memory new none
     one_ends met.NoMemory new (inr up) = given_up new up

@@ -1,6 +1,7 @@
 -- Files begun one behind the other, in the order of their slots: one more, and what stays over all of them.
-use Rattle.std.proofs.Common.{◌≡◌, ◌⊎◌, inl, inr, ℕ, zero, suc, ◌+◌, ◌-◌, ◌^◌, ◌≤◌, ◌<◌, Bool, true, false, List, [], ◌∷◌, ◌++◌, length, take, append-nil, append_assoc, Some, Result, Ok, Err, IfErr, IsErrAnd, refl, sym, ap, subst, ◌∙◌, arith}
+use Rattle.std.proofs.Common.{◌≡◌, ◌⊎◌, inl, inr, ⊎_elim, ℕ, zero, suc, ◌+◌, ◌-◌, ◌^◌, ◌≤◌, ◌<◌, Bool, true, false, List, [], ◌∷◌, ◌++◌, length, take, append-nil, append_assoc, Some, Result, Ok, Err, IfErr, IsErrAnd, refl, sym, ap, subst, ◌∙◌, arith}
 use Rattle.std.proofs.lemmas.Option.{slice_get_within}
+use Rattle.std.specs.List.{AllByRecursion}
 use Rattle.std.specs.Prelude.{slice_get}
 use Rattle.event_tree.specs.declared.settings.Settings.{Settings}
 use Rattle.keeper.specs.Keeping.{Keeping}
@@ -15,12 +16,15 @@ use Rattle.wire_base.specs.declared.numbers.Moment.{Moment}
 use Rattle.wire_base.specs.declared.row.Row.{Row}
 use Rattle.run_steps.specs.Beginning.{Beginning, BeginsOne, ListedFile}
 use Rattle.run_steps.specs.BeginsAll.{AreSlotsBelow, BeginsAll, BeginsFrom, BeginsOrPasses, BeginsSome, EndsBeginning, EndsInFiles, EndsInOne, IsSlotBelow, KeepsOthers, file_at, many_harvesters, passed_by}
+use Rattle.run_steps.specs.BeginFor.{start_among}
+use Rattle.run_steps.specs.KnownKeys.{KnowsAmong}
 use Rattle.run_steps.specs.Telling.{TellMoments, TellSomeMoments, TellsNotes}
 use Rattle.run_steps.specs.declared.met.Met.{Met}
 use Rattle.run_steps.specs.declared.met.Met.TheVariants as met
 use Rattle.run_steps.specs.declared.met.Met.TheVariants.{NoMemory}
 use Rattle.run_steps.proofs.Admitting.{each_still}
 use Rattle.run_steps.proofs.Keeps.{BeginKeeps, TakesOne, as_many_lanes, begin_keeps, carriers_kept, keeper_others, one_note_more, pace_kept}
+use Rattle.run_steps.proofs.KnownKeys.{IsOfKeys, of_front, told_knows}
 use Rattle.run_steps.proofs.Notes.{moments_are_told}
 use Rattle.run_steps.proofs.Tails.{as_many_harvesters, as_many_open, followed_by}
 
@@ -43,7 +47,7 @@ take_shorter zero listed = omega arith
 take_shorter (suc count) [] = omega arith
 take_shorter (suc count) (one ∷ listed) = let rest = take_shorter count listed in omega (arith, rest)
 
-module _ {T W L : Type 0} (tails : TailWords T) (settings : Settings) (now : Moment) where
+module _ {T W L : Type 0} (tails : TailWords T) (settings : Settings) (rows : List Row) (now : Moment) where
   -- what some steps keep, in slots below this one, of which at most so many opened a file
   pub record KeepsSteps (top count : ℕ) (old new : Beginning T W L) : Type 0 where
     pub carriers : new.crew.carriers ≡ old.crew.carriers
@@ -95,24 +99,24 @@ module _ {T W L : Type 0} (tails : TailWords T) (settings : Settings) (now : Mom
     open_tails = keeps.open_tails;
   }
 
-  one_keeps : (slot : ℕ) (listed : Listed) (result : Result Bool Met) (old new : Beginning T W L) → BeginsOne tails settings (file_at slot listed now) result old new → KeepsSteps (suc slot) 1 old new
+  one_keeps : (slot : ℕ) (listed : Listed) (result : Result Bool Met) (old new : Beginning T W L) → BeginsOne tails settings (file_at rows slot listed now) result old new → KeepsSteps (suc slot) 1 old new
   one_keeps slot listed result old new is = record {
-    carriers = carriers_kept tails settings (file_at slot listed now) old new keeps;
-    pace = pace_kept tails settings (file_at slot listed now) old new keeps;
-    as_many_lanes = as_many_lanes tails settings (file_at slot listed now) old new keeps;
-    keeper = keeper_others tails settings (file_at slot listed now) old new keeps;
+    carriers = carriers_kept tails settings (file_at rows slot listed now) old new keeps;
+    pace = pace_kept tails settings (file_at rows slot listed now) old new keeps;
+    as_many_lanes = as_many_lanes tails settings (file_at rows slot listed now) old new keeps;
+    keeper = keeper_others tails settings (file_at rows slot listed now) old new keeps;
     faults_never_fall = keeps.faults_never_fall;
-    notes = one_note_more tails settings (file_at slot listed now) old new keeps;
+    notes = one_note_more tails settings (file_at rows slot listed now) old new keeps;
     slots = λ most le below. by_lanes most le below keeps.lanes;
-    few_open = λ below. let opened = as_many_open tails settings (file_at slot listed now) result old new (omega (arith, below)) is in let few = at_most_one result in omega (arith, opened, few);
+    few_open = λ below. let opened = as_many_open tails settings (file_at rows slot listed now) result old new (omega (arith, below)) is in let few = at_most_one result in omega (arith, opened, few);
     open_tails = λ below.
-        let opened = as_many_open tails settings (file_at slot listed now) result old new (omega (arith, below)) is in
-        let many = as_many_harvesters tails settings (file_at slot listed now) result old new is in
+        let opened = as_many_open tails settings (file_at rows slot listed now) result old new (omega (arith, below)) is in
+        let many = as_many_harvesters tails settings (file_at rows slot listed now) result old new is in
         omega (arith, opened, many);
   }
     where
-      keeps : BeginKeeps tails settings (file_at slot listed now) old new
-      keeps = begin_keeps tails settings (file_at slot listed now) result old new is
+      keeps : BeginKeeps tails settings (file_at rows slot listed now) old new
+      keeps = begin_keeps tails settings (file_at rows slot listed now) result old new is
 
       at_most_one : (r : Result Bool Met) → followed_by r ≤ 1
       at_most_one (Ok true) = omega arith
@@ -120,13 +124,13 @@ module _ {T W L : Type 0} (tails : TailWords T) (settings : Settings) (now : Mom
       at_most_one (Err what) = omega arith
 
       by_lanes : (most : ℕ) → suc slot ≤ most → AreSlotsBelow most (lanings old.crew.lanes.items) →
-          (lanings new.crew.lanes.items ≡ lanings old.crew.lanes.items) ⊎ TakesOne tails settings (file_at slot listed now) (lanings old.crew.lanes.items) (lanings new.crew.lanes.items) → AreSlotsBelow most (lanings new.crew.lanes.items)
+          (lanings new.crew.lanes.items ≡ lanings old.crew.lanes.items) ⊎ TakesOne tails settings (file_at rows slot listed now) (lanings old.crew.lanes.items) (lanings new.crew.lanes.items) → AreSlotsBelow most (lanings new.crew.lanes.items)
       by_lanes most le below (inl same) = subst (AreSlotsBelow most) (sym same) below
       by_lanes most le below (inr takes) =
           let its = ap (λ (g : Begin). g.slot.0) (takes.opened.begun ∙ takes.opened.begins.is) in
           each_still takes.harvester takes.number (lanings old.crew.lanes.items) (lanings new.crew.lanes.items) takes.admits (IsSlotBelow most) (omega (arith, its, le)) below
 
-  pub from_keeps : (slot : ℕ) (listed : List Listed) (passed : List Passing) (old new : Beginning T W L) → BeginsFrom tails settings now slot listed passed old new → KeepsSteps (length listed + slot) (length listed) old new
+  pub from_keeps : (slot : ℕ) (listed : List Listed) (passed : List Passing) (old new : Beginning T W L) → BeginsFrom tails settings rows now slot listed passed old new → KeepsSteps (length listed + slot) (length listed) old new
   from_keeps slot [] passed old new is = none_keeps (0 + slot) old new is.1
   from_keeps slot (one ∷ listed) passed old new is =
       subst (λ (n : ℕ). KeepsSteps (suc (length listed) + slot) n old new) (one_first (length listed))
@@ -136,6 +140,21 @@ module _ {T W L : Type 0} (tails : TailWords T) (settings : Settings) (now : Mom
     where
       one_first : (n : ℕ) → 1 + n ≡ suc n
       one_first n = omega arith
+
+  -- ---- keys
+
+  one_knows : (keys : List (List ℕ)) (slot : ℕ) (listed : Listed) (result : Result Bool Met) (old new : Beginning T W L) → IsOfKeys keys listed → BeginsOne tails settings (file_at rows slot listed now) result old new →
+      KnowsAmong keys old.keeper → KnowsAmong keys new.keeper
+  one_knows keys slot listed result old new of is knows =
+      ⊎_elim (λ same. subst (KnowsAmong keys) (sym same) knows)
+      (λ tells. told_knows keys (record { 0 = slot }) listed (start_among rows listed) old.keeper new.keeper of tells knows)
+      (begin_keeps tails settings (file_at rows slot listed now) result old new is).keeper
+
+  from_knows : (keys : List (List ℕ)) (slot : ℕ) (listed : List Listed) (passed : List Passing) (old new : Beginning T W L) → AllByRecursion (IsOfKeys keys) listed →
+      BeginsFrom tails settings rows now slot listed passed old new → KnowsAmong keys old.keeper → KnowsAmong keys new.keeper
+  from_knows keys slot [] passed old new of is knows = subst (λ (s : Beginning T W L). KnowsAmong keys s.keeper) (sym is.1) knows
+  from_knows keys slot (one ∷ listed) passed old new of is knows =
+      from_knows keys (suc slot) listed is.later is.mid new of.1 is.rest (one_knows keys slot one (Ok is.found) old is.mid of.0 is.first knows)
 
   keep_others : (most top count : ℕ) (old new : Beginning T W L) → top ≤ most → count ≤ most → KeepsSteps top count old new → KeepsOthers most old new
   keep_others most top count old new under few keeps = record {
@@ -161,12 +180,12 @@ module _ {T W L : Type 0} (tails : TailWords T) (settings : Settings) (now : Mom
   })
 
   module _ (listed : List Listed) (old new : Beginning T W L) where
-    some_keep : (count : ℕ) (passed : List Passing) (mid : Beginning T W L) → BeginsFrom tails settings now 0 (take count listed) passed old mid → KeepsOthers (length listed) old mid
+    some_keep : (count : ℕ) (passed : List Passing) (mid : Beginning T W L) → BeginsFrom tails settings rows now 0 (take count listed) passed old mid → KeepsOthers (length listed) old mid
     some_keep count passed mid begins =
         let few = take_shorter count listed in
         keep_others (length listed) (length (take count listed) + 0) (length (take count listed)) old mid (omega (arith, few)) few (from_keeps 0 (take count listed) passed old mid begins)
 
-    pub files_keep : (what : Met) → EndsInFiles tails settings now listed what old new → KeepsOthers (length listed) old new
+    pub files_keep : (what : Met) → EndsInFiles tails settings rows now listed what old new → KeepsOthers (length listed) old new
     files_keep what (inl is) =
         let inside = slice_get_within listed is.count is.one is.is in
         let short = take_short is.count listed in
@@ -176,22 +195,22 @@ module _ {T W L : Type 0} (tails : TailWords T) (settings : Settings) (now : Mom
         (one_keeps is.count is.one (Err what) is.mid new is.ended))
     files_keep what (inr (memory, is)) = some_keep is.count is.passed new is.begins
 
-    pub all_keep : (passed : List Passing) → BeginsAll tails settings now listed passed old new → KeepsOthers (length listed) old new
+    pub all_keep : (passed : List Passing) → BeginsAll tails settings rows now listed passed old new → KeepsOthers (length listed) old new
     all_keep passed is =
-        let more = moments_are_told 0 listed is.mid.keeper new.keeper is.tell in
+        let more = moments_are_told rows 0 listed is.mid.keeper new.keeper is.tell in
         moments_keep (length listed) more.more old is.mid new
         (keep_others (length listed) (length listed + 0) (length listed) old is.mid (omega arith) (omega arith) (from_keeps 0 listed passed old is.mid is.begins)) more.tells is.others
 
-    pub some_keeps : (what : Met) → BeginsSome tails settings now listed what old new → KeepsOthers (length listed) old new
+    pub some_keeps : (what : Met) → BeginsSome tails settings rows now listed what old new → KeepsOthers (length listed) old new
     some_keeps what (inl is) = files_keep what (inl is)
     some_keeps what (inr (memory, inl is)) = files_keep what (inr (memory, is))
     some_keeps what (inr (memory, inr is)) =
-        let more = moments_are_told 0 (take is.tell.count listed) is.mid.keeper new.keeper is.tell.tell in
+        let more = moments_are_told rows 0 (take is.tell.count listed) is.mid.keeper new.keeper is.tell.tell in
         moments_keep (length listed) more.more old is.mid new
         (keep_others (length listed) (length listed + 0) (length listed) old is.mid (omega arith) (omega arith) (from_keeps 0 listed is.passed old is.mid is.begins)) more.tells is.others
 
     -- why it ended early
-    pub begin_ends : (what : Met) → BeginsSome tails settings now listed what old new → EndsBeginning what old new
+    pub begin_ends : (what : Met) → BeginsSome tails settings rows now listed what old new → EndsBeginning what old new
     begin_ends what (inr is) = subst (λ (m : Met). EndsBeginning m old new) (sym is.0) tt
     begin_ends met.FolderFault (inl is) =
         let keeps = from_keeps 0 (take is.count listed) is.passed old is.mid is.begins in
@@ -203,7 +222,7 @@ module _ {T W L : Type 0} (tails : TailWords T) (settings : Settings) (now : Mom
     begin_ends (met.Unreachable worker) (inl is) = absurd is.ended
     begin_ends (met.Epochs epoch) (inl is) = absurd is.ended
 
-    pub files_end : {A : Type 0} (result : Result A Met) (what : Met) → IsErrAnd result (λ other. other ≡ what) → EndsInFiles tails settings now listed what old new →
+    pub files_end : {A : Type 0} (result : Result A Met) (what : Met) → IsErrAnd result (λ other. other ≡ what) → EndsInFiles tails settings rows now listed what old new →
         IfErr result (λ other. EndsBeginning other old new)
     files_end (Ok value) what is ended = tt
     files_end (Err other) what is (inl ended) = subst (λ (m : Met). EndsBeginning m old new) (sym is) (begin_ends what (inl ended))
@@ -215,13 +234,13 @@ module _ {T W L : Type 0} (tails : TailWords T) (settings : Settings) (now : Mom
 
   -- ---- one more
 
-  pub from_then : (slot : ℕ) (listed : List Listed) (one : Listed) (passed more : List Passing) (old mid new : Beginning T W L) → BeginsFrom tails settings now slot listed passed old mid →
-      BeginsOrPasses tails settings now (file_at (length listed + slot) one now) more mid new → BeginsFrom tails settings now slot (listed ++ one ∷ []) (passed ++ more) old new
+  pub from_then : (slot : ℕ) (listed : List Listed) (one : Listed) (passed more : List Passing) (old mid new : Beginning T W L) → BeginsFrom tails settings rows now slot listed passed old mid →
+      BeginsOrPasses tails settings (file_at rows (length listed + slot) one now) more mid new → BeginsFrom tails settings rows now slot (listed ++ one ∷ []) (passed ++ more) old new
   from_then slot [] one passed more old mid new is then = record {
     found = then.found;
     mid = new;
-    first = subst (λ (n : ℕ). BeginsOne tails settings (file_at n one now) (Ok then.found) old new) (none_longer slot)
-        (subst (λ (s : Beginning T W L). BeginsOne tails settings (file_at (0 + slot) one now) (Ok then.found) s new) is.1 then.begins);
+    first = subst (λ (n : ℕ). BeginsOne tails settings (file_at rows n one now) (Ok then.found) old new) (none_longer slot)
+        (subst (λ (s : Beginning T W L). BeginsOne tails settings (file_at rows (0 + slot) one now) (Ok then.found) s new) is.1 then.begins);
     later = [];
     passed_are = ap (λ (l : List Passing). l ++ more) is.0 ∙ then.more_is ∙ sym (append-nil (passed_by then.found one));
     rest = (refl, refl);
@@ -236,14 +255,14 @@ module _ {T W L : Type 0} (tails : TailWords T) (settings : Settings) (now : Mom
     later = is.later ++ more;
     passed_are = ap (λ (l : List Passing). l ++ more) is.passed_are ∙ append_assoc (passed_by is.found first) is.later more;
     rest = from_then (suc slot) listed one is.later more is.mid mid new is.rest
-        (subst (λ (n : ℕ). BeginsOrPasses tails settings now (file_at n one now) more mid new) (one_longer (length listed)) then);
+        (subst (λ (n : ℕ). BeginsOrPasses tails settings (file_at rows n one now) more mid new) (one_longer (length listed)) then);
   }
     where
       one_longer : (n : ℕ) → suc n + slot ≡ n + suc slot
       one_longer n = omega arith
 
   module _ (listed : List Listed) (count : ℕ) (one : Listed) (there : slice_get listed count ≡ Some one) (passed : List Passing) (old mid : Beginning T W L)
-      (begins : BeginsFrom tails settings now 0 (take count listed) passed old mid) where
+      (begins : BeginsFrom tails settings rows now 0 (take count listed) passed old mid) where
     at_count : length (take count listed) + 0 ≡ count
     at_count = let long = front_long listed count one there in omega (arith, long)
       where
@@ -252,13 +271,13 @@ module _ {T W L : Type 0} (tails : TailWords T) (settings : Settings) (now : Mom
         front_long (first ∷ all) zero x is = refl
         front_long (first ∷ all) (suc n) x is = ap suc (front_long all n x is)
 
-    pub begins_next : (more : List Passing) (new : Beginning T W L) → BeginsOrPasses tails settings now (file_at count one now) more mid new →
-        BeginsFrom tails settings now 0 (take (suc count) listed) (passed ++ more) old new
-    begins_next more new then = subst (λ (l : List Listed). BeginsFrom tails settings now 0 l (passed ++ more) old new) (sym (take_one listed count one there))
+    pub begins_next : (more : List Passing) (new : Beginning T W L) → BeginsOrPasses tails settings (file_at rows count one now) more mid new →
+        BeginsFrom tails settings rows now 0 (take (suc count) listed) (passed ++ more) old new
+    begins_next more new then = subst (λ (l : List Listed). BeginsFrom tails settings rows now 0 l (passed ++ more) old new) (sym (take_one listed count one there))
         (from_then 0 (take count listed) one passed more old mid new begins
-        (subst (λ (n : ℕ). BeginsOrPasses tails settings now (file_at n one now) more mid new) (sym at_count) then))
+        (subst (λ (n : ℕ). BeginsOrPasses tails settings (file_at rows n one now) more mid new) (sym at_count) then))
 
-    pub ends_here : (what : Met) (new : Beginning T W L) → EndsInOne tails settings now (file_at count one now) what mid new → EndsInFiles tails settings now listed what old new
+    pub ends_here : (what : Met) (new : Beginning T W L) → EndsInOne tails settings (file_at rows count one now) what mid new → EndsInFiles tails settings rows now listed what old new
     ends_here what new (inl ended) = inl (record { count = count; passed = passed; mid = mid; begins = begins; one = one; is = there; ended = ended })
     ends_here what new (inr (memory, none)) = inr (
       memory,
@@ -269,53 +288,50 @@ module _ {T W L : Type 0} (tails : TailWords T) (settings : Settings) (now : Mom
       },
     )
 
-    pub after_next : (later more : List Passing) (new : Beginning T W L) → later ≡ passed ++ more → BeginsOrPasses tails settings now (file_at count one now) more mid new →
-        BeginsFrom tails settings now 0 (take (count + 1) listed) later old new
-    after_next later more new is then = subst (λ (n : ℕ). BeginsFrom tails settings now 0 (take n listed) later old new) next
-        (subst (λ (l : List Passing). BeginsFrom tails settings now 0 (take (suc count) listed) l old new) (sym is) (begins_next more new then))
+    pub after_next : (later more : List Passing) (new : Beginning T W L) → later ≡ passed ++ more → BeginsOrPasses tails settings (file_at rows count one now) more mid new →
+        BeginsFrom tails settings rows now 0 (take (count + 1) listed) later old new
+    after_next later more new is then = subst (λ (n : ℕ). BeginsFrom tails settings rows now 0 (take n listed) later old new) next
+        (subst (λ (l : List Passing). BeginsFrom tails settings rows now 0 (take (suc count) listed) l old new) (sym is) (begins_next more new then))
       where
         next : suc count ≡ count + 1
         next = omega arith
 
-    pub ends_as : {A : Type 0} (result : Result A Met) (what : Met) (new : Beginning T W L) → IsErrAnd result (λ other. other ≡ what) → EndsInOne tails settings now (file_at count one now) what mid new →
-        IfErr result (λ other. EndsInFiles tails settings now listed other old new)
+    pub ends_as : {A : Type 0} (result : Result A Met) (what : Met) (new : Beginning T W L) → IsErrAnd result (λ other. other ≡ what) → EndsInOne tails settings (file_at rows count one now) what mid new →
+        IfErr result (λ other. EndsInFiles tails settings rows now listed other old new)
     ends_as (Ok value) what new is ended = tt
-    ends_as (Err other) what new is ended = subst (λ (m : Met). EndsInFiles tails settings now listed m old new) (sym is) (ends_here what new ended)
+    ends_as (Err other) what new is ended = subst (λ (m : Met). EndsInFiles tails settings rows now listed m old new) (sym is) (ends_here what new ended)
 
   -- ---- what stays over so many of them
 
-  module _ (count : ℕ) (listed : List Listed) (passed : List Passing) (old new : Beginning T W L) (begins : BeginsFrom tails settings now 0 (take count listed) passed old new) where
+  module _ (count : ℕ) (listed : List Listed) (passed : List Passing) (old new : Beginning T W L) (begins : BeginsFrom tails settings rows now 0 (take count listed) passed old new) where
     pub lanes_still : 0 < length old.crew.lanes.items → 0 < length new.crew.lanes.items
     lanes_still some = let keeps = from_keeps 0 (take count listed) passed old new begins in let many = keeps.as_many_lanes in omega (arith, some, many)
 
-    pub rows_still : old.keeper.store.rows ≡ [] → length new.keeper.store.rows ≡ 0
-    rows_still none =
-        let keeps = from_keeps 0 (take count listed) passed old new begins in
-        ap (λ (k : Keeping). length k.store.rows) keeps.keeper ∙ ap (λ (l : List Row). length l) none
+    pub rows_still : new.keeper.store.rows ≡ old.keeper.store.rows
+    rows_still = let keeps = from_keeps 0 (take count listed) passed old new begins in ap (λ (k : Keeping). k.store.rows) keeps.keeper
 
-    pub notes_still : old.keeper.tracked.notes ≡ [] → length new.keeper.tracked.notes ≤ count
-    notes_still none =
-        let keeps = from_keeps 0 (take count listed) passed old new begins in
-        let notes = keeps.notes in
-        let short = take_short count listed in
-        let were = ap (λ (l : List Note). length l) none in
-        omega (arith, notes, short, were)
+    -- the keys of all of them are known
+    pub knows_still : (keys : List (List ℕ)) → AllByRecursion (IsOfKeys keys) listed → KnowsAmong keys old.keeper → KnowsAmong keys new.keeper
+    knows_still keys of knows = from_knows keys 0 (take count listed) passed old new (of_front keys count listed of) begins knows
+
+  pub rows_kept : (listed : List Listed) (passed : List Passing) (old mid : Beginning T W L) → BeginsFrom tails settings rows now 0 listed passed old mid → mid.keeper.store.rows ≡ old.keeper.store.rows
+  rows_kept listed passed old mid begins = let keeps = from_keeps 0 listed passed old mid begins in ap (λ (k : Keeping). k.store.rows) keeps.keeper
 
   -- ---- and the moments
 
   module _ (listed : List Listed) (old mid new : Beginning T W L) where
-    pub ends_so : (what : Met) → EndsInFiles tails settings now listed what old new → BeginsSome tails settings now listed what old new
+    pub ends_so : (what : Met) → EndsInFiles tails settings rows now listed what old new → BeginsSome tails settings rows now listed what old new
     ends_so what (inl ended) = inl ended
     ends_so what (inr (memory, behind)) = inr (memory, inl behind)
 
-    pub all_so : (passed : List Passing) (slice : List Listed) → slice ≡ listed → BeginsFrom tails settings now 0 listed passed old mid → TellMoments 0 slice mid.keeper new.keeper →
-        new ≡ record mid { keeper = new.keeper } → BeginsAll tails settings now listed passed old new
+    pub all_so : (passed : List Passing) (slice : List Listed) → slice ≡ listed → BeginsFrom tails settings rows now 0 listed passed old mid → TellMoments rows 0 slice mid.keeper new.keeper →
+        new ≡ record mid { keeper = new.keeper } → BeginsAll tails settings rows now listed passed old new
     all_so passed slice same begins tell others =
-        record { mid = mid; begins = begins; tell = subst (λ (l : List Listed). TellMoments 0 l mid.keeper new.keeper) same tell; others = others }
+        record { mid = mid; begins = begins; tell = subst (λ (l : List Listed). TellMoments rows 0 l mid.keeper new.keeper) same tell; others = others }
 
     pub ends_told : {A : Type 0} (result : Result A Met) (passed : List Passing) (slice : List Listed) → IsErrAnd result (λ met. met ≡ NoMemory) → slice ≡ listed →
-        BeginsFrom tails settings now 0 listed passed old mid → TellSomeMoments slice mid.keeper new.keeper → new ≡ record mid { keeper = new.keeper } →
-        IfErr result (λ met. BeginsSome tails settings now listed met old new)
+        BeginsFrom tails settings rows now 0 listed passed old mid → TellSomeMoments rows slice mid.keeper new.keeper → new ≡ record mid { keeper = new.keeper } →
+        IfErr result (λ met. BeginsSome tails settings rows now listed met old new)
     ends_told (Ok value) passed slice memory same begins tell others = tt
     ends_told (Err what) passed slice memory same begins tell others = inr (
       memory,
@@ -323,12 +339,12 @@ module _ {T W L : Type 0} (tails : TailWords T) (settings : Settings) (now : Mom
         passed = passed;
         mid = mid;
         begins = begins;
-        tell = subst (λ (l : List Listed). TellSomeMoments l mid.keeper new.keeper) same tell;
+        tell = subst (λ (l : List Listed). TellSomeMoments rows l mid.keeper new.keeper) same tell;
         others = others;
       }),
     )
 
-    pub some_told_keep : (passed : List Passing) (slice : List Listed) → slice ≡ listed → BeginsFrom tails settings now 0 listed passed old mid → TellSomeMoments slice mid.keeper new.keeper →
+    pub some_told_keep : (passed : List Passing) (slice : List Listed) → slice ≡ listed → BeginsFrom tails settings rows now 0 listed passed old mid → TellSomeMoments rows slice mid.keeper new.keeper →
         new ≡ record mid { keeper = new.keeper } → KeepsOthers (length listed) old new
     some_told_keep passed slice same begins tell others = some_keeps listed old new NoMemory (inr (
       refl,
@@ -336,14 +352,15 @@ module _ {T W L : Type 0} (tails : TailWords T) (settings : Settings) (now : Mom
         passed = passed;
         mid = mid;
         begins = begins;
-        tell = subst (λ (l : List Listed). TellSomeMoments l mid.keeper new.keeper) same tell;
+        tell = subst (λ (l : List Listed). TellSomeMoments rows l mid.keeper new.keeper) same tell;
         others = others;
       }),
     ))
 
-  -- ---- one
+-- ---- one
 
+module _ {T W L : Type 0} (tails : TailWords T) (settings : Settings) where
   pub followed_one : (file : ListedFile) (found : Bool) (old new : Beginning T W L) (passed : List Passing) → BeginsOne tails settings file (Ok found) old new → found ≡ true →
-      (more : List Passing) × (passed ≡ passed ++ more) × BeginsOrPasses tails settings now file more old new
+      (more : List Passing) × (passed ≡ passed ++ more) × BeginsOrPasses tails settings file more old new
   followed_one file found old new passed begins is =
       ([], sym (append-nil passed), record { found = true; begins = subst (λ (b : Bool). BeginsOne tails settings file (Ok b) old new) is begins; more_is = refl })

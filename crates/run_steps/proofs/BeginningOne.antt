@@ -142,7 +142,7 @@ module _ {T W L D : Type 0} (words : Words T W L D) (start : Began D) (moments :
 
   -- the file of this slot, as it is opened by the rule of its input
   pub record IsBegunSo (slot : ℕ) (one : Opened) : Type 0 where
-    pub as_listed : IsOpenedAsListed start.settings start.listed one
+    pub as_listed : IsOpenedAsListed start.settings start.opening start.listed one
     pub keyed : IsSome start.shown → IsKeyedByPath one
     pub slot_is : one.begin.slot.0 ≡ slot
 
@@ -176,8 +176,8 @@ module _ {T W L D : Type 0} (words : Words T W L D) (start : Began D) (moments :
           let is = so.slot_is in
           omega (arith, below, is)
 
-      pub opened_as_listed : AllByRecursion (IsOpenedAsListed start.settings start.listed) more
-      opened_as_listed = each_last (IsOpenedAsListed start.settings start.listed) was.opened one begins.stands.opened so.as_listed
+      pub opened_as_listed : AllByRecursion (IsOpenedAsListed start.settings start.opening start.listed) more
+      opened_as_listed = each_last (IsOpenedAsListed start.settings start.opening start.listed) was.opened one begins.stands.opened so.as_listed
 
       pub keyed : IsSome start.shown → AllByRecursion IsKeyedByPath more
       keyed some = each_last IsKeyedByPath was.opened one (begins.stands.keyed some) (so.keyed some)
@@ -190,7 +190,7 @@ module _ {T W L D : Type 0} (words : Words T W L D) (start : Began D) (moments :
       pub begun_next : was.begun ++ noted_begin one.begin ∷ [] ≡ map (λ (o : Opened). noted_begin o.begin) more
       begun_next = ap (λ (l : List Note). l ++ noted_begin one.begin ∷ []) begins.begun_are ∙ sym (map-append (λ (o : Opened). noted_begin o.begin) was.opened (one ∷ []))
 
-      pub begun : AreBeginNotes start.listed more (was.begun ++ noted_begin one.begin ∷ [])
+      pub begun : AreBeginNotes start.opening start.listed more (was.begun ++ noted_begin one.begin ∷ [])
       begun = record { seen = []; are = begun_next ∙ sym (append-nil (map (λ (o : Opened). noted_begin o.begin) more)); seen_are = tt }
 
       module _ (files : List Turned) (often : AsOften files (turned ∷ files_in was)) where

@@ -134,9 +134,9 @@ module _ {T W L D : Type 0} (words : Words T W L D) (reads : (disk : D) → IfSo
           (placed_by olds news parcels_kept notes_kept was.told crew.carriers.items was.queued (notes keeper.pass.got) was.boxed begins.stands.placed);
       counted = counted_more (noted_begin one.begin ∷ []) keeper new_keeper tells olds news was after spans_are begins.stands.counted;
       begun = begun words start moments a b now shown crew keeper slot begins one so;
-      noted = noted_more (noted_begin one.begin ∷ []) keeper new_keeper tells was.begun was.collected begins.none_collected begins.stands.noted;
+      noted = noted_more (noted_begin one.begin ∷ []) keeper new_keeper tells start.opening was.begun was.collected begins.none_collected begins.stands.noted;
       stores = stores_more (noted_begin one.begin ∷ []) keeper new_keeper tells begins.stands.stores;
-      areas = λ began. areas_more (noted_begin one.begin ∷ []) keeper new_keeper tells words.disks reads counts start.a start.b a b (begins.stands.areas began);
+      areas = λ began. areas_more (noted_begin one.begin ∷ []) keeper new_keeper tells words.disks reads counts start.opening start.a start.b a b (begins.stands.areas began);
     }
 
     pub begins_next : Begins words start moments a b now later new new_keeper (suc slot)
@@ -205,7 +205,7 @@ module _ {T W L D : Type 0} (words : Words T W L D) (reads : (disk : D) → IfSo
       placed = subst (λ (l : List Note). ArePlaced was.told (lanings crew.lanes.items) crew.carriers.items was.queued l was.boxed) (sym (got_same (noted_begin one.begin ∷ []) keeper new_keeper tells)) begins.stands.placed;
       counted = counted_more (noted_begin one.begin ∷ []) keeper new_keeper tells (lanings crew.lanes.items) (lanings crew.lanes.items) was left_after left_spans begins.stands.counted;
       begun = begun words start moments a b now shown crew keeper slot begins one so;
-      noted = noted_more (noted_begin one.begin ∷ []) keeper new_keeper tells was.begun was.collected begins.none_collected begins.stands.noted;
+      noted = noted_more (noted_begin one.begin ∷ []) keeper new_keeper tells start.opening was.begun was.collected begins.none_collected begins.stands.noted;
       stores = stores_more (noted_begin one.begin ∷ []) keeper new_keeper tells begins.stands.stores;
-      areas = λ began. areas_more (noted_begin one.begin ∷ []) keeper new_keeper tells words.disks reads counts start.a start.b a b (begins.stands.areas began);
+      areas = λ began. areas_more (noted_begin one.begin ∷ []) keeper new_keeper tells words.disks reads counts start.opening start.a start.b a b (begins.stands.areas began);
     }

@@ -14,7 +14,7 @@ use Rattle.run_steps.specs.declared.met.Met.TheVariants.{NoMemory}
 
 module _ {T W L : Type 0} (tails : TailWords T) (settings : Settings) (file : ListedFile) where
   pub gives_up : (tail back : T) (old new : Beginning T W L) → back ≡ tail → Closes tails back old.folder new.folder → SameLanes old.crew new.crew
-      → (new.keeper ≡ old.keeper) ⊎ TellsBegin file.slot file.listed old.keeper new.keeper → GivesUp tails file tail old new
+      → (new.keeper ≡ old.keeper) ⊎ TellsBegin file.slot file.listed file.start old.keeper new.keeper → GivesUp tails file tail old new
   gives_up tail back old new same closes lanes keeper = record {
     closes = subst (λ (t : T). Closes tails t old.folder new.folder) same closes;
     lanes = lanes;

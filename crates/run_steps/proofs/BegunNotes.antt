@@ -29,9 +29,9 @@ module _ (told : List Note) (old new : Keeping) (tells : TellsNotes told old new
   pub got_same : notes new.pass.got ≡ notes old.pass.got
   got_same = ap (λ (k : Keeping). notes k.pass.got) tells.others_stay
 
-  pub noted_more : (begun collected : List Note) → collected ≡ [] → AreNoted old begun collected → AreNoted new (begun ++ told) collected
-  noted_more begun collected none noted = record {
-    opening = tells.opening_stays ∙ noted.opening;
+  pub noted_more : (opening : List Row) (begun collected : List Note) → collected ≡ [] → AreNoted opening old begun collected → AreNoted opening new (begun ++ told) collected
+  noted_more opening begun collected none noted = record {
+    opening_is = tells.opening_stays ∙ noted.opening_is;
     are = tells.told ∙ ap (λ (l : List Note). l ++ told) (noted.are ∙ ap (λ (l : List Note). begun ++ l) none ∙ append-nil begun)
         ∙ sym (ap (λ (l : List Note). (begun ++ told) ++ l) none ∙ append-nil (begun ++ told));
     got = got_same ∙ noted.got ∙ ap (λ (k : Keeping). collected ++ held_in k.held) (sym tells.others_stay);
@@ -58,6 +58,6 @@ module _ (told : List Note) (old new : Keeping) (tells : TellsNotes told old new
 
   module _ {D : Type 0} (disks : DiskWords D) (reads : (disk : D) → IfSome (disks.contents disk) (disks.images disk))
       (counts : (disk : D) (since : ℕ) (image : List ℕ) → since ≤ disks.moment disk → disks.images disk image → disks.images_since disk since image) where
-    pub areas_more : (start_a start_b a b : D) → HaveHeldFronts disks old.tracked.notes start_a start_b a b → HaveHeldFronts disks new.tracked.notes start_a start_b a b
-    areas_more start_a start_b a b held = subst (λ (l : List Note). HaveHeldFronts disks l start_a start_b a b) (sym tells.told)
-        (areas_on disks reads counts old.tracked.notes told start_a start_b a b held)
+    pub areas_more : (opening : List Row) (start_a start_b a b : D) → HaveHeldFronts disks opening old.tracked.notes start_a start_b a b → HaveHeldFronts disks opening new.tracked.notes start_a start_b a b
+    areas_more opening start_a start_b a b held = subst (λ (l : List Note). HaveHeldFronts disks opening l start_a start_b a b) (sym tells.told)
+        (areas_on disks reads counts opening old.tracked.notes told start_a start_b a b held)

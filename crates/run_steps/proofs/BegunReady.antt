@@ -13,6 +13,8 @@ use Rattle.rounds.specs.Rounds.{IsReady}
 use Rattle.rounds.specs.Words.{DiskWords, TailWords}
 use Rattle.wire_base.specs.declared.note.Note.{Note}
 use Rattle.wire_base.specs.declared.numbers.Moment.{Moment}
+use Rattle.wire_base.specs.declared.row.Row.{Row}
+use Rattle.run_steps.specs.BeginFor.{start_among}
 use Rattle.run_steps.specs.Areas.{IsAtRest}
 use Rattle.run_steps.specs.Beginning.{Beginning, BeginsOne}
 use Rattle.run_steps.specs.BeginsAll.{BeginsAll, BeginsFrom, BeginsSome, file_at}
@@ -33,25 +35,25 @@ rests_on disks a b more old new tells rests = record {
   };
 }
 
-module _ {T W L : Type 0} (tails : TailWords T) (settings : Settings) (now : Moment) where
+module _ {T W L : Type 0} (tails : TailWords T) (settings : Settings) (rows : List Row) (now : Moment) where
   -- what each step keeps, all of them keep
-  module _ (P : Beginning T W L → Type 0) (one : (slot : ℕ) (listed : Listed) (result : Result Bool Met) (old new : Beginning T W L) → BeginsOne tails settings (file_at slot listed now) result old new → P old → P new)
+  module _ (P : Beginning T W L → Type 0) (one : (slot : ℕ) (listed : Listed) (result : Result Bool Met) (old new : Beginning T W L) → BeginsOne tails settings (file_at rows slot listed now) result old new → P old → P new)
       (told : (mid new : Beginning T W L) (more : List Note) → TellsNotes more mid.keeper new.keeper → new ≡ record mid { keeper = new.keeper } → P mid → P new) where
-    through_files : (slot : ℕ) (listed : List Listed) (passed : List Passing) (old new : Beginning T W L) → BeginsFrom tails settings now slot listed passed old new → P old → P new
+    through_files : (slot : ℕ) (listed : List Listed) (passed : List Passing) (old new : Beginning T W L) → BeginsFrom tails settings rows now slot listed passed old new → P old → P new
     through_files slot [] passed old new is holds = subst P (sym is.1) holds
     through_files slot (first ∷ listed) passed old new is holds =
         through_files (suc slot) listed is.later is.mid new is.rest (one slot first (Ok is.found) old is.mid is.first holds)
 
-    through : (listed : List Listed) (result : Result (Vec Passing Global) Met) (old new : Beginning T W L) → IfOk result (λ passed. BeginsAll tails settings now listed passed.items old new) →
-        IfErr result (λ what. BeginsSome tails settings now listed what old new) → P old → P new
+    through : (listed : List Listed) (result : Result (Vec Passing Global) Met) (old new : Beginning T W L) → IfOk result (λ passed. BeginsAll tails settings rows now listed passed.items old new) →
+        IfErr result (λ what. BeginsSome tails settings rows now listed what old new) → P old → P new
     through listed (Ok passed) old new is ended holds =
-        let more = moments_are_told 0 listed is.mid.keeper new.keeper is.tell in
+        let more = moments_are_told rows 0 listed is.mid.keeper new.keeper is.tell in
         told is.mid new more.more more.tells is.others (through_files 0 listed passed.items old is.mid is.begins holds)
     through listed (Err what) old new begun (inl is) holds =
         one is.count is.one (Err what) is.mid new is.ended (through_files 0 (take is.count listed) is.passed old is.mid is.begins holds)
     through listed (Err what) old new begun (inr (memory, inl is)) holds = through_files 0 (take is.count listed) is.passed old new is.begins holds
     through listed (Err what) old new begun (inr (memory, inr is)) holds =
-        let more = moments_are_told 0 (take is.tell.count listed) is.mid.keeper new.keeper is.tell.tell in
+        let more = moments_are_told rows 0 (take is.tell.count listed) is.mid.keeper new.keeper is.tell.tell in
         told is.mid new more.more more.tells is.others (through_files 0 listed is.passed old is.mid is.begins holds)
 
   -- ---- rounds may follow
@@ -60,12 +62,12 @@ module _ {T W L : Type 0} (tails : TailWords T) (settings : Settings) (now : Mom
     abbrev pub MayRun : Beginning T W L → Type 0
     MayRun state = IsReady tails queue desk (crewing state.crew (lent loan state.keeper a b))
 
-    one_runs : (slot : ℕ) (listed : Listed) (result : Result Bool Met) (old new : Beginning T W L) → BeginsOne tails settings (file_at slot listed now) result old new → MayRun old → MayRun new
+    one_runs : (slot : ℕ) (listed : Listed) (result : Result Bool Met) (old new : Beginning T W L) → BeginsOne tails settings (file_at rows slot listed now) result old new → MayRun old → MayRun new
     one_runs slot listed result old new is ready =
-        let keeps = begin_keeps tails settings (file_at slot listed now) result old new is in
-        let others = keeper_others tails settings (file_at slot listed now) old new keeps in
+        let keeps = begin_keeps tails settings (file_at rows slot listed now) result old new is in
+        let others = keeper_others tails settings (file_at rows slot listed now) old new keeps in
         record {
-          able = able_on tails settings (file_at slot listed now) old new keeps queue desk (lent loan old.keeper a b) (lent loan new.keeper a b) (ap (λ (k : Keeping). k.pass) others) ready.able;
+          able = able_on tails settings (file_at rows slot listed now) old new keeps queue desk (lent loan old.keeper a b) (lent loan new.keeper a b) (ap (λ (k : Keeping). k.pass) others) ready.able;
           is_open = ap (λ (k : Keeping). k.store.closed) others ∙ ready.is_open;
         }
 
@@ -81,8 +83,8 @@ module _ {T W L : Type 0} (tails : TailWords T) (settings : Settings) (now : Mom
       is_open = ap (λ (k : Keeping). k.store.closed) tells.others_stay ∙ ready.is_open;
     })
 
-    pub ready_begun : (listed : List Listed) (result : Result (Vec Passing Global) Met) (old new : Beginning T W L) → IfOk result (λ passed. BeginsAll tails settings now listed passed.items old new) →
-        IfErr result (λ what. BeginsSome tails settings now listed what old new) → MayRun old → MayRun new
+    pub ready_begun : (listed : List Listed) (result : Result (Vec Passing Global) Met) (old new : Beginning T W L) → IfOk result (λ passed. BeginsAll tails settings rows now listed passed.items old new) →
+        IfErr result (λ what. BeginsSome tails settings rows now listed what old new) → MayRun old → MayRun new
     ready_begun listed result old new begun ended ready = through MayRun one_runs told_runs listed result old new begun ended ready
 
   -- ---- at rest
@@ -91,16 +93,16 @@ module _ {T W L : Type 0} (tails : TailWords T) (settings : Settings) (now : Mom
     abbrev pub Rests : Beginning T W L → Type 0
     Rests state = IsAtRest disks state.keeper a b
 
-    one_rests : (slot : ℕ) (listed : Listed) (result : Result Bool Met) (old new : Beginning T W L) → BeginsOne tails settings (file_at slot listed now) result old new → Rests old → Rests new
-    one_rests slot listed result old new is rests = by_case (begin_keeps tails settings (file_at slot listed now) result old new is).keeper
+    one_rests : (slot : ℕ) (listed : Listed) (result : Result Bool Met) (old new : Beginning T W L) → BeginsOne tails settings (file_at rows slot listed now) result old new → Rests old → Rests new
+    one_rests slot listed result old new is rests = by_case (begin_keeps tails settings (file_at rows slot listed now) result old new is).keeper
       where
-        by_case : (new.keeper ≡ old.keeper) ⊎ TellsBegin (record { 0 = slot }) listed old.keeper new.keeper → IsAtRest disks new.keeper a b
+        by_case : (new.keeper ≡ old.keeper) ⊎ TellsBegin (record { 0 = slot }) listed (start_among rows listed) old.keeper new.keeper → IsAtRest disks new.keeper a b
         by_case (inl same) = subst (λ (k : Keeping). IsAtRest disks k a b) (sym same) rests
         by_case (inr told) = rests_on disks a b _ old.keeper new.keeper told.tells rests
 
     told_rests : (mid new : Beginning T W L) (more : List Note) → TellsNotes more mid.keeper new.keeper → new ≡ record mid { keeper = new.keeper } → Rests mid → Rests new
     told_rests mid new more tells others rests = rests_on disks a b more mid.keeper new.keeper tells rests
 
-    pub rest_begun : (listed : List Listed) (result : Result (Vec Passing Global) Met) (old new : Beginning T W L) → IfOk result (λ passed. BeginsAll tails settings now listed passed.items old new) →
-        IfErr result (λ what. BeginsSome tails settings now listed what old new) → Rests old → Rests new
+    pub rest_begun : (listed : List Listed) (result : Result (Vec Passing Global) Met) (old new : Beginning T W L) → IfOk result (λ passed. BeginsAll tails settings rows now listed passed.items old new) →
+        IfErr result (λ what. BeginsSome tails settings rows now listed what old new) → Rests old → Rests new
     rest_begun listed result old new begun ended rests = through Rests one_rests told_rests listed result old new begun ended rests

@@ -36,6 +36,7 @@ use Rattle.settle_box.specs.Senders.{notes, posted_by}
 use Rattle.settle_box.specs.declared.sender.Sent.{Sent}
 use Rattle.settle_box.specs.declared.sender.Sender.{Sender}
 use Rattle.registry_store.specs.Standing.{Standing}
+use Rattle.ship_core.specs.Rows.{IsInOrder}
 use Rattle.ship_core.specs.RowsOver.{AreRowsOver}
 use Rattle.ship_core.proofs.Members.{none_there}
 use Rattle.pass_sums.specs.Weight.{AsOften, weigh}
@@ -144,10 +145,11 @@ module _ {T W L D : Type 0} (words : Words T W L D) (start : Began D) (crew : Cr
     pub lanes_know : KnowAll [] [] (lanes_passes (lanings crew.lanes.items))
     pub carriers_know : KnowAll [] [] (carriers_passes crew.carriers.items)
     pub heard : start.heard ≡ map (λ (c : Carrier W L). length_of (words.wires.outcomes c.wire)) crew.carriers.items
-    pub no_rows : store.rows ≡ []
+    pub opening_is : store.rows ≡ start.opening
+    pub in_order : IsInOrder store.rows
     pub none_got : pass.got ≡ []
     pub gives : GivesMoment start.moments start.moment later
-    pub areas : BeganAtRest words.disks start → HaveHeldFronts words.disks [] start.a start.b a b
+    pub areas : BeganAtRest words.disks start → HaveHeldFronts words.disks start.opening [] start.a start.b a b
 
   module _ (made : IsMade) where
     pub given : FirstGiven start.moments later start.moment
@@ -267,7 +269,7 @@ module _ {T W L D : Type 0} (words : Words T W L D) (start : Began D) (crew : Cr
       placed = placed;
       counted = counted;
       begun = record { seen = []; are = refl; seen_are = tt };
-      noted = record { opening = made.no_rows; are = refl; got = ap notes made.none_got };
-      stores = λ orderly opened. subst (λ (rows : List Row). AreRowsOver rows [] rows) (sym made.no_rows) (record { in_order = tt; each = λ key. refl });
+      noted = record { opening_is = made.opening_is; are = refl; got = ap notes made.none_got };
+      stores = λ orderly opened. record { in_order = made.in_order; each = λ key. refl };
       areas = made.areas;
     }

@@ -24,7 +24,7 @@ pub record TakesOne {T : Type 0} (tails : TailWords T) (settings : Settings) (fi
 pub record BeginKeeps {T W L : Type 0} (tails : TailWords T) (settings : Settings) (file : ListedFile) (old new : Beginning T W L) : Type 0 where
   pub lanes : (lanings new.crew.lanes.items ≡ lanings old.crew.lanes.items) ⊎ TakesOne tails settings file (lanings old.crew.lanes.items) (lanings new.crew.lanes.items)
   pub others : new.crew ≡ record old.crew { lanes = new.crew.lanes }
-  pub keeper : (new.keeper ≡ old.keeper) ⊎ TellsBegin file.slot file.listed old.keeper new.keeper
+  pub keeper : (new.keeper ≡ old.keeper) ⊎ TellsBegin file.slot file.listed file.start old.keeper new.keeper
   pub faults_never_fall : old.folder.faults ≤ new.folder.faults
 
 admitted_many : {U : Type 0} (number : ℕ) (harvester : Harvester U) (old new : List (Laning U)) → AdmitsAt number harvester old new → length new ≡ length old
@@ -50,7 +50,7 @@ module _ {T W L : Type 0} (tails : TailWords T) (settings : Settings) (file : Li
   behind_opening tail old mid new opened keeps = record {
     lanes = subst (λ (c : Crew T W L). (lanings new.crew.lanes.items ≡ lanings c.lanes.items) ⊎ TakesOne tails settings file (lanings c.lanes.items) (lanings new.crew.lanes.items)) opened.crew keeps.lanes;
     others = subst (λ (c : Crew T W L). new.crew ≡ record c { lanes = new.crew.lanes }) opened.crew keeps.others;
-    keeper = subst (λ (k : Keeping). (new.keeper ≡ k) ⊎ TellsBegin file.slot file.listed k new.keeper) opened.keeper keeps.keeper;
+    keeper = subst (λ (k : Keeping). (new.keeper ≡ k) ⊎ TellsBegin file.slot file.listed file.start k new.keeper) opened.keeper keeps.keeper;
     faults_never_fall = omega (arith, opened.opens.faults_never_fall, keeps.faults_never_fall);
   }
 
@@ -102,4 +102,4 @@ module _ {T W L : Type 0} (tails : TailWords T) (settings : Settings) (file : Li
 
     pub one_note_more : length new.keeper.tracked.notes ≤ length old.keeper.tracked.notes + 1
     one_note_more = ⊎_elim (λ same. omega (arith, ap (λ (k : Keeping). length k.tracked.notes) same))
-        (λ tells. omega (arith, ap length tells.tells.told, length-append old.keeper.tracked.notes (begin_note file.slot file.listed tells.key ∷ []))) keeps.keeper
+        (λ tells. omega (arith, ap length tells.tells.told, length-append old.keeper.tracked.notes (begin_note file.slot file.listed tells.key file.start ∷ []))) keeps.keeper

@@ -13,7 +13,6 @@ pub mod BegunCrews
 pub mod BegunFolder
 pub mod BegunNotes
 pub mod BegunReady
-pub mod Blank
 pub mod ByPath
 pub mod Causing
 pub mod Clocks
@@ -27,8 +26,9 @@ pub mod First
 pub mod Giving
 pub mod Grounds
 pub mod Having
-pub mod HeldNoRow
+pub mod HeldRows
 pub mod Keeps
+pub mod KnownKeys
 pub mod Lanes
 pub mod Leaving
 pub mod Letting
@@ -48,6 +48,8 @@ pub mod PassedOver
 pub mod Released
 pub mod Releasing
 pub mod Rounding
+pub mod RowsFound
+pub mod RowsStay
 pub mod RunAccounted
 pub mod RunBooks
 pub mod RunCauses
@@ -68,6 +70,7 @@ pub mod Scanning
 pub mod SeenMoments
 pub mod Serving
 pub mod SettingOut
+pub mod Starting
 pub mod Settling
 pub mod TailOpened
 pub mod Tails

@@ -17,6 +17,7 @@ use Rattle.prospect.specs.ListedFiles.{Place, place_of, place_order}
 use Rattle.prospect.specs.declared.listed.Listed.{Listed}
 use Rattle.ship_core.proofs.Members.{none_there, there_cases}
 use Rattle.wire_base.proofs.ByteOrder.{compare_same}
+use Rattle.wire_base.specs.declared.row.Row.{Row}
 use Rattle.run_steps.specs.Begun.{IsOpenedAsListed}
 use Rattle.run_steps.proofs.Members.{member_is}
 
@@ -53,9 +54,9 @@ slot_at_least least (first ∷ files) file slots there = by_case (there_cases fi
     by_case (inl same) later = let low = slots.0 in let is : slot_in first ≡ slot_in file = ap slot_in same in omega (arith, low, is)
     by_case (inr behind) later = let low = slots.0 in let more = later behind in omega (arith, low, more)
 
-module _ (settings : Settings) (listed : List Listed) (sorted : IsStrictlySortedBy place_order (map place_of listed)) where
+module _ (settings : Settings) (rows : List Row) (listed : List Listed) (sorted : IsStrictlySortedBy place_order (map place_of listed)) where
   abbrev AsListed : Filed → Type 0
-  AsListed file = IsOpenedAsListed settings listed file.opened
+  AsListed file = IsOpenedAsListed settings rows listed file.opened
 
   -- it has the name of the listed one
   named_as_listed : (file : Filed) (is : AsListed file) → name_in file ≡ record { path = is.one.path; input = is.one.input }

@@ -8,7 +8,8 @@ use Rattle.wire_base.specs.declared.note.Note.{Note}
 use Rattle.wire_base.specs.declared.note.Note.TheVariants.{Begin, Announce, Settle, Rename, Seen, Forget}
 use Rattle.wire_base.specs.declared.numbers.Moment.{Moment}
 use Rattle.wire_base.specs.declared.numbers.Slot.{Slot}
-use Rattle.run_steps.specs.Telling.{TellMoments, TellsMoment, TellsNotes, seen_note}
+use Rattle.wire_base.specs.declared.row.Row.{Row}
+use Rattle.run_steps.specs.Telling.{TellMoments, TellsMoment, TellsNotes, seen_note, moment_noted}
 
 -- ---- in a row
 
@@ -61,16 +62,16 @@ one_told slot changed old new (inr nothing) = record {
   few = omega arith;
 }
 
-pub moments_are_told : (from : ℕ) (listed : List Listed) (old new : Keeping) → TellMoments from listed old new → TellsSeens (length listed) old new
-moments_are_told from [] old new same = record {
+pub moments_are_told : (rows : List Row) (from : ℕ) (listed : List Listed) (old new : Keeping) → TellMoments rows from listed old new → TellsSeens (length listed) old new
+moments_are_told rows from [] old new same = record {
   more = [];
   tells = subst (TellsNotes [] old) (sym same) (none_told old);
   seen = All-nil IsSeen;
   few = omega arith;
 }
-moments_are_told from (one ∷ listed) old new tell =
-    let first = one_told (record { 0 = from }) one.changed old tell.mid tell.first in
-    let rest = moments_are_told (suc from) listed tell.mid new tell.rest in
+moments_are_told rows from (one ∷ listed) old new tell =
+    let first = one_told (record { 0 = from }) (moment_noted rows one) old tell.mid tell.first in
+    let rest = moments_are_told rows (suc from) listed tell.mid new tell.rest in
     record {
       more = first.more ++ rest.more;
       tells = told_behind first.more rest.more old tell.mid new first.tells rest.tells;

@@ -9,6 +9,7 @@ use Rattle.settle_box.specs.Collector.{Collector}
 use Rattle.settle_box.specs.Senders.{notes}
 use Rattle.settle_box.specs.declared.sender.Sent.{Sent}
 use Rattle.wire_base.specs.declared.note.Note.{Note}
+use Rattle.wire_base.specs.declared.row.Row.{Row}
 use Rattle.run_steps.specs.Stands.{AreNoted}
 
 abbrev step : (Note → Bool) → ℕ → Note → ℕ
@@ -49,9 +50,9 @@ module _ (old new : Keeping) (collects : Collects old new) where
   collected_on was = still_on old.collected new.collected (length old.pass.got) (length collects.sent) (length new.pass.got) was collects.collected
       (ap (λ (c : Collector). length c.got) collects.pass ∙ length-append old.pass.got collects.sent)
 
-  pub noted_on : (begun collected : List Note) → AreNoted old begun collected → AreNoted new begun (collected ++ collects.more)
-  noted_on begun collected noted = record {
-    opening = collects.opening ∙ noted.opening;
+  pub noted_on : (opening : List Row) (begun collected : List Note) → AreNoted opening old begun collected → AreNoted opening new begun (collected ++ collects.more)
+  noted_on opening begun collected noted = record {
+    opening_is = collects.opening ∙ noted.opening_is;
     are = collects.noted ∙ ap (λ (l : List Note). l ++ collects.more) noted.are ∙ append_assoc begun collected collects.more;
     got = got_is ∙ ap (λ (l : List Note). l ++ notes collects.sent) noted.got ∙ append_assoc collected (held_in old.held) (notes collects.sent)
         ∙ ap (λ (l : List Note). collected ++ l) collects.notes_are ∙ sym (append_assoc collected collects.more (held_in new.held));

@@ -28,7 +28,9 @@ use Rattle.wire_base.specs.declared.parcel.Parcel.{Parcel}
 use Rattle.event_tree.specs.declared.processor_rule.ProcessorRule.{ProcessorRule}
 use Rattle.event_tree.specs.declared.settings.Settings.{Settings}
 use Rattle.prospect.specs.declared.listed.Listed.{Listed}
-use Rattle.run_steps.specs.Begun.{AreBeginNotes, AreSlotsFrom, IsOpenedAsListed, IsSeenOf, noted_begin, moment_noted}
+use Rattle.wire_base.specs.declared.row.Row.{Row}
+use Rattle.run_steps.specs.Telling.{moment_noted}
+use Rattle.run_steps.specs.Begun.{AreBeginNotes, AreSlotsFrom, IsOpenedAsListed, IsSeenOf, noted_begin}
 use Rattle.run_steps.specs.SoFar.{Left}
 use Rattle.run_steps.specs.Stands.{AreEachOnce, AreTurnedIn, IsLeftSo}
 use Rattle.run_steps.proofs.Filing.{Arranged, arranged}
@@ -107,23 +109,23 @@ module _ (looks : Opened → List Look) (changed : Opened → ℕ) where
       let later : slots_of turned ≡ slots_in opened = cc in
       (record { path = one.begin.path; changed = record { 0 = 0 }; is = refl; within = omega arith }, begins_are opened turned later)
 
-  module _ (listed : List Listed) (opened : List Opened) (turned : List Turned) (same : slots_of turned ≡ slots_in opened)
-      (within : (one : Opened) (entry : Listed) → slice_get listed one.begin.slot.0 ≡ Some entry → (moment_noted entry).0 ≤ changed one) where
-    seens_are : (seens : List Note) → AllByRecursion (IsSeenOf listed opened) seens → AllByRecursion (IsMomentOfOne (zipped looks changed opened turned)) seens
+  module _ (rows : List Row) (listed : List Listed) (opened : List Opened) (turned : List Turned) (same : slots_of turned ≡ slots_in opened)
+      (within : (one : Opened) (entry : Listed) → slice_get listed one.begin.slot.0 ≡ Some entry → (moment_noted rows entry).0 ≤ changed one) where
+    seens_are : (seens : List Note) → AllByRecursion (IsSeenOf rows listed opened) seens → AllByRecursion (IsMomentOfOne (zipped looks changed opened turned)) seens
     seens_are [] are = tt
     seens_are (note ∷ seens) are =
         let of = zipped_there opened turned are.0.file same are.0.among in (
           record {
             file = of.file;
             of_files = of.among;
-            changed = moment_noted are.0.one;
-            is = are.0.is ∙ ap (λ (o : Opened). Seen o.begin.slot (moment_noted are.0.one)) (sym of.opened_is);
-            within = subst (λ (n : ℕ). (moment_noted are.0.one).0 ≤ n) (sym of.changed_is) (within are.0.file are.0.one are.0.listed_there);
+            changed = moment_noted rows are.0.one;
+            is = are.0.is ∙ ap (λ (o : Opened). Seen o.begin.slot (moment_noted rows are.0.one)) (sym of.opened_is);
+            within = subst (λ (n : ℕ). (moment_noted rows are.0.one).0 ≤ n) (sym of.changed_is) (within are.0.file are.0.one are.0.listed_there);
           },
           seens_are seens are.1,
         )
 
-    pub are_first : (notes : List Note) → AreBeginNotes listed opened notes → AreFirstNotes (zipped looks changed opened turned) notes
+    pub are_first : (notes : List Note) → AreBeginNotes rows listed opened notes → AreFirstNotes (zipped looks changed opened turned) notes
     are_first notes are = record {
       begins = map (λ (one : Opened). noted_begin one.begin) opened;
       seens = are.seen;
@@ -134,8 +136,8 @@ module _ (looks : Opened → List Look) (changed : Opened → ℕ) where
 
 -- ---- epochs
 
-module _ {T : Type 0} (tails : TailWords T) (settings : Settings) (listed : List Listed) (opened : List Opened) (moments : List ℕ)
-    (are : AllByRecursion (IsOpenedAsListed settings listed) opened) where
+module _ {T : Type 0} (tails : TailWords T) (settings : Settings) (rows : List Row) (listed : List Listed) (opened : List Opened) (moments : List ℕ)
+    (are : AllByRecursion (IsOpenedAsListed settings rows listed) opened) where
   abbrev processors : List ProcessorRule
   processors = settings.processors
 
@@ -144,7 +146,7 @@ module _ {T : Type 0} (tails : TailWords T) (settings : Settings) (listed : List
   in_epochs_one (t ∷ ts) [] stand = absurd stand
   in_epochs_one (t ∷ ts) (h ∷ hs) stand =
       let of = stand.0.opened in
-      let range = (member_is (IsOpenedAsListed settings listed) opened of are stand.0.of_files).in_range in
+      let range = (member_is (IsOpenedAsListed settings rows listed) opened of are stand.0.of_files).in_range in
       (is_in_epochs processors of moments t range (tails.told h.tail) stand.0.is_told, in_epochs_one ts hs stand.1)
 
   both_in : (first second : List Turned) → AllByRecursion IsInEpochs first → AllByRecursion IsInEpochs second → AllByRecursion IsInEpochs (first ++ second)
@@ -161,7 +163,7 @@ module _ {T : Type 0} (tails : TailWords T) (settings : Settings) (listed : List
   in_epochs_left : (left : List Left) → AllByRecursion (IsLeftSo processors opened moments) left → AllByRecursion IsInEpochs (map (λ (one : Left). one.turned) left)
   in_epochs_left [] each = tt
   in_epochs_left (one ∷ left) each =
-      let range = (member_is (IsOpenedAsListed settings listed) opened each.0.file are each.0.among).in_range in
+      let range = (member_is (IsOpenedAsListed settings rows listed) opened each.0.file are each.0.among).in_range in
       (is_in_epochs processors each.0.file moments one.turned range one.told each.0.is_told, in_epochs_left left each.1)
 
   pub all_in_epochs : (files : List (List Turned)) (lanes : List (Laning T)) (left : List Left) → Pairs (AreTurnedIn tails processors opened moments) files lanes →
@@ -171,13 +173,13 @@ module _ {T : Type 0} (tails : TailWords T) (settings : Settings) (listed : List
 
 -- ---- together
 
-module _ (listed : List Listed) (opened : List Opened) (files : List Turned) (once : AreEachOnce opened files) (epochs : AllByRecursion IsInEpochs files) where
+module _ (rows : List Row) (listed : List Listed) (opened : List Opened) (files : List Turned) (once : AreEachOnce opened files) (epochs : AllByRecursion IsInEpochs files) where
   in_order : Arranged IsInEpochs files (slots_in opened)
   in_order = arranged IsInEpochs (slots_in opened) files once.are epochs
 
   -- the moment with which it was listed
   moment_of : Opened → ℕ
-  moment_of one = option_map_or (λ (entry : Listed). (moment_noted entry).0) (slice_get listed one.begin.slot.0) 0
+  moment_of one = option_map_or (λ (entry : Listed). (moment_noted rows entry).0) (slice_get listed one.begin.slot.0) 0
 
   abbrev filed : List Filed
   filed = zipped (λ _. []) moment_of opened in_order.turned
@@ -191,14 +193,14 @@ module _ (listed : List Listed) (opened : List Opened) (files : List Turned) (on
   rising : AreInSlots 0 filed
   rising = in_slots (λ _. []) moment_of 0 opened in_order.turned in_order.slots_are once.rise
 
-  within : (one : Opened) (entry : Listed) → slice_get listed one.begin.slot.0 ≡ Some entry → (moment_noted entry).0 ≤ moment_of one
+  within : (one : Opened) (entry : Listed) → slice_get listed one.begin.slot.0 ≡ Some entry → (moment_noted rows entry).0 ≤ moment_of one
   unfolding moment_of
-  within one entry is = subst (λ (o : Option Listed). (moment_noted entry).0 ≤ option_map_or (λ (e : Listed). (moment_noted e).0) o 0) (sym is) (omega arith)
+  within one entry is = subst (λ (o : Option Listed). (moment_noted rows entry).0 ≤ option_map_or (λ (e : Listed). (moment_noted rows e).0) o 0) (sym is) (omega arith)
 
   -- where each collected note has its ground in the files as they are
-  pub notes_are_orderly : (begun collected : List Note) (acknowledged : List Parcel) → AreBeginNotes listed opened begun →
+  pub notes_are_orderly : (begun collected : List Note) (acknowledged : List Parcel) → AreBeginNotes rows listed opened begun →
       ((turned : List Turned) → AsOften files turned → AllByRecursion (HasGround turned acknowledged) collected) → AreOrderly (begun ++ collected)
   notes_are_orderly begun collected acknowledged are ground =
       are_orderly filed acknowledged begun collected rising slots_of_files (subst (AllByRecursion IsInEpochs) (sym turned_same) in_order.each)
-      (are_first (λ _. []) moment_of listed opened in_order.turned in_order.slots_are within begun are)
+      (are_first (λ _. []) moment_of rows listed opened in_order.turned in_order.slots_are within begun are)
       (subst (λ (l : List Turned). AllByRecursion (HasGround l acknowledged) collected) (sym turned_same) (ground in_order.turned in_order.same))

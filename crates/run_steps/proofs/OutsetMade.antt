@@ -16,10 +16,10 @@ use Rattle.registry_store.specs.Settled.{AreAtRest, AreSettled}
 use Rattle.registry_store.specs.Standing.{Standing, chosen_by}
 use Rattle.rounds.specs.Words.{DiskWords, WireWords}
 use Rattle.settle_box.specs.Collector.{Collector}
-use Rattle.run_steps.specs.Areas.{HaveHeldFronts, IsAtRest}
+use Rattle.run_steps.specs.Areas.{GiveTheRows, HaveHeldFronts, IsAtRest}
 use Rattle.run_steps.specs.BeginsAll.{IsOfInputs, IsOfPathInput}
 use Rattle.run_steps.specs.Outset.{Earlier, Outset, SetsOut, began_with}
-use Rattle.run_steps.proofs.Blank.{some_of}
+use Rattle.run_steps.proofs.HeldRows.{some_of}
 use Rattle.run_steps.proofs.ByPath.{each_of}
 use Rattle.run_steps.proofs.OfInputs.{of_path_input}
 use Rattle.run_steps.proofs.ScanOf.{IsOfEntry, each_of_entry}
@@ -59,13 +59,15 @@ module _ (settings : Settings) (in_range : AreInRange settings) (by_path : All (
 
 module _ {W D : Type 0} (disks : DiskWords D) (wires : WireWords W) (outset : Outset W D) (earlier : Earlier D) where
   pub sets_out : (store : Standing) (pass : Collector) → outset.keeper ≡ begun_with store pass → GivesMoment earlier.moments outset.moment outset.moments →
-      (AreAtRest disks.contents disks.images earlier.a earlier.b → HaveHeldFronts disks [] earlier.a earlier.b outset.a outset.b) →
+      (AreAtRest disks.contents disks.images earlier.a earlier.b → GiveTheRows disks earlier.a earlier.b outset.keeper.store.rows) →
+      (AreAtRest disks.contents disks.images earlier.a earlier.b → HaveHeldFronts disks outset.keeper.store.rows [] earlier.a earlier.b outset.a outset.b) →
       (AreAtRest disks.contents disks.images earlier.a earlier.b → AreSettled disks.contents disks.images outset.a outset.b (chosen_by store)) →
       AreInRange outset.settings → All (λ (input : InputRule). input.file_identity ≡ Path) outset.settings.inputs → All (IsOfInputs outset.settings) outset.listed →
       (before : Option FolderHistory) → (IsSome outset.shown → IsSome before) →
       IfSome before (λ told. ScansFiles outset.settings.inputs told outset.listed outset.shown) → SetsOut disks (began_with wires outset earlier) outset
-  sets_out store pass made gives areas settled in_range by_path inside before told scanned = record {
+  sets_out store pass made gives gave areas settled in_range by_path inside before told scanned = record {
     gives = gives;
+    gave = gave;
     areas = areas;
     at_rest = λ rest. first_at_rest disks outset.keeper outset.a outset.b store pass made (settled rest);
     of_inputs = of_path_inputs outset.settings in_range by_path before outset.shown outset.listed inside told scanned;

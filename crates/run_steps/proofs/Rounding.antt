@@ -270,13 +270,13 @@ module _ {T W L D : Type 0} (words : Words T W L D) (queue : BoundedQueue) (desk
     left : AllByRecursion (IsLeftSo start.settings.processors so_far.opened since) so_far.left
     left = subst (AllByRecursion (IsLeftSo start.settings.processors so_far.opened since)) (sym reading.none_left) tt
 
-    noted : AreNoted new.storing.keeper.now so_far.begun (so_far.collected ++ keeps.collects.more)
-    noted = noted_on old.storing.keeper.now new.storing.keeper.now keeps.collects so_far.begun so_far.collected stands.noted
+    noted : AreNoted start.opening new.storing.keeper.now so_far.begun (so_far.collected ++ keeps.collects.more)
+    noted = noted_on old.storing.keeper.now new.storing.keeper.now keeps.collects start.opening so_far.begun so_far.collected stands.noted
 
     orderly : AreOrderly new.storing.keeper.now.tracked.notes
     orderly = subst AreOrderly (sym noted.are)
-        (notes_are_orderly start.listed so_far.opened (files_in after) each_once
-        (all_in_epochs words.tails start.settings start.listed so_far.opened since stands.opened told.after (lanings new.lanes.items) so_far.left turned left)
+        (notes_are_orderly start.opening start.listed so_far.opened (files_in after) each_once
+        (all_in_epochs words.tails start.settings start.opening start.listed so_far.opened since stands.opened told.after (lanings new.lanes.items) so_far.left turned left)
         so_far.begun (so_far.collected ++ keeps.collects.more) (flat placed.acknowledged) stands.begun
         (λ files same. have_ground (lanings new.lanes.items) new.carriers.items placed.queued (notes new.storing.keeper.now.pass.got) placed.boxed after have_given placed.placed files same
         (so_far.collected ++ keeps.collects.more) (held_in new.storing.keeper.now.held) noted.got))
@@ -293,7 +293,7 @@ module _ {T W L D : Type 0} (words : Words T W L D) (queue : BoundedQueue) (desk
         where
           by_path : (one : Opened) → Contains so_far.opened one → (one.rule.file_identity ≡ Path) × IsKeyedByPath one
           by_path one among = (
-            (member_is (IsOpenedAsListed start.settings start.listed) so_far.opened one stands.opened among).by_path,
+            (member_is (IsOpenedAsListed start.settings start.opening start.listed) so_far.opened one stands.opened among).by_path,
             member_is IsKeyedByPath so_far.opened one (stands.keyed some) among,
           )
 
@@ -301,15 +301,15 @@ module _ {T W L D : Type 0} (words : Words T W L D) (queue : BoundedQueue) (desk
           (counts : (disk : D) (at : ℕ) (image : List ℕ) → at ≤ words.disks.moment disk → words.disks.images disk image → words.disks.images_since disk at image)
           (at_rest : BeganAtRest words.disks start → IsAtRest words.disks old.storing.keeper.now old.storing.a.now old.storing.b.now) where
         areas : BeganAtRest words.disks start →
-            HaveHeldFronts words.disks new.storing.keeper.now.tracked.notes start.a start.b new.storing.a.now new.storing.b.now
+            HaveHeldFronts words.disks start.opening new.storing.keeper.now.tracked.notes start.a start.b new.storing.a.now new.storing.b.now
         areas began =
             let rest = at_rest began in
             let images = keeps.images (record { settled = rest.settled; committed = rest.committed }) orderly in
-            let no_opening : new.storing.keeper.now.tracked.opening ≡ [] = keeps.collects.opening ∙ stands.noted.opening in
-            areas_by_turns words.disks reads counts new.storing.keeper.now.tracked.notes start.a start.b images.turns (storing_state old.storing) (storing_state new.storing)
-            (subst (λ (l : List Row). TurnsLeave words.disks l new.storing.keeper.now.tracked.notes images.turns (storing_state old.storing) (storing_state new.storing)) no_opening images.leave)
-            (subst (λ (l : List Note). HaveHeldFronts words.disks l start.a start.b old.storing.a.now old.storing.b.now) (sym keeps.collects.noted)
-            (areas_on words.disks reads counts old.storing.keeper.now.tracked.notes keeps.collects.more start.a start.b old.storing.a.now old.storing.b.now (stands.areas began)))
+            let opening_is : new.storing.keeper.now.tracked.opening ≡ start.opening = keeps.collects.opening ∙ stands.noted.opening_is in
+            areas_by_turns words.disks reads counts start.opening new.storing.keeper.now.tracked.notes start.a start.b images.turns (storing_state old.storing) (storing_state new.storing)
+            (subst (λ (l : List Row). TurnsLeave words.disks l new.storing.keeper.now.tracked.notes images.turns (storing_state old.storing) (storing_state new.storing)) opening_is images.leave)
+            (subst (λ (l : List Note). HaveHeldFronts words.disks start.opening l start.a start.b old.storing.a.now old.storing.b.now) (sym keeps.collects.noted)
+            (areas_on words.disks reads counts start.opening old.storing.keeper.now.tracked.notes keeps.collects.more start.a start.b old.storing.a.now old.storing.b.now (stands.areas began)))
 
         pub stands_on : Further words start (state_of shown later new phase)
         stands_on = record {

@@ -1,7 +1,7 @@
 -- A run is accounted for, however it ends.
-use Rattle.std.proofs.Common.{◌≡◌, ℕ, List, [], ◌++◌, map, Option, Some, refl, sym, ap, subst, ◌∙◌, arith}
+use Rattle.std.proofs.Common.{◌≡◌, inl, inr, ⊎_elim, ℕ, List, [], ◌++◌, map, Option, Some, refl, sym, ap, subst, ◌∙◌, arith}
 use Rattle.std.specs.List.{AllByRecursion}
-use Rattle.accounts.proofs.AccountingFor.{IsAccountedFor, is_accounted_for}
+use Rattle.accounts.proofs.AccountingFor.{IsAccountedFor, backed, is_accounted_for}
 use Rattle.accounts.proofs.Draining.{is_drained}
 use Rattle.accounts.specs.AccountedFor.{followings_in}
 use Rattle.accounts.specs.Filed.{Filed, accounts_of}
@@ -19,11 +19,12 @@ use Rattle.outside.specs.Wires.{Outcome}
 use Rattle.registry_store.specs.Choice.{GivesRows}
 use Rattle.rounds.specs.Words.{Words}
 use Rattle.ship_core.specs.Orderly.{AreOrderly}
+use Rattle.ship_core.specs.Rows.{IsInOrder}
 use Rattle.ship_core.specs.RowsOver.{AreRowsOver}
 use Rattle.wire_base.specs.declared.note.Note.{Note}
 use Rattle.wire_base.specs.declared.row.Row.{Row}
-use Rattle.run_steps.specs.AccountedFor.{AccountedFor, FitsFolders, FitsObjects, HoldKeptRows, RowsBy, RunObjects}
-use Rattle.run_steps.specs.Areas.{BeganAtRest, HaveHeldFronts, HeldOnlyFronts}
+use Rattle.run_steps.specs.AccountedFor.{AccountedFor, FitsFolders, FitsObjects, HasRowOf, HoldKeptRows, RowsBy, RunObjects}
+use Rattle.run_steps.specs.Areas.{BeganAtRest, GaveRows, HaveHeldFronts, HeldOnlyFronts}
 use Rattle.run_steps.specs.Began.{Began}
 use Rattle.run_steps.specs.Ends.{Ending, Ends}
 use Rattle.run_steps.specs.Met.{AreLeft}
@@ -34,6 +35,8 @@ use Rattle.run_steps.specs.Served.{AreServed}
 use Rattle.run_steps.specs.Tells.{DoTell}
 use Rattle.run_steps.specs.declared.met.Met.{Met}
 use Rattle.run_steps.specs.declared.met.Met.TheVariants.{Done}
+use Rattle.run_steps.proofs.HeldRows.{rows_in_order, some_of}
+use Rattle.run_steps.proofs.RowsStay.{rows_stay}
 use Rattle.run_steps.proofs.RunDoneOf.{run_done}
 use Rattle.run_steps.proofs.RunFits.{moments_since}
 use Rattle.run_steps.proofs.RunRows.{OneChoice, given_over_fronts, opened_over_fronts, rows_of_store}
@@ -71,36 +74,49 @@ module _ {T W L D : Type 0} (words : Words T W L D) (start : Began D) (ending : 
   abbrev account : List SlotAccount
   account = accounts_of accounted.placed the_files
 
-  module _ (one : OneChoice) (at_rest : BeganAtRest words.disks start) where
-    held : HaveHeldFronts words.disks notes start.a start.b ending.a ending.b
+  module _ (one : OneChoice) (gave : BeganAtRest words.disks start → GaveRows words.disks start) (at_rest : BeganAtRest words.disks start) where
+    held : HaveHeldFronts words.disks start.opening notes start.a start.b ending.a ending.b
     held = ends.stands.areas at_rest
 
     given : (first second : List ℕ) → words.disks.contents ending.a ≡ Some first → words.disks.contents ending.b ≡ Some second → (rows : List Row) × GivesRows first second rows
     given first second a_is b_is = let fronts = held.both first second a_is b_is in (fronts.rows, fronts.given)
 
-    kept_in_image : (rows : List Row) → AreRowsOverFronts [] notes rows → AllByRecursion (IsKeptInImage account [] the_run.trace.wires) rows
-    kept_in_image rows over = accounted.accounts.images rows (subst (λ (l : List Note). AreRowsOverFronts [] l rows) ends.stands.noted.are over)
+    kept_in_image : (rows : List Row) → AreRowsOverFronts start.opening notes rows → AllByRecursion (IsKeptInImage account start.opening the_run.trace.wires) rows
+    kept_in_image rows over = accounted.accounts.images rows (subst (λ (l : List Note). AreRowsOverFronts start.opening l rows) ends.stands.noted.are over)
 
     -- where the last steps were made the areas give the rows over all notes
     rows_over : AreLeft met → (first second : List ℕ) (rows : List Row) → words.disks.contents ending.a ≡ Some first → words.disks.contents ending.b ≡ Some second →
-        GivesRows first second rows → AreRowsOver [] (begun ++ collected) rows
+        GivesRows first second rows → AreRowsOver start.opening (begun ++ collected) rows
     rows_over are_left first second rows a_is b_is gives =
-        subst (AreRowsOver [] (begun ++ collected))
+        subst (AreRowsOver start.opening (begun ++ collected))
         (rows_of_store one words.disks ending.a ending.b ending.keeper.store first second rows (left.at_rest are_left at_rest).settled a_is b_is gives)
-        (subst (λ (l : List Note). AreRowsOver [] l ending.keeper.store.rows) ((ends.stored are_left).stored.committed ∙ ends.stands.noted.are)
-        (subst (λ (l : List Row). AreRowsOver l ending.keeper.tracked.committed ending.keeper.store.rows) ends.stands.noted.opening
+        (subst (λ (l : List Note). AreRowsOver start.opening l ending.keeper.store.rows) ((ends.stored are_left).stored.committed ∙ ends.stands.noted.are)
+        (subst (λ (l : List Row). AreRowsOver l ending.keeper.tracked.committed ending.keeper.store.rows) ends.stands.noted.opening_is
         (ends.stands.stores (subst AreOrderly (sym ends.stands.noted.are) accounted.accounts.orderly) (left.is_open are_left))))
+
+    -- the opening rows are in the order of their keys, since the areas gave them
+    opening_ordered : IsInOrder start.opening
+    opening_ordered =
+        let (before, a_is) = some_of (words.disks.contents start.a) at_rest.a_told in
+        let (beside, b_is) = some_of (words.disks.contents start.b) at_rest.b_told in
+        rows_in_order before beside start.opening (gave at_rest before beside a_is b_is)
+
+    stays : (rows : List Row) → AreRowsOver start.opening (begun ++ collected) rows → AllByRecursion (λ (row : Row). HasRowOf rows row.key) start.opening
+    stays rows over = rows_stay account the_run.trace.wires start.opening (begun ++ collected) rows opening_ordered over
+        (backed the_run the_scan the_files the_workers begun collected the_run_told accounted.placed accounted.places) (accounted.accounts.begun rows over)
 
     rows_by : (first second : List ℕ) (rows : List Row) → words.disks.contents ending.a ≡ Some first → words.disks.contents ending.b ≡ Some second →
         GivesRows first second rows → RowsBy the_run account met rows
     rows_by first second rows a_is b_is gives = record {
-      in_image = kept_in_image rows (given_over_fronts one notes first second rows (held.both first second a_is b_is) gives);
+      in_image = kept_in_image rows (given_over_fronts one start.opening notes first second rows (held.both first second a_is b_is) gives);
       kept = λ are_left. accounted.accounts.ends rows (rows_over are_left first second rows a_is b_is gives);
       begun = λ are_left. accounted.accounts.begun rows (rows_over are_left first second rows a_is b_is gives);
+      stay = λ are_left. stays rows (rows_over are_left first second rows a_is b_is gives);
     }
 
-    images_of : (began now : D) → HeldOnlyFronts words.disks notes began now → HoldKeptRows words.disks (record { began = began; now = now }) the_run account
-    images_of began now only image generation rows end since opened = kept_in_image rows (opened_over_fronts one notes image generation rows end (only.each image since) opened)
+    images_of : (began now : D) → HeldOnlyFronts words.disks start.opening notes began now → HoldKeptRows words.disks (record { began = began; now = now }) the_run account
+    images_of began now only image generation rows end since opened =
+        ⊎_elim inl (λ over. inr (kept_in_image rows over)) (opened_over_fronts one start.opening notes (words.disks.contents began) image generation rows end (only.each image since) opened)
 
   -- ---- what its objects told
 
@@ -114,7 +130,6 @@ module _ {T W L D : Type 0} (words : Words T W L D) (start : Began D) (ending : 
     fits : FitsObjects objects the_run
     fits = record {
       once = refl;
-      opening = refl;
       one_scan = omega arith;
       folder = subst (λ (o : Option FolderHistory). FitsFolders (Some folder.earlier) o the_run.trace) (sym tell.shown)
           (record { files = refl; events = refl; began = refl; none_open = refl });
@@ -122,13 +137,13 @@ module _ {T W L D : Type 0} (words : Words T W L D) (start : Began D) (ending : 
       wires = ap (λ (l : List ℕ). wires_behind l (map words.wires.outcomes wires)) (sym starts);
     }
 
-    module _ (one : OneChoice) (served : met ≡ Done → AreServed start.listed notes folder) where
+    module _ (one : OneChoice) (gave : BeganAtRest words.disks start → GaveRows words.disks start) (served : met ≡ Done → AreServed start.opening start.listed notes folder) where
       drained : BeganAtRest words.disks start → met ≡ Done → Premises the_run (followings_in account) → (first second : List ℕ) (rows : List Row) →
           words.disks.contents ending.a ≡ Some first → words.disks.contents ending.b ≡ Some second → GivesRows first second rows → IsDrained the_run account rows
       drained at_rest is_done premises first second rows a_is b_is gives =
           is_drained the_run the_scan the_files the_workers begun collected the_run_told
           (run_done words start ending met unused wires ends left folder has tell is_done (served is_done)) accounted.placed premises rows
-          (rows_over one at_rest (subst AreLeft (sym is_done) tt) first second rows a_is b_is gives)
+          (rows_over one gave at_rest (subst AreLeft (sym is_done) tt) first second rows a_is b_is gives)
 
       pub accounted_for : AccountedFor words.disks start.settings objects met
       accounted_for = record {
@@ -138,8 +153,9 @@ module _ {T W L D : Type 0} (words : Words T W L D) (start : Began D) (ending : 
         fits = fits;
         followed = accounted.accounts.followed;
         sent = accounted.accounts.sent;
-        given = given one;
-        rows = rows_by one;
-        images = λ at_rest. record { of_a = images_of one at_rest start.a ending.a (held one at_rest).of_a; of_b = images_of one at_rest start.b ending.b (held one at_rest).of_b };
+        opened = gave;
+        given = given one gave;
+        rows = rows_by one gave;
+        images = λ at_rest. record { of_a = images_of one gave at_rest start.a ending.a (held one gave at_rest).of_a; of_b = images_of one gave at_rest start.b ending.b (held one gave at_rest).of_b };
         supposing = λ premises. record { is = accounted.accounts.is premises; drained = λ at_rest is_done. drained at_rest is_done premises };
       }

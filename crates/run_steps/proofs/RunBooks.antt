@@ -17,38 +17,40 @@ use Rattle.rounds.specs.declared.carrier.Carrier.{Carrier}
 use Rattle.settle_box.specs.Senders.{notes}
 use Rattle.wire_base.specs.declared.note.Note.{Note}
 use Rattle.wire_base.specs.declared.parcel.Parcel.{Parcel}
-use Rattle.run_steps.specs.Begun.{AreBeginNotes, IsSeenOf, moment_noted, noted_begin}
+use Rattle.wire_base.specs.declared.row.Row.{Row}
+use Rattle.run_steps.specs.Telling.{moment_noted}
+use Rattle.run_steps.specs.Begun.{AreBeginNotes, IsSeenOf, noted_begin}
 use Rattle.run_steps.specs.SoFar.{SoFar, files_in}
 use Rattle.run_steps.specs.Stands.{AreNoted, HaveGiven}
 use Rattle.run_steps.proofs.RunFiles.{moment_listed}
 
 -- ---- first notes
 
-module _ (listed : List Listed) where
+module _ (rows : List Row) (listed : List Listed) where
   abbrev changed : Opened → ℕ
-  changed = moment_listed listed
+  changed = moment_listed rows listed
 
   begins_as : (opened : List Opened) → Pairs (IsBeginAs changed) opened (map (λ (one : Opened). noted_begin one.begin) opened)
   begins_as [] = tt
   begins_as (one ∷ opened) = (record { path = one.begin.path; moment = record { 0 = 0 }; is = refl; within = omega arith }, begins_as opened)
 
-  seens_as : (opened : List Opened) (seens : List Note) → AllByRecursion (IsSeenOf listed opened) seens → AllByRecursion (IsMomentAs changed opened) seens
+  seens_as : (opened : List Opened) (seens : List Note) → AllByRecursion (IsSeenOf rows listed opened) seens → AllByRecursion (IsMomentAs changed opened) seens
   seens_as opened [] are = tt
   seens_as opened (note ∷ seens) are = (
     record {
       opened = are.0.file;
       of_files = are.0.among;
-      moment = moment_noted are.0.one;
+      moment = moment_noted rows are.0.one;
       is = are.0.is;
-      within = within (ap (λ (o : Option Listed). option_map_or (λ (entry : Listed). (moment_noted entry).0) o 0) are.0.listed_there);
+      within = within (ap (λ (o : Option Listed). option_map_or (λ (entry : Listed). (moment_noted rows entry).0) o 0) are.0.listed_there);
     },
     seens_as opened seens are.1,
   )
     where
-      within : changed are.0.file ≡ (moment_noted are.0.one).0 → (moment_noted are.0.one).0 ≤ changed are.0.file
+      within : changed are.0.file ≡ (moment_noted rows are.0.one).0 → (moment_noted rows are.0.one).0 ≤ changed are.0.file
       within is = omega (arith, is)
 
-  pub first_notes : (opened : List Opened) (begun : List Note) → AreBeginNotes listed opened begun → AreFirstNotesAs changed opened begun
+  pub first_notes : (opened : List Opened) (begun : List Note) → AreBeginNotes rows listed opened begun → AreFirstNotesAs changed opened begun
   first_notes opened begun are = record {
     begins = map (λ (one : Opened). noted_begin one.begin) opened;
     seens = are.seen;
@@ -74,7 +76,7 @@ abbrev pub others_in : {T W L : Type 0} → List (Laning T) → List (Carrier W 
 others_in lanes carriers keeper boxed = held_in keeper.held ++ (boxed ++ (held_notes lanes ++ owed_notes carriers))
 
 module _ {T W L : Type 0} (lanes : List (Laning T)) (carriers : List (Carrier W L)) (keeper : Keeping) (so_far : SoFar) (gave : HaveGiven so_far)
-    (placed : ArePlaced so_far.told lanes carriers so_far.queued (notes keeper.pass.got) so_far.boxed) (noted : AreNoted keeper so_far.begun so_far.collected)
+    (placed : ArePlaced so_far.told lanes carriers so_far.queued (notes keeper.pass.got) so_far.boxed) (opening : List Row) (noted : AreNoted opening keeper so_far.begun so_far.collected)
     (workers : List Taken) (acknowledged : acknowledged_in workers ≡ flat so_far.told.acknowledged) (carried : carried_in workers ≡ carried_by carriers) where
   abbrev others : List Note
   others = others_in lanes carriers keeper so_far.boxed

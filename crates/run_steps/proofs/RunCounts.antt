@@ -26,6 +26,7 @@ use Rattle.wire_base.specs.declared.note.Cause.{Cause}
 use Rattle.wire_base.specs.declared.note.Cause.TheVariants.{Acked, Dropped}
 use Rattle.wire_base.specs.declared.note.Note.{Note}
 use Rattle.wire_base.specs.declared.note.Note.TheVariants.{Announce, Begin, Forget, Rename, Seen, Settle}
+use Rattle.wire_base.specs.declared.row.Row.{Row}
 use Rattle.run_steps.specs.Ends.{IsAllSettled}
 use Rattle.run_steps.specs.SoFar.{SoFar, files_in}
 use Rattle.run_steps.specs.Stands.{AreCounted, AreNoted}
@@ -51,7 +52,7 @@ either_settles (Forget slot epoch end) = refl
 module _ {T W L : Type 0} (links : LinkWords L) (wires : WireWords W) (crew : Crew T W L) (keeper : Keeping) (so_far : SoFar)
     (booked : AreBooked links wires so_far.told (lanings crew.lanes.items) crew.carriers.items)
     (placed : ArePlaced so_far.told (lanings crew.lanes.items) crew.carriers.items so_far.queued (notes keeper.pass.got) so_far.boxed)
-    (counted : AreCounted (lanings crew.lanes.items) keeper so_far) (noted : AreNoted keeper so_far.begun so_far.collected)
+    (counted : AreCounted (lanings crew.lanes.items) keeper so_far) (opening : List Row) (noted : AreNoted opening keeper so_far.begun so_far.collected)
     (settled : AreSettledIn crew keeper) where
   abbrev posters : List Sender
   posters = senders (lanes_passes (lanings crew.lanes.items)) ++ senders (carriers_passes crew.carriers.items)

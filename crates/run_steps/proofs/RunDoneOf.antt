@@ -31,7 +31,7 @@ use Rattle.run_steps.proofs.ScanOf.{is_full_scan}
 
 module _ {T W L D : Type 0} (words : Words T W L D) (start : Began D) (ending : Ending D) (met : Met) (unused wires : List W) (ends : Ends words start ending met unused wires)
     (left : AreLeftSo words.disks start ending met ends.crew) (folder : FolderTold) (has : HasScanned start folder) (tell : DoTell words.wires ending folder wires)
-    (is_done : met ≡ Done) (served : AreServed start.listed ending.keeper.tracked.notes folder) where
+    (is_done : met ≡ Done) (served : AreServed start.opening start.listed ending.keeper.tracked.notes folder) where
   abbrev all_workers : List Taken
   all_workers = workers words start ending met unused wires ends left folder has tell
 
@@ -52,12 +52,12 @@ module _ {T W L D : Type 0} (words : Words T W L D) (start : Began D) (ending : 
       all_collected (files_in ends.so_far) all_workers ends.so_far.collected
       (fit words start ending met unused wires ends left folder has tell).fits
       ((fit words start ending met unused wires ends left folder has tell).others_are
-      ∙ no_others words.links words.wires ends.crew ending.keeper ends.so_far ends.stands.booked ends.stands.placed ends.stands.counted ends.stands.noted settled
+      ∙ no_others words.links words.wires ends.crew ending.keeper ends.so_far ends.stands.booked ends.stands.placed ends.stands.counted start.opening ends.stands.noted settled
       (left.posts (subst AreLeft (sym is_done) tt)))
-      (all_counted words.links words.wires ends.crew ending.keeper ends.so_far ends.stands.booked ends.stands.placed ends.stands.counted ends.stands.noted settled
+      (all_counted words.links words.wires ends.crew ending.keeper ends.so_far ends.stands.booked ends.stands.placed ends.stands.counted start.opening ends.stands.noted settled
       (ends.all_settled is_done))
 
-  abbrev run_joined : AreJoined (looks_in folder.ended) (moment_listed start.listed) ends.so_far.opened (files_in ends.so_far)
+  abbrev run_joined : AreJoined (looks_in folder.ended) (moment_listed start.opening start.listed) ends.so_far.opened (files_in ends.so_far)
   run_joined = joined words start (with_crew ending ends.crew) ends.so_far ends.stands left.released folder has tell.shown all_wires
 
   files_collected : AreAllCollected (turned_of all_files) all_workers

@@ -1,5 +1,6 @@
--- A run that ended before it opened a file is accounted for, too: it follows nothing and sent nothing, and its areas give no rows.
-use Rattle.std.proofs.Common.{◌≡◌, ◌≢◌, inl, inr, ℕ, zero, suc, ◌-◌, ◌≤◌, true, List, [], ◌∷◌, ◌++◌, drop, length, map, append-nil, Option, Some, None, IsSome, refl, sym, ap, subst, ◌∙◌, arith}
+-- A run that ended before it opened a file is accounted for, too: it follows nothing and sent nothing, and its areas give the rows that
+-- they gave before.
+use Rattle.std.proofs.Common.{◌≡◌, ◌≢◌, inl, inr, ⊎_elim, ℕ, zero, suc, ◌-◌, ◌≤◌, true, List, [], ◌∷◌, ◌++◌, drop, length, map, append-nil, Option, Some, None, IsSome, refl, sym, ap, subst, ◌∙◌, arith}
 use Rattle.std.proofs.Math.Seq.{drop-append_seam, drop-length}
 use Rattle.std.proofs.lemmas.Option.{slice_get_past}
 use Rattle.std.specs.Prelude.{slice_get}
@@ -35,11 +36,12 @@ use Rattle.registry_store.specs.Choice.{GivesRows}
 use Rattle.registry_store.specs.Settled.{AreAtRest}
 use Rattle.rounds.specs.Images.{GivesFronts}
 use Rattle.rounds.specs.Words.{DiskWords}
+use Rattle.ship_core.specs.Rows.{IsInOrder}
 use Rattle.ship_core.specs.RowsOver.{AreRowsOver, row_for}
 use Rattle.wire_base.specs.declared.note.Note.{Note}
 use Rattle.wire_base.specs.declared.row.Row.{Row}
 use Rattle.run_steps.specs.AccountedFor.{AccountedFor, HoldKeptRows, RowsBy, RunObjects}
-use Rattle.run_steps.specs.Areas.{BeganAtRest, HaveHeldFronts, HeldOnlyFronts}
+use Rattle.run_steps.specs.Areas.{BeganAtRest, GaveRows, GiveTheRows, HaveHeldFronts, HeldOnlyFronts}
 use Rattle.run_steps.specs.Began.{Began}
 use Rattle.run_steps.specs.RunOf.{FolderTold, run_of, scan_of, wires_behind}
 use Rattle.run_steps.specs.ScannedSome.{HasScannedSome}
@@ -47,7 +49,9 @@ use Rattle.run_steps.specs.Shown.{HasGiven}
 use Rattle.run_steps.specs.declared.met.Met.{Met}
 use Rattle.run_steps.specs.declared.met.Met.TheVariants.{Done}
 use Rattle.run_steps.proofs.ByPath.{inputs_are_by_path}
+use Rattle.run_steps.proofs.HeldRows.{rows_in_order, some_of}
 use Rattle.run_steps.proofs.Members.{some_is}
+use Rattle.run_steps.proofs.RowsStay.{rows_stay}
 use Rattle.run_steps.proofs.RunFits.{moments_since}
 use Rattle.run_steps.proofs.RunRows.{OneChoice, given_over_fronts, opened_over_fronts}
 use Rattle.run_steps.proofs.RunWires.{acknowledged_none, of_no_worker, took_none}
@@ -118,13 +122,20 @@ nil_front : {A : Type 0} (front rest : List A) → [] ≡ front ++ rest → fron
 nil_front [] rest are = refl
 nil_front (x ∷ front) rest are = absurd cc
 
-over_no_notes : (rows : List Row) → AreRowsOverFronts [] [] rows → AreRowsOver [] [] rows
-over_no_notes rows over = record {
+over_no_notes : (opening rows : List Row) → AreRowsOverFronts opening [] rows → AreRowsOver opening [] rows
+over_no_notes opening rows over = record {
   in_order = over.in_order;
-  each = λ key. let of = over.each key in of.is ∙ ap (λ (l : List Note). row_for [] l key) (nil_front of.front of.rest of.notes_are);
+  each = λ key. let of = over.each key in of.is ∙ ap (λ (l : List Note). row_for opening l key) (nil_front of.front of.rest of.notes_are);
 }
 
-given_by : {first second : List ℕ} → GivesFronts [] [] first second → (rows : List Row) × GivesRows first second rows
+-- rows that areas at rest gave are in the order of their keys
+ordered_at_rest : {D : Type 0} (disks : DiskWords D) (a b : D) (rows : List Row) → AreAtRest disks.contents disks.images a b → GiveTheRows disks a b rows → IsInOrder rows
+ordered_at_rest disks a b rows rest gave =
+    let (first, a_is) = some_of (disks.contents a) rest.a_told in
+    let (second, b_is) = some_of (disks.contents b) rest.b_told in
+    rows_in_order first second rows (gave first second a_is b_is)
+
+given_by : {opening : List Row} {first second : List ℕ} → GivesFronts opening [] first second → (rows : List Row) × GivesRows first second rows
 given_by fronts = (fronts.rows, fronts.given)
 
 -- ---- the run
@@ -205,21 +216,23 @@ module _ {D : Type 0} (disks : DiskWords D) (start : Began D) (folder : FolderTo
   early_accounts : AccountsFor early_run [] []
   early_accounts = (is_accounted_for early_run early_scan [] (took_none outcomes) [] [] early_told).accounts
 
-  module _ (a b : D) (one : OneChoice) (areas : BeganAtRest disks start → HaveHeldFronts disks [] start.a start.b a b) where
+  module _ (a b : D) (one : OneChoice) (gave : BeganAtRest disks start → GaveRows disks start) (areas : BeganAtRest disks start → HaveHeldFronts disks start.opening [] start.a start.b a b) where
     abbrev pub early_objects : RunObjects D
     early_objects = record {
       before = record { folder = Some folder.earlier; moments = start.moments; outcomes = outcomes; a = start.a; b = start.b };
       after = record { folder = Some folder.scanned; moments = later; outcomes = outcomes; a = a; b = b };
     }
 
-    images_of : (from now : D) → HeldOnlyFronts disks [] from now → HoldKeptRows disks (record { began = from; now = now }) early_run []
-    images_of from now only image generation rows end since opened = early_accounts.images rows (opened_over_fronts one [] image generation rows end (only.each image since) opened)
+    images_of : (from now : D) → HeldOnlyFronts disks start.opening [] from now → HoldKeptRows disks (record { began = from; now = now }) early_run []
+    images_of from now only image generation rows end since opened =
+        ⊎_elim inl (λ over. inr (early_accounts.images rows over)) (opened_over_fronts one start.opening [] (disks.contents from) image generation rows end (only.each image since) opened)
 
-    rows_by : (met : Met) (rows : List Row) → AreRowsOverFronts [] [] rows → RowsBy early_run [] met rows
-    rows_by met rows over = record {
+    rows_by : IsInOrder start.opening → (met : Met) (rows : List Row) → AreRowsOverFronts start.opening [] rows → RowsBy early_run [] met rows
+    rows_by ordered met rows over = record {
       in_image = early_accounts.images rows over;
-      kept = λ left. early_accounts.ends rows (over_no_notes rows over);
-      begun = λ left. early_accounts.begun rows (over_no_notes rows over);
+      kept = λ left. early_accounts.ends rows (over_no_notes start.opening rows over);
+      begun = λ left. early_accounts.begun rows (over_no_notes start.opening rows over);
+      stay = λ left. rows_stay [] [] start.opening [] rows ordered (over_no_notes start.opening rows over) tt tt;
     }
 
     pub early_is_accounted_for : (met : Met) → met ≢ Done → AccountedFor disks start.settings early_objects met
@@ -229,7 +242,6 @@ module _ {D : Type 0} (disks : DiskWords D) (start : Began D) (folder : FolderTo
       account = [];
       fits = record {
         once = refl;
-        opening = refl;
         one_scan = omega arith;
         folder = record { files = refl; events = refl; began = refl; none_open = refl };
         moments = moments_since start.moments later start.moment moments given clock_tells;
@@ -237,8 +249,9 @@ module _ {D : Type 0} (disks : DiskWords D) (start : Began D) (folder : FolderTo
       };
       followed = early_accounts.followed;
       sent = early_accounts.sent;
+      opened = gave;
       given = λ at_rest first second a_is b_is. given_by ((areas at_rest).both first second a_is b_is);
-      rows = λ at_rest first second rows a_is b_is gives. rows_by met rows (given_over_fronts one [] first second rows ((areas at_rest).both first second a_is b_is) gives);
+      rows = λ at_rest first second rows a_is b_is gives. rows_by (ordered_at_rest disks start.a start.b start.opening at_rest (gave at_rest)) met rows (given_over_fronts one start.opening [] first second rows ((areas at_rest).both first second a_is b_is) gives);
       images = λ at_rest. record { of_a = images_of start.a a (areas at_rest).of_a; of_b = images_of start.b b (areas at_rest).of_b };
       supposing = λ premises. record { is = early_accounts.is premises; drained = λ at_rest is_done. absurd (not_done is_done) };
     }
@@ -246,11 +259,11 @@ module _ {D : Type 0} (disks : DiskWords D) (start : Began D) (folder : FolderTo
 -- ---- a run that made no scan
 
 -- it ended before: its folder, its clock and its wires tell what they told before
-abbrev pub unscanned_run : Settings → FolderHistory → List ℕ → List (Option (List Outcome)) → Run
-unscanned_run settings told before outcomes = record {
+abbrev pub unscanned_run : Settings → List Row → FolderHistory → List ℕ → List (Option (List Outcome)) → Run
+unscanned_run settings opening told before outcomes = record {
   settings = settings;
   once = true;
-  opening = [];
+  opening = opening;
   trace = record {
     files = told.files;
     events = told.events;
@@ -267,9 +280,9 @@ silent_each [] = tt
 silent_each (None ∷ outcomes) = (record { none_made = refl; none_open = refl }, silent_each outcomes)
 silent_each (Some list ∷ outcomes) = (record { none_made = drop-length list; none_open = refl }, silent_each outcomes)
 
-module _ {D : Type 0} (disks : DiskWords D) (settings : Settings) (told : FolderHistory) (before : List ℕ) (outcomes : List (Option (List Outcome))) where
+module _ {D : Type 0} (disks : DiskWords D) (settings : Settings) (opening : List Row) (told : FolderHistory) (before : List ℕ) (outcomes : List (Option (List Outcome))) where
   abbrev pub still_run : Run
-  still_run = unscanned_run settings told before outcomes
+  still_run = unscanned_run settings opening told before outcomes
 
   is_unscanned : IsUnscanned still_run
   is_unscanned = record {
@@ -282,21 +295,24 @@ module _ {D : Type 0} (disks : DiskWords D) (settings : Settings) (told : Folder
   still_accounts : AccountsFor still_run [] []
   still_accounts = unscanned_is_accounted_for still_run is_unscanned
 
-  module _ (from_a from_b a b : D) (one : OneChoice) (areas : AreAtRest disks.contents disks.images from_a from_b → HaveHeldFronts disks [] from_a from_b a b) where
+  module _ (from_a from_b a b : D) (one : OneChoice) (gave : AreAtRest disks.contents disks.images from_a from_b → GiveTheRows disks from_a from_b opening)
+      (areas : AreAtRest disks.contents disks.images from_a from_b → HaveHeldFronts disks opening [] from_a from_b a b) where
     abbrev pub still_objects : RunObjects D
     still_objects = record {
       before = record { folder = Some told; moments = Some before; outcomes = outcomes; a = from_a; b = from_b };
       after = record { folder = Some told; moments = Some before; outcomes = outcomes; a = a; b = b };
     }
 
-    still_images : (from now : D) → HeldOnlyFronts disks [] from now → HoldKeptRows disks (record { began = from; now = now }) still_run []
-    still_images from now only image generation rows end since opened = still_accounts.images rows (opened_over_fronts one [] image generation rows end (only.each image since) opened)
+    still_images : (from now : D) → HeldOnlyFronts disks opening [] from now → HoldKeptRows disks (record { began = from; now = now }) still_run []
+    still_images from now only image generation rows end since opened =
+        ⊎_elim inl (λ over. inr (still_accounts.images rows over)) (opened_over_fronts one opening [] (disks.contents from) image generation rows end (only.each image since) opened)
 
-    still_rows : (met : Met) (rows : List Row) → AreRowsOverFronts [] [] rows → RowsBy still_run [] met rows
-    still_rows met rows over = record {
+    still_rows : IsInOrder opening → (met : Met) (rows : List Row) → AreRowsOverFronts opening [] rows → RowsBy still_run [] met rows
+    still_rows ordered met rows over = record {
       in_image = still_accounts.images rows over;
-      kept = λ left. still_accounts.ends rows (over_no_notes rows over);
-      begun = λ left. still_accounts.begun rows (over_no_notes rows over);
+      kept = λ left. still_accounts.ends rows (over_no_notes opening rows over);
+      begun = λ left. still_accounts.begun rows (over_no_notes opening rows over);
+      stay = λ left. rows_stay [] [] opening [] rows ordered (over_no_notes opening rows over) tt tt;
     }
 
     pub still_is_accounted_for : (met : Met) → met ≢ Done → AccountedFor disks settings still_objects met
@@ -306,7 +322,6 @@ module _ {D : Type 0} (disks : DiskWords D) (settings : Settings) (told : Folder
       account = [];
       fits = record {
         once = refl;
-        opening = refl;
         one_scan = omega arith;
         folder = record { files = refl; events = refl; began = refl; none_open = refl };
         moments = refl;
@@ -314,8 +329,9 @@ module _ {D : Type 0} (disks : DiskWords D) (settings : Settings) (told : Folder
       };
       followed = still_accounts.followed;
       sent = still_accounts.sent;
+      opened = gave;
       given = λ at_rest first second a_is b_is. given_by ((areas at_rest).both first second a_is b_is);
-      rows = λ at_rest first second rows a_is b_is gives. still_rows met rows (given_over_fronts one [] first second rows ((areas at_rest).both first second a_is b_is) gives);
+      rows = λ at_rest first second rows a_is b_is gives. still_rows (ordered_at_rest disks from_a from_b opening at_rest (gave at_rest)) met rows (given_over_fronts one opening [] first second rows ((areas at_rest).both first second a_is b_is) gives);
       images = λ at_rest. record { of_a = still_images from_a a (areas at_rest).of_a; of_b = still_images from_b b (areas at_rest).of_b };
       supposing = λ premises. record { is = still_accounts.is premises; drained = λ at_rest is_done. absurd (not_done is_done) };
     }

@@ -6,6 +6,7 @@ use Rattle.batch_worker.specs.Standing.{length_of}
 use Rattle.outside.specs.Folders.{FolderHistory}
 use Rattle.outside.specs.Wires.{Outcome}
 use Rattle.rounds.specs.Words.{Words}
+use Rattle.run_steps.specs.Areas.{BeganAtRest, GaveRows}
 use Rattle.run_steps.specs.AccountedFor.{AccountedFor, RunObjects}
 use Rattle.run_steps.specs.Began.{Began}
 use Rattle.run_steps.specs.Ends.{Ending}
@@ -60,11 +61,11 @@ module _ {T W L D : Type 0} (words : Words T W L D) (start : Began D) (ending : 
       after = record { folder = ending.shown; moments = ending.moments; outcomes = map words.wires.outcomes wires; a = ending.a; b = ending.b };
     }
 
-    pub ended_is_accounted_for : OneChoice → (met ≡ Done → IsServedAtEnd start.listed ending.keeper.tracked.notes folder ending.shown) → AccountedFor words.disks start.settings ended_objects met
-    ended_is_accounted_for one served =
-        accounted_for words start ending met unused wires ended.ends ended.left whole has_whole do_tell outcomes starts one
+    pub ended_is_accounted_for : OneChoice → (BeganAtRest words.disks start → GaveRows words.disks start) → (met ≡ Done → IsServedAtEnd start.opening start.listed ending.keeper.tracked.notes folder ending.shown) → AccountedFor words.disks start.settings ended_objects met
+    ended_is_accounted_for one gave served =
+        accounted_for words start ending met unused wires ended.ends ended.left whole has_whole do_tell outcomes starts one gave
         (λ is_done. by_served (served is_done))
       where
-        by_served : IsServedAtEnd start.listed ending.keeper.tracked.notes folder ending.shown → AreServed start.listed ending.keeper.tracked.notes whole
+        by_served : IsServedAtEnd start.opening start.listed ending.keeper.tracked.notes folder ending.shown → AreServed start.opening start.listed ending.keeper.tracked.notes whole
         by_served at_end =
-            subst (λ (e : FolderHistory). AreServed start.listed ending.keeper.tracked.notes (record folder { ended = e })) (some_is at_end.ended told.0 (sym at_end.is ∙ told.1)) at_end.served
+            subst (λ (e : FolderHistory). AreServed start.opening start.listed ending.keeper.tracked.notes (record folder { ended = e })) (some_is at_end.ended told.0 (sym at_end.is ∙ told.1)) at_end.served

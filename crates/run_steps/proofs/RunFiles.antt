@@ -1,5 +1,5 @@
 -- The files of a run, each with what its tail told as it was closed: listed by the run's scan, opened behind it, and begun once.
-use Rattle.std.proofs.Common.{◌≡◌, ◌⊎◌, inl, inr, ⊎_elim, ℕ, suc, ◌+◌, ◌≤◌, max, min, All, List, [], ◌∷◌, ◌++◌, Contains, drop, length, length-append, map, Option, Some, None, IsSome, IfSome, refl, sym, ap, subst, ◌∙◌, arith}
+use Rattle.std.proofs.Common.{◌≡◌, ◌⊎◌, inl, inr, ⊎_elim, ℕ, suc, ◌+◌, ◌≤◌, max, min, All, List, [], ◌∷◌, ◌++◌, Contains, drop, length, length-append, map, Option, Some, None, IsSome, IfSome, refl, sym, ap, subst, ◌∙◌, arith, Bool, true, false, nat_le, if◌then◌else◌}
 use Rattle.std.specs.Prelude.{option_map, slice_get}
 use Rattle.std.specs.List.{AllByRecursion, flat_map}
 use Rattle.std.specs.Option.{option_map_or}
@@ -16,9 +16,10 @@ use Rattle.accounts.specs.Turning.{IsTurnedSo, Pairs}
 use Rattle.event_tree.specs.declared.processor_rule.ProcessorRule.{ProcessorRule}
 use Rattle.file_identity.specs.Key.{path_key}
 use Rattle.harvester.specs.declared.harvester.Harvester.{Harvester}
-use Rattle.kept_rows.specs.Followed.{OnlyReads, start_by}
+use Rattle.kept_rows.specs.Followed.{OnlyReads, Start as StartBy, start_by}
 use Rattle.kept_rows.specs.Run.{Run, Scan}
 use Rattle.kept_rows.specs.Scans.{AreDistinct, ShowsFileTo, moment_in}
+use Rattle.kept_rows.specs.Telling.{opening_moment}
 use Rattle.kept_rows.specs.Trace.{Closing, WireTold, closing_in, first_of_two, looks_of, open_looks_in}
 use Rattle.lanes.specs.Laning.{Laning}
 use Rattle.outside.specs.Folders.{FolderHistory, Opened as OpenedAs}
@@ -30,12 +31,18 @@ use Rattle.prospect.specs.Scan.{event_of}
 use Rattle.prospect.specs.declared.listed.Listed.{Listed}
 use Rattle.rounds.specs.Crewed.{lanings}
 use Rattle.rounds.specs.Words.{TailWords, Words}
+use Rattle.restart_join.specs.Starts.{start_of}
+use Rattle.restart_join.specs.declared.start.Start.{Start}
 use Rattle.ship_core.proofs.Members.{none_there, there_cases}
+use Rattle.ship_core.specs.Rows.{find}
 use Rattle.wire_base.specs.declared.note.Begin.{Begin}
 use Rattle.wire_base.specs.declared.numbers.Moment.{Moment}
 use Rattle.wire_base.specs.declared.numbers.TheConstants.{MAX_MOMENT}
+use Rattle.wire_base.specs.declared.row.Row.{Row}
+use Rattle.run_steps.specs.Telling.{moment_noted}
 use Rattle.run_steps.specs.Began.{Began}
-use Rattle.run_steps.specs.Begun.{AreSlotsFrom, IsKeyedByPath, IsOpenedAsListed, moment_noted}
+use Rattle.run_steps.specs.BeginFor.{row_of}
+use Rattle.run_steps.specs.Begun.{AreSlotsFrom, IsKeyedByPath, IsOpenedAsListed}
 use Rattle.run_steps.specs.Releasing.{HasNoHarvesters}
 use Rattle.run_steps.specs.RunOf.{FolderTold, run_of, scan_of}
 use Rattle.run_steps.specs.RunState.{RunState}
@@ -55,8 +62,21 @@ abbrev pub looks_in : FolderHistory → Opened → List Look
 looks_in told one = option_map_or (λ (closing : Closing). closing.looks) (closing_in one.opening (drop (suc one.opening) told.events)) []
 
 -- the moment with which it was listed
-abbrev pub moment_listed : List Listed → Opened → ℕ
-moment_listed listed one = option_map_or (λ (entry : Listed). (moment_noted entry).0) (slice_get listed one.begin.slot.0) 0
+abbrev pub moment_listed : List Row → List Listed → Opened → ℕ
+moment_listed rows listed one = option_map_or (λ (entry : Listed). (moment_noted rows entry).0) (slice_get listed one.begin.slot.0) 0
+
+-- the rule by which a file starts, in the words of what is promised of rows
+abbrev start_from : Start → StartBy
+start_from start = record { epoch = start.epoch; base = start.base }
+
+same_start : (row : Option Row) (size : ℕ) → start_from (start_of size row) ≡ start_by row size
+same_start None size = refl
+same_start (Some row) size = by_size (nat_le row.offset size)
+  where
+    by_size : (b : Bool) → start_from (if b then record { epoch = row.epoch.0; base = row.offset } else record { epoch = row.epoch.0 + 1; base = 0 })
+        ≡ (if b then record { epoch = row.epoch.0; base = row.offset } else record { epoch = row.epoch.0 + 1; base = 0 })
+    by_size true = refl
+    by_size false = refl
 
 abbrev slot_number : Opened → ℕ
 slot_number one = one.begin.slot.0
@@ -126,7 +146,7 @@ module _ {T W L D : Type 0} (words : Words T W L D) (start : Began D) (state : R
   looks = looks_in folder.ended
 
   abbrev changed : Opened → ℕ
-  changed = moment_listed start.listed
+  changed = moment_listed start.opening start.listed
 
   pub done : HasDone folder.scanned folder.ended so_far
   done = subst (λ (o : Option FolderHistory). HasShown (Some folder.scanned) o so_far) shown (subst (λ (o : Option FolderHistory). HasShown o state.shown so_far) has.shown stands.shown)
@@ -161,8 +181,8 @@ module _ {T W L D : Type 0} (words : Words T W L D) (start : Began D) (state : R
         mapped_in : (some : List Filed) → Contains some file → Contains (map (λ (f : Filed). f.opened) some) file.opened
         mapped_in some there = mapped_there (λ (f : Filed). f.opened) some file there
 
-    pub as_listed : IsOpenedAsListed start.settings start.listed one
-    as_listed = member_is (IsOpenedAsListed start.settings start.listed) so_far.opened one stands.opened was_opened
+    pub as_listed : IsOpenedAsListed start.settings start.opening start.listed one
+    as_listed = member_is (IsOpenedAsListed start.settings start.opening start.listed) so_far.opened one stands.opened was_opened
 
     left_there : Contains (map (λ (l : Left). l.turned) so_far.left) file.turned
     left_there = subst (λ (l : List Turned). Contains l file.turned) files_are is_joined.among
@@ -230,8 +250,12 @@ module _ {T W L D : Type 0} (words : Words T W L D) (start : Began D) (state : R
         subst (λ (i : ℕ). ShowsFileTo run scan i key its_entry.file its_entry) (sym input_is)
         (shows_file start folder has so_far done wires entry entry_there of_entry key as_listed.keyed one.rule as_listed.rule_is as_listed.by_path)
 
-    starts : start_in one ≡ start_by None its_entry.entry.size
-    starts k = record { epoch = ap (λ (b : Begin). b.epoch.0) as_listed.begin_is k; base = ap (λ (b : Begin). b.base) as_listed.begin_is k }
+    starts : start_in one ≡ start_by (find key start.opening) its_entry.entry.size
+    starts =
+        (λ k. record { epoch = ap (λ (b : Begin). b.epoch.0) as_listed.begin_is k; base = ap (λ (b : Begin). b.base) as_listed.begin_is k })
+        ∙ ap (λ (n : ℕ). start_from (start_of n (row_of start.opening entry.key))) of_entry.by.size_is
+        ∙ ap (λ (o : Option (List ℕ)). start_from (start_of its_entry.entry.size (row_of start.opening o))) as_listed.keyed
+        ∙ same_start (find key start.opening) its_entry.entry.size
 
     is_listed : IsListedAs run scan one its_entry
     is_listed = record {
@@ -243,8 +267,8 @@ module _ {T W L D : Type 0} (words : Words T W L D) (start : Began D) (state : R
     }
 
     -- the moment of its listing
-    pub moment_is : file.changed ≡ (moment_noted entry).0
-    moment_is = is_joined.changed_is ∙ ap (λ (o : Option Listed). option_map_or (λ (e : Listed). (moment_noted e).0) o 0) as_listed.listed_there
+    pub moment_is : file.changed ≡ (moment_noted start.opening entry).0
+    moment_is = is_joined.changed_is ∙ ap (λ (o : Option Listed). option_map_or (λ (e : Listed). (moment_noted start.opening e).0) o 0) as_listed.listed_there
 
     keyed_by_path : IsKeyedByPath one
     keyed_by_path = member_is IsKeyedByPath so_far.opened one (stands.keyed tells) was_opened
@@ -255,15 +279,12 @@ module _ {T W L D : Type 0} (words : Words T W L D) (start : Began D) (state : R
         same_key : (x y : List ℕ) → Some x ≡ Some y → x ≡ y
         same_key x y is = cc
 
-    changed_by_entry : (moment_noted entry).0 ≡ moment_in its_entry
-    changed_by_entry = ap (λ (m : Moment). min m.0 MAX_MOMENT) of_entry.by.changed_is
-
-    -- no opening row has a greater one
-    over_no_row : (n : ℕ) → n ≡ max 0 n
-    over_no_row n = omega arith
+    changed_by_entry : (moment_noted start.opening entry).0 ≡ max (opening_moment start.opening key) (moment_in its_entry)
+    changed_by_entry = ap (λ (m : Moment). max (option_map_or (λ (row : Row). row.changed.0) (row_of start.opening entry.key) 0) (min m.0 MAX_MOMENT)) of_entry.by.changed_is
+        ∙ ap (λ (o : Option (List ℕ)). max (option_map_or (λ (row : Row). row.changed.0) (row_of start.opening o) 0) (moment_in its_entry)) as_listed.keyed
 
     pub moment_noted_is : file.changed ≡ moment_by run file its_entry
-    moment_noted_is = moment_is ∙ changed_by_entry ∙ over_no_row (moment_in its_entry)
+    moment_noted_is = moment_is ∙ changed_by_entry
 
     pub is_followed : IsFollowedFile run scan file
     is_followed = record {
@@ -322,8 +343,8 @@ module _ {T W L D : Type 0} (words : Words T W L D) (start : Began D) (state : R
   are_followed_files = record {
     each = each_member (IsFollowedFile run scan) files is_followed;
     slots = in_slots;
-    names_apart = names_apart start.settings start.listed has.scans.in_order 0 files in_slots
-        (each_member (λ (file : Filed). IsOpenedAsListed start.settings start.listed file.opened) files as_listed);
+    names_apart = names_apart start.settings start.opening start.listed has.scans.in_order 0 files in_slots
+        (each_member (λ (file : Filed). IsOpenedAsListed start.settings start.opening start.listed file.opened) files as_listed);
     openings_apart = subst AreDistinct (sym openings_are) done.apart;
     openings_serve = each_opening;
   }

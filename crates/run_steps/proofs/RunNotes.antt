@@ -15,6 +15,7 @@ use Rattle.wire_base.specs.declared.note.Note.TheVariants.{Announce, Begin, Forg
 use Rattle.wire_base.specs.declared.numbers.Moment.{Moment}
 use Rattle.wire_base.specs.declared.numbers.Slot.{Slot}
 use Rattle.wire_base.specs.declared.parcel.Parcel.{Parcel}
+use Rattle.wire_base.specs.declared.row.Row.{Row}
 use Rattle.run_steps.specs.Begun.{AreBeginNotes, IsSeenOf, noted_begin}
 use Rattle.run_steps.proofs.Members.{member_is}
 
@@ -55,7 +56,7 @@ module _ (files : List Turned) (acknowledged : List Parcel) (begun collected not
   pub own_seen : (slot : Slot) (changed : Moment) → Contains notes (Seen slot changed) → Contains begun (Seen slot changed)
   own_seen slot changed there = own (Seen slot changed) (λ is. is) there
 
-  module _ (listed : List Listed) (opened : List Opened) (begins : AreBeginNotes listed opened begun) where
+  module _ (rows : List Row) (listed : List Listed) (opened : List Opened) (begins : AreBeginNotes rows listed opened begun) where
     abbrev begin_of_one : Opened → Note
     begin_of_one one = noted_begin one.begin
 
@@ -79,7 +80,7 @@ module _ (files : List Turned) (acknowledged : List Parcel) (begun collected not
             let of = of_map begin_of_one opened (noted_begin begin) here in
             record { one = of.item; among = of.among; slot_is = same_slot of.item.begin begin of.is }
         by_case (inr later) =
-            let seen = member_is (IsSeenOf listed opened) begins.seen (noted_begin begin) begins.seen_are later in
+            let seen = member_is (IsSeenOf rows listed opened) begins.seen (noted_begin begin) begins.seen_are later in
             absurd (subst IsNoBegin (sym seen.is) tt)
 
     pub opened_is_noted : (one : Opened) → Contains opened one → Contains begun (noted_begin one.begin)

@@ -1,5 +1,5 @@
 -- The rows that areas and their images give are over the notes of the keeper that wrote them.
-use Rattle.std.proofs.Common.{◌≡◌, inl, inr, ℕ, List, [], ◌∷◌, Some, refl, sym, ap, subst, ◌∙◌, arith}
+use Rattle.std.proofs.Common.{◌≡◌, ◌⊎◌, inl, inr, ℕ, List, [], ◌∷◌, Option, Some, refl, sym, ap, subst, ◌∙◌, arith}
 use Rattle.std.specs.Prelude.{slice_get}
 use Rattle.kept_rows.specs.Backed.{AreRowsOverFronts}
 use Rattle.registry_log.specs.Starting.{IsClosed}
@@ -7,12 +7,11 @@ use Rattle.registry_log.specs.State.{Blank, IsOpened, Opened}
 use Rattle.registry_store.specs.Choice.{Choice, Chosen, GivesRows, IsChoice, rows_of}
 use Rattle.registry_store.specs.Settled.{AreSettled}
 use Rattle.registry_store.specs.Standing.{Standing, chosen_by}
-use Rattle.rounds.specs.Images.{GivesFronts}
+use Rattle.rounds.specs.Images.{GivesFronts, MayHoldFronts}
 use Rattle.rounds.specs.Words.{DiskWords}
 use Rattle.wire_base.specs.declared.limits.Which.TheVariants.{A}
 use Rattle.wire_base.specs.declared.note.Note.{Note}
 use Rattle.wire_base.specs.declared.row.Row.{Row}
-use Rattle.run_steps.specs.Areas.{HoldsFronts}
 use Rattle.run_steps.proofs.Members.{some_is}
 
 -- whatever bytes two areas have, they make one choice at most, which is a law of the store
@@ -38,19 +37,18 @@ module _ (one : OneChoice) where
   not_closed [] gate closed = closed
   not_closed (first ∷ rest) gate closed = closed (some_is first 0x7B gate)
 
-  -- an area that is opened has rows over first ones of these notes
-  pub opened_over_fronts : (notes : List Note) (area : List ℕ) (generation : ℕ) (rows : List Row) (end : ℕ) → HoldsFronts notes area → IsOpened area generation rows end →
-      AreRowsOverFronts [] notes rows
-  opened_over_fronts notes area generation rows end holds opened = by_case holds
-    where
-      by_case : HoldsFronts notes area → AreRowsOverFronts [] notes rows
-      by_case (inl (inl blank)) = absurd (let more = opened.reaches.unclosed.more in omega (arith, blank, more))
-      by_case (inl (inr closed)) = absurd (not_closed area opened.reaches.unclosed.gate closed)
-      by_case (inr over) =
-          subst (AreRowsOverFronts [] notes) (opened_rows area over.its_generation generation over.rows rows over.end end over.opened opened) over.fronts
+  -- an area that is opened is as it was, or has rows over first ones of these notes
+  pub opened_over_fronts : (opening : List Row) (notes : List Note) (before : Option (List ℕ)) (area : List ℕ) (generation : ℕ) (rows : List Row) (end : ℕ) →
+      MayHoldFronts opening notes before 0 area → IsOpened area generation rows end → (before ≡ Some area) ⊎ AreRowsOverFronts opening notes rows
+  opened_over_fronts opening notes before area generation rows end (inl same) opened = inl same
+  opened_over_fronts opening notes before area generation rows end (inr (inl (inl blank))) opened = absurd (let more = opened.reaches.unclosed.more in omega (arith, blank, more))
+  opened_over_fronts opening notes before area generation rows end (inr (inl (inr closed))) opened = absurd (not_closed area opened.reaches.unclosed.gate closed)
+  opened_over_fronts opening notes before area generation rows end (inr (inr over)) opened =
+      inr (subst (AreRowsOverFronts opening notes) (opened_rows area over.its_generation generation over.rows rows over.end end over.opened opened) over.fronts)
 
-  pub given_over_fronts : (notes : List Note) (first second : List ℕ) (rows : List Row) → GivesFronts [] notes first second → GivesRows first second rows → AreRowsOverFronts [] notes rows
-  given_over_fronts notes first second rows fronts gives = subst (AreRowsOverFronts [] notes) (same_rows first second fronts.rows rows fronts.given gives) fronts.fronts
+  pub given_over_fronts : (opening : List Row) (notes : List Note) (first second : List ℕ) (rows : List Row) → GivesFronts opening notes first second → GivesRows first second rows →
+      AreRowsOverFronts opening notes rows
+  given_over_fronts opening notes first second rows fronts gives = subst (AreRowsOverFronts opening notes) (same_rows first second fronts.rows rows fronts.given gives) fronts.fronts
 
   -- areas at rest give the rows of their store
   pub rows_of_store : {D : Type 0} (disks : DiskWords D) (a b : D) (store : Standing) (first second : List ℕ) (rows : List Row) →

@@ -23,8 +23,9 @@ use Rattle.ship_core.specs.RowOver.{moment_of, slot_of}
 use Rattle.wire_base.specs.declared.note.Note.{Note}
 use Rattle.wire_base.specs.declared.note.Note.TheVariants.{Seen}
 use Rattle.wire_base.specs.declared.numbers.Slot.{Slot}
+use Rattle.run_steps.specs.Telling.{moment_noted}
 use Rattle.run_steps.specs.Began.{Began}
-use Rattle.run_steps.specs.Begun.{moment_noted, noted_begin}
+use Rattle.run_steps.specs.Begun.{noted_begin}
 use Rattle.run_steps.specs.Releasing.{HasNoHarvesters}
 use Rattle.run_steps.specs.RunOf.{FolderTold, run_of, scan_of}
 use Rattle.run_steps.specs.RunState.{RunState}
@@ -44,7 +45,7 @@ got_some P o x is all = subst (λ (q : Option _). IfSome q P) is all
 module _ {T W L D : Type 0} (words : Words T W L D) (start : Began D) (state : RunState T W L D) (so_far : SoFar) (stands : Stands words start state so_far)
     (released : All HasNoHarvesters (lanings state.crew.lanes.items)) (folder : FolderTold) (has : HasScanned start folder) (shown : state.shown ≡ Some folder.ended)
     (wires : List WireTold) (workers : List Taken) (fits : FitBooks (files_in so_far) workers so_far.collected)
-    (served : AreServed start.listed state.keeper.tracked.notes folder) where
+    (served : AreServed start.opening start.listed state.keeper.tracked.notes folder) where
   abbrev run : Run
   run = run_of start folder so_far.moments wires
 
@@ -74,7 +75,7 @@ module _ {T W L D : Type 0} (words : Words T W L D) (start : Began D) (state : R
   file_of_begin : (slot : ℕ) → HasBegin notes slot → HasFileAt slot
   file_of_begin slot begun =
       let opened =
-      begin_opened (files_in so_far) (acknowledged_in workers) so_far.begun so_far.collected notes stands.noted.are ground start.listed so_far.opened stands.begun begun.begin begun.noted in
+      begin_opened (files_in so_far) (acknowledged_in workers) so_far.begun so_far.collected notes stands.noted.are ground start.opening start.listed so_far.opened stands.begun begun.begin begun.noted in
       let of =
       of_map (λ (file : Filed). file.opened) run_files opened.one
       (subst (λ (l : List Opened). Contains l opened.one) (sym (joined words start state so_far stands released folder has shown wires).opened_are) opened.among) in
@@ -132,32 +133,32 @@ module _ {T W L D : Type 0} (words : Words T W L D) (start : Began D) (state : R
     abbrev entry_of : Listed
     entry_of = (as_listed words start state so_far stands released folder has shown wires file among).one
 
-    changed_is : file.changed ≡ (moment_noted entry_of).0
+    changed_is : file.changed ≡ (moment_noted start.opening entry_of).0
     changed_is = moment_is words start state so_far stands released folder has shown wires file among
 
     begin_carries : file.changed ≡ 0 → CarriesMoment
     begin_carries none = record {
       note = noted_begin one.begin;
-      of_first = opened_is_noted (files_in so_far) (acknowledged_in workers) so_far.begun so_far.collected notes stands.noted.are ground start.listed so_far.opened stands.begun one opened_there;
+      of_first = opened_is_noted (files_in so_far) (acknowledged_in workers) so_far.begun so_far.collected notes stands.noted.are ground start.opening start.listed so_far.opened stands.begun one opened_there;
       slot_is = refl;
       carries = ap (λ (n : ℕ). Some n) (sym none);
     }
 
-    seen_carries : 0 < (moment_noted entry_of).0 → CarriesMoment
+    seen_carries : 0 < (moment_noted start.opening entry_of).0 → CarriesMoment
     seen_carries later = record {
-      note = Seen one.begin.slot (moment_noted entry_of);
+      note = Seen one.begin.slot (moment_noted start.opening entry_of);
       of_first =
-          own_seen (files_in so_far) (acknowledged_in workers) so_far.begun so_far.collected notes stands.noted.are ground one.begin.slot (moment_noted entry_of)
-          (got_some (λ (entry : Listed). 0 < (moment_noted entry).0 → Contains notes (Seen one.begin.slot (moment_noted entry))) (slice_get start.listed one.begin.slot.0) entry_of
+          own_seen (files_in so_far) (acknowledged_in workers) so_far.begun so_far.collected notes stands.noted.are ground one.begin.slot (moment_noted start.opening entry_of)
+          (got_some (λ (entry : Listed). 0 < (moment_noted start.opening entry).0 → Contains notes (Seen one.begin.slot (moment_noted start.opening entry))) (slice_get start.listed one.begin.slot.0) entry_of
           (as_listed words start state so_far stands released folder has shown wires file among).listed_there
           (served.seen one.begin
-          (opened_is_in_notes (files_in so_far) (acknowledged_in workers) so_far.begun so_far.collected notes stands.noted.are ground start.listed so_far.opened stands.begun one opened_there)) later);
+          (opened_is_in_notes (files_in so_far) (acknowledged_in workers) so_far.begun so_far.collected notes stands.noted.are ground start.opening start.listed so_far.opened stands.begun one opened_there)) later);
       slot_is = refl;
       carries = ap (λ (n : ℕ). Some n) (sym changed_is);
     }
 
     carries_moment : CarriesMoment
-    carries_moment = ⊎_elim seen_carries (λ none. begin_carries (changed_is ∙ omega (arith, none))) (cases_lt 0 (moment_noted entry_of).0)
+    carries_moment = ⊎_elim seen_carries (λ none. begin_carries (changed_is ∙ omega (arith, none))) (cases_lt 0 (moment_noted start.opening entry_of).0)
 
     pub told_whole : IsToldWhole run scan so_far.begun file
     told_whole = record {

@@ -51,11 +51,11 @@ module _ {T W L D : Type 0} (words : Words T W L D) (start : Began D) (ending : 
       (of_workers words.links words.wires unused so_far.told.acknowledged ends.crew.carriers.items ends.ended.ended ends.stands.booked.acknowledged ends.ended.each
       (subst (AllByRecursion (λ wire. IsSome (words.wires.outcomes wire))) ends.ended.is tell.wires_tell)))
 
-  pub fit : FitWith (lanings ends.crew.lanes.items) ends.crew.carriers.items ending.keeper so_far ends.stands.gave ends.stands.placed ends.stands.noted workers
+  pub fit : FitWith (lanings ends.crew.lanes.items) ends.crew.carriers.items ending.keeper so_far ends.stands.gave ends.stands.placed start.opening ends.stands.noted workers
       (acknowledged_are words.links words.wires unused so_far.told.acknowledged ends.crew.carriers.items ends.stands.booked.acknowledged)
       (carried_are words.links words.wires unused so_far.told.acknowledged ends.crew.carriers.items ends.stands.booked.acknowledged)
   fit =
-      books_fit (lanings ends.crew.lanes.items) ends.crew.carriers.items ending.keeper so_far ends.stands.gave ends.stands.placed ends.stands.noted workers
+      books_fit (lanings ends.crew.lanes.items) ends.crew.carriers.items ending.keeper so_far ends.stands.gave ends.stands.placed start.opening ends.stands.noted workers
       (acknowledged_are words.links words.wires unused so_far.told.acknowledged ends.crew.carriers.items ends.stands.booked.acknowledged)
       (carried_are words.links words.wires unused so_far.told.acknowledged ends.crew.carriers.items ends.stands.booked.acknowledged)
 
@@ -66,6 +66,6 @@ module _ {T W L D : Type 0} (words : Words T W L D) (start : Began D) (ending : 
     followed = are_followed_files words start (with_crew ending ends.crew) so_far ends.stands left.released folder has tell.shown wires_told;
     talks = talks;
     noted = joined_first_notes _ _ _ _ (joined words start (with_crew ending ends.crew) so_far ends.stands left.released folder has tell.shown wires_told) so_far.begun
-        (first_notes start.listed so_far.opened so_far.begun ends.stands.begun);
+        (first_notes start.opening start.listed so_far.opened so_far.begun ends.stands.begun);
     fits = joined_fit _ _ _ _ (joined words start (with_crew ending ends.crew) so_far ends.stands left.released folder has tell.shown wires_told) workers so_far.collected fit.fits;
   }

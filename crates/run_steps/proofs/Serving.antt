@@ -21,14 +21,15 @@ use Rattle.wire_base.specs.declared.note.Begin.{Begin as Beginning_of_file}
 use Rattle.wire_base.specs.declared.note.Note.{Note}
 use Rattle.wire_base.specs.declared.note.Note.TheVariants.{Announce, Begin, Forget, Rename, Seen, Settle}
 use Rattle.wire_base.specs.declared.numbers.Moment.{Moment}
-use Rattle.run_steps.specs.BeginFor.{begin_for}
+use Rattle.wire_base.specs.declared.row.Row.{Row}
+use Rattle.run_steps.specs.BeginFor.{begin_for, start_among}
 use Rattle.run_steps.specs.Beginning.{Beginning, BeginsOne}
 use Rattle.run_steps.specs.BeginsAll.{BeginsAll, BeginsFrom, file_at}
-use Rattle.run_steps.specs.Begun.{AreAllSeen, moment_noted, noted_begin}
+use Rattle.run_steps.specs.Begun.{AreAllSeen, noted_begin}
 use Rattle.run_steps.specs.Releasing.{with_events}
 use Rattle.run_steps.specs.RunOf.{FolderTold}
 use Rattle.run_steps.specs.Served.{AreServed, HasBegin, IsEachServed, WasNotThere}
-use Rattle.run_steps.specs.Telling.{TellMoments, TellsMoment}
+use Rattle.run_steps.specs.Telling.{TellMoments, TellsMoment, moment_noted}
 use Rattle.run_steps.proofs.ByPath.{each_of}
 use Rattle.run_steps.proofs.Members.{member_is}
 use Rattle.run_steps.proofs.RunNotes.{IsNoBegin}
@@ -64,21 +65,21 @@ module _ {T : Type 0} (tails : TailWords T) where
       subst (λ (o : Option FolderHistory). TellsOpening tails.told tails.numbers o states present path (Ok None) after) is tells in
       finds.kept
 
-module _ {T W L : Type 0} (tails : TailWords T) (settings : Settings) (now : Moment) where
+module _ {T W L : Type 0} (tails : TailWords T) (settings : Settings) (rows : List Row) (now : Moment) where
   serves_one : (slot : ℕ) (one : Listed) (found : Bool) (before : FolderHistory) (old new : Beginning T W L) → old.folder.told ≡ Some before →
-      BeginsOne tails settings (file_at slot one now) (Ok found) old new → ServesOne slot one.path before old new
+      BeginsOne tails settings (file_at rows slot one now) (Ok found) old new → ServesOne slot one.path before old new
   serves_one slot one true before old new is begins =
       let opened = opened_event tails one.path begins.tail before old.folder.told begins.mid.folder.told old.folder.states old.folder.present is begins.opened.opens.told in
       let tells = begins.follows.taken.tells in
       record {
         event = opened.0;
         told = ap (λ f. f.told) begins.follows.taken.folder ∙ opened.1;
-        more = noted_begin (begin_for (record { 0 = slot }) one tells.key) ∷ [];
-        noted = tells.tells.told ∙ ap (λ (k : Keeping). k.tracked.notes ++ noted_begin (begin_for (record { 0 = slot }) one tells.key) ∷ []) begins.opened.keeper;
+        more = noted_begin (begin_for (record { 0 = slot }) one tells.key (start_among rows one)) ∷ [];
+        noted = tells.tells.told ∙ ap (λ (k : Keeping). k.tracked.notes ++ noted_begin (begin_for (record { 0 = slot }) one tells.key (start_among rows one)) ∷ []) begins.opened.keeper;
         served = inl (record {
-          begin = begin_for (record { 0 = slot }) one tells.key;
+          begin = begin_for (record { 0 = slot }) one tells.key (start_among rows one);
           slot_is = refl;
-          noted = first_there (noted_begin (begin_for (record { 0 = slot }) one tells.key)) [];
+          noted = first_there (noted_begin (begin_for (record { 0 = slot }) one tells.key (start_among rows one))) [];
         });
       }
   serves_one slot one false before old new is opens = record {
@@ -99,7 +100,7 @@ module _ {T W L : Type 0} (tails : TailWords T) (settings : Settings) (now : Mom
     pub each : (k : ℕ) (one : Listed) → slice_get listed k ≡ Some one → HasBegin more (slot + k) ⊎ Contains events (NotThere one.path)
 
   pub serves_from : (slot : ℕ) (listed : List Listed) (passed : List Passing) (before : FolderHistory) (old new : Beginning T W L) → old.folder.told ≡ Some before →
-      BeginsFrom tails settings now slot listed passed old new → ServesFrom slot listed before old new
+      BeginsFrom tails settings rows now slot listed passed old new → ServesFrom slot listed before old new
   serves_from slot [] passed before old new is begins = record {
     events = [];
     told = ap (λ (s : Beginning T W L). s.folder.told) begins.1 ∙ is ∙ ap (λ (l : List Event). Some (record before { events = l })) (sym (append-nil before.events));
@@ -146,11 +147,11 @@ got_still (y ∷ xs) more zero x at = at
 got_still (y ∷ xs) more (suc k) x at = got_still xs more k x at
 
 -- notes that moments of files add begin no file, and take none away
-moments_grow : (slot : ℕ) (listed : List Listed) (old new : Keeping) → TellMoments slot listed old new → (more : List Note) × (new.tracked.notes ≡ old.tracked.notes ++ more)
-moments_grow slot [] old new tell = ([], ap (λ (k : Keeping). k.tracked.notes) tell ∙ sym (append-nil old.tracked.notes))
-moments_grow slot (one ∷ listed) old new tell = then_more (one_grows tell.first) (moments_grow (suc slot) listed tell.mid new tell.rest)
+moments_grow : (rows : List Row) (slot : ℕ) (listed : List Listed) (old new : Keeping) → TellMoments rows slot listed old new → (more : List Note) × (new.tracked.notes ≡ old.tracked.notes ++ more)
+moments_grow rows slot [] old new tell = ([], ap (λ (k : Keeping). k.tracked.notes) tell ∙ sym (append-nil old.tracked.notes))
+moments_grow rows slot (one ∷ listed) old new tell = then_more (one_grows tell.first) (moments_grow rows (suc slot) listed tell.mid new tell.rest)
   where
-    one_grows : TellsMoment (record { 0 = slot }) one.changed old tell.mid → (more : List Note) × (tell.mid.tracked.notes ≡ old.tracked.notes ++ more)
+    one_grows : TellsMoment (record { 0 = slot }) (moment_noted rows one) old tell.mid → (more : List Note) × (tell.mid.tracked.notes ≡ old.tracked.notes ++ more)
     one_grows (inl seen) = (_, seen.tells.told)
     one_grows (inr nothing) = ([], ap (λ (k : Keeping). k.tracked.notes) nothing.same ∙ sym (append-nil old.tracked.notes))
 
@@ -162,8 +163,8 @@ moments_grow slot (one ∷ listed) old new tell = then_more (one_grows tell.firs
 abbrev pub folder_begun : FolderTold → List Event → FolderTold
 folder_begun folder events = record folder { ended = record folder.scanned { events = folder.scanned.events ++ events } }
 
-module _ {T W L : Type 0} (tails : TailWords T) (settings : Settings) (now : Moment) (listed : List Listed) (passed : List Passing) (folder : FolderTold)
-    (old new : Beginning T W L) (is : old.folder.told ≡ Some folder.scanned) (begins : BeginsAll tails settings now listed passed old new) where
+module _ {T W L : Type 0} (tails : TailWords T) (settings : Settings) (rows : List Row) (now : Moment) (listed : List Listed) (passed : List Passing) (folder : FolderTold)
+    (old new : Beginning T W L) (is : old.folder.told ≡ Some folder.scanned) (begins : BeginsAll tails settings rows now listed passed old new) where
   -- with these things done
   pub record IsServedBehind : Type 0 where
     pub events : List Event
@@ -177,14 +178,14 @@ module _ {T W L : Type 0} (tails : TailWords T) (settings : Settings) (now : Mom
     each = λ slot one at. ⊎_elim (λ has. inl (begun_in_all slot (subst (HasBegin of.more) (no_less slot) has))) (λ gone. inr (not_there one.path gone)) (of.each slot one at);
   }
     where
-      of : ServesFrom tails settings now 0 listed folder.scanned old begins.mid
-      of = serves_from tails settings now 0 listed passed folder.scanned old begins.mid is begins.begins
+      of : ServesFrom tails settings rows now 0 listed folder.scanned old begins.mid
+      of = serves_from tails settings rows now 0 listed passed folder.scanned old begins.mid is begins.begins
 
       no_less : (slot : ℕ) → 0 + slot ≡ slot
       no_less slot = omega arith
 
       grown : (more : List Note) × (new.keeper.tracked.notes ≡ begins.mid.keeper.tracked.notes ++ more)
-      grown = moments_grow 0 listed begins.mid.keeper new.keeper begins.tell
+      grown = moments_grow rows 0 listed begins.mid.keeper new.keeper begins.tell
 
       begun_in_all : (slot : ℕ) → HasBegin of.more slot → HasBegin new.keeper.tracked.notes slot
       begun_in_all slot has =
@@ -217,7 +218,7 @@ front_of_both : (P : Note → Type 0) (first second : List Note) → AllByRecurs
 front_of_both P [] second each = tt
 front_of_both P (note ∷ first) second each = (each.0, front_of_both P first second each.1)
 
-module _ (listed : List Listed) (folder : FolderTold) (old new : Keeping) (events : List Event) (collects : Collects old new) (none_held : old.held ≡ None) where
+module _ (rows : List Row) (listed : List Listed) (folder : FolderTold) (old new : Keeping) (events : List Event) (collects : Collects old new) (none_held : old.held ≡ None) where
   -- what was noted behind the beginning of files was posted
   were_posted : AllByRecursion IsPostable collects.more
   were_posted =
@@ -240,35 +241,35 @@ module _ (listed : List Listed) (folder : FolderTold) (old new : Keeping) (event
       (λ later. absurd (posted_begins_none (noted_begin begin) (member_is IsPostable collects.more (noted_begin begin) were_posted later)))
       (Contains-append_cases old.tracked.notes collects.more (noted_begin begin) (subst (λ (l : List Note). Contains l (noted_begin begin)) collects.noted there))
 
-  pub still_served : AreServed listed old.tracked.notes folder → AreServed listed new.tracked.notes (folder_on folder events)
+  pub still_served : AreServed rows listed old.tracked.notes folder → AreServed rows listed new.tracked.notes (folder_on folder events)
   still_served served = record {
     each = λ slot one at. ⊎_elim (λ has. inl (still_begun slot has)) (λ gone. inr (still_not_there one.path gone)) (served.each slot one at);
     seen = λ begin there. seen_still begin (slice_get listed begin.slot.0) (served.seen begin (begun_before begin there));
   }
     where
-      seen_still : (begin : Beginning_of_file) (o : Option Listed) → IfSome o (λ one. 0 < (moment_noted one).0 → Contains old.tracked.notes (Seen begin.slot (moment_noted one))) →
-          IfSome o (λ one. 0 < (moment_noted one).0 → Contains new.tracked.notes (Seen begin.slot (moment_noted one)))
+      seen_still : (begin : Beginning_of_file) (o : Option Listed) → IfSome o (λ one. 0 < (moment_noted rows one).0 → Contains old.tracked.notes (Seen begin.slot (moment_noted rows one))) →
+          IfSome o (λ one. 0 < (moment_noted rows one).0 → Contains new.tracked.notes (Seen begin.slot (moment_noted rows one)))
       seen_still begin None seen = tt
-      seen_still begin (Some one) seen = λ later. still_noted (Seen begin.slot (moment_noted one)) (seen later)
+      seen_still begin (Some one) seen = λ later. still_noted (Seen begin.slot (moment_noted rows one)) (seen later)
 
 -- ---- from the beginning of files to the end of the run
 
 -- as the folder tells at the end, and by what its keeper noted then
-pub record IsServedAtEnd (listed : List Listed) (noted : List Note) (folder : FolderTold) (shown : Option FolderHistory) : Type 0 where
+pub record IsServedAtEnd (rows : List Row) (listed : List Listed) (noted : List Note) (folder : FolderTold) (shown : Option FolderHistory) : Type 0 where
   pub ended : FolderHistory
   pub is : shown ≡ Some ended
-  pub served : AreServed listed noted (record folder { ended = ended })
+  pub served : AreServed rows listed noted (record folder { ended = ended })
 
-pub served_at_end : {T W L : Type 0} (tails : TailWords T) (settings : Settings) (now : Moment) (listed : List Listed) (passed : List Passing) (folder : FolderTold)
-    (old new : Beginning T W L) → old.folder.told ≡ Some folder.scanned → BeginsAll tails settings now listed passed old new → AreAllSeen listed new.keeper.tracked.notes →
+pub served_at_end : {T W L : Type 0} (tails : TailWords T) (settings : Settings) (rows : List Row) (now : Moment) (listed : List Listed) (passed : List Passing) (folder : FolderTold)
+    (old new : Beginning T W L) → old.folder.told ≡ Some folder.scanned → BeginsAll tails settings rows now listed passed old new → AreAllSeen rows listed new.keeper.tracked.notes →
     (keeper : Keeping) → Collects new.keeper keeper → new.keeper.held ≡ None → (events : List Event) (shown : Option FolderHistory) → shown ≡ with_events events new.folder.told →
-    IsServedAtEnd listed keeper.tracked.notes folder shown
-served_at_end tails settings now listed passed folder old new is begins seen keeper collects none_held events shown then =
-    by_beginning (each_is_served tails settings now listed passed folder old new is begins)
+    IsServedAtEnd rows listed keeper.tracked.notes folder shown
+served_at_end tails settings rows now listed passed folder old new is begins seen keeper collects none_held events shown then =
+    by_beginning (each_is_served tails settings rows now listed passed folder old new is begins)
   where
-    by_beginning : IsServedBehind tails settings now listed passed folder old new is begins → IsServedAtEnd listed keeper.tracked.notes folder shown
+    by_beginning : IsServedBehind tails settings rows now listed passed folder old new is begins → IsServedAtEnd rows listed keeper.tracked.notes folder shown
     by_beginning behind = record {
       ended = (folder_on (folder_begun folder behind.events) events).ended;
       is = then ∙ ap (with_events events) behind.told;
-      served = still_served listed (folder_begun folder behind.events) new.keeper keeper events collects none_held (record { each = behind.each; seen = seen });
+      served = still_served rows listed (folder_begun folder behind.events) new.keeper keeper events collects none_held (record { each = behind.each; seen = seen });
     }

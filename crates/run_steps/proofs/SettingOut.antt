@@ -137,7 +137,8 @@ module _ {T W L D : Type 0} (words : Words T W L D) (reads : (disk : D) → IfSo
       carriers_know = begun.carriers_know;
       heard = ap (map (λ (w : W). length_of (words.wires.outcomes w))) (first_wires words.links.told queue desk settings wires left old.crew begun)
           ∙ map_twice (λ (w : W). length_of (words.wires.outcomes w)) (λ (c : Carrier W L). c.wire) old.crew.carriers.items;
-      no_rows = first.no_rows;
+      opening_is = sym (ap (λ (k : Keeping). k.store.rows) first.is);
+      in_order = first.in_order;
       none_got = first.none_got;
       gives = sets.gives;
       areas = sets.areas;
@@ -148,14 +149,14 @@ module _ {T W L D : Type 0} (words : Words T W L D) (reads : (disk : D) → IfSo
         (sym first.is) (stands_first words start old.crew first.store first.pass a b moments settings.output made)
 
     -- once files are begun
-    module _ (result : Result (Vec Passing Global) Met) (new : Beginning T W L) (begins : IfOk result (λ passed. BeginsAll words.tails settings now listed passed.items old new))
-        (ended : IfErr result (λ what. BeginsSome words.tails settings now listed what old new)) where
+    module _ (result : Result (Vec Passing Global) Met) (new : Beginning T W L) (begins : IfOk result (λ passed. BeginsAll words.tails settings old.keeper.store.rows now listed passed.items old new))
+        (ended : IfErr result (λ what. BeginsSome words.tails settings old.keeper.store.rows now listed what old new)) where
       pub further : Further words start (at_phase words start moments a b new.folder.told new.crew new.keeper (phase_begun result))
       further = stands_begun words reads counts start moments a b now old (so_far words start old.crew first.store first.pass a b moments settings.output made) stands_out refl
           (given words start old.crew first.store first.pass a b moments settings.output made).ends sets.of_inputs result new begins ended
 
       pub rests : BeganAtRest words.disks start → IsAtRest words.disks new.keeper a b
-      rests began = rest_begun words.tails settings now words.disks a b listed result old new begins ended (sets.at_rest began)
+      rests began = rest_begun words.tails settings old.keeper.store.rows now words.disks a b listed result old new begins ended (sets.at_rest began)
 
       -- ---- at the end
 
@@ -169,12 +170,12 @@ module _ {T W L D : Type 0} (words : Words T W L D) (reads : (disk : D) → IfSo
             ∙ map_both (λ (w : W). length_of (words.wires.outcomes w)) (take settings.output.workers wires) left
 
         served : met ≡ Done → IfErr result (λ _. met ≢ Done) → Collects new.keeper ending.keeper → new.keeper.held ≡ None → (events : List Event) → ending.shown ≡ with_events events new.folder.told →
-            IsServedAtEnd listed ending.keeper.tracked.notes folder ending.shown
+            IsServedAtEnd old.keeper.store.rows listed ending.keeper.tracked.notes folder ending.shown
         served is_done not_done collects none_held events then = by_result result begins not_done
           where
-            by_result : (r : Result (Vec Passing Global) Met) → IfOk r (λ passed. BeginsAll words.tails settings now listed passed.items old new) → IfErr r (λ _. met ≢ Done) →
-                IsServedAtEnd listed ending.keeper.tracked.notes folder ending.shown
-            by_result (Ok passed) all not = served_at_end words.tails settings now listed passed.items folder old new has.shown all
+            by_result : (r : Result (Vec Passing Global) Met) → IfOk r (λ passed. BeginsAll words.tails settings old.keeper.store.rows now listed passed.items old new) → IfErr r (λ _. met ≢ Done) →
+                IsServedAtEnd old.keeper.store.rows listed ending.keeper.tracked.notes folder ending.shown
+            by_result (Ok passed) all not = served_at_end words.tails settings old.keeper.store.rows now listed passed.items folder old new has.shown all
                 (all_are_seen words reads counts start moments a b now old (so_far words start old.crew first.store first.pass a b moments settings.output made) stands_out refl
                 (given words start old.crew first.store first.pass a b moments settings.output made).ends sets.of_inputs passed.items new all)
                 ending.keeper collects none_held events ending.shown then
@@ -183,5 +184,5 @@ module _ {T W L D : Type 0} (words : Words T W L D) (reads : (disk : D) → IfSo
         pub accounted : OneChoice → IfErr result (λ _. met ≢ Done) → Collects new.keeper ending.keeper → new.keeper.held ≡ None → (events : List Event) → ending.shown ≡ with_events events new.folder.told →
             AccountedFor words.disks settings (ended_objects words start ending met left after has_ended folder has clock_tells wires_tell (map words.wires.outcomes wires) starts) met
         accounted one not_done collects none_held events then =
-            ended_is_accounted_for words start ending met left after has_ended folder has clock_tells wires_tell (map words.wires.outcomes wires) starts one
+            ended_is_accounted_for words start ending met left after has_ended folder has clock_tells wires_tell (map words.wires.outcomes wires) starts one sets.gave
             (λ is_done. served is_done not_done collects none_held events then)

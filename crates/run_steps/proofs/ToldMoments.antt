@@ -19,13 +19,14 @@ use Rattle.ship_core.specs.RowOver.{first_start, notes_of, start_of}
 use Rattle.wire_base.specs.declared.note.Note.{Note}
 use Rattle.wire_base.specs.declared.note.Note.TheVariants.{Seen}
 use Rattle.wire_base.specs.declared.numbers.Slot.{Slot}
+use Rattle.wire_base.specs.declared.row.Row.{Row}
 use Rattle.run_steps.specs.Began.{Began}
-use Rattle.run_steps.specs.Begun.{AreBeginNotes, IsSeenOf, moment_noted, noted_begin}
+use Rattle.run_steps.specs.Begun.{AreBeginNotes, IsSeenOf, noted_begin}
 use Rattle.run_steps.specs.RunState.{Phase}
 use Rattle.run_steps.specs.Shown.{HasShown}
 use Rattle.run_steps.specs.SoFar.{SoFar}
 use Rattle.run_steps.specs.Stands.{Stands}
-use Rattle.run_steps.specs.Telling.{TellMoments, TellsMoment, TellsNotes, seen_note}
+use Rattle.run_steps.specs.Telling.{TellMoments, TellsMoment, TellsNotes, seen_note, moment_noted}
 use Rattle.run_steps.proofs.BeginningOne.{at_phase}
 use Rattle.run_steps.proofs.BegunNotes.{areas_more, counted_more, got_same, noted_more, stores_more}
 
@@ -40,19 +41,19 @@ pub record FileOfSlot (opened : List Opened) (slot : ℕ) : Type 0 where
 abbrev HasStart : List Note → Type 0
 HasStart notes = IsSome (first_start (filter_map start_of notes))
 
-no_begin : (listed : List Listed) (opened : List Opened) (slot : ℕ) (seen : List Note) → AllByRecursion (IsSeenOf listed opened) seen → IsBegun slot seen → ⊥
-no_begin listed opened slot [] are begun = let q : false ≡ true = begun in cc
-no_begin listed opened slot (note ∷ seen) are begun =
-    go (are.0.file.begin.slot.0 == slot) (subst (λ (n : Note). IsBegun slot (n ∷ seen)) are.0.is begun) (no_begin listed opened slot seen are.1)
+no_begin : (rows : List Row) (listed : List Listed) (opened : List Opened) (slot : ℕ) (seen : List Note) → AllByRecursion (IsSeenOf rows listed opened) seen → IsBegun slot seen → ⊥
+no_begin rows listed opened slot [] are begun = let q : false ≡ true = begun in cc
+no_begin rows listed opened slot (note ∷ seen) are begun =
+    go (are.0.file.begin.slot.0 == slot) (subst (λ (n : Note). IsBegun slot (n ∷ seen)) are.0.is begun) (no_begin rows listed opened slot seen are.1)
   where
-    go : (b : Bool) → HasStart (if b then Seen are.0.file.begin.slot (moment_noted are.0.one) ∷ notes_of slot seen else notes_of slot seen) → (IsBegun slot seen → ⊥) → ⊥
+    go : (b : Bool) → HasStart (if b then Seen are.0.file.begin.slot (moment_noted rows are.0.one) ∷ notes_of slot seen else notes_of slot seen) → (IsBegun slot seen → ⊥) → ⊥
     go true is later = later is
     go false is later = later is
 
-pub file_of_begin : (listed : List Listed) (opened all : List Opened) (slot : ℕ) (seen : List Note) → AllByRecursion (IsSeenOf listed all) seen →
+pub file_of_begin : (rows : List Row) (listed : List Listed) (opened all : List Opened) (slot : ℕ) (seen : List Note) → AllByRecursion (IsSeenOf rows listed all) seen →
     IsBegun slot (map (λ (one : Opened). noted_begin one.begin) opened ++ seen) → FileOfSlot opened slot
-file_of_begin listed [] all slot seen are begun = absurd (no_begin listed all slot seen are begun)
-file_of_begin listed (one ∷ opened) all slot seen are begun = go (one.begin.slot.0 == slot) refl begun (file_of_begin listed opened all slot seen are)
+file_of_begin rows listed [] all slot seen are begun = absurd (no_begin rows listed all slot seen are begun)
+file_of_begin rows listed (one ∷ opened) all slot seen are begun = go (one.begin.slot.0 == slot) refl begun (file_of_begin rows listed opened all slot seen are)
   where
     later : FileOfSlot opened slot → FileOfSlot (one ∷ opened) slot
     later of = record { one = of.one; among = later_there one of.one opened of.among; slot_is = of.slot_is }
@@ -77,7 +78,7 @@ module _ {T W L D : Type 0} (words : Words T W L D) (reads : (disk : D) → IfSo
   abbrev pub told_too : SoFar → List Note → SoFar
   told_too so_far told = record so_far { begun = so_far.begun ++ told }
 
-  stands_told : (told : List Note) (old new : Keeping) (so_far : SoFar) → so_far.collected ≡ [] → TellsNotes told old new → AreBeginNotes start.listed so_far.opened (so_far.begun ++ told) →
+  stands_told : (told : List Note) (old new : Keeping) (so_far : SoFar) → so_far.collected ≡ [] → TellsNotes told old new → AreBeginNotes start.opening start.listed so_far.opened (so_far.begun ++ told) →
       Stands words start (at_phase words start moments a b shown crew old phase) so_far → Stands words start (at_phase words start moments a b shown crew new phase) (told_too so_far told)
   stands_told told old new so_far none tells begun stands = record {
     opened = stands.opened;
@@ -97,9 +98,9 @@ module _ {T W L D : Type 0} (words : Words T W L D) (reads : (disk : D) → IfSo
     placed = subst (λ (l : List Note). ArePlaced so_far.told (lanings crew.lanes.items) crew.carriers.items so_far.queued l so_far.boxed) (sym (got_same told old new tells)) stands.placed;
     counted = counted_more told old new tells (lanings crew.lanes.items) (lanings crew.lanes.items) so_far (told_too so_far told) stands.counted.spans stands.counted;
     begun = begun;
-    noted = noted_more told old new tells so_far.begun so_far.collected none stands.noted;
+    noted = noted_more told old new tells start.opening so_far.begun so_far.collected none stands.noted;
     stores = stores_more told old new tells stands.stores;
-    areas = λ began. areas_more told old new tells words.disks reads counts start.a start.b a b (stands.areas began);
+    areas = λ began. areas_more told old new tells words.disks reads counts start.opening start.a start.b a b (stands.areas began);
   }
     where
       by_case : (before now : Option FolderHistory) → HasShown before now so_far → HasShown before now (told_too so_far told)
@@ -129,41 +130,41 @@ module _ {T W L D : Type 0} (words : Words T W L D) (reads : (disk : D) → IfSo
   pub notes_are_begun : (opened : List Opened) (keeper : Keeping) (is : StandsUncollected opened keeper) → keeper.tracked.notes ≡ is.so_far.begun
   notes_are_begun opened keeper is = is.stands.noted.are ∙ ap (λ (l : List Note). is.so_far.begun ++ l) is.none_collected ∙ append-nil is.so_far.begun
 
-  pub one_seen : (opened : List Opened) (slot : ℕ) (listed : Listed) (old new : Keeping) → slice_get start.listed slot ≡ Some listed → TellsMoment (record { 0 = slot }) listed.changed old new →
+  pub one_seen : (opened : List Opened) (slot : ℕ) (listed : Listed) (old new : Keeping) → slice_get start.listed slot ≡ Some listed → TellsMoment (record { 0 = slot }) (moment_noted start.opening listed) old new →
       StandsUncollected opened old → StandsUncollected opened new
   one_seen opened slot listed old new there (inr nothing) is = subst (StandsUncollected opened) (sym nothing.same) is
   one_seen opened slot listed old new there (inl seen) is = record {
-    so_far = told_too is.so_far (seen_note (record { 0 = slot }) listed.changed ∷ []);
+    so_far = told_too is.so_far (seen_note (record { 0 = slot }) (moment_noted start.opening listed) ∷ []);
     opened_are = is.opened_are;
-    stands = stands_told (seen_note (record { 0 = slot }) listed.changed ∷ []) old new is.so_far is.none_collected seen.tells begun is.stands;
+    stands = stands_told (seen_note (record { 0 = slot }) (moment_noted start.opening listed) ∷ []) old new is.so_far is.none_collected seen.tells begun is.stands;
     none_collected = is.none_collected;
   }
     where
       of : FileOfSlot is.so_far.opened slot
-      of = file_of_begin start.listed is.so_far.opened is.so_far.opened slot is.stands.begun.seen is.stands.begun.seen_are
+      of = file_of_begin start.opening start.listed is.so_far.opened is.so_far.opened slot is.stands.begun.seen is.stands.begun.seen_are
           (subst (IsBegun slot) (notes_are_begun opened old is ∙ is.stands.begun.are) seen.followed.begun)
 
       slot_same : of.one.begin.slot ≡ record { 0 = slot }
       slot_same = let n = of.slot_is in (λ k. record { 0 = n k })
 
-      seen_of : IsSeenOf start.listed is.so_far.opened (seen_note (record { 0 = slot }) listed.changed)
+      seen_of : IsSeenOf start.opening start.listed is.so_far.opened (seen_note (record { 0 = slot }) (moment_noted start.opening listed))
       seen_of = record {
         file = of.one;
         among = of.among;
         one = listed;
         listed_there = ap (λ (s : Slot). slice_get start.listed s.0) slot_same ∙ there;
-        is = ap (λ (s : Slot). Seen s (moment_noted listed)) (sym slot_same);
+        is = ap (λ (s : Slot). Seen s (moment_noted start.opening listed)) (sym slot_same);
       }
 
-      begun : AreBeginNotes start.listed is.so_far.opened (is.so_far.begun ++ (seen_note (record { 0 = slot }) listed.changed ∷ []))
+      begun : AreBeginNotes start.opening start.listed is.so_far.opened (is.so_far.begun ++ (seen_note (record { 0 = slot }) (moment_noted start.opening listed) ∷ []))
       begun = record {
-        seen = is.stands.begun.seen ++ seen_note (record { 0 = slot }) listed.changed ∷ [];
-        are = ap (λ (l : List Note). l ++ seen_note (record { 0 = slot }) listed.changed ∷ []) is.stands.begun.are
-            ∙ append_assoc (map (λ (one : Opened). noted_begin one.begin) is.so_far.opened) is.stands.begun.seen (seen_note (record { 0 = slot }) listed.changed ∷ []);
-        seen_are = both (IsSeenOf start.listed is.so_far.opened) is.stands.begun.seen (seen_note (record { 0 = slot }) listed.changed ∷ []) is.stands.begun.seen_are (seen_of, tt);
+        seen = is.stands.begun.seen ++ seen_note (record { 0 = slot }) (moment_noted start.opening listed) ∷ [];
+        are = ap (λ (l : List Note). l ++ seen_note (record { 0 = slot }) (moment_noted start.opening listed) ∷ []) is.stands.begun.are
+            ∙ append_assoc (map (λ (one : Opened). noted_begin one.begin) is.so_far.opened) is.stands.begun.seen (seen_note (record { 0 = slot }) (moment_noted start.opening listed) ∷ []);
+        seen_are = both (IsSeenOf start.opening start.listed is.so_far.opened) is.stands.begun.seen (seen_note (record { 0 = slot }) (moment_noted start.opening listed) ∷ []) is.stands.begun.seen_are (seen_of, tt);
       }
 
-  pub all_seen : (opened : List Opened) (slot : ℕ) (listed : List Listed) (old new : Keeping) → AreListedFrom start.listed slot listed → TellMoments slot listed old new →
+  pub all_seen : (opened : List Opened) (slot : ℕ) (listed : List Listed) (old new : Keeping) → AreListedFrom start.listed slot listed → TellMoments start.opening slot listed old new →
       StandsUncollected opened old → StandsUncollected opened new
   all_seen opened slot [] old new there tell is = subst (StandsUncollected opened) (sym tell) is
   all_seen opened slot (one ∷ listed) old new there tell is =

@@ -1,8 +1,8 @@
 -- A run that is accounted for (this project's profile): a run by its settings that fits what its objects told before and after it, and
--- an account of it. Its files are followed so, only told events were sent, the rows that its areas give are kept, and so is each row that any image
--- of an area had since it began. Where files keep their identities and truncations are seen, the account is one of the run, and a
+-- an account of it. Its opening rows are those that its areas gave. Its files are followed so, only told events were sent, the rows that
+-- its areas give are kept, and so is each row that any image of an area had since it began, but for images that are as that area was. Where files keep their identities and truncations are seen, the account is one of the run, and a
 -- run that is done drained its folder. It is said where the folder, the clock and each wire tell.
-use Rattle.std.specs.Prelude.{◌≡◌, ℕ, ◌-◌, ◌≤◌, true, List, [], drop, length, map, Option, Some, None}
+use Rattle.std.specs.Prelude.{◌≡◌, ◌⊎◌, ℕ, ◌-◌, ◌≤◌, true, Contains, List, [], drop, length, map, Option, Some, None}
 use Rattle.std.specs.List.{AllByRecursion}
 use Rattle.accounts.specs.AccountedFor.{HasItsRow, followings_in}
 use Rattle.batch_worker.specs.Standing.{length_of}
@@ -23,6 +23,7 @@ use Rattle.registry_store.specs.Choice.{GivesRows}
 use Rattle.registry_store.specs.Settled.{AreAtRest}
 use Rattle.rounds.specs.Words.{DiskWords}
 use Rattle.wire_base.specs.declared.row.Row.{Row}
+use Rattle.run_steps.specs.Areas.{GiveTheRows}
 use Rattle.run_steps.specs.Met.{AreLeft}
 use Rattle.run_steps.specs.RunOf.{wires_behind}
 use Rattle.run_steps.specs.declared.met.Met.{Met}
@@ -61,10 +62,9 @@ AreMomentsSince None after moments = ⊥
 AreMomentsSince (Some before) None moments = ⊥
 AreMomentsSince (Some before) (Some after) moments = moments ≡ drop (length before - 1) after
 
--- the run reads its files once, over a registry without rows, by one scan if it made one, and is what its objects told
+-- the run reads its files once, by one scan if it made one, and is what its objects told
 pub record FitsObjects {D : Type 0} (objects : RunObjects D) (run : Run) : Type 0 where
   pub once : run.once ≡ true
-  pub opening : run.opening ≡ []
   pub one_scan : length run.scans ≤ 1
   pub folder : FitsFolders objects.before.folder objects.after.folder run.trace
   pub moments : AreMomentsSince objects.before.moments objects.after.moments run.trace.moments
@@ -72,12 +72,19 @@ pub record FitsObjects {D : Type 0} (objects : RunObjects D) (run : Run) : Type 
 
 -- ---- its rows
 
+-- the key has one of these
+pub record HasRowOf (rows : List Row) (key : List ℕ) : Type 0 where
+  pub row : Row
+  pub of_rows : Contains rows row
+  pub key_is : row.key ≡ key
+
 -- the rows that the bytes of both areas give: kept as images keep them, whatever was met; where the last steps were made, kept
--- as a run ends with them, one for each key that was begun
+-- as a run ends with them, one for each key that was begun and for each that had one before
 pub record RowsBy (run : Run) (account : List SlotAccount) (met : Met) (rows : List Row) : Type 0 where
   pub in_image : AllByRecursion (IsKeptInImage account run.opening run.trace.wires) rows
   pub kept : AreLeft met → AllByRecursion (IsKept account run.opening run.trace.wires) rows
   pub begun : AreLeft met → AllByRecursion (HasItsRow rows) account
+  pub stay : AreLeft met → AllByRecursion (λ row. HasRowOf rows row.key) run.opening
 
 -- what both areas hold now gives rows
 abbrev pub GiveRows : {D : Type 0} → DiskWords D → Objects D → Type 0
@@ -93,10 +100,10 @@ pub record AreaSince (D : Type 0) : Type 0 where
   pub began : D
   pub now : D
 
--- each image of the area since then that is opened has only kept rows
+-- each image of the area since then that is opened has only kept rows, but for one that is as the area was as the run began
 abbrev pub HoldKeptRows : {D : Type 0} → DiskWords D → AreaSince D → Run → List SlotAccount → Type 0
 HoldKeptRows disks area run account = (image : List ℕ) (generation : ℕ) (rows : List Row) (end : ℕ) → disks.images_since area.now (disks.moment area.began) image →
-    IsOpened image generation rows end → AllByRecursion (IsKeptInImage account run.opening run.trace.wires) rows
+    IsOpened image generation rows end → (disks.contents area.began ≡ Some image) ⊎ AllByRecursion (IsKeptInImage account run.opening run.trace.wires) rows
 
 -- so it is of both areas
 pub record ImagesHoldKeptRows {D : Type 0} (disks : DiskWords D) (objects : RunObjects D) (run : Run) (account : List SlotAccount) : Type 0 where
@@ -124,6 +131,7 @@ pub record AccountedFor {D : Type 0} (disks : DiskWords D) (settings : Settings)
   pub fits : FitsObjects objects run
   pub followed : AreFollowed run (followings_in account)
   pub sent : SendOnlyTold account run.trace.wires
+  pub opened : WereAtRest disks objects → GiveTheRows disks objects.before.a objects.before.b run.opening
   pub given : WereAtRest disks objects → GiveRows disks objects.after
   pub rows : WereAtRest disks objects → AreRowsBy disks objects.after (RowsBy run account met)
   pub images : WereAtRest disks objects → ImagesHoldKeptRows disks objects run account

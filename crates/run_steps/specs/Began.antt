@@ -1,12 +1,15 @@
--- How a run began (this project's profile): its settings, what its one scan listed and at which moment, what folder and clock told
+-- How a run began (this project's profile): its settings, the rows of its registry, what its one scan listed and at which moment, what folder and clock told
 -- by then, how many outcomes each worker's wire had, and its areas before they were opened.
 use Rattle.std.specs.Prelude.{ℕ, List, Option}
 use Rattle.event_tree.specs.declared.settings.Settings.{Settings}
 use Rattle.outside.specs.Folders.{FolderHistory}
 use Rattle.prospect.specs.declared.listed.Listed.{Listed}
+use Rattle.wire_base.specs.declared.row.Row.{Row}
 
 pub record Began (D : Type 0) : Type 0 where
   pub settings : Settings
+  -- as it was opened
+  pub opening : List Row
   -- a file's slot is its place in this list
   pub listed : List Listed
   pub moment : ℕ

@@ -11,6 +11,7 @@ use Rattle.lanes.specs.Laning.{Laning}
 use Rattle.outside.specs.declared.failed.FolderError.{FolderError}
 use Rattle.outside.specs.declared.failed.FolderError.TheVariants.{Failed, NoMemory as WithoutMemory}
 use Rattle.prospect.specs.declared.listed.Listed.{Listed}
+use Rattle.restart_join.specs.declared.start.Start.{Start}
 use Rattle.rounds.specs.Crewed.{lanings}
 use Rattle.rounds.specs.Words.{TailWords}
 use Rattle.rounds.specs.declared.crew.Crew.{Crew}
@@ -23,21 +24,22 @@ use Rattle.run_steps.specs.Telling.{TellsBegin}
 use Rattle.run_steps.specs.declared.met.Met.{Met}
 use Rattle.run_steps.specs.declared.met.Met.TheVariants.{Done, Stopped, NoMemory, DiskFault, FolderFault, Unreachable, Epochs}
 
--- a listed file, its slot, and the moment of the scan
+-- a listed file, its slot, where it starts, and the moment of the scan
 pub record ListedFile : Type 0 where
   pub slot : Slot
   pub listed : Listed
+  pub start : Start
   pub now : Moment
 
-abbrev pub listed_file : Slot → Listed → Moment → ListedFile
-listed_file slot listed now = record { slot = slot; listed = listed; now = now }
+abbrev pub listed_file : Slot → Listed → Start → Moment → ListedFile
+listed_file slot listed start now = record { slot = slot; listed = listed; start = start; now = now }
 
 -- a harvester over the open file, by the rule of its input
 pub record IsOpenedFor {T : Type 0} (tails : TailWords T) (settings : Settings) (file : ListedFile) (tail : T) (harvester : Harvester T) : Type 0 where
   pub rule : InputRule
   pub rule_is : slice_get settings.inputs file.listed.input ≡ Some rule
   pub begin : Begin
-  pub begins : IsBeginFor file.slot file.listed begin
+  pub begins : IsBeginFor file.slot file.listed file.start begin
   pub told : HasTold tails.numbers tails.told (opened rule settings.processors begin (looks_so_far (tails.told tail)) file.now.0) harvester
   pub begun : begin_of harvester ≡ begin
   pub at_work : harvester.rests ≡ false
@@ -69,7 +71,7 @@ pub record SameLanes {T W L : Type 0} (old new : Crew T W L) : Type 0 where
 
 -- the keeper was told of the file, and then the lane of its slot got its harvester
 pub record TakesIn {T W L : Type 0} (file : ListedFile) (harvester : Harvester T) (old new : Beginning T W L) : Type 0 where
-  pub tells : TellsBegin file.slot file.listed old.keeper new.keeper
+  pub tells : TellsBegin file.slot file.listed file.start old.keeper new.keeper
   pub admits : AdmitsAt (file.slot.0 % length old.crew.lanes.items) harvester (lanings old.crew.lanes.items) (lanings new.crew.lanes.items)
   pub others : new.crew ≡ record old.crew { lanes = new.crew.lanes }
   pub folder : new.folder ≡ old.folder
@@ -84,7 +86,7 @@ pub record Follows {T W L : Type 0} (tails : TailWords T) (settings : Settings) 
 pub record GivesUp {T W L : Type 0} (tails : TailWords T) (file : ListedFile) (tail : T) (old new : Beginning T W L) : Type 0 where
   pub closes : Closes tails tail old.folder new.folder
   pub lanes : SameLanes old.crew new.crew
-  pub keeper : (new.keeper ≡ old.keeper) ⊎ TellsBegin file.slot file.listed old.keeper new.keeper
+  pub keeper : (new.keeper ≡ old.keeper) ⊎ TellsBegin file.slot file.listed file.start old.keeper new.keeper
 
 -- ---- by what the folder answered
 

@@ -17,6 +17,8 @@ use Rattle.report.specs.declared.passing.Why.TheVariants.{Gone}
 use Rattle.rounds.specs.Crewed.{lanings}
 use Rattle.rounds.specs.Words.{TailWords}
 use Rattle.wire_base.specs.declared.numbers.Moment.{Moment}
+use Rattle.wire_base.specs.declared.row.Row.{Row}
+use Rattle.run_steps.specs.BeginFor.{start_among}
 use Rattle.run_steps.specs.Beginning.{Beginning, BeginsOne, ListedFile, listed_file}
 use Rattle.run_steps.specs.Releasing.{harvesters_of}
 use Rattle.run_steps.specs.Telling.{TellMoments, TellSomeMoments}
@@ -28,24 +30,11 @@ abbrev pub passed_by : Bool → Listed → List Passing
 passed_by true listed = []
 passed_by false listed = record { path = listed.path; why = Gone } ∷ []
 
-abbrev pub file_at : ℕ → Listed → Moment → ListedFile
-file_at slot listed now = listed_file (record { 0 = slot }) listed now
+-- it starts by its row among these
+abbrev pub file_at : List Row → ℕ → Listed → Moment → ListedFile
+file_at rows slot listed now = listed_file (record { 0 = slot }) listed (start_among rows listed) now
 
-module _ {T W L : Type 0} (tails : TailWords T) (settings : Settings) (now : Moment) where
-  -- one file was opened or passed over, and then the rest
-  pub record BeginsFirst (slot : ℕ) (listed : Listed) (Rest : List Passing → Beginning T W L → Type 0) (passed : List Passing) (old : Beginning T W L) : Type 0 where
-    pub found : Bool
-    pub mid : Beginning T W L
-    pub first : BeginsOne tails settings (file_at slot listed now) (Ok found) old mid
-    pub later : List Passing
-    pub passed_are : passed ≡ passed_by found listed ++ later
-    pub rest : Rest later mid
-
-  -- these files, in the order of their slots from this one on
-  abbrev pub BeginsFrom : ℕ → List Listed → List Passing → Beginning T W L → Beginning T W L → Type 0
-  BeginsFrom slot [] passed old new = (passed ≡ []) × (new ≡ old)
-  BeginsFrom slot (one ∷ listed) passed old new = BeginsFirst slot one (λ later mid. BeginsFrom (suc slot) listed later mid new) passed old
-
+module _ {T W L : Type 0} (tails : TailWords T) (settings : Settings) where
   -- a file was opened and followed, or passed over with this path
   pub record BeginsOrPasses (file : ListedFile) (more : List Passing) (old new : Beginning T W L) : Type 0 where
     pub found : Bool
@@ -56,12 +45,27 @@ module _ {T W L : Type 0} (tails : TailWords T) (settings : Settings) (now : Mom
   abbrev pub EndsInOne : ListedFile → Met → Beginning T W L → Beginning T W L → Type 0
   EndsInOne file met old new = BeginsOne tails settings file (Err met) old new ⊎ ((met ≡ NoMemory) × BeginsOne tails settings file (Ok false) old new)
 
+module _ {T W L : Type 0} (tails : TailWords T) (settings : Settings) (rows : List Row) (now : Moment) where
+  -- one file was opened or passed over, and then the rest
+  pub record BeginsFirst (slot : ℕ) (listed : Listed) (Rest : List Passing → Beginning T W L → Type 0) (passed : List Passing) (old : Beginning T W L) : Type 0 where
+    pub found : Bool
+    pub mid : Beginning T W L
+    pub first : BeginsOne tails settings (file_at rows slot listed now) (Ok found) old mid
+    pub later : List Passing
+    pub passed_are : passed ≡ passed_by found listed ++ later
+    pub rest : Rest later mid
+
+  -- these files, in the order of their slots from this one on
+  abbrev pub BeginsFrom : ℕ → List Listed → List Passing → Beginning T W L → Beginning T W L → Type 0
+  BeginsFrom slot [] passed old new = (passed ≡ []) × (new ≡ old)
+  BeginsFrom slot (one ∷ listed) passed old new = BeginsFirst slot one (λ later mid. BeginsFrom (suc slot) listed later mid new) passed old
+
   module _ (listed : List Listed) where
     -- each of them, and then the keeper was told when those were changed that are followed
     pub record BeginsAll (passed : List Passing) (old new : Beginning T W L) : Type 0 where
       pub mid : Beginning T W L
       pub begins : BeginsFrom 0 listed passed old mid
-      pub tell : TellMoments 0 listed mid.keeper new.keeper
+      pub tell : TellMoments rows 0 listed mid.keeper new.keeper
       pub others : new ≡ record mid { keeper = new.keeper }
 
     -- ---- where it ended early
@@ -74,7 +78,7 @@ module _ {T W L : Type 0} (tails : TailWords T) (settings : Settings) (now : Mom
       pub begins : BeginsFrom 0 (take count listed) passed old mid
       pub one : Listed
       pub is : slice_get listed count ≡ Some one
-      pub ended : BeginsOne tails settings (file_at count one now) (Err met) mid new
+      pub ended : BeginsOne tails settings (file_at rows count one now) (Err met) mid new
 
     -- for want of memory behind the first so many, as the last path was to be passed over
     pub record EndsBehindFile (old new : Beginning T W L) : Type 0 where
@@ -87,7 +91,7 @@ module _ {T W L : Type 0} (tails : TailWords T) (settings : Settings) (now : Mom
       pub passed : List Passing
       pub mid : Beginning T W L
       pub begins : BeginsFrom 0 listed passed old mid
-      pub tell : TellSomeMoments listed mid.keeper new.keeper
+      pub tell : TellSomeMoments rows listed mid.keeper new.keeper
       pub others : new ≡ record mid { keeper = new.keeper }
 
     abbrev pub EndsInFiles : Met → Beginning T W L → Beginning T W L → Type 0

@@ -1,6 +1,6 @@
 -- How files are begun in a run that reads them once, by their paths (this project's profile): the one of a slot is the one that was
--- listed at its place, from its first byte on. Its Begin is the keeper's first note of it, and then comes the moment of its change.
-use Rattle.std.specs.Prelude.{◌≡◌, ℕ, ◌+◌, ◌≤◌, ◌<◌, min, List, [], ◌∷◌, ◌++◌, Contains, map, slice_get, Some, IfSome}
+-- listed at its place, from where its row stood on. Its Begin is the keeper's first note of it, and then comes the moment of its change.
+use Rattle.std.specs.Prelude.{◌≡◌, ℕ, ◌+◌, ◌≤◌, ◌<◌, List, [], ◌∷◌, ◌++◌, Contains, map, slice_get, Some, IfSome}
 use Rattle.std.specs.List.{AllByRecursion}
 use Rattle.accounts.specs.Opened.{Opened}
 use Rattle.event_tree.specs.declared.input_rule.IdentityRule.TheVariants.{Path}
@@ -11,24 +11,20 @@ use Rattle.prospect.specs.declared.listed.Listed.{Listed}
 use Rattle.wire_base.specs.declared.note.Begin.{Begin as Beginning}
 use Rattle.wire_base.specs.declared.note.Note.{Note}
 use Rattle.wire_base.specs.declared.note.Note.TheVariants.{Begin, Seen}
-use Rattle.wire_base.specs.declared.numbers.Moment.{Moment}
-use Rattle.wire_base.specs.declared.numbers.TheConstants.{MAX_MOMENT}
-use Rattle.run_steps.specs.BeginFor.{begin_for}
+use Rattle.wire_base.specs.declared.row.Row.{Row}
+use Rattle.run_steps.specs.BeginFor.{begin_for, start_among}
+use Rattle.run_steps.specs.Telling.{moment_noted}
 
 -- what the keeper is told of it; its change is noted behind all Begins
 abbrev pub noted_begin : Beginning → Note
 noted_begin begin = Begin begin.slot begin.key begin.path begin.epoch begin.base (record { 0 = 0 })
 
--- the moment of its change, as the scan listed it
-abbrev pub moment_noted : Listed → Moment
-moment_noted listed = record { 0 = min listed.changed.0 MAX_MOMENT }
-
 -- it was opened as it was listed, by its path
-pub record IsOpenedAsListed (settings : Settings) (listed : List Listed) (opened : Opened) : Type 0 where
+pub record IsOpenedAsListed (settings : Settings) (rows : List Row) (listed : List Listed) (opened : Opened) : Type 0 where
   pub one : Listed
   pub listed_there : slice_get listed opened.begin.slot.0 ≡ Some one
   pub keyed : one.key ≡ Some opened.begin.key
-  pub begin_is : opened.begin ≡ begin_for opened.begin.slot one opened.begin.key
+  pub begin_is : opened.begin ≡ begin_for opened.begin.slot one opened.begin.key (start_among rows one)
   pub rule_is : slice_get settings.inputs one.input ≡ Some opened.rule
   pub by_path : opened.rule.file_identity ≡ Path
   pub in_range : IsGroupRule opened.rule.multiline
@@ -43,20 +39,20 @@ AreSlotsFrom least [] = Unit {0}
 AreSlotsFrom least (one ∷ others) = (least ≤ one.begin.slot.0) × AreSlotsFrom (one.begin.slot.0 + 1) others
 
 -- the note tells when one of these was changed
-pub record IsSeenOf (listed : List Listed) (opened : List Opened) (note : Note) : Type 0 where
+pub record IsSeenOf (rows : List Row) (listed : List Listed) (opened : List Opened) (note : Note) : Type 0 where
   pub file : Opened
   pub among : Contains opened file
   pub one : Listed
   pub listed_there : slice_get listed file.begin.slot.0 ≡ Some one
-  pub is : note ≡ Seen file.begin.slot (moment_noted one)
+  pub is : note ≡ Seen file.begin.slot (moment_noted rows one)
 
 -- the notes that the run told the keeper itself: a Begin of each, slot by slot, and then when some were changed
-pub record AreBeginNotes (listed : List Listed) (opened : List Opened) (notes : List Note) : Type 0 where
+pub record AreBeginNotes (rows : List Row) (listed : List Listed) (opened : List Opened) (notes : List Note) : Type 0 where
   pub seen : List Note
   pub are : notes ≡ map (λ one. noted_begin one.begin) opened ++ seen
-  pub seen_are : AllByRecursion (IsSeenOf listed opened) seen
+  pub seen_are : AllByRecursion (IsSeenOf rows listed opened) seen
 
 -- the keeper was told when each file was changed that was begun; a moment of 0 need not be told
-abbrev pub AreAllSeen : List Listed → List Note → Type 0
-AreAllSeen listed notes = (begin : Beginning) → Contains notes (noted_begin begin) →
-    IfSome (slice_get listed begin.slot.0) (λ one. 0 < (moment_noted one).0 → Contains notes (Seen begin.slot (moment_noted one)))
+abbrev pub AreAllSeen : List Row → List Listed → List Note → Type 0
+AreAllSeen rows listed notes = (begin : Beginning) → Contains notes (noted_begin begin) →
+    IfSome (slice_get listed begin.slot.0) (λ one. 0 < (moment_noted rows one).0 → Contains notes (Seen begin.slot (moment_noted rows one)))

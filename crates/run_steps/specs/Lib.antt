@@ -11,6 +11,7 @@ pub mod CarriersFail
 pub mod ClockOn
 pub mod Ends
 pub mod FolderSeen
+pub mod KnownKeys
 pub mod Met
 pub mod MetBy
 pub mod MetIn
@@ -30,6 +31,7 @@ pub mod Settling
 pub mod Shown
 pub mod SoFar
 pub mod Stands
+pub mod Starting
 pub mod Telling
 pub mod Tells
 pub mod Worked

@@ -1,5 +1,5 @@
 -- How a run sets out (this project's profile): its settings, what its one scan listed and at which moment, what its objects told by
--- then, and a keeper to which nothing was told over a store without rows.
+-- then, and a keeper to which nothing was told over the opened store.
 use Rattle.std.specs.Prelude.{◌≡◌, ℕ, List, [], IsSome, Option, false, map, take}
 use Rattle.std.specs.List.{AllByRecursion}
 use Rattle.atomic_table.specs.Seated.{TableId}
@@ -12,7 +12,8 @@ use Rattle.prospect.specs.declared.listed.Listed.{Listed}
 use Rattle.registry_store.specs.Standing.{Standing}
 use Rattle.rounds.specs.Words.{DiskWords, WireWords}
 use Rattle.settle_box.specs.Collector.{Collector}
-use Rattle.run_steps.specs.Areas.{BeganAtRest, HaveHeldFronts, IsAtRest}
+use Rattle.ship_core.specs.Rows.{IsInOrder}
+use Rattle.run_steps.specs.Areas.{BeganAtRest, GaveRows, HaveHeldFronts, IsAtRest}
 use Rattle.run_steps.specs.Began.{Began}
 use Rattle.run_steps.specs.BeginsAll.{IsOfPathInput}
 
@@ -37,6 +38,7 @@ pub record Earlier (D : Type 0) : Type 0 where
 abbrev pub began_with : {W D : Type 0} → WireWords W → Outset W D → Earlier D → Began D
 began_with {W} wires outset earlier = record {
   settings = outset.settings;
+  opening = outset.keeper.store.rows;
   listed = outset.listed;
   moment = outset.moment;
   shown = outset.shown;
@@ -46,20 +48,21 @@ began_with {W} wires outset earlier = record {
   b = earlier.b;
 }
 
--- the clock gave its moment, its areas may hold no row where they were at rest and blank, and each listed file is of an input that
+-- the clock gave its moment, its areas gave the rows of its store where they were at rest and have held no others since, and each listed file is of an input that
 -- tells files by their paths
 pub record SetsOut {W D : Type 0} (disks : DiskWords D) (start : Began D) (outset : Outset W D) : Type 0 where
   pub gives : GivesMoment start.moments start.moment outset.moments
-  pub areas : BeganAtRest disks start → HaveHeldFronts disks [] start.a start.b outset.a outset.b
+  pub areas : BeganAtRest disks start → HaveHeldFronts disks start.opening [] start.a start.b outset.a outset.b
+  pub gave : BeganAtRest disks start → GaveRows disks start
   pub at_rest : BeganAtRest disks start → IsAtRest disks outset.keeper outset.a outset.b
   pub of_inputs : AllByRecursion (IsOfPathInput start.settings (IsSome start.shown)) start.listed
 
--- it was made over an open store without rows, and its pass collected nothing
+-- it was made over an open store, and its pass collected nothing
 pub record IsFirstKeeper (desk : TableId) (keeper : Keeping) : Type 0 where
   pub store : Standing
   pub pass : Collector
   pub is : keeper ≡ begun_with store pass
-  pub no_rows : store.rows ≡ []
+  pub in_order : IsInOrder store.rows
   pub is_open : store.closed ≡ false
   pub none_got : pass.got ≡ []
   pub of_box : pass.desk ≡ desk

@@ -1,4 +1,4 @@
--- A run as its account sees it (this project's profile): it reads its files once, over a registry without rows, by one scan. What it
+-- A run as its account sees it (this project's profile): it reads its files once, over the rows that its registry gave, by one scan. What it
 -- listed, opened and closed stands in the folder's list, and of each wire's connections those behind the run's start are its own.
 use Rattle.std.specs.Prelude.{ℕ, true, List, [], ◌∷◌, ◌++◌, drop, length, map, Option, Some, None}
 use Rattle.batch_worker.specs.Standing.{length_of}
@@ -55,7 +55,7 @@ abbrev pub run_of : {D : Type 0} → Began D → FolderTold → List ℕ → Lis
 run_of start folder moments wires = record {
   settings = start.settings;
   once = true;
-  opening = [];
+  opening = start.opening;
   trace = record {
     files = folder.ended.files;
     events = folder.ended.events;

@@ -5,6 +5,7 @@ use Rattle.outside.specs.Folders.{NotThere}
 use Rattle.prospect.specs.declared.listed.Listed.{Listed}
 use Rattle.wire_base.specs.declared.note.Begin.{Begin}
 use Rattle.wire_base.specs.declared.note.Note.{Note}
+use Rattle.wire_base.specs.declared.row.Row.{Row}
 use Rattle.run_steps.specs.Begun.{AreAllSeen, noted_begin}
 use Rattle.run_steps.specs.RunOf.{FolderTold}
 
@@ -23,6 +24,6 @@ pub record WasNotThere (folder : FolderTold) (path : List ℕ) : Type 0 where
 abbrev pub IsEachServed : List Listed → List Note → FolderTold → Type 0
 IsEachServed listed notes folder = (slot : ℕ) (one : Listed) → slice_get listed slot ≡ Some one → HasBegin notes slot ⊎ WasNotThere folder one.path
 
-pub record AreServed (listed : List Listed) (notes : List Note) (folder : FolderTold) : Type 0 where
+pub record AreServed (rows : List Row) (listed : List Listed) (notes : List Note) (folder : FolderTold) : Type 0 where
   pub each : IsEachServed listed notes folder
-  pub seen : AreAllSeen listed notes
+  pub seen : AreAllSeen rows listed notes

@@ -19,6 +19,7 @@ use Rattle.rounds.specs.Settled.{spans_told}
 use Rattle.rounds.specs.Words.{TailWords, Words}
 use Rattle.settle_box.specs.Senders.{notes}
 use Rattle.wire_base.specs.declared.note.Note.{Note}
+use Rattle.wire_base.specs.declared.row.Row.{Row}
 use Rattle.run_steps.specs.Areas.{BeganAtRest, HaveHeldFronts}
 use Rattle.run_steps.specs.Began.{Began}
 use Rattle.run_steps.specs.Begun.{AreBeginNotes, AreSlotsFrom, IsKeyedByPath, IsOpenedAsListed}
@@ -67,16 +68,16 @@ pub record AreCounted {T : Type 0} (lanes : List (Laning T)) (keeper : Keeping) 
   pub dropped : keeper.dropped ≡ min (count_by is_dropped (notes keeper.pass.got)) (2 ^ 64 - 1)
   pub collected : keeper.collected ≡ min (length keeper.pass.got) (2 ^ 64 - 1)
 
--- the keeper's notes are those that the run told it and those that it collected, over no opening rows
-pub record AreNoted (keeper : Keeping) (begun collected : List Note) : Type 0 where
-  pub opening : keeper.tracked.opening ≡ []
+-- the keeper's notes are those that the run told it and those that it collected, over the rows that the registry gave
+pub record AreNoted (opening : List Row) (keeper : Keeping) (begun collected : List Note) : Type 0 where
+  pub opening_is : keeper.tracked.opening ≡ opening
   pub are : keeper.tracked.notes ≡ begun ++ collected
   pub got : notes keeper.pass.got ≡ collected ++ held_in keeper.held
 
 -- ---- all of it
 
 pub record Stands {T W L D : Type 0} (words : Words T W L D) (start : Began D) (state : RunState T W L D) (so_far : SoFar) : Type 0 where
-  pub opened : AllByRecursion (IsOpenedAsListed start.settings start.listed) so_far.opened
+  pub opened : AllByRecursion (IsOpenedAsListed start.settings start.opening start.listed) so_far.opened
   pub keyed : IsSome start.shown → AllByRecursion IsKeyedByPath so_far.opened
   pub each_once : AreEachOnce so_far.opened (files_in so_far)
   pub turned : Pairs (AreTurnedIn words.tails start.settings.processors so_far.opened so_far.moments) so_far.lanes (lanings state.crew.lanes.items)
@@ -95,10 +96,10 @@ pub record Stands {T W L D : Type 0} (words : Words T W L D) (start : Began D) (
   pub placed : ArePlaced so_far.told (lanings state.crew.lanes.items) state.crew.carriers.items so_far.queued (notes state.keeper.pass.got) so_far.boxed
   pub counted : AreCounted (lanings state.crew.lanes.items) state.keeper so_far
   -- what is noted and stored
-  pub begun : AreBeginNotes start.listed so_far.opened so_far.begun
-  pub noted : AreNoted state.keeper so_far.begun so_far.collected
+  pub begun : AreBeginNotes start.opening start.listed so_far.opened so_far.begun
+  pub noted : AreNoted start.opening state.keeper so_far.begun so_far.collected
   pub stores : Stores state.keeper.tracked state.keeper.store
-  pub areas : BeganAtRest words.disks start → HaveHeldFronts words.disks state.keeper.tracked.notes start.a start.b state.a state.b
+  pub areas : BeganAtRest words.disks start → HaveHeldFronts words.disks start.opening state.keeper.tracked.notes start.a start.b state.a state.b
 
 -- it stands, whatever was done
 pub record Further {T W L D : Type 0} (words : Words T W L D) (start : Began D) (state : RunState T W L D) : Type 0 where

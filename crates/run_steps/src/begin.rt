@@ -1,4 +1,4 @@
-ghost use Rattle.std.specs.Prelude.{◌≡◌, ◌∷◌, ◌++◌, ◌+◌, ◌%◌, ◌<◌, ◌≤◌, [], All, IfErr, IfOk, OnErr, OnOk, length};
+ghost use Rattle.std.specs.Prelude.{◌≡◌, ◌∷◌, ◌++◌, ◌%◌, ◌<◌, ◌≤◌, [], All, IfErr, IfOk, OnErr, OnOk, length};
 ghost use Rattle.beat_config.specs.InRange.{AreInRange};
 ghost use Rattle.prospect.specs.ListedFiles.{IsListedInRange};
 ghost use Rattle.report.specs.declared.passing.Why.TheVariants.{Gone};
@@ -7,6 +7,7 @@ ghost use Rattle.rounds.specs.Words.{tail_words};
 ghost use Rattle.wire_base.specs.Ranges.{IsMoment};
 ghost use Rattle.run_steps.specs.Beginning.{AdmitsAt, BeginsOne, Follows, GivesUp, IsOpenedFor, SameLanes, TakesIn, beginning, listed_file};
 ghost use Rattle.run_steps.specs.FolderSeen.{folder_words};
+ghost use Rattle.run_steps.specs.KnownKeys.{HasRoomToBegin};
 
 use crate::context::Context;
 use crate::leave::release;
@@ -50,10 +51,12 @@ pub fn begin_one<F: Folder, L: Link, W: Wire<Link = L>>(
     requires input { opening.listed.now.input < length context.settings.now.inputs }
     requires moment { IsMoment opening.now }
     requires some_lanes { 0 < length crew.old.lanes.items }
-    requires few { length keeper.old.store.rows + length keeper.old.tracked.notes < 65_536 }
+    requires start { opening.start.base ≤ opening.listed.now.size }
+    requires few { HasRoomToBegin opening.listed.now keeper.old }
     ensures { BeginsOne (tail_words F.Tail.numbers F.Tail.told F.Tail.faults)
         context.entry.settings.now
-        (listed_file opening.entry.slot opening.entry.listed.now opening.entry.now) result
+        (listed_file opening.entry.slot opening.entry.listed.now opening.entry.start
+        opening.entry.now) result
         (beginning (folder_words F.told F.states F.present F.open_tails F.faults)
         folder.old crew.old keeper.old)
         (beginning (folder_words F.told F.states F.present F.open_tails F.faults)
@@ -69,7 +72,7 @@ pub fn begin_one<F: Folder, L: Link, W: Wire<Link = L>>(
     }
 }
 
-// Follows an open file in the lane of its slot, or closes it.
+/// Follows an open file in the lane of its slot, or closes it.
 fn follow_one<F: Folder, L: Link, W: Wire<Link = L>>(
     context: Context<'_, '_>,
     opening: Opening<'_>,
@@ -83,17 +86,20 @@ fn follow_one<F: Folder, L: Link, W: Wire<Link = L>>(
     requires input { opening.listed.now.input < length context.settings.now.inputs }
     requires moment { IsMoment opening.now }
     requires some_lanes { 0 < length crew.old.lanes.items }
-    requires few { length keeper.old.store.rows + length keeper.old.tracked.notes < 65_536 }
+    requires start { opening.start.base ≤ opening.listed.now.size }
+    requires few { HasRoomToBegin opening.listed.now keeper.old }
     ensures follows { OnOk result (Follows
         (tail_words F.Tail.numbers F.Tail.told F.Tail.faults) context.entry.settings.now
-        (listed_file opening.entry.slot opening.entry.listed.now opening.entry.now) tail
+        (listed_file opening.entry.slot opening.entry.listed.now opening.entry.start
+        opening.entry.now) tail
         (beginning (folder_words F.told F.states F.present F.open_tails F.faults)
         folder.old crew.old keeper.old)
         (beginning (folder_words F.told F.states F.present F.open_tails F.faults)
         folder.new crew.new keeper.new)) }
     ensures gives_up { OnErr result (GivesUp
         (tail_words F.Tail.numbers F.Tail.told F.Tail.faults)
-        (listed_file opening.entry.slot opening.entry.listed.now opening.entry.now) tail
+        (listed_file opening.entry.slot opening.entry.listed.now opening.entry.start
+        opening.entry.now) tail
         (beginning (folder_words F.told F.states F.present F.open_tails F.faults)
         folder.old crew.old keeper.old)
         (beginning (folder_words F.told F.states F.present F.open_tails F.faults)
@@ -108,8 +114,8 @@ fn follow_one<F: Folder, L: Link, W: Wire<Link = L>>(
     }
 }
 
-// A harvester over the open file. `Err` is want of memory, and gives the tail back; so is a file whose key the listing did not
-// tell, and a pattern that is too large when it is compiled.
+/// A harvester over the open file. `Err` is want of memory, and gives the tail back; so is a file whose key the listing did not
+/// tell, and a pattern that is too large when it is compiled.
 fn harvest<T: Tail>(
     context: Context<'_, '_>,
     opening: Opening<'_>,
@@ -119,9 +125,11 @@ fn harvest<T: Tail>(
     requires in_range { IsListedInRange opening.listed.now }
     requires input { opening.listed.now.input < length context.settings.now.inputs }
     requires moment { IsMoment opening.now }
+    requires start { opening.start.base ≤ opening.listed.now.size }
     ensures opened { IfOk result (IsOpenedFor (tail_words T.numbers T.told T.faults)
         context.entry.settings.now
-        (listed_file opening.entry.slot opening.entry.listed.now opening.entry.now) tail) }
+        (listed_file opening.entry.slot opening.entry.listed.now opening.entry.start
+        opening.entry.now) tail) }
     ensures given_back { IfErr result (λ back. back ≡ tail) }
 {
     let Ok(begin) = begin_of(context.alloc, opening) else {
@@ -133,7 +141,7 @@ fn harvest<T: Tail>(
     Harvester::open(context.alloc, rule, processors, begin, tail, opening.now)
 }
 
-// Admits the harvester to the lane of its slot once the keeper was told of it, or closes its file.
+/// Admits the harvester to the lane of its slot once the keeper was told of it, or closes its file.
 fn take_in<F: Folder, L: Link, W: Wire<Link = L>>(
     alloc: Global,
     opening: Opening<'_>,
@@ -144,16 +152,19 @@ fn take_in<F: Folder, L: Link, W: Wire<Link = L>>(
 ) -> Result<(), NoMemory>
     requires in_range { IsListedInRange opening.listed.now }
     requires some_lanes { 0 < length crew.old.lanes.items }
-    requires few { length keeper.old.store.rows + length keeper.old.tracked.notes < 65_536 }
+    requires start { opening.start.base ≤ opening.listed.now.size }
+    requires few { HasRoomToBegin opening.listed.now keeper.old }
     ensures taken { OnOk result (TakesIn
-        (listed_file opening.entry.slot opening.entry.listed.now opening.entry.now) harvester
+        (listed_file opening.entry.slot opening.entry.listed.now opening.entry.start
+        opening.entry.now) harvester
         (beginning (folder_words F.told F.states F.present F.open_tails F.faults)
         folder.old crew.old keeper.old)
         (beginning (folder_words F.told F.states F.present F.open_tails F.faults)
         folder.new crew.new keeper.new)) }
     ensures gives_up { OnErr result (GivesUp
         (tail_words F.Tail.numbers F.Tail.told F.Tail.faults)
-        (listed_file opening.entry.slot opening.entry.listed.now opening.entry.now) harvester.tail
+        (listed_file opening.entry.slot opening.entry.listed.now opening.entry.start
+        opening.entry.now) harvester.tail
         (beginning (folder_words F.told F.states F.present F.open_tails F.faults)
         folder.old crew.old keeper.old)
         (beginning (folder_words F.told F.states F.present F.open_tails F.faults)
@@ -172,7 +183,7 @@ fn take_in<F: Folder, L: Link, W: Wire<Link = L>>(
     }
 }
 
-// Admits the harvester to the lane of its slot modulo the number of lanes. `Err` is want of memory, and gives it back.
+/// Admits the harvester to the lane of its slot modulo the number of lanes. `Err` is want of memory, and gives it back.
 fn admit<T: Tail, L: Link, W: Wire<Link = L>>(
     slot: Slot,
     harvester: Harvester<T>,

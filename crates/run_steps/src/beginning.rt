@@ -1,4 +1,4 @@
-ghost use Rattle.std.specs.Prelude.{◌≡◌, ◌++◌, ◌+◌, ◌<◌, ◌≤◌, [], All, IfErr, IfOk, List, OnOk, length};
+ghost use Rattle.std.specs.Prelude.{◌≡◌, ◌++◌, ◌<◌, ◌≤◌, [], All, IfErr, IfOk, List, OnOk, length};
 ghost use Rattle.beat_config.specs.InRange.{AreInRange};
 ghost use Rattle.prospect.specs.ListedFiles.{IsListedInRange};
 ghost use Rattle.report.specs.declared.passing.Passing.{Passing};
@@ -7,6 +7,8 @@ ghost use Rattle.wire_base.specs.Ranges.{IsMoment};
 ghost use Rattle.run_steps.specs.Beginning.{beginning, listed_file};
 ghost use Rattle.run_steps.specs.BeginsAll.{BeginsAll, BeginsFrom, BeginsOrPasses, BeginsSome, EndsBeginning, EndsInFiles, EndsInOne, IsOfInputs, KeepsOthers};
 ghost use Rattle.run_steps.specs.FolderSeen.{folder_words};
+ghost use Rattle.run_steps.specs.KnownKeys.{HasRoomToBegin};
+ghost use Rattle.run_steps.specs.Starting.{AreFewFiles, starts_among};
 
 use crate::begin::{begin_one, pass_over};
 use crate::context::Context;
@@ -17,13 +19,15 @@ use keeper::Keeper;
 use outside::{Folder, Link, Wire};
 use prospect::Listed;
 use report::Passing;
+use restart_join::Start;
 use rounds::Crew;
 use wire_base::{Moment, Slot};
 
-/// What a scan told, and its moment. A file's slot is its place in the list.
+/// What a scan told, where each file starts, and the moment of the scan. A file's slot is its place in the list.
 #[derive(Debug, Drop)]
 pub struct Scanned {
     pub listed: Vec<Listed>,
+    pub starts: Vec<Start>,
     pub now: Moment,
 }
 
@@ -39,21 +43,23 @@ pub fn begin_all<F: Folder, L: Link, W: Wire<Link = L>>(
     requires settings { AreInRange context.settings.now }
     requires in_range { All IsListedInRange scanned.now.listed.items }
     requires of_inputs { All (IsOfInputs context.settings.now) scanned.now.listed.items }
-    requires few { length scanned.now.listed.items ≤ 65_536 }
+    requires few { AreFewFiles keeper.old.store.rows scanned.now.listed.items }
+    requires few_listed { length scanned.now.listed.items ≤ 65_536 }
+    requires starts { scanned.now.starts.items
+        ≡ starts_among keeper.old.store.rows scanned.now.listed.items }
     requires moment { IsMoment scanned.now.now }
     requires some_lanes { 0 < length crew.old.lanes.items }
     requires nothing_told { keeper.old.tracked.notes ≡ [] }
-    requires no_rows { keeper.old.store.rows ≡ [] }
     ensures begun { IfOk result (λ passed. BeginsAll
         (tail_words F.Tail.numbers F.Tail.told F.Tail.faults) context.entry.settings.now
-        scanned.entry.now.now scanned.entry.now.listed.items passed.items
+        keeper.old.store.rows scanned.entry.now.now scanned.entry.now.listed.items passed.items
         (beginning (folder_words F.told F.states F.present F.open_tails F.faults)
         folder.old crew.old keeper.old)
         (beginning (folder_words F.told F.states F.present F.open_tails F.faults)
         folder.new crew.new keeper.new)) }
     ensures ended { IfErr result (λ met. BeginsSome
         (tail_words F.Tail.numbers F.Tail.told F.Tail.faults) context.entry.settings.now
-        scanned.entry.now.now scanned.entry.now.listed.items met
+        keeper.old.store.rows scanned.entry.now.now scanned.entry.now.listed.items met
         (beginning (folder_words F.told F.states F.present F.open_tails F.faults)
         folder.old crew.old keeper.old)
         (beginning (folder_words F.told F.states F.present F.open_tails F.faults)
@@ -74,7 +80,7 @@ pub fn begin_all<F: Folder, L: Link, W: Wire<Link = L>>(
     Ok(passed)
 }
 
-// Opens each, from slot 0 on.
+/// Opens each, from slot 0 on.
 fn begin_files<F: Folder, L: Link, W: Wire<Link = L>>(
     context: Context<'_, '_>,
     scanned: &Scanned,
@@ -85,21 +91,23 @@ fn begin_files<F: Folder, L: Link, W: Wire<Link = L>>(
     requires settings { AreInRange context.settings.now }
     requires in_range { All IsListedInRange scanned.now.listed.items }
     requires of_inputs { All (IsOfInputs context.settings.now) scanned.now.listed.items }
-    requires few { length scanned.now.listed.items ≤ 65_536 }
+    requires few { AreFewFiles keeper.old.store.rows scanned.now.listed.items }
+    requires few_listed { length scanned.now.listed.items ≤ 65_536 }
+    requires starts { scanned.now.starts.items
+        ≡ starts_among keeper.old.store.rows scanned.now.listed.items }
     requires moment { IsMoment scanned.now.now }
     requires some_lanes { 0 < length crew.old.lanes.items }
     requires nothing_told { keeper.old.tracked.notes ≡ [] }
-    requires no_rows { keeper.old.store.rows ≡ [] }
     ensures begun { IfOk result (λ passed. BeginsFrom
         (tail_words F.Tail.numbers F.Tail.told F.Tail.faults) context.entry.settings.now
-        scanned.entry.now.now 0 scanned.entry.now.listed.items passed.items
+        keeper.old.store.rows scanned.entry.now.now 0 scanned.entry.now.listed.items passed.items
         (beginning (folder_words F.told F.states F.present F.open_tails F.faults)
         folder.old crew.old keeper.old)
         (beginning (folder_words F.told F.states F.present F.open_tails F.faults)
         folder.new crew.new keeper.new)) }
     ensures ended { IfErr result (λ met. EndsInFiles
         (tail_words F.Tail.numbers F.Tail.told F.Tail.faults) context.entry.settings.now
-        scanned.entry.now.now scanned.entry.now.listed.items met
+        keeper.old.store.rows scanned.entry.now.now scanned.entry.now.listed.items met
         (beginning (folder_words F.told F.states F.present F.open_tails F.faults)
         folder.old crew.old keeper.old)
         (beginning (folder_words F.told F.states F.present F.open_tails F.faults)
@@ -111,6 +119,7 @@ fn begin_files<F: Folder, L: Link, W: Wire<Link = L>>(
         let opening = Opening {
             slot: Slot(slot as u32),
             listed: &scanned.listed[slot],
+            start: scanned.starts[slot],
             now: scanned.now,
         };
         begin_or_pass(context, opening, folder, crew, keeper, &mut passed)?;
@@ -119,7 +128,7 @@ fn begin_files<F: Folder, L: Link, W: Wire<Link = L>>(
     Ok(passed)
 }
 
-// Opens and follows the file, or adds its path to those that were passed over.
+/// Opens and follows the file, or adds its path to those that were passed over.
 fn begin_or_pass<F: Folder, L: Link, W: Wire<Link = L>>(
     context: Context<'_, '_>,
     opening: Opening<'_>,
@@ -133,20 +142,21 @@ fn begin_or_pass<F: Folder, L: Link, W: Wire<Link = L>>(
     requires input { opening.listed.now.input < length context.settings.now.inputs }
     requires moment { IsMoment opening.now }
     requires some_lanes { 0 < length crew.old.lanes.items }
-    requires few { length keeper.old.store.rows + length keeper.old.tracked.notes < 65_536 }
+    requires start { opening.start.base ≤ opening.listed.now.size }
+    requires few { HasRoomToBegin opening.listed.now keeper.old }
     ensures begun { OnOk result ((more : List Passing) ×
         (passed.new.items ≡ passed.old.items ++ more) × BeginsOrPasses
         (tail_words F.Tail.numbers F.Tail.told F.Tail.faults) context.entry.settings.now
-        opening.entry.now
-        (listed_file opening.entry.slot opening.entry.listed.now opening.entry.now) more
+        (listed_file opening.entry.slot opening.entry.listed.now opening.entry.start
+        opening.entry.now) more
         (beginning (folder_words F.told F.states F.present F.open_tails F.faults)
         folder.old crew.old keeper.old)
         (beginning (folder_words F.told F.states F.present F.open_tails F.faults)
         folder.new crew.new keeper.new)) }
     ensures ended { IfErr result (λ met. EndsInOne
         (tail_words F.Tail.numbers F.Tail.told F.Tail.faults) context.entry.settings.now
-        opening.entry.now
-        (listed_file opening.entry.slot opening.entry.listed.now opening.entry.now) met
+        (listed_file opening.entry.slot opening.entry.listed.now opening.entry.start
+        opening.entry.now) met
         (beginning (folder_words F.told F.states F.present F.open_tails F.faults)
         folder.old crew.old keeper.old)
         (beginning (folder_words F.told F.states F.present F.open_tails F.faults)

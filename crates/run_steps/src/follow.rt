@@ -52,7 +52,7 @@ pub fn met_in<T: Tail, L: Link, W: Wire<Link = L>>(
     None
 }
 
-// The first worker that failed so often in a row.
+/// The first worker that failed so often in a row.
 fn unreachable_in<L: Link, W: Wire<Link = L>>(
     carriers: &[Carrier<W, L>],
     attempts: u32,

@@ -94,7 +94,7 @@ fn end_lane<T: Tail>(lane: Lane<T>)
     let _ = lane.end();
 }
 
-// From the last worker on, so that the wires are in order again.
+/// From the last worker on, so that the wires are in order again.
 fn end_carriers<L: Link, W: Wire<Link = L>>(mut carriers: Vec<Carrier<W, L>>, wires: &mut Vec<W>)
     requires passes { All HasCarrierPasses carriers.items }
     requires room { vec_len carriers + vec_len wires.old ≤ vec_capacity wires.old }

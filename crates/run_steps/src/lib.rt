@@ -19,6 +19,7 @@ mod registry;
 mod registry_error;
 mod running;
 mod settle;
+mod starts;
 mod telling;
 mod working;
 
@@ -35,5 +36,6 @@ pub use registry::open_registry;
 pub use registry_error::RegistryError;
 pub use running::run_over;
 pub use settle::settle_all;
+pub use starts::starts_of;
 pub use telling::tell_moments;
 pub use working::{Worked, follow_begun, settle_after, work};

@@ -1,9 +1,10 @@
-ghost use Rattle.std.specs.Prelude.{IfOk};
+ghost use Rattle.std.specs.Prelude.{◌≤◌, IfOk};
 ghost use Rattle.prospect.specs.ListedFiles.{IsListedInRange};
 ghost use Rattle.wire_base.specs.Ranges.{IsBegin};
 ghost use Rattle.run_steps.specs.BeginFor.{IsBeginFor};
 
 use prospect::Listed;
+use restart_join::Start;
 use std::alloc::Global;
 use wire_base::{Begin, Epoch, Moment, NoMemory, Slot};
 
@@ -13,14 +14,16 @@ pub struct Opening<'a> {
     /// Its place in the list.
     pub slot: Slot,
     pub listed: &'a Listed,
+    /// Where it starts, by its row.
+    pub start: Start,
     /// The moment of the scan.
     pub now: Moment,
 }
 
-/// How the file begins: in its first epoch, from its first byte on. `Err` is want of memory, or a key that the listing did not
-/// tell.
+/// How the file begins. `Err` is want of memory, or a key that the listing did not tell.
 pub(crate) fn begin_of(alloc: Global, opening: Opening<'_>) -> Result<Begin, NoMemory>
-    ensures begin { IfOk result (IsBeginFor opening.entry.slot opening.entry.listed.now) }
+    requires start { opening.start.base ≤ opening.listed.now.size }
+    ensures begin { IfOk result (IsBeginFor opening.entry.slot opening.entry.listed.now opening.entry.start) }
     ensures in_range { IsListedInRange opening.entry.listed.now → IfOk result IsBegin }
 {
     let listed = opening.listed;
@@ -33,7 +36,7 @@ pub(crate) fn begin_of(alloc: Global, opening: Opening<'_>) -> Result<Begin, NoM
         key: key.copy(alloc)?,
         path: listed.path.copy(alloc)?,
         size: listed.size,
-        epoch: Epoch(0),
-        base: 0,
+        epoch: Epoch(opening.start.epoch),
+        base: opening.start.base,
     })
 }

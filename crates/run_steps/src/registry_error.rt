@@ -5,7 +5,7 @@ use wire_base::Which;
 /// Why the registry of a run was not opened.
 #[derive(Clone, Copy, Debug, PartialEq, Eq, Error)]
 pub enum RegistryError {
-    /// This area is not blank, or is broken at the place.
+    /// No area is opened, and this one is broken at the place, or closed (area B, at 0).
     #[error("registry area {area:?} is bad at {at}")]
     Bad { area: Which, at: u64 },
     #[error("a disk failed")]
@@ -19,7 +19,7 @@ impl From<StoreError> for RegistryError {
 
     ghost from_gives = { IsErrorOfStore };
 
-    // An opening never finds the store closed.
+    /// An opening never finds the store closed.
     fn from(error: StoreError) -> Self {
         match error {
             StoreError::Bad { area, at } => RegistryError::Bad { area, at },

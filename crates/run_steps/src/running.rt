@@ -17,6 +17,7 @@ ghost use Rattle.run_steps.specs.RunEnds.{HasEnded};
 ghost use Rattle.run_steps.specs.RunOf.{FolderTold};
 ghost use Rattle.run_steps.specs.RunState.{Phase};
 ghost use Rattle.run_steps.specs.Scanned.{HasScanned};
+ghost use Rattle.run_steps.specs.Starting.{AreFewFiles, starts_among};
 ghost use Rattle.run_steps.specs.Worked.{IsMetByRun};
 
 use crate::beginning::{Scanned, begin_all};
@@ -56,7 +57,10 @@ where
         passes.put passes.take passes.post }
     requires in_range { All IsListedInRange scanned.now.listed.items }
     requires of_inputs { All (IsOfInputs context.settings.now) scanned.now.listed.items }
-    requires few { length scanned.now.listed.items ≤ 65_536 }
+    requires few { AreFewFiles storing.old.keeper.now.store.rows scanned.now.listed.items }
+    requires few_listed { length scanned.now.listed.items ≤ 65_536 }
+    requires starts { scanned.now.starts.items
+        ≡ starts_among storing.old.keeper.now.store.rows scanned.now.listed.items }
     requires moment { IsMoment scanned.now.now }
     requires keeper { IsFirstKeeper context.outlets.desk.now.id storing.old.keeper.now }
     requires wires { vec_len around.old.wires.now ≡ 16 }

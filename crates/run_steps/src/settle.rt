@@ -94,7 +94,7 @@ pub fn settle_all<
     unreachable!()
 }
 
-// What ends the last steps before all is stored.
+/// What ends the last steps before all is stored.
 fn stored_by(round: Round) -> Option<Met>
     ensures { IsStoredAs round result }
 {

@@ -1,13 +1,16 @@
-ghost use Rattle.std.specs.Prelude.{◌≡◌, ◌∷◌, ◌+◌, ◌<◌, ◌≤◌, [], OnErr, OnOk, length};
+ghost use Rattle.std.specs.Prelude.{◌≡◌, ◌∷◌, ◌≤◌, [], OnErr, OnOk, length};
 ghost use Rattle.std.specs.Bool.{OnFalse, OnTrue};
 ghost use Rattle.keeper.specs.FewKeys.{HasRoomFor};
 ghost use Rattle.prospect.specs.ListedFiles.{IsListedInRange};
-ghost use Rattle.wire_base.specs.Ranges.{IsNote};
-ghost use Rattle.run_steps.specs.Telling.{IsFollowed, IsNotFollowed, TellMoments, TellSomeMoments, TellsBegin, TellsMoment, TellsNotes};
+ghost use Rattle.wire_base.specs.Ranges.{IsMoment, IsNote};
+ghost use Rattle.run_steps.specs.KnownKeys.{HasRoomToBegin};
+ghost use Rattle.run_steps.specs.Telling.{IsFollowed, IsNotFollowed, TellMoments, TellSomeMoments, TellsBegin, TellsMoment, TellsNotes, moment_noted};
 
 use crate::opening::{Opening, begin_of};
-use keeper::{Keeper, few_keys_by_length};
+use crate::starts::row_of;
+use keeper::Keeper;
 use prospect::Listed;
+use ship_core::Rows;
 use std::alloc::Global;
 use wire_base::{MAX_MOMENT, Moment, NoMemory, Note, Slot};
 
@@ -19,12 +22,13 @@ pub(crate) fn tell_begin(
     keeper: &mut Keeper,
 ) -> Result<(), NoMemory>
     requires in_range { IsListedInRange opening.listed.now }
-    requires few { length keeper.old.store.rows + length keeper.old.tracked.notes < 65_536 }
+    requires start { opening.start.base ≤ opening.listed.now.size }
+    requires few { HasRoomToBegin opening.listed.now keeper.old }
     ensures told { OnOk result
-        (TellsBegin opening.entry.slot opening.entry.listed.now keeper.old keeper.new) }
+        (TellsBegin opening.entry.slot opening.entry.listed.now opening.entry.start
+        keeper.old keeper.new) }
     ensures kept { OnErr result (keeper.new ≡ keeper.old) }
 {
-    few_keys_by_length();
     let begin = begin_of(alloc, opening)?;
     tell(
         alloc,
@@ -52,16 +56,18 @@ fn tell(alloc: Global, note: Note, keeper: &mut Keeper) -> Result<(), NoMemory>
     }
 }
 
-/// Tells the keeper when each file that is followed was changed, as the scan listed it, where that is later than the 0 of its
-/// begin. The slots are the places in the list. `Err` is want of memory, behind some of them.
+/// Tells the keeper when each file that is followed was changed: as the scan listed it, or as its row has it where that is later; a
+/// moment of 0 is not told. The slots are the places in the list. `Err` is want of memory, behind some of them.
 pub fn tell_moments(alloc: Global, listed: &[Listed], keeper: &mut Keeper) -> Result<(), NoMemory>
     requires few { length listed.now ≤ 65_536 }
-    ensures told { OnOk result (TellMoments 0 listed.now keeper.old keeper.new) }
-    ensures some_told { OnErr result (TellSomeMoments listed.now keeper.old keeper.new) }
+    ensures told { OnOk result
+        (TellMoments keeper.old.store.rows 0 listed.now keeper.old keeper.new) }
+    ensures some_told { OnErr result
+        (TellSomeMoments keeper.old.store.rows listed.now keeper.old keeper.new) }
 {
     let mut slot = 0;
     'files: while slot < listed.len() {
-        tell_moment(alloc, Slot(slot as u32), listed[slot].changed, keeper)?;
+        tell_moment(alloc, Slot(slot as u32), &listed[slot], keeper)?;
         slot += 1;
     }
     Ok(())
@@ -70,20 +76,33 @@ pub fn tell_moments(alloc: Global, listed: &[Listed], keeper: &mut Keeper) -> Re
 fn tell_moment(
     alloc: Global,
     slot: Slot,
-    changed: Moment,
+    listed: &Listed,
     keeper: &mut Keeper,
 ) -> Result<(), NoMemory>
-    ensures told { OnOk result (TellsMoment slot changed keeper.old keeper.new) }
+    ensures told { OnOk result (TellsMoment slot
+        (moment_noted keeper.old.store.rows listed.now) keeper.old keeper.new) }
     ensures kept { OnErr result (keeper.new ≡ keeper.old) }
 {
+    let changed = moment_among(keeper.rows(), listed);
     if changed.0 == 0 || !is_followed(slot, keeper) {
         return Ok(());
     }
-    let changed = Moment(changed.0.min(MAX_MOMENT));
     tell(alloc, Note::Seen { slot, changed }, keeper)
 }
 
-// Whether the slot has a Begin, and its row is not gone.
+/// When the file was changed, as the later of its row and the scan has it.
+fn moment_among(rows: &Rows, listed: &Listed) -> Moment
+    ensures moment { result ≡ moment_noted rows.now listed.now }
+    ensures in_range { IsMoment result }
+{
+    let scanned = listed.changed.0.min(MAX_MOMENT);
+    match row_of(rows, &listed.key) {
+        Some(row) => Moment(row.changed.0.max(scanned)),
+        None => Moment(scanned),
+    }
+}
+
+/// Whether the slot has a Begin, and its row is not gone.
 fn is_followed(slot: Slot, keeper: &Keeper) -> bool
     ensures followed { OnTrue result (IsFollowed slot.0 keeper.now.tracked) }
     ensures not_followed { OnFalse result (IsNotFollowed slot.0 keeper.now.tracked) }

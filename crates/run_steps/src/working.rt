@@ -308,7 +308,7 @@ pub fn settle_after<
     Worked { passed, met }
 }
 
-// The last steps, where they are left to be made.
+/// The last steps, where they are left to be made.
 fn settle_where_left<
     T: Tail + Send,
     L: Link + Send,

@@ -152,7 +152,7 @@ const REFUSALS: &[(Asked, u8, &str)] = &[
             ..PLAIN
         }),
         4,
-        "status 4 registry bad area A at 0\n",
+        "status 4 registry bad area A at 1\n",
     ),
 ];
 

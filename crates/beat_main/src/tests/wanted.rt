@@ -64,8 +64,18 @@ pub fn check<X: Threads + Wait + Sync + AllocGlobal + Abort>(
     start: Start,
     wanted: Wanted,
 ) -> Result<(), Fail> {
+    check_left(rt, case, run(rt, start)?, start.area, wanted)
+}
+
+/// Compares all that a run leaves with what is wanted; `area` is what the first area held before it.
+pub fn check_left<X: AllocGlobal + Abort>(
+    rt: &X,
+    case: &str,
+    mut ran: Ran,
+    area: &str,
+    wanted: Wanted,
+) -> Result<(), Fail> {
     let alloc = rt.alloc();
-    let mut ran = run(rt, start)?;
     let printed = Text::from_bytes(alloc, ran.objects.printed.bytes())?;
     let reported = reported(alloc, wanted)?;
     assert_eq!(rt; printed.as_str(), reported.as_str(), "printed: {case}");
@@ -80,11 +90,7 @@ pub fn check<X: Threads + Wait + Sync + AllocGlobal + Abort>(
             assert_eq!(rt; stored.as_str(), rows, "rows: {case}");
         }
         None => {
-            assert_eq!(rt;
-                ran.objects.area.bytes(),
-                start.area.as_bytes(),
-                "area: {case}"
-            );
+            assert_eq!(rt; ran.objects.area.bytes(), area.as_bytes(), "area: {case}");
             assert_eq!(rt;
                 ran.objects.other_area.bytes().len(),
                 0,

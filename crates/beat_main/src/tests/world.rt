@@ -76,6 +76,8 @@ pub struct Start<'a> {
     pub quiet: u64,
     /// Calls that fail, each counted from 0 over the calls of its object.
     pub failing: &'a [(Object, u64)],
+    /// Behind so many calls the first area stops.
+    pub stop_after: Option<u64>,
 }
 
 pub const ONCE: &[&str] = &["-c", "f", "--once"];
@@ -91,6 +93,7 @@ pub const PLAIN: Start = Start {
     peer: Peer::Acknowledges,
     quiet: u64::MAX,
     failing: &[],
+    stop_after: None,
 };
 
 /// What a run is given, and what it leaves of that.
@@ -107,7 +110,7 @@ pub struct Objects {
 }
 
 impl Objects {
-    fn new(alloc: Global, start: Start) -> Result<Objects, Fail>
+    fn new(alloc: Global, start: Start, area: MemDisk, other_area: MemDisk) -> Result<Objects, Fail>
         ensures { IfOk result (λ objects. vec_len objects.wires ≡ WIRES) }
     {
         let text = settings_of(alloc, start)?;
@@ -115,8 +118,8 @@ impl Objects {
             settings: MemSource::new(alloc, text.as_bytes())?,
             folder: folder_of(alloc, start.files)?,
             wires: wires_of(alloc, start.peer)?,
-            area: MemDisk::new(alloc, start.area.as_bytes())?,
-            other_area: MemDisk::new(alloc, b"")?,
+            area,
+            other_area,
             clock: MemClock::new(alloc, Moment(0))?,
             bell: MemBell::new(alloc, start.quiet)?,
             printed: MemSink::new(alloc)?,
@@ -154,13 +157,28 @@ pub struct Ran {
     pub objects: Objects,
 }
 
-/// Makes a run.
+/// Makes a run over the area of its start, and a blank one.
 pub fn run<X: Threads + Wait + Sync + AllocGlobal>(rt: &X, start: Start) -> Result<Ran, Fail> {
     let alloc = rt.alloc();
+    let area = MemDisk::new(alloc, start.area.as_bytes())?;
+    run_over(rt, start, area, MemDisk::new(alloc, b"")?)
+}
+
+/// Makes a run over these areas.
+pub fn run_over<X: Threads + Wait + Sync + AllocGlobal>(
+    rt: &X,
+    start: Start,
+    area: MemDisk,
+    other_area: MemDisk,
+) -> Result<Ran, Fail> {
+    let alloc = rt.alloc();
     let words = words_of(alloc, start.words)?;
-    let mut objects = Objects::new(alloc, start)?;
+    let mut objects = Objects::new(alloc, start, area, other_area)?;
     for (object, call) in start.failing {
         objects.fail_at(alloc, *object, *call)?;
+    }
+    if let Some(calls) = start.stop_after {
+        objects.area.stop_after(calls);
     }
     let status = ship(
         rt,

@@ -4,10 +4,10 @@ use Rattle.report.specs.declared.status.Status.{Status}
 use Rattle.report.specs.declared.status.Status.TheVariants.{Usage}
 use Rattle.rounds.specs.Words.{disk_words}
 use Rattle.run_steps.proofs.Clocks.{clock_stays}
-use Rattle.run_steps.proofs.HeldNoRow.{none_held_as_read}
+use Rattle.run_steps.proofs.HeldRows.{rows_held_as_read}
 use Rattle.beat_run.specs.Ended.{ended}
 use Rattle.beat_run.specs.declared.settings.TheConstants.{LIMIT}
-use Rattle.beat_run.proofs.Accounts.{no_settings, still, tells_blank}
+use Rattle.beat_run.proofs.Accounts.{no_settings, rows_given, still}
 use Rattle.beat_run.proofs.Causes.{caused_by_named, prepare_caused, prepare_ended, prepare_not_followed, prepare_not_named}
 use Rattle.beat_run.proofs.Endings.{told_never}
 use Rattle.beat_run.proofs.Refusals.{refused_by_areas}
@@ -26,14 +26,14 @@ returns-in-Err-clause-cause g c = prepare_caused _ _ _ _ c.in-Err.status c.in-Er
 pub returns-in-Err-clause-accounted : goal.returns-in-Err-clause-accounted
 returns-in-Err-clause-accounted g c = λ all.
     let disks = disk_words g.D.Disk.contents g.D.Disk.images g.D.Disk.moment g.D.Disk.images_since g.D.Disk.faults in
-    let a = tells_blank (g.D.Disk.contents c.args.outside.now.a.now) all.a in
-    let b = tells_blank (g.D.Disk.contents c.args.outside.now.b.now) all.b in
+    let a = c.args.outside.now.a.now in
+    let b = c.args.outside.now.b.now in
     record {
       settings = no_settings;
       named = λ behind. absurd (prepare_not_named _ _ c.in-Err.status c.in-Err.ensures.ends behind);
-      is = still disks c.one_choice.ensures no_settings c.args.outside.now.a.now c.args.outside.now.b.now c.args.outside.now.a.now c.args.outside.now.b.now
-          (none_held_as_read disks c.args.outside.now.a.now c.args.outside.now.b.now a.blank b.blank c.args.outside.now.a.now c.args.outside.now.b.now
-          (c.unasked_disk_is_only_read.ensures c.args.outside.now.a.now) (c.unasked_disk_is_only_read.ensures c.args.outside.now.b.now)) (map g.W.Wire.outcomes c.args.outside.now.wires.now.items)
+      is = still disks c.one_choice.ensures no_settings all.areas.rows a b a b (λ rest. rows_given disks a b all.areas)
+          (λ rest. rows_held_as_read disks a b rest all.areas.first all.areas.second all.areas.rows all.areas.a_is all.areas.b_is all.areas.gives a b
+          (c.unasked_disk_is_only_read.ensures a) (c.unasked_disk_is_only_read.ensures b)) (map g.W.Wire.outcomes c.args.outside.now.wires.now.items)
           (g.F.Folder.told c.args.outside.now.folder.now) (g.K.Clock.moments c.args.outside.now.clock.now) c.in-Err.status all.tell.folder all.tell.moments (prepare_ended _ _ c.in-Err.status c.in-Err.ensures.ends);
     }
 
@@ -61,16 +61,16 @@ returns-clause-cause g c = caused_by_named _ c.in-Ok.settings _ _ _ _ (ended c.r
 
 pub returns-clause-a_only_read_where_refused : goal.returns-clause-a_only_read_where_refused
 returns-clause-a_only_read_where_refused g c =
-    refused_by_areas _ (g.R.Source.left c.args.source.now) _ _ _ c.in-Ok.ensures.other_words_refused c.in-Ok.ensures.unbuilt_refused c.in-Ok.ensures.fault_refused c.in-Ok.ensures.key_refused c.run_settings.ensures.a_only_read_where_written
+    refused_by_areas _ (g.R.Source.left c.args.source.now) _ _ _ c.in-Ok.ensures.other_words_refused c.in-Ok.ensures.unbuilt_refused c.in-Ok.ensures.fault_refused c.in-Ok.ensures.key_refused c.run_settings.ensures.a_only_read_where_areas_are_refused
 
 pub returns-clause-b_only_read_where_refused : goal.returns-clause-b_only_read_where_refused
 returns-clause-b_only_read_where_refused g c =
-    refused_by_areas _ (g.R.Source.left c.args.source.now) _ _ _ c.in-Ok.ensures.other_words_refused c.in-Ok.ensures.unbuilt_refused c.in-Ok.ensures.fault_refused c.in-Ok.ensures.key_refused c.run_settings.ensures.b_only_read_where_written
+    refused_by_areas _ (g.R.Source.left c.args.source.now) _ _ _ c.in-Ok.ensures.other_words_refused c.in-Ok.ensures.unbuilt_refused c.in-Ok.ensures.fault_refused c.in-Ok.ensures.key_refused c.run_settings.ensures.b_only_read_where_areas_are_refused
 
 pub returns-clause-folder_kept_where_refused : goal.returns-clause-folder_kept_where_refused
 returns-clause-folder_kept_where_refused g c =
-    refused_by_areas _ (g.R.Source.left c.args.source.now) _ _ _ c.in-Ok.ensures.other_words_refused c.in-Ok.ensures.unbuilt_refused c.in-Ok.ensures.fault_refused c.in-Ok.ensures.key_refused c.run_settings.ensures.folder_kept_where_written
+    refused_by_areas _ (g.R.Source.left c.args.source.now) _ _ _ c.in-Ok.ensures.other_words_refused c.in-Ok.ensures.unbuilt_refused c.in-Ok.ensures.fault_refused c.in-Ok.ensures.key_refused c.run_settings.ensures.folder_kept_where_areas_are_refused
 
 pub returns-clause-wires_kept_where_refused : goal.returns-clause-wires_kept_where_refused
 returns-clause-wires_kept_where_refused g c =
-    refused_by_areas _ (g.R.Source.left c.args.source.now) _ _ _ c.in-Ok.ensures.other_words_refused c.in-Ok.ensures.unbuilt_refused c.in-Ok.ensures.fault_refused c.in-Ok.ensures.key_refused c.run_settings.ensures.wires_kept_where_written
+    refused_by_areas _ (g.R.Source.left c.args.source.now) _ _ _ c.in-Ok.ensures.other_words_refused c.in-Ok.ensures.unbuilt_refused c.in-Ok.ensures.fault_refused c.in-Ok.ensures.key_refused c.run_settings.ensures.wires_kept_where_areas_are_refused

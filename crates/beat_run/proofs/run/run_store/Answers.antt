@@ -33,7 +33,7 @@ returns-in_err-scanned-clause-accounted g c = λ from opened tells.
     let disks = disk_words g.D.Disk.contents g.D.Disk.images g.D.Disk.moment g.D.Disk.images_since g.D.Disk.faults in
     rw (p.1, p.2)
     (early disks c.one_choice.ensures c.args.settings.now c.requires.in_range (inputs_are_by_path_where_nothing_lacks c.args.settings.now c.requires.nothing_lacks)
-    from.a from.b c.args.outside.now.a.now c.args.outside.now.b.now opened.held (map g.W.Wire.outcomes c.args.outside.now.wires.now.items)
+    c.args.store.rows from.a from.b c.args.outside.now.a.now c.args.outside.now.b.now opened.gave opened.held (map g.W.Wire.outcomes c.args.outside.now.wires.now.items)
     (g.F.Folder.told c.args.outside.now.folder.now) (g.F.Folder.told c.scan.new.folder) (g.K.Clock.moments c.args.outside.now.clock.now) (g.K.Clock.moments c.scan.new.clock)
     c.in_err-scanned.ensures.moment_given_first.0 _ tells.folder tells.moments c.in_err-scanned.ensures.moment_given_first.1
     (each_some (g.F.Folder.told c.args.outside.now.folder.now) _ _ (λ history shows. some_listed c.args.settings.now.inputs history (g.F.Folder.told c.scan.new.folder) _ shows) (rw inputs at c.in_err-scanned.ensures.shows_end))
@@ -48,7 +48,7 @@ returns-in_err-parts-clause-accounted g c = λ from opened tells.
     let disks = disk_words g.D.Disk.contents g.D.Disk.images g.D.Disk.moment g.D.Disk.images_since g.D.Disk.faults in
     rw (p.1, p.2)
     (early disks c.one_choice.ensures c.args.settings.now c.requires.in_range (inputs_are_by_path_where_nothing_lacks c.args.settings.now c.requires.nothing_lacks)
-    from.a from.b c.args.outside.now.a.now c.args.outside.now.b.now opened.held (map g.W.Wire.outcomes c.args.outside.now.wires.now.items)
+    c.args.store.rows from.a from.b c.args.outside.now.a.now c.args.outside.now.b.now opened.gave opened.held (map g.W.Wire.outcomes c.args.outside.now.wires.now.items)
     (g.F.Folder.told c.args.outside.now.folder.now) (g.F.Folder.told c.scan.new.folder) (g.K.Clock.moments c.args.outside.now.clock.now) (g.K.Clock.moments c.scan.new.clock)
     c.in_ok-scanned.scanned.now.0 NoMemory tells.folder tells.moments c.in_ok-scanned.ensures.moment_given
     (each_some (g.F.Folder.told c.args.outside.now.folder.now) _ _ (λ history scans. listed_all (globs_of c.args.settings.now.inputs) history scans.listings (g.F.Folder.told c.scan.new.folder) scans.listed_is) (rw inputs at c.in_ok-scanned.ensures.scanned)) tt)
@@ -66,7 +66,7 @@ returns-in_err-worked-clause-accounted g c = λ from opened tells.
     let b_same : c.run_over.new.storing.b.now ≡ c.args.outside.now.b.now = ap (λ (s : Storing g.row.D.Denot). s.b.now) c.in_err-worked.ensures.untouched.0 in
     rw (p.1, p.2, a_same, b_same, c.in_err-worked.ensures.untouched.1, c.in_err-worked.ensures.untouched.2, back)
     (early disks c.one_choice.ensures c.args.settings.now c.requires.in_range (inputs_are_by_path_where_nothing_lacks c.args.settings.now c.requires.nothing_lacks)
-    from.a from.b c.args.outside.now.a.now c.args.outside.now.b.now opened.held (map g.W.Wire.outcomes c.args.outside.now.wires.now.items)
+    c.args.store.rows from.a from.b c.args.outside.now.a.now c.args.outside.now.b.now opened.gave opened.held (map g.W.Wire.outcomes c.args.outside.now.wires.now.items)
     (g.F.Folder.told c.args.outside.now.folder.now) (g.F.Folder.told c.scan.new.folder) (g.K.Clock.moments c.args.outside.now.clock.now) (g.K.Clock.moments c.scan.new.clock)
     c.in_ok-scanned.scanned.now.0 NoMemory tells.folder tells.moments c.in_ok-scanned.ensures.moment_given
     (each_some (g.F.Folder.told c.args.outside.now.folder.now) _ _ (λ history scans. listed_all (globs_of c.args.settings.now.inputs) history scans.listings (g.F.Folder.told c.scan.new.folder) scans.listed_is) (rw inputs at c.in_ok-scanned.ensures.scanned)) tt)
@@ -201,7 +201,7 @@ returns-in_err-worked-clause-goes_on g c =
       clock = clock_by_two (g.K.Clock.moments c.args.outside.now.clock.now) (g.K.Clock.moments c.scan.new.clock) (g.K.Clock.moments c.run_over.new.around.clock.now) c.scan.ensures.clock_goes_on c.run_over.ensures.clock_goes_on;
       wires = c.run_over.ensures.as_many_wires;
       tails = λ few. tails_by_two (g.F.Folder.open_tails c.args.outside.now.folder.now) (g.F.Folder.open_tails c.scan.new.folder) (g.F.Folder.open_tails c.run_over.new.around.folder.now) (length c.in_ok-scanned.scanned.listed.items)
-          c.scan.ensures.open_tails_kept c.in_ok-scanned.ensures.few c.run_over.ensures.tails_closed few;
+          c.scan.ensures.open_tails_kept c.in_ok-scanned.ensures.few_listed c.run_over.ensures.tails_closed few;
       a_told = c.run_over.ensures.still_tell.a;
       b_told = c.run_over.ensures.still_tell.b;
     }
@@ -212,7 +212,7 @@ returns-clause-goes_on g c =
       clock = clock_by_two (g.K.Clock.moments c.args.outside.now.clock.now) (g.K.Clock.moments c.scan.new.clock) (g.K.Clock.moments c.run_over.new.around.clock.now) c.scan.ensures.clock_goes_on c.run_over.ensures.clock_goes_on;
       wires = c.run_over.ensures.as_many_wires;
       tails = λ few. tails_by_two (g.F.Folder.open_tails c.args.outside.now.folder.now) (g.F.Folder.open_tails c.scan.new.folder) (g.F.Folder.open_tails c.run_over.new.around.folder.now) (length c.in_ok-scanned.scanned.listed.items)
-          c.scan.ensures.open_tails_kept c.in_ok-scanned.ensures.few c.run_over.ensures.tails_closed few;
+          c.scan.ensures.open_tails_kept c.in_ok-scanned.ensures.few_listed c.run_over.ensures.tails_closed few;
       a_told = c.run_over.ensures.still_tell.a;
       b_told = c.run_over.ensures.still_tell.b;
     }

@@ -1,11 +1,9 @@
-use Rattle.std.proofs.Common.{List, ℕ, Option, Some, None, Ok, IfSome, inl}
+use Rattle.std.proofs.Common.{List, ℕ, Option, Some, None, Ok, IfSome}
 use Rattle.report.specs.Writing.{WritesAll}
 use Rattle.report.specs.declared.status.Status.{Status}
 use Rattle.report.specs.declared.status.Status.TheVariants.{Done, Stopped, Usage, Settings as SettingsFault, RegistryBad, DiskFault, FolderFault, Unreachable, OutFault, SourceFault, TooMany, NoNative, NoMemory, Unbuilt}
 use Rattle.beat_run.specs.Ends.{IsReportEnd}
 use Rattle.beat_run.specs.Printed.{IsPrinted, IsReportOf, Prints}
-use Rattle.beat_run.proofs.Printings.{front_printed}
-use Rattle.beat_run.proofs.shipping.print_report.Goals as goal
 
 -- all of the report
 report_printed : (Kind : List ℕ → Type 0) (old : Option (List ℕ)) (text : List ℕ) (after : Option (List ℕ)) → Kind text → WritesAll old text (Ok tt) after → IfSome old (λ written. Prints Kind written after)

@@ -1,9 +1,9 @@
-use Rattle.std.proofs.Common.{◌≡◌, ◌∙◌, ap, List, ℕ, take, Err, sym}
+use Rattle.std.proofs.Common.{◌≡◌, ◌∙◌, ap, take, Err, sym}
 use Rattle.beat_config.specs.Document.{AreSettingsOf, IsFirstFault}
 use Rattle.prospect.specs.Lacks.{IsFirstLack}
 use Rattle.report.specs.declared.status.Status.{Status}
 use Rattle.report.specs.declared.status.Status.TheVariants.{RegistryBad, Usage}
-use Rattle.beat_run.specs.Ends.{IsReportEnd, RefusesKey, RefusesLack, RefusesSettings}
+use Rattle.beat_run.specs.Ends.{IsReportEnd, RefusesArea, RefusesKey, RefusesLack, RefusesSettings}
 use Rattle.beat_run.specs.declared.settings.TheConstants.{LIMIT}
 use Rattle.beat_run.specs.Accounted.{IsAccountedByNamed}
 use Rattle.rounds.specs.Words.{disk_words}
@@ -23,6 +23,9 @@ returns-in-Ok-clause-faulty_settings_are_refused g c = λ fault. told_never (g.R
 pub returns-in-Ok-clause-keys_of_the_unbuilt_are_refused : goal.returns-in-Ok-clause-keys_of_the_unbuilt_are_refused
 returns-in-Ok-clause-keys_of_the_unbuilt_are_refused g c = λ asked key.
     two_never (g.R.Source.left c.args.settings.now) (λ bytes. AreSettingsOf (take LIMIT bytes) asked) (λ bytes. IsFirstLack asked key) _ (rw c.in-Ok.is at c.run.ensures.key_refused asked key)
+
+pub returns-in-Ok-clause-refused_areas_end_the_run : goal.returns-in-Ok-clause-refused_areas_end_the_run
+returns-in-Ok-clause-refused_areas_end_the_run g c = λ first second area at of_a of_b refused. absurd (rw c.in-Ok.is at c.run.ensures.areas_refused first second area at of_a of_b refused)
 
 pub returns-in-Ok-clause-accounted_for_where_all_tell : goal.returns-in-Ok-clause-accounted_for_where_all_tell
 returns-in-Ok-clause-accounted_for_where_all_tell g c =
@@ -77,10 +80,14 @@ pub returns-in-Err-clause-keys_of_the_unbuilt_are_refused : goal.returns-in-Err-
 returns-in-Err-clause-keys_of_the_unbuilt_are_refused g c = λ asked key.
     two_printed (g.R.Source.left c.args.settings.now) (λ bytes. AreSettingsOf (take LIMIT bytes) asked) (λ bytes. IsFirstLack asked key) _ c.in-Err.status c.print_status.result (RefusesKey key) c.print_status.ensures.printed (rw c.in-Err.is at c.run.ensures.key_refused asked key) tt
 
-pub returns-in-Err-clause-registry_bad_only_where_an_area_is_written : goal.returns-in-Err-clause-registry_bad_only_where_an_area_is_written
-returns-in-Err-clause-registry_bad_only_where_an_area_is_written g c = λ first second area at of_a of_b is.
+pub returns-in-Err-clause-registry_bad_only_where_the_areas_are_refused : goal.returns-in-Err-clause-registry_bad_only_where_the_areas_are_refused
+returns-in-Err-clause-registry_bad_only_where_the_areas_are_refused g c = λ first second area at of_a of_b is.
     c.run.ensures.registry_bad first second area at of_a of_b
     (c.in-Err.is ∙ ap (λ (s : Status). Err s) (was_met _ c.in-Err.status c.print_status.result (RegistryBad area at) c.print_status.ensures.printed (λ same. absurd cc) is))
+
+pub returns-in-Err-clause-refused_areas_end_the_run : goal.returns-in-Err-clause-refused_areas_end_the_run
+returns-in-Err-clause-refused_areas_end_the_run g c = λ first second area at of_a of_b refused.
+    printed_so _ c.in-Err.status c.print_status.result RefusesArea c.print_status.ensures.printed (rw c.in-Err.is at c.run.ensures.areas_refused first second area at of_a of_b refused) tt
 
 pub returns-in-Err-clause-accounted_for_where_all_tell : goal.returns-in-Err-clause-accounted_for_where_all_tell
 returns-in-Err-clause-accounted_for_where_all_tell g c =

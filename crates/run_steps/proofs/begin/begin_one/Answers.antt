@@ -6,7 +6,7 @@ use Rattle.run_steps.proofs.begin.begin_one.Goals as goal
 
 pub returns-in-Ok : goal.returns-in-Ok
 returns-in-Ok g c =
-    file_followed (tail_words g.F.Tail.Tail.numbers g.F.Tail.Tail.told g.F.Tail.Tail.faults) c.args.context.settings.now (listed_file c.args.opening.slot c.args.opening.listed.now c.args.opening.now)
+    file_followed (tail_words g.F.Tail.Tail.numbers g.F.Tail.Tail.told g.F.Tail.Tail.faults) c.args.context.settings.now (listed_file c.args.opening.slot c.args.opening.listed.now c.args.opening.start c.args.opening.now)
     c.in-Ok-Some.tail
     (beginning (folder_words g.F.Folder.told g.F.Folder.states g.F.Folder.present g.F.Folder.open_tails g.F.Folder.faults) c.args.folder.now c.args.crew.now c.args.keeper.now)
     (beginning (folder_words g.F.Folder.told g.F.Folder.states g.F.Folder.present g.F.Folder.open_tails g.F.Folder.faults) c.follow_one.new.folder c.follow_one.new.crew c.follow_one.new.keeper)
@@ -22,7 +22,7 @@ returns-in-Ok g c =
 
 pub returns-in-Err-follow_one : goal.returns-in-Err-follow_one
 returns-in-Err-follow_one g c =
-    file_given_up (tail_words g.F.Tail.Tail.numbers g.F.Tail.Tail.told g.F.Tail.Tail.faults) c.args.context.settings.now (listed_file c.args.opening.slot c.args.opening.listed.now c.args.opening.now)
+    file_given_up (tail_words g.F.Tail.Tail.numbers g.F.Tail.Tail.told g.F.Tail.Tail.faults) c.args.context.settings.now (listed_file c.args.opening.slot c.args.opening.listed.now c.args.opening.start c.args.opening.now)
     c.in-Ok-Some.tail
     (beginning (folder_words g.F.Folder.told g.F.Folder.states g.F.Folder.present g.F.Folder.open_tails g.F.Folder.faults) c.args.folder.now c.args.crew.now c.args.keeper.now)
     (beginning (folder_words g.F.Folder.told g.F.Folder.states g.F.Folder.present g.F.Folder.open_tails g.F.Folder.faults) c.follow_one.new.folder c.follow_one.new.crew c.follow_one.new.keeper)

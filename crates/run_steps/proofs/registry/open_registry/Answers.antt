@@ -1,29 +1,30 @@
 use Rattle.rounds.specs.Words.{disk_words}
-use Rattle.run_steps.proofs.HeldNoRow.{blank_where_told, goes_on_since, neither_written, none_held_as_read, none_held_since, on_ok}
+use Rattle.run_steps.proofs.HeldRows.{never_opened, not_fresh, rows_held_as_opened, store_gives}
 use Rattle.run_steps.proofs.registry.open_registry.Goals as goal
 
-pub returns-in-Ok-clause-goes_on : goal.returns-in-Ok-clause-goes_on
-returns-in-Ok-clause-goes_on g c =
-    goes_on_since (disk_words g.D.Disk.contents g.D.Disk.images g.D.Disk.moment g.D.Disk.images_since g.D.Disk.faults) c.args.a.now c.args.b.now
-    c.check_areas.new.a c.check_areas.new.b c.open_blank.new.a c.open_blank.new.b c.open_blank.result c.check_areas.ensures.a_only_read c.check_areas.ensures.b_only_read c.open_blank.ensures.goes_on
+pub returns-in-Ok-clause-gives : goal.returns-in-Ok-clause-gives
+returns-in-Ok-clause-gives g c = λ first second a_is b_is. store_gives first second c.in-Ok.store (rw c.in-Ok.is at c.open.ensures.chosen first second a_is b_is)
 
-pub returns-in-Ok-clause-holds_no_row : goal.returns-in-Ok-clause-holds_no_row
-returns-in-Ok-clause-holds_no_row g c = λ first second rest a_is b_is a_none b_none.
-    none_held_since (disk_words g.D.Disk.contents g.D.Disk.images g.D.Disk.moment g.D.Disk.images_since g.D.Disk.faults) c.args.a.now c.args.b.now c.in-Ok.ensures.a_blank c.in-Ok.ensures.b_blank
-    c.check_areas.new.a c.check_areas.new.b c.open_blank.new.a c.open_blank.new.b c.check_areas.ensures.a_only_read c.check_areas.ensures.b_only_read c.open_blank.ensures.holds_no_row rest
+pub returns-in-Ok-clause-refused_so : goal.returns-in-Ok-clause-refused_so
+returns-in-Ok-clause-refused_so g c = λ first second area at a_is b_is refused.
+    never_opened c.one_choice.ensures first second area at c.in-Ok.store refused (rw c.in-Ok.is at c.open.ensures.chosen first second a_is b_is)
 
-pub returns-in-Ok-clause-holds_no_row_where_open : goal.returns-in-Ok-clause-holds_no_row_where_open
-returns-in-Ok-clause-holds_no_row_where_open g c = λ rest.
-    on_ok c.open_blank.result _
-    (none_held_since (disk_words g.D.Disk.contents g.D.Disk.images g.D.Disk.moment g.D.Disk.images_since g.D.Disk.faults) c.args.a.now c.args.b.now c.in-Ok.ensures.a_blank c.in-Ok.ensures.b_blank
-    c.check_areas.new.a c.check_areas.new.b c.open_blank.new.a c.open_blank.new.b c.check_areas.ensures.a_only_read c.check_areas.ensures.b_only_read c.open_blank.ensures.holds_no_row rest)
+pub returns-in-Ok-clause-held : goal.returns-in-Ok-clause-held
+returns-in-Ok-clause-held g c = λ first second rows rest a_is b_is gives.
+    rows_held_as_opened (disk_words g.D.Disk.contents g.D.Disk.images g.D.Disk.moment g.D.Disk.images_since g.D.Disk.faults) c.args.a.now c.args.b.now rest first second rows a_is b_is gives
+    c.disk_images_are_counted.ensures.reads c.disk_images_are_counted.ensures.counts c.one_choice.ensures c.open.new.a c.open.new.b
+    c.open.ensures.b_only_read c.open.ensures.a_only_read c.open.ensures.each_moment
 
-pub returns-in-Ok-clause-a_only_read_where_written : goal.returns-in-Ok-clause-a_only_read_where_written
-returns-in-Ok-clause-a_only_read_where_written g c = λ first second a_is b_is written.
-    absurd (neither_written (g.D.Disk.contents c.args.a.now) (g.D.Disk.contents c.args.b.now) first second a_is b_is c.in-Ok.ensures.a_blank c.in-Ok.ensures.b_blank written)
+pub returns-in-Err-clause-held : goal.returns-in-Err-clause-held
+returns-in-Err-clause-held g c = λ first second rows rest a_is b_is gives.
+    rows_held_as_opened (disk_words g.D.Disk.contents g.D.Disk.images g.D.Disk.moment g.D.Disk.images_since g.D.Disk.faults) c.args.a.now c.args.b.now rest first second rows a_is b_is gives
+    c.disk_images_are_counted.ensures.reads c.disk_images_are_counted.ensures.counts c.one_choice.ensures c.open.new.a c.open.new.b
+    c.open.ensures.b_only_read c.open.ensures.a_only_read c.open.ensures.each_moment
 
-pub returns-in-Err-clause-holds_no_row : goal.returns-in-Err-clause-holds_no_row
-returns-in-Err-clause-holds_no_row g c = λ first second rest a_is b_is a_none b_none.
-    none_held_as_read (disk_words g.D.Disk.contents g.D.Disk.images g.D.Disk.moment g.D.Disk.images_since g.D.Disk.faults) c.args.a.now c.args.b.now
-    (blank_where_told (g.D.Disk.contents c.args.a.now) first a_is a_none) (blank_where_told (g.D.Disk.contents c.args.b.now) second b_is b_none)
-    c.check_areas.new.a c.check_areas.new.b c.check_areas.ensures.a_only_read c.check_areas.ensures.b_only_read rest
+pub returns-in-Ok-clause-a_only_read : goal.returns-in-Ok-clause-a_only_read
+returns-in-Ok-clause-a_only_read g c = λ first second area at a_is b_is refused.
+    c.open.ensures.a_only_read first second a_is b_is (not_fresh c.one_choice.ensures first second area at refused)
+
+pub returns-in-Err-clause-a_only_read : goal.returns-in-Err-clause-a_only_read
+returns-in-Err-clause-a_only_read g c = λ first second area at a_is b_is refused.
+    c.open.ensures.a_only_read first second a_is b_is (not_fresh c.one_choice.ensures first second area at refused)

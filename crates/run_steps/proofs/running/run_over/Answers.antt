@@ -29,7 +29,7 @@ work-requires-clause-ready g c κs within =
     let new = beginning names c.begin_all-begun.new.folder c.begin_all-begun.new.crew c.begin_all-begun.new.keeper in
     let first = first_ready g.L.Link.told queue desk c.args.context.settings.now c.args.around.now.wires.now.items c.crew_of.new.wires.items c.in_ok-crew.crew c.in_ok-crew.ensures.begun
     tails c.args.storing.now c.requires.settings c.requires.keeper in
-    let ready = ready_begun tails c.args.context.settings.now c.args.scanned.now.now queue desk c.args.storing.now.keeper c.args.storing.now.a c.args.storing.now.b c.args.scanned.now.listed.items c.begin_all-begun.result old new
+    let ready = ready_begun tails c.args.context.settings.now c.args.storing.now.keeper.now.store.rows c.args.scanned.now.now queue desk c.args.storing.now.keeper c.args.storing.now.a c.args.storing.now.b c.args.scanned.now.listed.items c.begin_all-begun.result old new
     c.begin_all-begun.ensures.begun c.begin_all-begun.ensures.ended
     (record { able = record { some_lanes = first.able.some_lanes; some_carriers = first.able.some_carriers; have = first.able.have; lanes = first.able.lanes; pass = first.able.pass }; is_open = first.is_open }) in
     record {
@@ -183,7 +183,7 @@ returns-clause-failing g c earlier within =
 pub returns-clause-passed_over : goal.returns-clause-passed_over
 returns-clause-passed_over g c =
     let names = folder_words g.F.Folder.told g.F.Folder.states g.F.Folder.present g.F.Folder.open_tails g.F.Folder.faults in
-    passed_over (tail_words g.F.Tail.Tail.numbers g.F.Tail.Tail.told g.F.Tail.Tail.faults) c.args.context.settings.now c.args.scanned.now.now c.args.scanned.now.listed.items
+    passed_over (tail_words g.F.Tail.Tail.numbers g.F.Tail.Tail.told g.F.Tail.Tail.faults) c.args.context.settings.now c.args.storing.now.keeper.now.store.rows c.args.scanned.now.now c.args.scanned.now.listed.items
     (beginning names c.args.around.now.folder.now c.in_ok-crew.crew c.args.storing.now.keeper.now)
     (beginning names c.begin_all-begun.new.folder c.begin_all-begun.new.crew c.begin_all-begun.new.keeper)
     c.begin_all-begun.result c.work.result.passed.items c.begin_all-begun.ensures.begun c.work.ensures.passed

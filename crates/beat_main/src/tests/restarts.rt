@@ -1,0 +1,162 @@
+//! Worked runs over what an earlier run left, by their names.
+
+use crate::tests::wanted::{Sent, Wanted, check_left};
+use crate::tests::world::{Object, PLAIN, Peer, Start, run, run_over};
+use std::test::Fail;
+
+/// A run over the areas of an earlier one, and what it has to leave.
+#[derive(Clone, Copy)]
+struct Restart<'a> {
+    name: &'a str,
+    first: Start<'a>,
+    second: Start<'a>,
+    wanted: Wanted<'a>,
+}
+
+/// What a run leaves that finds nothing more to send.
+const NOTHING_MORE: Wanted = Wanted {
+    status: 0,
+    rows: Some("file \"filestream::w::path::/w/a.log\" 0 4 \"/w/a.log\"\n"),
+    printed: "shipped 0 dropped 0\nstatus 0 done\n",
+    sent: Sent::Events(0),
+    moment: Some(0),
+};
+
+const SAME_FILE: Restart = Restart {
+    name: "same_file",
+    first: PLAIN,
+    second: PLAIN,
+    wanted: NOTHING_MORE,
+};
+
+const GROWN_FILE: Restart = Restart {
+    name: "grown_file",
+    second: Start {
+        files: &[("/w/a.log", b"a\nb\nc\n", &[])],
+        ..PLAIN
+    },
+    wanted: Wanted {
+        rows: Some("file \"filestream::w::path::/w/a.log\" 0 6 \"/w/a.log\"\n"),
+        printed: "shipped 1 dropped 0\nstatus 0 done\n",
+        sent: Sent::Lines(&[(4, "c")]),
+        ..NOTHING_MORE
+    },
+    ..SAME_FILE
+};
+
+const SHORTER_FILE: Restart = Restart {
+    name: "shorter_file",
+    second: Start {
+        files: &[("/w/a.log", b"c\n", &[])],
+        ..PLAIN
+    },
+    wanted: Wanted {
+        rows: Some("file \"filestream::w::path::/w/a.log\" 1 2 \"/w/a.log\"\n"),
+        printed: "shipped 1 dropped 0\nstatus 0 done\n",
+        sent: Sent::Lines(&[(0, "c")]),
+        ..NOTHING_MORE
+    },
+    ..SAME_FILE
+};
+
+const OTHER_FILE: Restart = Restart {
+    name: "other_file",
+    second: Start {
+        files: &[("/w/b.log", b"c\n", &[])],
+        ..PLAIN
+    },
+    wanted: Wanted {
+        rows: Some(
+            "file \"filestream::w::path::/w/a.log\" 0 4 \"/w/a.log\"\nfile \"filestream::w::path::/w/b.log\" 0 2 \"/w/b.log\"\n",
+        ),
+        printed: "shipped 1 dropped 0\nstatus 0 done\n",
+        sent: Sent::Events(1),
+        ..NOTHING_MORE
+    },
+    ..SAME_FILE
+};
+
+const UNREACHABLE_BEFORE: Restart = Restart {
+    name: "unreachable_before",
+    first: Start {
+        failing: &[(Object::Wire, 0), (Object::Wire, 1), (Object::Wire, 2)],
+        ..PLAIN
+    },
+    wanted: Wanted {
+        printed: "shipped 2 dropped 0\nstatus 0 done\n",
+        sent: Sent::Lines(&[(0, "a"), (2, "b")]),
+        ..NOTHING_MORE
+    },
+    ..SAME_FILE
+};
+
+/// The first run ends as its peer had acknowledged one line of two.
+const PARTLY_ACKNOWLEDGED_BEFORE: Restart = Restart {
+    name: "partly_acknowledged_before",
+    first: Start {
+        output: "bulk_max_size = 2\npipelining = 1\nattempts = 1",
+        peer: Peer::Closes(b"2A\0\0\0\x01"),
+        failing: &[(Object::Wire, 1)],
+        ..PLAIN
+    },
+    wanted: Wanted {
+        printed: "shipped 1 dropped 0\nstatus 0 done\n",
+        sent: Sent::Lines(&[(2, "b")]),
+        ..NOTHING_MORE
+    },
+    ..SAME_FILE
+};
+
+const RESTARTS: &[Restart] = &[
+    SAME_FILE,
+    GROWN_FILE,
+    SHORTER_FILE,
+    OTHER_FILE,
+    UNREACHABLE_BEFORE,
+    PARTLY_ACKNOWLEDGED_BEFORE,
+];
+
+#[test]
+fn rows_are_taken_up(rt: HostRuntime) -> Result<(), Fail> {
+    for restart in RESTARTS {
+        let objects = run(&rt, restart.first)?.objects;
+        let second = run_over(&rt, restart.second, objects.area, objects.other_area)?;
+        check_left(&rt, restart.name, second, "", restart.wanted)?;
+    }
+    Ok(())
+}
+
+/// How many calls of a disk a run over two plain lines makes at the most.
+const MOST_CALLS: u64 = 24;
+
+/// Wherever the disk stops, and whatever a crash leaves there, a run over it ends with the same row, and each line was sent by
+/// one of the two.
+#[test]
+fn each_crash_is_taken_up(rt: HostRuntime) -> Result<(), Fail> {
+    let alloc = rt.alloc();
+    for calls in 0..MOST_CALLS {
+        for pick in 0..4 {
+            let first = run(
+                &rt,
+                Start {
+                    stop_after: Some(calls),
+                    ..PLAIN
+                },
+            )?;
+            let area = first.objects.area.image(pick)?;
+            let other_area = first.objects.other_area.image(pick)?;
+            let mut second = run_over(&rt, PLAIN, area, other_area)?;
+            assert_eq!(rt;
+                second.status.code(),
+                0,
+                "behind {calls} calls, pick {pick}"
+            );
+            let sent = first.payloads(alloc)?.len() + second.payloads(alloc)?.len();
+            assert_eq!(rt; sent >= 2, true, "behind {calls} calls, pick {pick}");
+            let stored = second.stored(alloc)?;
+            let row = "file \"filestream::w::path::/w/a.log\" 0 4 \"/w/a.log\"\n";
+            assert_eq!(rt; stored.as_str(), row, "behind {calls} calls, pick {pick}");
+        }
+    }
+    Ok(())
+}

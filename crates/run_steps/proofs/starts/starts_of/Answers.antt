@@ -1,0 +1,26 @@
+use Rattle.std.proofs.Common.{◌≡◌, ◌+◌, ◌≤◌, ◌∙◌, length, Bool, true, false, IsNone, Option, None, Some, if◌then◌else◌, is_none, ℕ, List, ap, refl, sym, subst, arith}
+use Rattle.std.proofs.lemmas.Option.{slice_get_read}
+use Rattle.restart_join.specs.Joining.{full_for}
+use Rattle.restart_join.specs.Starts.{start_of}
+use Rattle.wire_base.specs.declared.row.Row.{Row}
+use Rattle.run_steps.specs.BeginFor.{row_of}
+use Rattle.run_steps.proofs.Starting.{counted_next, few_next, room_next, starts_next}
+use Rattle.run_steps.proofs.starts.starts_of.Goals as goal
+
+pub files-preserved : goal.files-preserved
+files-preserved c =
+    let rows = c.args.rows.now in
+    let listed = c.args.listed.now in
+    let one = c.index-listed-place.result in
+    let there = slice_get_read listed (length listed) c.files.place one refl (omega (arith, c.files-test.true)) c.index-listed-place.is in
+    record {
+      within = omega (arith, c.files-test.true);
+      starts = c.in_ok-push.ensures.items ∙ starts_next rows listed c.files.place one there c.files.starts.items c.in_ok-start.start c.files.invariant.starts
+          (c.in_ok-start.ensures.started ∙ ap (start_of one.size) c.row_of-row.ensures.found);
+      counted = c.files_with-files.ensures ∙ ap (λ (o : Option Row). c.files.files + (if is_none o then 1 else 0)) c.row_of-row.ensures.found
+          ∙ counted_next rows listed c.files.place one there c.files.files c.files.invariant.counted;
+      few = few_next c.row_of-row.result c.files.files c.files_with-files.result c.files_with-files.ensures c.files.invariant.few c.in_ok-start.ensures.few;
+      room = room_next rows listed c.files.place one there c.files.invariant.room
+          (subst (λ (n : ℕ). full_for n c.files.place one.size (row_of rows one.key) ≡ None) c.files.invariant.counted
+          (subst (λ (o : Option Row). full_for c.files.files c.files.place one.size o ≡ None) c.row_of-row.ensures.found c.in_ok-start.ensures.room));
+    }
