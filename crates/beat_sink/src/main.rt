@@ -1,0 +1,27 @@
+//! The receiver's program: makes the objects that its words name, and calls `receive`. It prints nothing.
+#![tactic(auto)]
+
+mod objects;
+mod port;
+mod sink;
+#[cfg(test)]
+mod tests;
+
+use lumber_server::{SinkStatus, receive};
+use objects::Objects;
+use std::process::ExitCode;
+
+fn main(rt: HostRuntime) -> ExitCode {
+    let status = match Objects::new(&rt) {
+        Ok(
+            Objects {
+                words,
+                mut port,
+                mut out,
+                mut bell,
+            },
+        ) => receive(&rt, rt.alloc(), &words, &mut port, &mut out, &mut bell),
+        Err(_) => SinkStatus::NoMemory,
+    };
+    ExitCode::from(status.code())
+}
