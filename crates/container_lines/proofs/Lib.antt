@@ -1,0 +1,10 @@
+mod Conversions
+mod Fields
+mod Streams
+mod Texts
+mod Joins
+mod Once
+mod Outputs
+mod Readings
+mod Sizes
+mod Worked

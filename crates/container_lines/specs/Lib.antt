@@ -1,0 +1,11 @@
+pub mod Asked
+pub mod Bad
+pub mod Conversion
+pub mod Cri
+pub mod Docker
+pub mod Ending
+pub mod Joined
+pub mod Joining
+pub mod Output
+pub mod Part
+pub mod Parts
