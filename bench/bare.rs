@@ -2,31 +2,32 @@
 //!
 //! `bare send FOLDER HOST` reads the lines of the files of a folder, one file after the other by their names, and sends
 //! the program's payloads but for the moment, in windows of at most 2,048 lines of one file, each acknowledged in full
-//! before the next. `bare windows PORT DEPTH EVENTS` sends so many events of 240 bytes to that port of
+//! before the next. `bare windows PORT DEPTH EVENTS BYTES` sends so many events of so many bytes to that port of
 //! 127.0.0.1, in windows of which so many may wait for their acknowledgement. `bare receive TIMES LATE` prints the port at
 //! which it listens, takes so many connections one after another, acknowledges each window LATE milliseconds after it is
-//! there, and prints for each connection how many events it had.
+//! there, and prints for each connection how many events it had. `bare lines PORT FILE` takes one connection at that port
+//! and writes each event to the file as a line, a window before its acknowledgement.
 
 use std::collections::VecDeque;
 use std::env;
 use std::error::Error;
 use std::fs::{self, File};
-use std::io::{BufRead, BufReader, Read, Write};
+use std::io::{BufRead, BufReader, BufWriter, Read, Write};
 use std::net::{TcpListener, TcpStream};
 use std::sync::mpsc::{self, Sender};
 use std::thread;
 use std::time::{Duration, Instant};
 
 const EVENTS: u32 = 2_048;
-const PAYLOAD: [u8; 240] = [b'x'; 240];
 
 fn main() -> Result<(), Box<dyn Error>> {
     let words: Vec<String> = env::args().skip(1).collect();
     match words.iter().map(String::as_str).collect::<Vec<_>>()[..] {
         ["send", folder, host] => send(folder, host),
-        ["windows", port, depth, events] => send_windows(port.parse()?, depth.parse()?, events.parse()?),
+        ["windows", port, depth, events, size] => send_windows(port.parse()?, depth.parse()?, events.parse()?, size.parse()?),
         ["receive", times, late] => receive(times.parse()?, Duration::from_millis(late.parse()?)),
-        _ => Err("usage: bare send FOLDER HOST | bare windows PORT DEPTH EVENTS | bare receive TIMES LATE".into()),
+        ["lines", port, file] => write_lines(port.parse()?, file),
+        _ => Err("usage: bare send FOLDER HOST | windows PORT DEPTH EVENTS BYTES | receive TIMES LATE | lines PORT FILE".into()),
     }
 }
 
@@ -93,14 +94,15 @@ fn put_escaped(frames: &mut Vec<u8>, text: &[u8]) {
     }
 }
 
-fn send_windows(port: u16, depth: usize, events: u32) -> Result<(), Box<dyn Error>> {
+fn send_windows(port: u16, depth: usize, events: u32, size: u32) -> Result<(), Box<dyn Error>> {
     let mut peer = TcpStream::connect(("127.0.0.1", port))?;
     peer.set_nodelay(true)?;
     let (mut frames, mut in_flight) = (Vec::new(), VecDeque::new());
+    let payload = vec![b'x'; size as usize];
     let mut left = events;
     while left > 0 {
         let count = left.min(EVENTS);
-        put_window(&mut frames, count);
+        put_window(&mut frames, count, &payload);
         if in_flight.len() == depth {
             hear(&mut peer, in_flight.pop_front())?;
         }
@@ -115,15 +117,15 @@ fn send_windows(port: u16, depth: usize, events: u32) -> Result<(), Box<dyn Erro
     Ok(())
 }
 
-fn put_window(frames: &mut Vec<u8>, count: u32) {
+fn put_window(frames: &mut Vec<u8>, count: u32, payload: &[u8]) {
     frames.clear();
     frames.extend_from_slice(b"2W");
     frames.extend_from_slice(&count.to_be_bytes());
     for sequence in 1..=count {
         frames.extend_from_slice(b"2J");
         frames.extend_from_slice(&sequence.to_be_bytes());
-        frames.extend_from_slice(&(PAYLOAD.len() as u32).to_be_bytes());
-        frames.extend_from_slice(&PAYLOAD);
+        frames.extend_from_slice(&(payload.len() as u32).to_be_bytes());
+        frames.extend_from_slice(payload);
     }
 }
 
@@ -135,11 +137,16 @@ fn send_window(peer: &mut TcpStream, frames: &[u8], count: u32) -> Result<(), Bo
     hear(peer, Some(count))
 }
 
-/// Waits for the acknowledgement of a window of so many events.
+/// Waits for the acknowledgement of a window of so many events, past those of a part of it.
 fn hear(peer: &mut TcpStream, count: Option<u32>) -> Result<(), Box<dyn Error>> {
-    let mut answer = [0; 6];
-    peer.read_exact(&mut answer)?;
-    if count.map(acknowledgement) == Some(answer) { Ok(()) } else { Err("a window was not acknowledged in full".into()) }
+    let count = count.ok_or("no window is in flight")?;
+    loop {
+        match take::<6>(peer)? {
+            [b'2', b'A', a, b, c, d] if u32::from_be_bytes([a, b, c, d]) == count => return Ok(()),
+            [b'2', b'A', a, b, c, d] if u32::from_be_bytes([a, b, c, d]) < count => {}
+            other => return Err(format!("a window of {count} events was answered by {other:?}").into()),
+        }
+    }
 }
 
 fn acknowledgement(count: u32) -> [u8; 6] {
@@ -195,6 +202,37 @@ fn receive_events(peer: TcpStream, late: Duration) -> Result<u64, Box<dyn Error>
         }
     }
     Ok(events)
+}
+
+fn write_lines(port: u16, file: &str) -> Result<(), Box<dyn Error>> {
+    let listener = TcpListener::bind(("127.0.0.1", port))?;
+    let mut lines = BufWriter::with_capacity(65_536, File::create(file)?);
+    let mut peer = listener.accept()?.0;
+    peer.set_nodelay(true)?;
+    let mut from = BufReader::with_capacity(65_536, peer.try_clone()?);
+    let (mut payload, mut window) = (Vec::new(), 0);
+    while !from.fill_buf()?.is_empty() {
+        match take(&mut from)? {
+            [b'2', b'W'] => window = u32::from_be_bytes(take(&mut from)?),
+            [b'2', b'J'] => {
+                let sequence = u32::from_be_bytes(take(&mut from)?);
+                let size = u32::from_be_bytes(take(&mut from)?);
+                payload.resize(size as usize, 0);
+                from.read_exact(&mut payload)?;
+                for byte in payload.iter_mut().filter(|byte| **byte == b'\n') {
+                    *byte = b' ';
+                }
+                payload.push(b'\n');
+                lines.write_all(&payload)?;
+                if sequence == window {
+                    lines.flush()?;
+                    peer.write_all(&acknowledgement(window))?;
+                }
+            }
+            other => return Err(format!("no frame begins with {other:?}").into()),
+        }
+    }
+    Ok(())
 }
 
 fn take<const SIZE: usize>(from: &mut impl Read) -> Result<[u8; SIZE], Box<dyn Error>> {

@@ -3,7 +3,8 @@
 
 The program `bench_parts` makes one call as often as it is told. What is counted of it is the processor time of the
 whole program, less that of a run that makes no call. The program `bench_worker` has one worker ship events,
-`bench_harvester` harvesters tell them, and `bench_rounds` rounds do both.
+`bench_harvester` harvesters tell them, and `bench_rounds` rounds do both. The program `bench_container` reads container
+logs; of `beat_sink` the program itself is timed.
 """
 
 import datetime
@@ -14,9 +15,11 @@ import subprocess
 import time
 from pathlib import Path
 
+from container import container_table
 from harvester import harvester_table
 from memory import memory_tables
 from rounds import rounds_tables
+from sink import sink_table
 from transport import peak_memory, transport_table
 from worker import worker_table
 
@@ -310,9 +313,9 @@ def main():
         fixed=fixed * 1e3,
     )
     leaves = [filter_table(), chain_table(fixed), harvester_table(), fingerprint_table(), scan_table()]
-    leaves += [queue_table(), rounds_tables(), memory_tables(), covers_table(fixed)]
+    leaves += [container_table(), queue_table(), rounds_tables(), memory_tables(), covers_table(fixed)]
     RESULTS.write_text(
-        head + transport_table() + worker_table() + cut_table(fixed) + payloads_table(fixed) + "".join(leaves)
+        head + transport_table() + worker_table() + sink_table() + cut_table(fixed) + payloads_table(fixed) + "".join(leaves)
     )
     print(f"written to {RESULTS.relative_to(ROOT)}")
 

@@ -59,7 +59,7 @@ def row(folder, bare, depth, late, windows):
     receiver = subprocess.Popen([bare, "receive", str(2 * RUNS), str(late)], stdout=subprocess.PIPE, text=True)
     try:
         words = [receiver.stdout.readline().strip(), str(depth), str(events)]
-        commands = ([PROGRAM, "ship", *words], [bare, "windows", *words])
+        commands = ([PROGRAM, "ship", *words], [bare, "windows", *words, str(EVENT)])
         runs = [[shipped(command, receiver, folder, events) for command in commands] for _ in range(RUNS)]
     finally:
         receiver.terminate()
