@@ -2,17 +2,20 @@
 
 PREFIX ?= /usr/local
 
+# what is built and installed: beat_main, beat_sink or beat_container
+PROGRAM ?= beat_main
+
 # ships the logs of examples/ by examples/beat.toml to a receiver on loopback, and shows what came in
 run:
 	python3 -B examples/demo.py
 
-# proves and builds the program alone, and runs it once over settings that name no file
+# proves and builds one program alone, and runs it once by its crate's args: make build PROGRAM=beat_sink
 build:
-	cd crates/beat_main && rt run
+	cd crates/$(PROGRAM) && rt run
 
 # puts the built program into PREFIX/bin
 install:
-	install -D -m 755 crates/beat_main/out/beat_main $(DESTDIR)$(PREFIX)/bin/beat_main
+	install -D -m 755 crates/$(PROGRAM)/out/$(PROGRAM) $(DESTDIR)$(PREFIX)/bin/$(PROGRAM)
 
 # the gate: all proofs, all tests, all must-fail edits, and the program tested from outside
 test:

@@ -7,6 +7,9 @@ from shipping import WINDOW, Shipping, events_of, now, numbered_lines, windows_o
 # so many bytes of a line are sent at most where the settings do not say it
 LONGEST = 10_485_760
 
+# an area whose header is wrong from its second byte on
+DAMAGED = b'{"x":1}'
+
 
 class OneFile(Shipping):
     def test_worked_area_is_spelled(self):
@@ -51,16 +54,21 @@ class OneFile(Shipping):
         self.assert_done(ran, [], 0)
         self.assertEqual(peer.connections, 0)
 
-    def test_second_run_is_refused(self):
-        """Until areas are read again."""
+    def test_second_run_goes_on(self):
+        since = now()
         with Peer() as peer:
             self.assert_report(self.ship(b"a\nb\n", peer), 4, 2)
-        before = self.area.read_bytes()
         with Peer() as peer:
-            ran = self.ship(b"a\nb\nc\n", peer)
-        self.assert_wrote(ran, "status 4 registry bad area A at 0")
+            self.assert_report(self.ship(b"a\nb\nc\n", peer), 6, 1)
+            self.assert_events(peer, [(4, "c")], since)
+
+    def test_damaged_registry_is_refused(self):
+        self.area.parent.mkdir()
+        self.area.write_bytes(DAMAGED)
+        with Peer() as peer:
+            self.assert_wrote(self.ship(b"a\n", peer), "status 4 registry bad area A at 1")
         self.assertEqual(peer.connections, 0)
-        self.assertEqual(self.area.read_bytes(), before)
+        self.assertEqual(self.area.read_bytes(), DAMAGED)
 
     def test_more_lines_than_a_window(self):
         since = now()

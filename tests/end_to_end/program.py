@@ -1,4 +1,4 @@
-"""The program `beat_main`: where the gate leaves it, and how it is run."""
+"""The programs: where the gate leaves them, and how they are run."""
 
 import os
 import resource
@@ -27,12 +27,13 @@ def sources():
         yield from (it for it in ROOT.glob(f"crates/*/{part}/**/*") if it.is_file())
 
 
-def proved_program():
+def proved_program(name="beat_main"):
     """The program that the gate proved and built; `Missing` where there is none, or some source is newer."""
-    program = CRATE / "out" / "beat_main"
+    crate = ROOT / "crates" / name
+    program = crate / "out" / name
     where = program.relative_to(ROOT)
-    if not CRATE.is_dir():
-        raise Missing(f"there is no program: {CRATE.relative_to(ROOT)} does not exist")
+    if not crate.is_dir():
+        raise Missing(f"there is no program: {crate.relative_to(ROOT)} does not exist")
     if not program.is_file():
         raise Missing(f"there is no proved program: {where} is absent (rt ci makes it)")
     for source in sources():

@@ -1,7 +1,7 @@
 #!/usr/bin/env python3
-"""Runs the program over real files, a real socket and a real registry area, and compares what it did.
+"""Runs the programs over real files, real sockets and a real registry area, and compares what they did.
 
-    python3 tests/end_to_end/run.py [--program PATH] [--seed N] [NAME..]
+    python3 tests/end_to_end/run.py [--program PATH] [--receiver PATH] [--container PATH] [--seed N] [NAME..]
 
 Names choose tests; without any, all are run.
 """
@@ -14,11 +14,14 @@ import unittest
 from pathlib import Path
 
 import program
+from containers import Containers
 from killed import Killed
 from many_files import ManyFiles
 from one_file import OneFile
 from peers import Peers
+from receiver import Receiver
 from refusals import Refusals
+from restarts import Restarts
 from shipping import Shipping
 from surroundings import Surroundings
 
@@ -68,32 +71,51 @@ def name_of(test):
 def all_tests():
     """Each test, by its name."""
     tests = {}
-    for kind in (OneFile, ManyFiles, Refusals, Peers, Surroundings, Killed):
+    kinds = (OneFile, ManyFiles, Refusals, Peers, Surroundings, Receiver, Containers, Killed, Restarts)
+    for kind in kinds:
         tests.update({it[len(PREFIX) :]: kind(it) for it in vars(kind) if it.startswith(PREFIX)})
     return tests
+
+
+def program_at(path, name):
+    """The program at this path, or without one that which the gate built."""
+    return path.resolve(strict=True) if path else program.proved_program(name)
+
+
+def give_programs(given, chosen):
+    """Gives the chosen tests the programs that they start."""
+    kinds = {type(it) for it in chosen}
+    if any(issubclass(it, Shipping) for it in kinds):
+        Shipping.tested = program_at(given.program, "beat_main")
+    if Receiver in kinds:
+        Receiver.sink = program_at(given.receiver, "beat_sink")
+    if Containers in kinds:
+        Containers.tested = program_at(given.container, "beat_container")
 
 
 def main():
     program.allow_open_files()
     tests = all_tests()
-    words = argparse.ArgumentParser(description="Tests the program from outside.")
-    words.add_argument("--program", type=Path, help="the program (default: the one that rt ci built)")
+    words = argparse.ArgumentParser(description="Tests the programs from outside.")
+    for option, name in (("--program", "beat_main"), ("--receiver", "beat_sink"), ("--container", "beat_container")):
+        words.add_argument(option, type=Path, help=f"the program {name} (default: the one that rt ci built)")
     words.add_argument("--seed", type=int, default=random.randrange(10**6), help="what random moments come from")
     words.add_argument("names", nargs="*", metavar="NAME", help="a test (default: all)")
     given = words.parse_args()
     unknown = [it for it in given.names if it not in tests]
     if unknown:
         words.error(f"no test is called {', '.join(unknown)}")
+    chosen = [tests[name] for name in given.names or tests]
     try:
-        Shipping.tested = given.program.resolve(strict=True) if given.program else program.proved_program()
+        give_programs(given, chosen)
     except (program.Missing, OSError) as fault:
         print(fault)
         print("end to end: 0 passed, 1 failed")
         return 1
-    Shipping.seed = given.seed
+    Shipping.seed = Containers.seed = given.seed
     result = Lines()
-    for name in given.names or tests:
-        tests[name].run(result)
+    for test in chosen:
+        test.run(result)
     print(f"end to end: {result.passed} passed, {result.failed} failed")
     return 1 if result.failed else 0
 

@@ -1,0 +1,119 @@
+"""Runs over what an earlier run left."""
+
+import contextlib
+import os
+import random
+import subprocess
+from pathlib import Path
+
+import program
+from area import changed, row
+from peer import CUT_OFF, Behaviour, Peer
+from shipping import Shipping, end_of, numbered_lines, places_of
+
+# so many files; of them so many grew, were cut and were renamed between two runs
+FILES = 1_000
+GREW, WERE_CUT, RENAMED = 100, 10, 10
+# seconds that a run over them may take
+PATIENCE = 120
+
+# so many runs are killed one after the other over one registry, at most so many seconds after their start
+KILLS = 20
+LONGEST = 0.5
+# so many lines are written before each of them
+LINES = 200
+
+
+class Restarts(Shipping):
+    def setUp(self):
+        super().setUp()
+        self.logs = self.folder / "logs"
+        self.logs.mkdir()
+
+    def ship_logs(self, peer):
+        self.write_settings(program.settings_text(self.logs / "*.log", peer.host))
+        return program.finish(self.start_prepared(), PATIENCE)
+
+    def assert_shipped(self, ran, peer, rows, events):
+        """The registry has these rows, and these paths, offsets and messages were sent."""
+        self.assertEqual(ran.returncode, 0, ran.stdout[-200:])
+        self.assertEqual(self.stored_rows(), sorted(rows, key=lambda it: it["key"].encode()))
+        self.assertEqual(peer.faults, [])
+        self.assertEqual(sorted(places_of(peer.payloads)), sorted(events))
+
+    def test_many_files_of_which_some_changed(self):
+        """One that grew is read on, one that was cut anew, and one of a new name from its start; the row of a name that is
+        gone stays. A further run sends nothing."""
+        paths = [self.logs / f"{number:04}.log" for number in range(FILES)]
+        for path in paths:
+            path.write_text("first\nsecond\n")
+        rows = {path: changed(row(str(path), 13)) for path in paths}
+        with Peer() as peer:
+            ran = self.ship_logs(peer)
+        events = [(str(path), offset, message) for path in paths for offset, message in ((0, "first"), (6, "second"))]
+        self.assert_shipped(ran, peer, rows.values(), events)
+
+        grew, were_cut = paths[:GREW], paths[GREW : GREW + WERE_CUT]
+        renamed = paths[GREW + WERE_CUT : GREW + WERE_CUT + RENAMED]
+        events = []
+        for path in grew:
+            with path.open("a") as file:
+                file.write("third\n")
+            rows[path] = changed(row(str(path), 19))
+            events.append((str(path), 13, "third"))
+        for path in were_cut:
+            path.write_text("anew\n")
+            rows[path] = changed({**row(str(path), 5), "epoch": 1})
+            events.append((str(path), 0, "anew"))
+        for path in renamed:
+            other = path.rename(path.with_suffix(".1.log"))
+            rows[other] = changed(row(str(other), 13))
+            events += [(str(other), 0, "first"), (str(other), 6, "second")]
+        with Peer() as peer:
+            ran = self.ship_logs(peer)
+        self.assert_shipped(ran, peer, rows.values(), events)
+
+        with Peer() as peer:
+            ran = self.ship_logs(peer)
+        self.assert_shipped(ran, peer, rows.values(), [])
+
+    def run_and_kill(self, peer, seconds):
+        """A run over the logs, killed after so many seconds where it has not ended by then."""
+        self.write_settings(program.settings_text(self.logs / "*.log", peer.host, "workers = 2", "bulk_max_size = 20"))
+        with self.start_prepared() as started:
+            with contextlib.suppress(subprocess.TimeoutExpired):
+                started.communicate(timeout=seconds)
+            # so that nothing is noted as acknowledged that the program could not have heard
+            peer.fall_silent()
+            started.kill()
+
+    def assert_covered_by(self, files, acknowledged):
+        """Each line before the offset of a row was acknowledged, in this run or an earlier one."""
+        for it in self.stored_rows():
+            before = [event for event in files[it["path"]] if event[0] < it["offset"]]
+            self.assertEqual(end_of(before), it["offset"], "the offset is within a line")
+            self.assertLessEqual({(it["path"], *event) for event in before}, acknowledged)
+
+    def test_killed_again_and_again(self):
+        """The files grow before each run. At last all lines were acknowledged."""
+        chance = random.Random(self.seed)
+        paths = [self.logs / f"{number}.log" for number in range(3)]
+        acknowledged = set()
+        for kill in range(1, KILLS + 1):
+            content, events = numbered_lines(kill * LINES)
+            for path in paths:
+                with path.open("ab") as file:
+                    file.write(content[file.tell() :])
+            files = {str(path): events for path in paths}
+            seconds = LONGEST * chance.random()
+            with self.subTest(seed=self.seed, seconds=seconds), Peer(Behaviour.LATE) as peer:
+                self.run_and_kill(peer, seconds)
+                self.assertLessEqual(set(peer.faults), {CUT_OFF})
+                acknowledged |= set(places_of(peer.acknowledged))
+                self.assert_covered_by(files, acknowledged)
+        with Peer() as peer:
+            ran = self.ship_logs(peer)
+        acknowledged |= set(places_of(peer.payloads))
+        self.assertEqual(ran.returncode, 0, ran.stdout[-200:])
+        self.assertEqual([it["offset"] for it in self.stored_rows()], [os.stat(path).st_size for path in paths])
+        self.assertEqual(acknowledged, {(str(path), *event) for path in paths for event in events})
