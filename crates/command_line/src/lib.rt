@@ -16,6 +16,3 @@ pub use locations::Places;
 pub use place::places;
 pub use read::read_words;
 pub use words::Words;
-
-#[cfg(test)]
-mod tests;

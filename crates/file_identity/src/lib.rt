@@ -21,6 +21,3 @@ pub use identity::Identity;
 pub use identity_error::IdentityError;
 pub use keys::{listed_key, opened_key};
 pub use laws::an_asking_of_one_life;
-
-#[cfg(test)]
-mod tests;

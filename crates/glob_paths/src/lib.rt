@@ -16,6 +16,3 @@ mod sign;
 
 pub use error::GlobError;
 pub use glob::Glob;
-
-#[cfg(test)]
-mod tests;

@@ -19,6 +19,3 @@ pub use files::{MAX_FILES, list_files};
 pub use lack::first_lack;
 pub use listed::Listed;
 pub use scan_error::ScanError;
-
-#[cfg(test)]
-mod tests;

@@ -27,6 +27,3 @@ pub use limits::{MAX_FILES, MAX_SLOTS};
 pub use prospect_error::ProspectError;
 pub use prospector::Prospector;
 pub use seen::Seen;
-
-#[cfg(test)]
-mod tests;

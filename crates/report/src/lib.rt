@@ -19,6 +19,3 @@ pub use passing::{Passing, Why};
 pub use status::{Lack, Status};
 pub use text::report_text;
 pub use write::write_all;
-
-#[cfg(test)]
-mod tests;

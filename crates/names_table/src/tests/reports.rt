@@ -1,31 +1,25 @@
-ghost use Rattle.std.specs.Prelude.{◌≡◌, IfOk};
 ghost use Rattle.wire_base.specs.Ranges.{IsKey, IsPath, IsPlace};
 
-use crate::page::Page;
-use crate::*;
+use crate::tests::parts::text;
 use beat_config::SettingsError;
 use glob_paths::GlobError;
+use outside_mem::MemSink;
+use report::*;
 use ship_core::Rows;
 use std::alloc::Global;
 use std::process::Abort;
 use std::test::Fail;
-use wire_base::{Epoch, Full, Moment, Op, Row, Text, TextError, Which};
+use wire_base::{Epoch, Full, Moment, Op, Row, TextError, Which};
 
 const PATH: &str = "/w/\"\u{1}\u{e9}\\.log";
 
 const KEY: &str = "a.\"b\"";
 
-fn text(alloc: Global, text: &str) -> Result<Text, TextError>
-    ensures { IfOk result (λ made. made ≡ text.now) }
-{
-    Text::from_bytes(alloc, text.as_bytes())
-}
-
 /// The status ends so, by its number and its last line.
 fn ends(rt: &impl Abort, alloc: Global, status: Status, code: u8, line: &str) -> Result<(), Fail> {
-    let mut page = Page::new(alloc);
+    let mut page = MemSink::new(alloc)?;
     assert_eq!(rt; status_line(&status, &mut page), Ok(()));
-    assert_eq!(rt; page.into_blob().bytes(), line.as_bytes());
+    assert_eq!(rt; page.bytes(), line.as_bytes());
     assert_eq!(rt; status.code(), code);
     Ok(())
 }

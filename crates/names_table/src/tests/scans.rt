@@ -4,10 +4,11 @@ ghost use Rattle.prospect.specs.Members.{HaveGlobs};
 mod asks;
 mod listed_folder;
 
-use crate::*;
+use crate::tests::parts::texts;
 use asks::{Ask, globs, input, settings};
 use event_tree::InputRule;
 use listed_folder::ListedFolder;
+use prospect::*;
 use std::alloc::Global;
 use std::test::Fail;
 use wire_base::Text;
@@ -28,12 +29,8 @@ fn inputs(
 }
 
 fn folder(alloc: Global, paths: &[&str], failing: usize) -> Result<ListedFolder, Fail> {
-    let mut texts = Vec::new(alloc);
-    for path in paths {
-        texts.push(Text::from_bytes(alloc, path.as_bytes())?)?;
-    }
     Ok(ListedFolder {
-        paths: texts,
+        paths: texts(alloc, paths)?,
         listings: String::new(alloc),
         failing,
         listed: 0,

@@ -1,21 +1,9 @@
-use crate::*;
+use crate::tests::parts::{text, texts};
+use command_line::*;
 use std::test::Fail;
-use wire_base::Text;
-
-fn text(rt: &HostRuntime, bytes: &str) -> Result<Text, Fail> {
-    Ok(Text::from_bytes(rt.alloc(), bytes.as_bytes())?)
-}
-
-fn texts(rt: &HostRuntime, words: &[&str]) -> Result<Vec<Text>, Fail> {
-    let mut texts = Vec::new(rt.alloc());
-    for word in words {
-        texts.push(text(rt, word)?)?;
-    }
-    Ok(texts)
-}
 
 fn read(rt: &HostRuntime, words: &[&str]) -> Result<Option<Words>, Fail> {
-    Ok(read_words(rt.alloc(), texts(rt, words)?.as_slice())?)
+    Ok(read_words(rt.alloc(), texts(rt.alloc(), words)?.as_slice())?)
 }
 
 const REFUSED: [&[&str]; 53] = [
@@ -146,8 +134,8 @@ const TAKEN: [Taken; 24] = [
 fn taken_words_ask_for_what_they_say(rt: HostRuntime) -> Result<(), Fail> {
     for (words, settings, data, once, generate) in TAKEN {
         let asked = Words {
-            settings: text(&rt, settings)?,
-            data: text(&rt, data)?,
+            settings: text(rt.alloc(), settings)?,
+            data: text(rt.alloc(), data)?,
             once,
             generate,
         };
@@ -158,12 +146,15 @@ fn taken_words_ask_for_what_they_say(rt: HostRuntime) -> Result<(), Fail> {
 
 #[test]
 fn places_stand_in_the_named_folder(rt: HostRuntime) -> Result<(), Fail> {
-    let words = texts(&rt, &["-c", "/etc/f", "--data", "/v/d", "--generate", "9"])?;
+    let words = texts(
+        rt.alloc(),
+        &["-c", "/etc/f", "--data", "/v/d", "--generate", "9"],
+    )?;
     let named = Places {
-        settings: text(&rt, "/etc/f")?,
-        area_a: text(&rt, "/v/d/registry.a")?,
-        area_b: text(&rt, "/v/d/registry.b")?,
-        stop: text(&rt, "/v/d/stop")?,
+        settings: text(rt.alloc(), "/etc/f")?,
+        area_a: text(rt.alloc(), "/v/d/registry.a")?,
+        area_b: text(rt.alloc(), "/v/d/registry.b")?,
+        stop: text(rt.alloc(), "/v/d/stop")?,
         generate: Some(9),
     };
     assert_eq!(rt; places(rt.alloc(), words.as_slice())?, named);
@@ -172,12 +163,12 @@ fn places_stand_in_the_named_folder(rt: HostRuntime) -> Result<(), Fail> {
 
 #[test]
 fn refused_words_have_the_default_places(rt: HostRuntime) -> Result<(), Fail> {
-    let words = texts(&rt, &["-c", "f", "--data", "d", "--generate", "0"])?;
+    let words = texts(rt.alloc(), &["-c", "f", "--data", "d", "--generate", "0"])?;
     let default = Places {
-        settings: text(&rt, "beat.toml")?,
-        area_a: text(&rt, "data/registry.a")?,
-        area_b: text(&rt, "data/registry.b")?,
-        stop: text(&rt, "data/stop")?,
+        settings: text(rt.alloc(), "beat.toml")?,
+        area_a: text(rt.alloc(), "data/registry.a")?,
+        area_b: text(rt.alloc(), "data/registry.b")?,
+        stop: text(rt.alloc(), "data/stop")?,
         generate: None,
     };
     assert_eq!(rt; places(rt.alloc(), words.as_slice())?, default);

@@ -1,4 +1,4 @@
-use crate::*;
+use glob_paths::*;
 use std::test::Fail;
 use wire_base::Text;
 

@@ -1,4 +1,4 @@
-use crate::{Change, ProspectError, Prospector, Seen};
+use prospector_core::{Change, ProspectError, Prospector, Seen};
 use std::alloc::Global;
 use std::fmt::Write;
 use std::test::Fail;

@@ -1,10 +1,11 @@
-use crate::{Identity, IdentityError, listed_key, opened_key};
+use crate::tests::parts::text;
 use event_tree::IdentityRule;
+use file_identity::{Identity, IdentityError, listed_key, opened_key};
 use outside::{Entry, Failed, Tail};
 use std::alloc::Global;
 use std::process::Abort;
 use std::test::Fail;
-use wire_base::{Moment, Text};
+use wire_base::Moment;
 
 /// An open file of these bytes that tells nothing and gives at most so many bytes a read.
 #[derive(Drop)]
@@ -64,10 +65,6 @@ impl Tail for BytesTail {
         into[..count].copy_from_slice(&rest[..count]);
         Ok(count)
     }
-}
-
-fn text(alloc: Global, text: &str) -> Result<Text, Fail> {
-    Ok(Text::from_bytes(alloc, text.as_bytes())?)
 }
 
 /// So many times the byte.

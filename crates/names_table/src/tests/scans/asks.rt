@@ -1,11 +1,11 @@
 ghost use Rattle.std.specs.Prelude.{◌≡◌, IfOk};
 ghost use Rattle.prospect.specs.Members.{AreGlobs};
 
+use crate::tests::parts::text;
 use event_tree::*;
 use glob_paths::Glob;
 use std::alloc::Global;
 use std::test::Fail;
-use wire_base::Text;
 
 /// What a setting asks for that is not built.
 #[derive(Clone, Copy, PartialEq, Eq)]
@@ -25,10 +25,6 @@ pub enum Ask {
 
 fn is_asked(asks: &[(usize, Ask)], number: usize, ask: Ask) -> bool {
     asks.iter().any(|one| one.0 == number && one.1 == ask)
-}
-
-fn text(alloc: Global, chars: &str) -> Result<Text, Fail> {
-    Ok(Text::from_bytes(alloc, chars.as_bytes())?)
 }
 
 fn none_or_one(alloc: Global, one: bool) -> Result<Texts, Fail> {

@@ -2,7 +2,7 @@ use Rattle.std.proofs.Common.{sym, subst}
 use Rattle.std.proofs.lemmas.List.Elements.{All-push}
 use Rattle.event_tree.specs.declared.input_rule.InputRule.{InputRule}
 use Rattle.prospect.specs.Members.{AreGlobs, HaveGlobs}
-use Rattle.prospect.proofs.tests.inputs.Goals as goal
+use Rattle.names_table.proofs.tests.scans.inputs.Goals as goal
 
 pub loop-id-preserved : goal.loop-id-preserved
 loop-id-preserved c =

@@ -1,0 +1,7 @@
+mod changes;
+mod globs;
+mod identities;
+mod parts;
+mod reports;
+mod scans;
+mod usage;
