@@ -15,6 +15,3 @@ mod replaced_text;
 pub use event::envelope;
 pub use json_text::{event_payload, event_payload_at, payload};
 pub use moment::Stamp;
-
-#[cfg(test)]
-mod tests;

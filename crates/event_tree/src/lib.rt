@@ -38,6 +38,3 @@ pub use processor_rule::{Pair, Pairs, ProcessorRule};
 pub use settings::{InputRules, ProcessorRules, Settings};
 pub use tree::Tree;
 pub use trees::Trees;
-
-#[cfg(test)]
-mod tests;

@@ -22,6 +22,3 @@ mod line;
 pub use cutter::Cutter;
 pub use laws::{first_terminator_ends_a_line, later_lines, lines_adjoin, lines_stay};
 pub use line::Line;
-
-#[cfg(test)]
-mod tests;

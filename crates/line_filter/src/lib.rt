@@ -16,6 +16,3 @@ mod verdict;
 pub use filter::Filter;
 pub use laws::verdict_by_rules;
 pub use verdict::Verdict;
-
-#[cfg(test)]
-mod tests;

@@ -28,6 +28,3 @@ pub use laws::{
     each_line_is_an_event, events_stay, natural_events_stay, no_event_is_empty, one_event,
     one_natural_event, spans_adjoin,
 };
-
-#[cfg(test)]
-mod tests;

@@ -14,6 +14,3 @@ mod text_pattern;
 pub use grammar::{is_line_pattern, is_text_pattern};
 pub use line_pattern::LinePattern;
 pub use text_pattern::TextPattern;
-
-#[cfg(test)]
-mod tests;

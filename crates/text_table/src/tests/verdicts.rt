@@ -1,8 +1,8 @@
 ghost use Rattle.std.specs.Prelude.{All, IfOk};
 ghost use Rattle.patterns.specs.Pattern.{IsLinePattern};
 
-use crate::*;
-use patterns::is_line_pattern;
+use crate::tests::parts::pattern;
+use line_filter::*;
 use std::alloc::Global;
 use std::test::Fail;
 use wire_base::{NoMemory, RuleNo, Text};
@@ -19,10 +19,7 @@ fn patterns(alloc: Global, texts: &[&str]) -> Result<Vec<Text>, NoMemory>
 {
     let mut patterns = Vec::new(alloc);
     for text in texts {
-        if !is_line_pattern(alloc, text)? {
-            return Err(NoMemory);
-        }
-        patterns.push(Text::from_string(String::from_str(alloc, text)?))?;
+        patterns.push(pattern(alloc, text)?)?;
     }
     Ok(patterns)
 }

@@ -1,32 +1,18 @@
 ghost use Rattle.std.specs.Prelude.{IfOk};
-ghost use Rattle.patterns.specs.Pattern.{IsLinePattern};
 ghost use Rattle.multiline_core.specs.Rule.{IsGroupRule, IsLineCount};
 
-use crate::*;
+use crate::tests::parts::{DEFAULT_LIMIT, pattern};
 use event_tree::{GroupRule, LineRule, Side, Terminator};
 use line_cutter::{Cutter, Line};
-use patterns::is_line_pattern;
+use multiline_core::*;
 use std::alloc::Global;
 use std::test::Fail;
-use wire_base::{Blob, Moment, NoMemory, Span, Text};
+use wire_base::{Blob, Moment, NoMemory, Span};
 
 /// No text in these tests has more lines.
 const MOST_LINES: usize = 20;
 
-const DEFAULT_LIMIT: u64 = 10_485_760;
-
 const TIMEOUT: u64 = 5_000;
-
-/// The text, where it is a pattern.
-fn pattern(alloc: Global, text: &str) -> Result<Text, NoMemory>
-    ensures { IfOk result IsLinePattern }
-{
-    if is_line_pattern(alloc, text)? {
-        Ok(Text::from_string(String::from_str(alloc, text)?))
-    } else {
-        Err(NoMemory)
-    }
-}
 
 #[derive(Clone, Copy)]
 struct Case {

@@ -1,6 +1,6 @@
 use Rattle.std.proofs.Common.{All}
 use Rattle.patterns.specs.Pattern.{IsLinePattern}
-use Rattle.line_filter.proofs.tests.patterns.Given as goal
+use Rattle.text_table.proofs.tests.verdicts.patterns.Given as goal
 
 -- the texts so far are patterns
 abbrev pub invariant-loop-text : goal.invariant-loop-text

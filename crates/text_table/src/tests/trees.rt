@@ -1,11 +1,8 @@
-use crate::*;
+use crate::tests::parts::{set, text};
+use event_tree::*;
 use std::alloc::Global;
 use std::test::Fail;
-use wire_base::{NoMemory, Text};
-
-fn text(alloc: Global, chars: &str) -> Result<Text, Fail> {
-    Ok(Text::from_bytes(alloc, chars.as_bytes())?)
-}
+use wire_base::NoMemory;
 
 fn path(alloc: Global, dotted: &str) -> Result<FieldPath, Fail> {
     Ok(FieldPath::read(alloc, &text(alloc, dotted)?)?)
@@ -22,11 +19,6 @@ fn word(tree: Option<&Tree>) -> &str {
         Some(Tree::List(_)) => "list",
         Some(Tree::Map(_)) => "map",
     }
-}
-
-fn set(alloc: Global, fields: &mut Fields, key: &str, value: Tree) -> Result<(), Fail> {
-    fields.set(text(alloc, key)?, value).map_err(|_| NoMemory)?;
-    Ok(())
 }
 
 /// A map with a value of each kind, set in no order.

@@ -1,16 +1,15 @@
 ghost use Rattle.std.specs.Prelude.{◌≡◌, ◌+◌, ◌<◌, length};
 ghost use Rattle.line_cutter.specs.Cutting.{fed_to};
 
-use crate::*;
+use crate::tests::parts::DEFAULT_LIMIT;
 use event_tree::{LineRule, Terminator};
+use line_cutter::*;
 use std::alloc::Global;
 use std::test::Fail;
 use wire_base::NoMemory;
 
 /// No text in these tests has more lines.
 const MOST_LINES: usize = 8;
-
-const DEFAULT_LIMIT: u64 = 10_485_760;
 
 /// Writes each line of all that was fed as its span, its full length and its head.
 fn write_lines(alloc: Global, cutter: &mut Cutter, written: &mut Vec<u8>) -> Result<(), NoMemory>

@@ -1,12 +1,9 @@
-use crate::{envelope, event_payload, payload};
+use crate::tests::parts::{set, text};
+use event_json::{envelope, event_payload, payload};
 use event_tree::{FieldPath, Fields, Tree, Trees};
 use std::alloc::Global;
 use std::test::Fail;
-use wire_base::{Blob, MAX_MOMENT, Moment, NoMemory, Text};
-
-fn text(alloc: Global, chars: &str) -> Result<Text, Fail> {
-    Ok(Text::from_bytes(alloc, chars.as_bytes())?)
-}
+use wire_base::{Blob, MAX_MOMENT, Moment, NoMemory};
 
 /// The bytes of a text in the tree, or none.
 fn bytes_at<'a>(alloc: Global, tree: &'a Tree, path: &str) -> Result<&'a [u8], Fail> {
@@ -93,11 +90,6 @@ fn moments_are_dates(rt: HostRuntime) -> Result<(), Fail> {
         let tree = envelope(alloc, &path, 0, b"", Moment(moment))?;
         assert!(rt; bytes_at(alloc, &tree, "@timestamp")? == date.as_bytes());
     }
-    Ok(())
-}
-
-fn set(alloc: Global, fields: &mut Fields, key: &str, value: Tree) -> Result<(), Fail> {
-    fields.set(text(alloc, key)?, value).map_err(|_| NoMemory)?;
     Ok(())
 }
 

@@ -1,4 +1,4 @@
-use crate::*;
+use patterns::*;
 use std::test::Fail;
 use wire_base::Text;
 

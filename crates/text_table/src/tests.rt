@@ -1,0 +1,7 @@
+mod groups;
+mod lines;
+mod matching;
+mod parts;
+mod payloads;
+mod trees;
+mod verdicts;
