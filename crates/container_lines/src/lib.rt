@@ -38,6 +38,3 @@ pub use run::container_run;
 pub use spans::Spans;
 pub use status::ContainerStatus;
 pub use told::{Joined, Told};
-
-#[cfg(test)]
-mod tests;

@@ -1,4 +1,4 @@
-use crate::*;
+use container_lines::*;
 use event_tree::{LineRule, Terminator};
 use line_cutter::{Cutter, Line};
 use std::alloc::Global;
