@@ -21,6 +21,3 @@ mod slots;
 mod tracker;
 
 pub use tracker::Tracker;
-
-#[cfg(test)]
-mod tests;

@@ -14,6 +14,3 @@ mod start;
 pub use join::join_rows;
 pub use join_error::JoinError;
 pub use start::{Start, start_of};
-
-#[cfg(test)]
-mod tests;

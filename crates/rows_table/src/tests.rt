@@ -1,8 +1,11 @@
 ghost use Rattle.std.specs.Prelude.{◌≡◌, true, IfOk, OnOk};
 ghost use Rattle.wire_base.specs.Ranges.{IsKey, IsNote, IsPlace};
 
+mod joining;
 mod machine;
 mod orderly;
+mod row_list;
+mod tracker;
 
 use crate::tests::machine::Told;
 use ship_core::Rows;
@@ -11,7 +14,7 @@ use std::process::Abort;
 use std::test::Fail;
 use wire_base::{Cause, Epoch, MAX_PLACE, Moment, Note, RuleNo, Slot, Span, Text};
 
-fn begin(alloc: Global, slot: u32, key: &[u8], base: u64) -> Result<Note, Fail>
+pub(crate) fn begin(alloc: Global, slot: u32, key: &[u8], base: u64) -> Result<Note, Fail>
     requires key { IsKey key.now }
     requires base { IsPlace base }
     ensures { IfOk result IsNote }
@@ -39,13 +42,13 @@ fn settle(rt: &impl Abort, slot: u32, epoch: u32, places: (u64, u64), cause: Cau
     }
 }
 
-fn acked(rt: &impl Abort, epoch: u32, start: u64, end: u64) -> Note
+pub(crate) fn acked(rt: &impl Abort, epoch: u32, start: u64, end: u64) -> Note
     ensures { IsNote result }
 {
     settle(rt, 0, epoch, (start, end), Cause::Acked)
 }
 
-fn announce(epoch: u32) -> Note
+pub(crate) fn announce(epoch: u32) -> Note
     ensures { IsNote result }
 {
     Note::Announce {

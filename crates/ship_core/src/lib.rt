@@ -29,6 +29,3 @@ pub use laws::{
 pub use rows::Rows;
 pub use step::CoreStep;
 pub use world::World;
-
-#[cfg(test)]
-mod tests;

@@ -1,7 +1,7 @@
 ghost use Rattle.std.specs.Prelude.{◌≤◌, length};
 ghost use Rattle.wire_base.specs.Ranges.{IsKey, IsPlace};
 
-use crate::Rows;
+use ship_core::Rows;
 use std::alloc::Global;
 use std::test::Fail;
 use wire_base::{Epoch, Moment, Op, Row, Text};

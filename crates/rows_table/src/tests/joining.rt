@@ -2,8 +2,8 @@ ghost use Rattle.std.specs.Prelude.{◌≡◌, ◌≤◌, All, IfOk, length};
 ghost use Rattle.prospector_core.specs.KnownFiles.{IsSeen};
 ghost use Rattle.wire_base.specs.Ranges.{IsKey, IsPath, IsPlace};
 
-use crate::{JoinError, join_rows};
 use prospector_core::Seen;
+use restart_join::{JoinError, join_rows};
 use ship_core::Rows;
 use std::alloc::Global;
 use std::fmt::Write;

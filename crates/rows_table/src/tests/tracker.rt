@@ -3,12 +3,13 @@ ghost use Rattle.wire_base.specs.Ranges.{IsKey, IsMoment, IsNote, IsPlace, IsRow
 
 mod listed;
 
-use crate::Tracker;
-use crate::tests::listed::Listed;
+use crate::tests::tracker::listed::Listed;
+use crate::tests::{acked, announce, begin};
+use ack_tracker::Tracker;
 use ship_core::Rows;
 use std::alloc::Global;
 use std::test::Fail;
-use wire_base::{Cause, Epoch, Moment, NoMemory, Note, Op, Row, RuleNo, Slot, Span, Text};
+use wire_base::{Cause, Epoch, Moment, NoMemory, Note, Op, Row, Slot, Span, Text};
 
 const SLOT: Slot = Slot(0);
 
@@ -21,45 +22,8 @@ fn tell(alloc: Global, tracker: &mut Tracker, note: Note) -> Result<(), Fail>
 
 fn begun(alloc: Global) -> Result<Tracker, Fail> {
     let mut tracker = Tracker::new(alloc, &Rows::new(alloc))?;
-    let begin = Note::Begin {
-        slot: SLOT,
-        key: Text::from_bytes(alloc, b"k")?,
-        path: Text::from_bytes(alloc, b"/w/a.log")?,
-        epoch: Epoch(0),
-        base: 0,
-        changed: Moment(4),
-    };
-    tell(alloc, &mut tracker, begin)?;
+    tell(alloc, &mut tracker, begin(alloc, 0, b"k", 0)?)?;
     Ok(tracker)
-}
-
-fn settle(
-    alloc: Global,
-    tracker: &mut Tracker,
-    epoch: u32,
-    places: (u64, u64),
-    cause: Cause,
-) -> Result<(), Fail>
-    requires { IsPlace places.1 }
-{
-    if let Some(span) = Span::new(places.0, places.1) {
-        let settled = Note::Settle {
-            slot: SLOT,
-            epoch: Epoch(epoch),
-            span,
-            cause,
-        };
-        tell(alloc, tracker, settled)?;
-    }
-    Ok(())
-}
-
-fn announce(alloc: Global, tracker: &mut Tracker, epoch: u32) -> Result<(), Fail> {
-    let announced = Note::Announce {
-        slot: SLOT,
-        epoch: Epoch(epoch),
-    };
-    tell(alloc, tracker, announced)
 }
 
 fn forget(alloc: Global, tracker: &mut Tracker, epoch: u32, end: u64) -> Result<(), Fail>
@@ -84,52 +48,6 @@ fn seen(alloc: Global, tracker: &mut Tracker, changed: u64) -> Result<(), Fail>
 }
 
 #[test]
-fn covered_end_over_gaps(rt: HostRuntime) -> Result<(), Fail> {
-    let alloc = rt.alloc();
-    let mut tracker = begun(alloc)?;
-    settle(alloc, &mut tracker, 0, (5, 9), Cause::Acked)?;
-    assert_eq!(rt; tracker.offset(SLOT), Some((Epoch(0), 0)));
-    settle(alloc, &mut tracker, 0, (0, 5), Cause::Acked)?;
-    assert_eq!(rt; tracker.offset(SLOT), Some((Epoch(0), 9)));
-    settle(alloc, &mut tracker, 0, (0, 5), Cause::Acked)?;
-    assert_eq!(rt; tracker.offset(SLOT), Some((Epoch(0), 9)));
-    Ok(())
-}
-
-fn settle_in_older_epoch(alloc: Global, tracker: &mut Tracker) -> Result<(), Fail> {
-    settle(alloc, tracker, 0, (0, 2), Cause::Acked)?;
-    settle(alloc, tracker, 0, (2, 4), Cause::Acked)
-}
-
-#[test]
-fn older_epoch_changes_nothing(rt: HostRuntime) -> Result<(), Fail> {
-    let alloc = rt.alloc();
-    let mut announced = begun(alloc)?;
-    announce(alloc, &mut announced, 1)?;
-    settle(alloc, &mut announced, 1, (0, 2), Cause::Acked)?;
-    settle_in_older_epoch(alloc, &mut announced)?;
-    assert_eq!(rt; announced.offset(SLOT), Some((Epoch(1), 2)));
-    let mut settled = begun(alloc)?;
-    settle(alloc, &mut settled, 1, (0, 2), Cause::Acked)?;
-    announce(alloc, &mut settled, 1)?;
-    settle_in_older_epoch(alloc, &mut settled)?;
-    assert_eq!(rt; settled.offset(SLOT), Some((Epoch(1), 2)));
-    Ok(())
-}
-
-#[test]
-fn dropped_span_within_prefix(rt: HostRuntime) -> Result<(), Fail> {
-    let alloc = rt.alloc();
-    let mut tracker = begun(alloc)?;
-    settle(alloc, &mut tracker, 0, (2, 4), Cause::Dropped(RuleNo(10)))?;
-    settle(alloc, &mut tracker, 0, (4, 6), Cause::Acked)?;
-    assert_eq!(rt; tracker.offset(SLOT), Some((Epoch(0), 0)));
-    settle(alloc, &mut tracker, 0, (0, 2), Cause::Acked)?;
-    assert_eq!(rt; tracker.offset(SLOT), Some((Epoch(0), 6)));
-    Ok(())
-}
-
-#[test]
 fn forgotten_row_goes_once_its_end_is_reached(rt: HostRuntime) -> Result<(), Fail> {
     let alloc = rt.alloc();
     let mut tracker = begun(alloc)?;
@@ -140,12 +58,12 @@ fn forgotten_row_goes_once_its_end_is_reached(rt: HostRuntime) -> Result<(), Fai
     };
     tell(alloc, &mut tracker, renamed)?;
     forget(alloc, &mut tracker, 0, 4)?;
-    settle(alloc, &mut tracker, 0, (0, 2), Cause::Acked)?;
+    tell(alloc, &mut tracker, acked(&rt, 0, 0, 2))?;
     assert_eq!(rt; tracker.offset(SLOT), Some((Epoch(0), 2)));
     assert_eq!(rt; tracker.offset(Slot(1)), None);
-    settle(alloc, &mut tracker, 0, (2, 4), Cause::Acked)?;
+    tell(alloc, &mut tracker, acked(&rt, 0, 2, 4))?;
     assert_eq!(rt; tracker.offset(SLOT), None);
-    announce(alloc, &mut tracker, 1)?;
+    tell(alloc, &mut tracker, announce(1))?;
     assert_eq!(rt; tracker.offset(SLOT), None);
     Ok(())
 }
@@ -216,8 +134,8 @@ fn changes_since_the_last_commit(rt: HostRuntime) -> Result<(), Fail> {
     assert_eq!(rt; tracker.changes(alloc)?.len(), 0);
 
     // A span that moves the offset, one that does not, and a row that goes.
-    settle(alloc, &mut tracker, 1, (0, 4), Cause::Acked)?;
-    settle(alloc, &mut tracker, 0, (4, 6), Cause::Acked)?;
+    tell(alloc, &mut tracker, acked(&rt, 1, 0, 4))?;
+    tell(alloc, &mut tracker, acked(&rt, 0, 4, 6))?;
     let mut changes = tracker.changes(alloc)?;
     assert_eq!(rt; changes.pop(), Some(Op::Set(row(alloc, b"b", 1, 4)?)));
     assert_eq!(rt; changes.pop(), None);
@@ -238,7 +156,7 @@ fn spans_of_a_permutation(rt: HostRuntime) -> Result<(), Fail> {
     let mut tracker = begun(alloc)?;
     for i in 0..100_000u64 {
         let start = i * 7_919 % 100_000 * 10;
-        settle(alloc, &mut tracker, 0, (start, start + 10), Cause::Acked)?;
+        tell(alloc, &mut tracker, acked(&rt, 0, start, start + 10))?;
         assert!(rt; tracker.offset(SLOT).is_some_and(|(_, end)| end % 10 == 0));
     }
     assert_eq!(rt; tracker.offset(SLOT), Some((Epoch(0), 1_000_000)));
@@ -288,7 +206,7 @@ fn scripted(alloc: Global, slot: Slot, step: u64, kind: u64, by: u64) -> Result<
     Ok(note)
 }
 
-fn begin(alloc: Global, slot: Slot, by: u64) -> Result<Note, Fail>
+fn begin_by(alloc: Global, slot: Slot, by: u64) -> Result<Note, Fail>
     ensures { IfOk result IsNote }
 {
     Ok(Note::Begin {
@@ -310,8 +228,8 @@ fn answers_as_the_list_of_notes(rt: HostRuntime) -> Result<(), Fail> {
         let mut listed = Listed::new(alloc);
         for slot in 0..2 {
             let by = next(&mut state);
-            tell(alloc, &mut tracker, begin(alloc, Slot(slot), by)?)?;
-            listed.note(begin(alloc, Slot(slot), by)?)?;
+            tell(alloc, &mut tracker, begin_by(alloc, Slot(slot), by)?)?;
+            listed.note(begin_by(alloc, Slot(slot), by)?)?;
         }
         for step in 0..24u64 {
             let slot = Slot((next(&mut state) % 2) as u32);
