@@ -18,6 +18,3 @@ pub use body_text::body;
 pub use laws::one_reading;
 pub use operation::{MAX_OPERATION, operation_text, set_text};
 pub use reading::read_body;
-
-#[cfg(test)]
-mod tests;

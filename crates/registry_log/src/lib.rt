@@ -32,6 +32,3 @@ pub use log_error::LogError;
 pub use records::MAX_ROWS;
 pub(crate) use start::OPEN;
 pub use start::start_area;
-
-#[cfg(test)]
-mod tests;

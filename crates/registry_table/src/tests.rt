@@ -1,3 +1,6 @@
+mod bodies;
+mod headers;
+
 use outside_mem::MemDisk;
 use registry_log::{LogError, start_area};
 use ship_core::Rows;
@@ -6,7 +9,7 @@ use std::process::Abort;
 use std::test::Fail;
 use wire_base::{Epoch, Moment, Op, Row, Text};
 
-const WORKED: &[u8] =
+pub(crate) const WORKED: &[u8] =
     b"{beat 2 00000000000000000001\n{0000091 [{\"epoch\":0,\"key\":\"filestream::w::path::/w/a.log\",\"offset\":4,\"op\":\"set\",\"path\":\"/w/a.log\"}]\n.";
 
 const EMPTY: &[u8] = b"{beat 2 00000000000000000007\n.";

@@ -1,8 +1,6 @@
-use crate::{Header, read_header};
+use crate::tests::WORKED;
+use registry_log::{Header, read_header};
 use std::test::Fail;
-
-const WORKED: &[u8] =
-    b"{beat 2 00000000000000000001\n{0000091 [{\"epoch\":0,\"key\":\"filestream::w::path::/w/a.log\",\"offset\":4,\"op\":\"set\",\"path\":\"/w/a.log\"}]\n.";
 
 #[test]
 fn headers_are_read_by_place(rt: HostRuntime) -> Result<(), Fail> {

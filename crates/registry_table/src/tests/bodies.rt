@@ -1,7 +1,7 @@
 ghost use Rattle.std.specs.Prelude.{IfOk};
 ghost use Rattle.wire_base.specs.Ranges.{IsKey, IsMoment, IsOp, IsPath, IsPlace};
 
-use crate::{BodyError, body, read_body};
+use registry_frame::{BodyError, body, read_body};
 use std::alloc::Global;
 use std::test::Fail;
 use wire_base::{Epoch, MAX_MOMENT, MAX_PLACE, Moment, Op, Row, Text};
