@@ -44,6 +44,3 @@ pub use steps::{Due, MemChange, MemFile, MemStep};
 pub use tail::MemTail;
 pub use talk::{MemPiece, MemTalk};
 pub use wire::MemWire;
-
-#[cfg(test)]
-mod tests;

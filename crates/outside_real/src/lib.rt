@@ -31,6 +31,3 @@ pub use sink::StdSink;
 pub use source::FileSource;
 pub use tail::FileTail;
 pub use wire::TcpWire;
-
-#[cfg(test)]
-mod tests;

@@ -1,5 +1,5 @@
-use crate::*;
 use outside::{Bell, Clock, Disk, Failed, Sink, Source};
+use outside_mem::{MemBell, MemClock, MemDisk, MemSink, MemSource};
 use std::test::Fail;
 use wire_base::{MAX_MOMENT, Moment};
 

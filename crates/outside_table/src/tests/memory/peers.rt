@@ -1,9 +1,8 @@
-use crate::windows::WindowReader;
-use crate::*;
 use outside::{Failed, Link, Recv, Wire};
+use outside_mem::{MemPiece, MemTalk, MemWire};
 use std::alloc::Global;
 use std::test::Fail;
-use wire_base::{Blob, Host, NoMemory, Text, TextError};
+use wire_base::{Blob, Host, NoMemory, Piece, Text, TextError};
 
 /// A window of one empty payload.
 pub const WINDOW_OF_ONE: &[u8] = b"2W\0\0\0\x012J\0\0\0\x01\0\0\0\0";
@@ -84,23 +83,47 @@ fn connecting_fails_where_a_list_names_it(rt: HostRuntime) -> Result<(), Fail> {
     Ok(())
 }
 
+/// What a peer in memory answers at the next two receives, where these bytes are sent to it.
+fn answers_to(alloc: Global, bytes: &[u8]) -> Result<Vec<u8>, Fail> {
+    let mut wire = MemWire::new(alloc, Vec::new(alloc))?;
+    let mut link = wire.connect(&peer(alloc)?)?;
+    let sent = link.send(bytes);
+    let _first = link.recv(&mut [0; 6]);
+    let _second = link.recv(&mut [0; 6]);
+    wire.finish(link);
+    sent?;
+    let mut answers = Vec::new(alloc);
+    for piece in wire.last_talk() {
+        if let Piece::In(answer) = piece {
+            answers.extend_from_slice(answer.bytes())?;
+        }
+    }
+    Ok(answers)
+}
+
+/// The acknowledgement of a window of one payload.
+const OF_ONE: &[u8] = b"2A\0\0\0\x01";
+
 #[test]
 fn whole_windows_are_counted(rt: HostRuntime) -> Result<(), Fail> {
     let alloc = rt.alloc();
-    let cases: [(&[u8], &[u32]); 9] = [
-        (WINDOW_OF_ONE, &[1]),
-        (b"2W\0\0\0\x012J\0\0\0\x01\0\0\0\x01{2W", &[1]),
-        (b"2W\0\0\0\02W\0\0\0\x012J\0\0\0\x01\0\0\0\0", &[]),
-        (b"2W\0\0\0\x012J\0\0\0\x01\0\0\0\x01", &[]),
-        (b"2W\0\0\0\x012J\0\0\0\x02\0\0\0\0", &[]),
-        (b"2W\0\0\0\x012W\0\0\0\0", &[]),
-        (b"2J\0\0\0\x01\0\0\0\0", &[]),
-        (b"2J\0\0\0\x01\x10\0\0\x01", &[]),
-        (b"2A\0\0\0\02W\0\0\0\x012J\0\0\0\x01\0\0\0\0", &[]),
+    let cases: [(&[u8], &[u8]); 9] = [
+        (WINDOW_OF_ONE, OF_ONE),
+        (b"2W\0\0\0\x012J\0\0\0\x01\0\0\0\x01{2W", OF_ONE),
+        (b"2W\0\0\0\02W\0\0\0\x012J\0\0\0\x01\0\0\0\0", b""),
+        (b"2W\0\0\0\x012J\0\0\0\x01\0\0\0\x01", b""),
+        (b"2W\0\0\0\x012J\0\0\0\x02\0\0\0\0", b""),
+        (b"2W\0\0\0\x012W\0\0\0\0", b""),
+        (b"2J\0\0\0\x01\0\0\0\0", b""),
+        (b"2J\0\0\0\x01\x10\0\0\x01", b""),
+        (b"2A\0\0\0\02W\0\0\0\x012J\0\0\0\x01\0\0\0\0", b""),
     ];
-    for (bytes, counts) in cases {
-        let whole = WindowReader::new().read(alloc, bytes)?;
-        assert_eq!(rt; whole.as_slice(), counts, "of {bytes:?}");
+    for (bytes, answers) in cases {
+        assert_eq!(rt;
+            answers_to(alloc, bytes)?.as_slice(),
+            answers,
+            "of {bytes:?}"
+        );
     }
     Ok(())
 }

@@ -1,7 +1,7 @@
-use crate::*;
-
-/// Takes what may be moved to another thread.
-fn moved<T: Send>(_object: &T) {}
+use crate::tests::moved;
+use outside_real::{
+    DirFolder, FileBell, FileDisk, FileSource, FileTail, StdSink, SystemClock, TcpLink, TcpWire,
+};
 
 /// Every object may be moved to another thread where its handle may.
 fn objects_move_between_threads<R: Send>(

@@ -1,6 +1,6 @@
 use super::fresh_path;
-use crate::*;
 use outside::{Disk, Failed};
+use outside_real::FileDisk;
 use std::test::Fail;
 use std::{fs, process};
 use wire_base::{MAX_PLACE, Text};

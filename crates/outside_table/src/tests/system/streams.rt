@@ -1,6 +1,6 @@
 use super::fresh_path;
-use crate::*;
 use outside::{Bell, Clock, Failed, Sink, Source};
+use outside_real::{FileBell, FileSource, StdSink, SystemClock};
 use std::cell::Cell;
 use std::io::ErrorKind;
 use std::test::Fail;

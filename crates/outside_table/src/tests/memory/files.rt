@@ -1,5 +1,5 @@
-use crate::*;
 use outside::{Failed, Folder, FolderError, Tail};
+use outside_mem::{Due, MemChange, MemFile, MemFolder, MemStep};
 use std::alloc::Global;
 use std::test::Fail;
 use wire_base::{Blob, Moment, Text};

@@ -1,13 +1,11 @@
-use crate::tests::peers::{WINDOW_OF_ONE, peer};
-use crate::*;
+use crate::tests::memory::peers::{WINDOW_OF_ONE, peer};
+use crate::tests::moved;
 use outside::{Failed, Link, Recv, Wire};
+use outside_mem::{MeetLink, MemDisk, MemFolder, MemLink, MemTail, MemTalk, MemWire};
 use std::alloc::Global;
 use std::test::Fail;
 use std::thread::join;
 use wire_base::Host;
-
-/// Takes what may be moved to another thread.
-fn moved<T: Send>(_object: &T) {}
 
 /// Objects that threads use may be moved to another one.
 fn objects_move_between_threads(

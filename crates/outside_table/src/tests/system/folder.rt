@@ -1,6 +1,6 @@
 use super::fresh_path;
-use crate::*;
 use outside::{Folder, Tail};
+use outside_real::DirFolder;
 use std::os::unix::fs as unix;
 use std::rt::Files;
 use std::test::Fail;

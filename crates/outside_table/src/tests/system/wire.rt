@@ -1,7 +1,7 @@
 ghost use Rattle.std.specs.Prelude.{◌<◌, length};
 
-use crate::*;
 use outside::{Link, Recv, Wire};
+use outside_real::{TcpLink, TcpWire};
 use std::io;
 use std::io::{Read, Write};
 use std::net::TcpListener;

@@ -1,0 +1,6 @@
+//! The objects of the outside, in memory and of the system: what they give, take and keep, where
+//! they fail, and that threads may have them. Tests alone; no part of the product.
+#![tactic(auto)]
+
+#[cfg(test)]
+mod tests;

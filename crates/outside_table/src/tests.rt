@@ -1,0 +1,5 @@
+mod memory;
+mod system;
+
+/// Takes what may be moved to another thread.
+fn moved<T: Send>(_object: &T) {}
