@@ -29,6 +29,3 @@ mod window;
 pub use heard::Heard;
 pub use laws::{acknowledged_is_of_the_talk, nothing_counts_behind_a_fault, received_pieces_join};
 pub use window::Window;
-
-#[cfg(test)]
-mod tests;

@@ -32,6 +32,3 @@ pub use laws::{
 };
 pub use read::read_frame;
 pub use write::{ack_frame, json_head, window_head};
-
-#[cfg(test)]
-mod tests;

@@ -1,4 +1,6 @@
-use crate::*;
+use lumber_frame::{
+    FrameRead, FrameView, ack_frame, acknowledged, json_head, read_frame, window_head,
+};
 use std::alloc::Global;
 use std::test::Fail;
 use wire_base::{Blob, NoMemory, Piece};

@@ -2,7 +2,7 @@ ghost use Rattle.std.specs.Prelude.{◌≤◌, length, IfOk};
 ghost use Rattle.wire_base.specs.declared.parcel.TheConstants.{MAX_PAYLOAD};
 ghost use Rattle.wire_base.specs.Ranges.{IsParcel};
 
-use crate::{Heard, Window};
+use lumber_client::{Heard, Window};
 use std::alloc::Global;
 use std::test::Fail;
 use wire_base::{Blob, Epoch, Parcel, Slot, Span};
