@@ -22,6 +22,3 @@ pub use laws::{nothing_comes_twice, nothing_is_lost, what_is_held_came_later};
 pub use left::Left;
 pub use pass::{PutPass, TakePass};
 pub use queue::EventQueue;
-
-#[cfg(test)]
-mod tests;

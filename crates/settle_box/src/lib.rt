@@ -21,6 +21,3 @@ pub use desk::SettleBox;
 pub use left::Left;
 pub use pass::{CollectPass, PostPass};
 pub use sender::{Sender, Sent};
-
-#[cfg(test)]
-mod tests;

@@ -3,7 +3,7 @@ ghost use Rattle.std.specs.Thread.{IsSync};
 ghost use Rattle.pass_sums.specs.Share.{IsWhole};
 ghost use Rattle.wire_base.specs.Ranges.{IsParcel};
 
-use crate::*;
+use mem_queue::{EventQueue, PutPass, TakePass};
 use std::alloc::{AllocError, Global};
 use std::sync::Wait;
 use std::sync::atomic::{AtomicU64, Ordering};

@@ -1,5 +1,5 @@
 use Rattle.std.proofs.Common.{◌≡◌}
-use Rattle.mem_queue.proofs.tests.put_all.Given as goal
+use Rattle.threads_table.proofs.tests.queue.put_all.Given as goal
 
 abbrev pub invariant-loop-place : goal.invariant-loop-place
 invariant-loop-place g l = (l.pass.queue ≡ l.initial.pass.queue) × (l.pass.share ≡ l.initial.pass.share)

@@ -4,7 +4,7 @@ ghost use Rattle.pass_sums.specs.Share.{IsWorth};
 ghost use Rattle.wire_base.specs.Ranges.{IsNote};
 ghost use Rattle.settle_box.specs.Notes.{IsPostable};
 
-use crate::*;
+use settle_box::{CollectPass, PostPass, SettleBox};
 use std::sync::Wait;
 use std::test::Fail;
 use std::thread;

@@ -2,7 +2,7 @@ use Rattle.std.proofs.Common.{rules, sym, subst}
 use Rattle.pass_sums.specs.Share.{IsWhole}
 use Rattle.pass_sums.proofs.Shares.{whole_worth}
 use Rattle.settle_box.specs.Poster.{Poster}
-use Rattle.settle_box.proofs.tests.each_sender_keeps_its_order.Goals as goal
+use Rattle.threads_table.proofs.tests.desk.each_sender_keeps_its_order.Goals as goal
 
 pub meet-requires-clause-the_only_one_that_posts : goal.meet-requires-clause-the_only_one_that_posts
 meet-requires-clause-the_only_one_that_posts g c = whole_worth _ _ (search rules) c.in_ok-desk.ensures.the_only_one_that_posts

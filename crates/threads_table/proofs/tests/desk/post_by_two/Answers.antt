@@ -1,14 +1,13 @@
-use Rattle.std.proofs.Common.{ap, ◌∙◌, subst}
-use Rattle.pass_sums.specs.Share.{IsWorth}
-use Rattle.pass_sums.proofs.Shares.{worth_rejoined}
+use Rattle.std.proofs.Common.{ap, ◌∙◌}
+use Rattle.pass_sums.proofs.Shares.{worth_itself, worth_rejoined}
 use Rattle.settle_box.specs.Poster.{Poster}
-use Rattle.settle_box.proofs.tests.post_by_four.Goals as goal
+use Rattle.threads_table.proofs.tests.desk.post_by_two.Goals as goal
 
 pub returns : goal.returns
 returns g c =
     let kept = ap (λ (p : Poster). p.share) c.split_post-second.ensures.kept in
     let cut = ap (λ (p : Poster). p.share) c.split_post-second.ensures.new in (
       ap (λ (p : Poster). p.desk) c.join_post.ensures ∙ c.join-pass.ensures.first.0,
-      worth_rejoined _ _ _ _ (subst (IsWorth _) kept c.join-pass.ensures.first.1) (subst (IsWorth _) cut c.join-pass.ensures.second.1)
+      worth_rejoined _ _ _ _ (worth_itself _ _ (c.join-pass.ensures.first.1 ∙ kept)) (worth_itself _ _ (c.join-pass.ensures.second.1 ∙ cut))
           (ap (λ (p : Poster). p.share) c.join_post.ensures),
     )
