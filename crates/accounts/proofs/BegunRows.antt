@@ -88,7 +88,7 @@ module _ (run : Run) (scan : Scan) (files : List Filed) (workers : List Taken) (
       let started = is_started files (acknowledged_in workers) first collected apart told.noted have_ground file among notes_are_orderly noted in
       let start : Start = record { key = key_in file; path = started.path; epoch = file.opened.begin.epoch.0; base = file.opened.begin.base } in
       let found = begun_key_has_its_row run.opening notes rows (key_in file) (slot_in file) start over
-      (none_forgotten files (acknowledged_in workers) first collected apart told.noted have_ground file among)
+      (none_forgotten files (acknowledged_in workers) first collected apart told.noted have_ground)
       (one_slot files (acknowledged_in workers) first collected apart told.noted have_ground file among
       (keys_apart run scan told.by files told.followed.each told.followed.names_apart)) started.is in
       record { start = start; key_is = refl; epoch_is = refl; base_is = refl; of_rows = found_there (key_in file) rows (standing_row (notes_of (slot_in file) notes) start) found }

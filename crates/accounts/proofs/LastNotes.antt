@@ -230,6 +230,28 @@ module _ (files : List Filed) (acknowledged : List Parcel) (first collected : Li
   abbrev notes : List Note
   notes = first ++ collected
 
+  -- ---- nothing is forgotten
+
+  pub none_forgotten : ForgetNone notes
+  none_forgotten =
+      both IsNoForget first collected
+      (subst ForgetNone (sym are.notes_are) (both IsNoForget are.begins are.seens (no_begin files are.begins are.each_begin) (no_seen are.seens are.each_seen)))
+      (no_collected collected ground)
+    where
+      no_begin : (some : List Filed) (begins : List Note) → Pairs IsBeginOf some begins → ForgetNone begins
+      no_begin [] [] all = tt
+      no_begin [] (note ∷ begins) all = absurd all
+      no_begin (one ∷ some) [] all = absurd all
+      no_begin (one ∷ some) (note ∷ begins) all = (subst IsNoForget (sym all.0.is) tt, no_begin some begins all.1)
+
+      no_seen : (some : List Note) → AllByRecursion (IsMomentOfOne files) some → ForgetNone some
+      no_seen [] all = tt
+      no_seen (note ∷ some) all = (subst IsNoForget (sym all.0.is) tt, no_seen some all.1)
+
+      no_collected : (some : List Note) → AllByRecursion (HasGround (turned_of files) acknowledged) some → ForgetNone some
+      no_collected [] all = tt
+      no_collected (note ∷ some) all = (no_forget note (is_collectable (turned_of files) acknowledged note all.0), no_collected some all.1)
+
   -- where a note of them stands, and whose it is
   module _ (file : Filed) (among : Contains files file) where
     slot_names : (other : Filed) → Contains files other → slot_in other ≡ slot_in file → other ≡ file
@@ -296,28 +318,6 @@ module _ (files : List Filed) (acknowledged : List Parcel) (first collected : Li
         ∙ ap (λ (l : List Note). l ++ notes_of (slot_in file) (begin ∷ parts.1)) none
         ∙ ap (λ (b : Bool). if b then begin ∷ notes_of (slot_in file) parts.1 else notes_of (slot_in file) parts.1) (eq-eqb (slot_in file) (slot_in file) refl) in
         record { path = noted.path; is = ap start_over own }
-
-    -- ---- nothing is forgotten
-
-    pub none_forgotten : ForgetNone notes
-    none_forgotten =
-        both IsNoForget first collected
-        (subst ForgetNone (sym are.notes_are) (both IsNoForget are.begins are.seens (no_begin files are.begins are.each_begin) (no_seen are.seens are.each_seen)))
-        (no_collected collected ground)
-      where
-        no_begin : (some : List Filed) (begins : List Note) → Pairs IsBeginOf some begins → ForgetNone begins
-        no_begin [] [] all = tt
-        no_begin [] (note ∷ begins) all = absurd all
-        no_begin (one ∷ some) [] all = absurd all
-        no_begin (one ∷ some) (note ∷ begins) all = (subst IsNoForget (sym all.0.is) tt, no_begin some begins all.1)
-
-        no_seen : (some : List Note) → AllByRecursion (IsMomentOfOne files) some → ForgetNone some
-        no_seen [] all = tt
-        no_seen (note ∷ some) all = (subst IsNoForget (sym all.0.is) tt, no_seen some all.1)
-
-        no_collected : (some : List Note) → AllByRecursion (HasGround (turned_of files) acknowledged) some → ForgetNone some
-        no_collected [] all = tt
-        no_collected (note ∷ some) all = (no_forget note (is_collectable (turned_of files) acknowledged note all.0), no_collected some all.1)
 
     -- ---- its moment
 
