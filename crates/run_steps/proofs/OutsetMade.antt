@@ -59,7 +59,7 @@ module _ (settings : Settings) (in_range : AreInRange settings) (by_path : All (
 
 module _ {W D : Type 0} (disks : DiskWords D) (wires : WireWords W) (outset : Outset W D) (earlier : Earlier D) where
   pub sets_out : (store : Standing) (pass : Collector) → outset.keeper ≡ begun_with store pass → GivesMoment earlier.moments outset.moment outset.moments →
-      (AreAtRest disks.contents disks.images earlier.a earlier.b → GiveTheRows disks earlier.a earlier.b outset.keeper.store.rows) →
+      GiveTheRows disks earlier.a earlier.b outset.keeper.store.rows →
       (AreAtRest disks.contents disks.images earlier.a earlier.b → HaveHeldFronts disks outset.keeper.store.rows [] earlier.a earlier.b outset.a outset.b) →
       (AreAtRest disks.contents disks.images earlier.a earlier.b → AreSettled disks.contents disks.images outset.a outset.b (chosen_by store)) →
       AreInRange outset.settings → All (λ (input : InputRule). input.file_identity ≡ Path) outset.settings.inputs → All (IsOfInputs outset.settings) outset.listed →

@@ -1,17 +1,18 @@
 -- A run is accounted for, however it ends.
 use Rattle.std.proofs.Common.{◌≡◌, inl, inr, ⊎_elim, ℕ, List, [], ◌++◌, map, Option, Some, refl, sym, ap, subst, ◌∙◌, arith}
-use Rattle.std.specs.List.{AllByRecursion}
-use Rattle.accounts.proofs.AccountingFor.{IsAccountedFor, backed, is_accounted_for}
+use Rattle.accounts.proofs.AccountingFor.{IsAccountedFor, is_accounted_for}
+use Rattle.accounts.proofs.BegunRows.{have_ground}
 use Rattle.accounts.proofs.Draining.{is_drained}
+use Rattle.accounts.proofs.LastNotes.{none_forgotten}
+use Rattle.accounts.proofs.Ordered.{slots_apart}
 use Rattle.accounts.specs.AccountedFor.{followings_in}
 use Rattle.accounts.specs.Filed.{Filed, accounts_of}
 use Rattle.accounts.specs.RunTold.{RunTold}
-use Rattle.accounts.specs.Taken.{Taken}
+use Rattle.accounts.specs.Taken.{Taken, acknowledged_in}
 use Rattle.batch_worker.specs.Standing.{length_of}
 use Rattle.kept_rows.specs.Account.{SlotAccount}
 use Rattle.kept_rows.specs.Backed.{AreRowsOverFronts}
 use Rattle.kept_rows.specs.Drained.{IsDrained}
-use Rattle.kept_rows.specs.Kept.{IsKeptInImage}
 use Rattle.kept_rows.specs.Premises.{Premises}
 use Rattle.kept_rows.specs.Run.{Run, Scan}
 use Rattle.outside.specs.Folders.{FolderHistory}
@@ -23,7 +24,7 @@ use Rattle.ship_core.specs.Rows.{IsInOrder}
 use Rattle.ship_core.specs.RowsOver.{AreRowsOver}
 use Rattle.wire_base.specs.declared.note.Note.{Note}
 use Rattle.wire_base.specs.declared.row.Row.{Row}
-use Rattle.run_steps.specs.AccountedFor.{AccountedFor, FitsFolders, FitsObjects, HasRowOf, HoldKeptRows, RowsBy, RunObjects}
+use Rattle.run_steps.specs.AccountedFor.{AccountedFor, AreImageRows, FitsFolders, FitsObjects, HoldKeptRows, RowsBy, RunObjects}
 use Rattle.run_steps.specs.Areas.{BeganAtRest, GaveRows, HaveHeldFronts, HeldOnlyFronts}
 use Rattle.run_steps.specs.Began.{Began}
 use Rattle.run_steps.specs.Ends.{Ending, Ends}
@@ -74,15 +75,12 @@ module _ {T W L D : Type 0} (words : Words T W L D) (start : Began D) (ending : 
   abbrev account : List SlotAccount
   account = accounts_of accounted.placed the_files
 
-  module _ (one : OneChoice) (gave : BeganAtRest words.disks start → GaveRows words.disks start) (at_rest : BeganAtRest words.disks start) where
+  module _ (one : OneChoice) (gave : GaveRows words.disks start) (at_rest : BeganAtRest words.disks start) where
     held : HaveHeldFronts words.disks start.opening notes start.a start.b ending.a ending.b
     held = ends.stands.areas at_rest
 
     given : (first second : List ℕ) → words.disks.contents ending.a ≡ Some first → words.disks.contents ending.b ≡ Some second → (rows : List Row) × GivesRows first second rows
     given first second a_is b_is = let fronts = held.both first second a_is b_is in (fronts.rows, fronts.given)
-
-    kept_in_image : (rows : List Row) → AreRowsOverFronts start.opening notes rows → AllByRecursion (IsKeptInImage account start.opening the_run.trace.wires) rows
-    kept_in_image rows over = accounted.accounts.images rows (subst (λ (l : List Note). AreRowsOverFronts start.opening l rows) ends.stands.noted.are over)
 
     -- where the last steps were made the areas give the rows over all notes
     rows_over : AreLeft met → (first second : List ℕ) (rows : List Row) → words.disks.contents ending.a ≡ Some first → words.disks.contents ending.b ≡ Some second →
@@ -99,24 +97,27 @@ module _ {T W L D : Type 0} (words : Words T W L D) (start : Began D) (ending : 
     opening_ordered =
         let (before, a_is) = some_of (words.disks.contents start.a) at_rest.a_told in
         let (beside, b_is) = some_of (words.disks.contents start.b) at_rest.b_told in
-        rows_in_order before beside start.opening (gave at_rest before beside a_is b_is)
+        rows_in_order before beside start.opening (gave before beside a_is b_is)
 
-    stays : (rows : List Row) → AreRowsOver start.opening (begun ++ collected) rows → AllByRecursion (λ (row : Row). HasRowOf rows row.key) start.opening
-    stays rows over = rows_stay account the_run.trace.wires start.opening (begun ++ collected) rows opening_ordered over
-        (backed the_run the_scan the_files the_workers begun collected the_run_told accounted.placed accounted.places) (accounted.accounts.begun rows over)
+    -- and each of them stays, since no note forgets one
+    image_rows : (rows : List Row) → AreRowsOverFronts start.opening notes rows → AreImageRows the_run account rows
+    image_rows rows over =
+        let fronts = subst (λ (l : List Note). AreRowsOverFronts start.opening l rows) ends.stands.noted.are over in
+        let none = none_forgotten the_files (acknowledged_in the_workers) begun collected (slots_apart 0 the_files the_run_told.followed.slots) the_run_told.noted
+        (have_ground the_run the_scan the_files the_workers begun collected the_run_told) in
+        record { kept = accounted.accounts.images rows fronts; stay = rows_stay start.opening (begun ++ collected) rows opening_ordered fronts none }
 
     rows_by : (first second : List ℕ) (rows : List Row) → words.disks.contents ending.a ≡ Some first → words.disks.contents ending.b ≡ Some second →
         GivesRows first second rows → RowsBy the_run account met rows
     rows_by first second rows a_is b_is gives = record {
-      in_image = kept_in_image rows (given_over_fronts one start.opening notes first second rows (held.both first second a_is b_is) gives);
+      in_image = image_rows rows (given_over_fronts one start.opening notes first second rows (held.both first second a_is b_is) gives);
       kept = λ are_left. accounted.accounts.ends rows (rows_over are_left first second rows a_is b_is gives);
       begun = λ are_left. accounted.accounts.begun rows (rows_over are_left first second rows a_is b_is gives);
-      stay = λ are_left. stays rows (rows_over are_left first second rows a_is b_is gives);
     }
 
     images_of : (began now : D) → HeldOnlyFronts words.disks start.opening notes began now → HoldKeptRows words.disks (record { began = began; now = now }) the_run account
     images_of began now only image generation rows end since opened =
-        ⊎_elim inl (λ over. inr (kept_in_image rows over)) (opened_over_fronts one start.opening notes (words.disks.contents began) image generation rows end (only.each image since) opened)
+        ⊎_elim inl (λ over. inr (image_rows rows over)) (opened_over_fronts one start.opening notes (words.disks.contents began) image generation rows end (only.each image since) opened)
 
   -- ---- what its objects told
 
@@ -137,7 +138,7 @@ module _ {T W L D : Type 0} (words : Words T W L D) (start : Began D) (ending : 
       wires = ap (λ (l : List ℕ). wires_behind l (map words.wires.outcomes wires)) (sym starts);
     }
 
-    module _ (one : OneChoice) (gave : BeganAtRest words.disks start → GaveRows words.disks start) (served : met ≡ Done → AreServed start.opening start.listed notes folder) where
+    module _ (one : OneChoice) (gave : GaveRows words.disks start) (served : met ≡ Done → AreServed start.opening start.listed notes folder) where
       drained : BeganAtRest words.disks start → met ≡ Done → Premises the_run (followings_in account) → (first second : List ℕ) (rows : List Row) →
           words.disks.contents ending.a ≡ Some first → words.disks.contents ending.b ≡ Some second → GivesRows first second rows → IsDrained the_run account rows
       drained at_rest is_done premises first second rows a_is b_is gives =

@@ -40,7 +40,7 @@ use Rattle.ship_core.specs.Rows.{IsInOrder}
 use Rattle.ship_core.specs.RowsOver.{AreRowsOver, row_for}
 use Rattle.wire_base.specs.declared.note.Note.{Note}
 use Rattle.wire_base.specs.declared.row.Row.{Row}
-use Rattle.run_steps.specs.AccountedFor.{AccountedFor, HoldKeptRows, RowsBy, RunObjects}
+use Rattle.run_steps.specs.AccountedFor.{AccountedFor, AreImageRows, HoldKeptRows, RowsBy, RunObjects}
 use Rattle.run_steps.specs.Areas.{BeganAtRest, GaveRows, GiveTheRows, HaveHeldFronts, HeldOnlyFronts}
 use Rattle.run_steps.specs.Began.{Began}
 use Rattle.run_steps.specs.RunOf.{FolderTold, run_of, scan_of, wires_behind}
@@ -216,23 +216,25 @@ module _ {D : Type 0} (disks : DiskWords D) (start : Began D) (folder : FolderTo
   early_accounts : AccountsFor early_run [] []
   early_accounts = (is_accounted_for early_run early_scan [] (took_none outcomes) [] [] early_told).accounts
 
-  module _ (a b : D) (one : OneChoice) (gave : BeganAtRest disks start → GaveRows disks start) (areas : BeganAtRest disks start → HaveHeldFronts disks start.opening [] start.a start.b a b) where
+  module _ (a b : D) (one : OneChoice) (gave : GaveRows disks start) (areas : BeganAtRest disks start → HaveHeldFronts disks start.opening [] start.a start.b a b) where
     abbrev pub early_objects : RunObjects D
     early_objects = record {
       before = record { folder = Some folder.earlier; moments = start.moments; outcomes = outcomes; a = start.a; b = start.b };
       after = record { folder = Some folder.scanned; moments = later; outcomes = outcomes; a = a; b = b };
     }
 
-    images_of : (from now : D) → HeldOnlyFronts disks start.opening [] from now → HoldKeptRows disks (record { began = from; now = now }) early_run []
-    images_of from now only image generation rows end since opened =
-        ⊎_elim inl (λ over. inr (early_accounts.images rows over)) (opened_over_fronts one start.opening [] (disks.contents from) image generation rows end (only.each image since) opened)
+    image_rows : IsInOrder start.opening → (rows : List Row) → AreRowsOverFronts start.opening [] rows → AreImageRows early_run [] rows
+    image_rows ordered rows over = record { kept = early_accounts.images rows over; stay = rows_stay start.opening [] rows ordered over tt }
+
+    images_of : IsInOrder start.opening → (from now : D) → HeldOnlyFronts disks start.opening [] from now → HoldKeptRows disks (record { began = from; now = now }) early_run []
+    images_of ordered from now only image generation rows end since opened =
+        ⊎_elim inl (λ over. inr (image_rows ordered rows over)) (opened_over_fronts one start.opening [] (disks.contents from) image generation rows end (only.each image since) opened)
 
     rows_by : IsInOrder start.opening → (met : Met) (rows : List Row) → AreRowsOverFronts start.opening [] rows → RowsBy early_run [] met rows
     rows_by ordered met rows over = record {
-      in_image = early_accounts.images rows over;
+      in_image = image_rows ordered rows over;
       kept = λ left. early_accounts.ends rows (over_no_notes start.opening rows over);
       begun = λ left. early_accounts.begun rows (over_no_notes start.opening rows over);
-      stay = λ left. rows_stay [] [] start.opening [] rows ordered (over_no_notes start.opening rows over) tt tt;
     }
 
     pub early_is_accounted_for : (met : Met) → met ≢ Done → AccountedFor disks start.settings early_objects met
@@ -251,8 +253,8 @@ module _ {D : Type 0} (disks : DiskWords D) (start : Began D) (folder : FolderTo
       sent = early_accounts.sent;
       opened = gave;
       given = λ at_rest first second a_is b_is. given_by ((areas at_rest).both first second a_is b_is);
-      rows = λ at_rest first second rows a_is b_is gives. rows_by (ordered_at_rest disks start.a start.b start.opening at_rest (gave at_rest)) met rows (given_over_fronts one start.opening [] first second rows ((areas at_rest).both first second a_is b_is) gives);
-      images = λ at_rest. record { of_a = images_of start.a a (areas at_rest).of_a; of_b = images_of start.b b (areas at_rest).of_b };
+      rows = λ at_rest first second rows a_is b_is gives. rows_by (ordered_at_rest disks start.a start.b start.opening at_rest gave) met rows (given_over_fronts one start.opening [] first second rows ((areas at_rest).both first second a_is b_is) gives);
+      images = λ at_rest. let ordered = ordered_at_rest disks start.a start.b start.opening at_rest gave in record { of_a = images_of ordered start.a a (areas at_rest).of_a; of_b = images_of ordered start.b b (areas at_rest).of_b };
       supposing = λ premises. record { is = early_accounts.is premises; drained = λ at_rest is_done. absurd (not_done is_done) };
     }
 
@@ -295,7 +297,7 @@ module _ {D : Type 0} (disks : DiskWords D) (settings : Settings) (opening : Lis
   still_accounts : AccountsFor still_run [] []
   still_accounts = unscanned_is_accounted_for still_run is_unscanned
 
-  module _ (from_a from_b a b : D) (one : OneChoice) (gave : AreAtRest disks.contents disks.images from_a from_b → GiveTheRows disks from_a from_b opening)
+  module _ (from_a from_b a b : D) (one : OneChoice) (gave : GiveTheRows disks from_a from_b opening)
       (areas : AreAtRest disks.contents disks.images from_a from_b → HaveHeldFronts disks opening [] from_a from_b a b) where
     abbrev pub still_objects : RunObjects D
     still_objects = record {
@@ -303,16 +305,18 @@ module _ {D : Type 0} (disks : DiskWords D) (settings : Settings) (opening : Lis
       after = record { folder = Some told; moments = Some before; outcomes = outcomes; a = a; b = b };
     }
 
-    still_images : (from now : D) → HeldOnlyFronts disks opening [] from now → HoldKeptRows disks (record { began = from; now = now }) still_run []
-    still_images from now only image generation rows end since opened =
-        ⊎_elim inl (λ over. inr (still_accounts.images rows over)) (opened_over_fronts one opening [] (disks.contents from) image generation rows end (only.each image since) opened)
+    still_image_rows : IsInOrder opening → (rows : List Row) → AreRowsOverFronts opening [] rows → AreImageRows still_run [] rows
+    still_image_rows ordered rows over = record { kept = still_accounts.images rows over; stay = rows_stay opening [] rows ordered over tt }
+
+    still_images : IsInOrder opening → (from now : D) → HeldOnlyFronts disks opening [] from now → HoldKeptRows disks (record { began = from; now = now }) still_run []
+    still_images ordered from now only image generation rows end since opened =
+        ⊎_elim inl (λ over. inr (still_image_rows ordered rows over)) (opened_over_fronts one opening [] (disks.contents from) image generation rows end (only.each image since) opened)
 
     still_rows : IsInOrder opening → (met : Met) (rows : List Row) → AreRowsOverFronts opening [] rows → RowsBy still_run [] met rows
     still_rows ordered met rows over = record {
-      in_image = still_accounts.images rows over;
+      in_image = still_image_rows ordered rows over;
       kept = λ left. still_accounts.ends rows (over_no_notes opening rows over);
       begun = λ left. still_accounts.begun rows (over_no_notes opening rows over);
-      stay = λ left. rows_stay [] [] opening [] rows ordered (over_no_notes opening rows over) tt tt;
     }
 
     pub still_is_accounted_for : (met : Met) → met ≢ Done → AccountedFor disks settings still_objects met
@@ -331,7 +335,7 @@ module _ {D : Type 0} (disks : DiskWords D) (settings : Settings) (opening : Lis
       sent = still_accounts.sent;
       opened = gave;
       given = λ at_rest first second a_is b_is. given_by ((areas at_rest).both first second a_is b_is);
-      rows = λ at_rest first second rows a_is b_is gives. still_rows (ordered_at_rest disks from_a from_b opening at_rest (gave at_rest)) met rows (given_over_fronts one opening [] first second rows ((areas at_rest).both first second a_is b_is) gives);
-      images = λ at_rest. record { of_a = still_images from_a a (areas at_rest).of_a; of_b = still_images from_b b (areas at_rest).of_b };
+      rows = λ at_rest first second rows a_is b_is gives. still_rows (ordered_at_rest disks from_a from_b opening at_rest gave) met rows (given_over_fronts one opening [] first second rows ((areas at_rest).both first second a_is b_is) gives);
+      images = λ at_rest. let ordered = ordered_at_rest disks from_a from_b opening at_rest gave in record { of_a = still_images ordered from_a a (areas at_rest).of_a; of_b = still_images ordered from_b b (areas at_rest).of_b };
       supposing = λ premises. record { is = still_accounts.is premises; drained = λ at_rest is_done. absurd (not_done is_done) };
     }

@@ -78,13 +78,17 @@ pub record HasRowOf (rows : List Row) (key : List ℕ) : Type 0 where
   pub of_rows : Contains rows row
   pub key_is : row.key ≡ key
 
--- the rows that the bytes of both areas give: kept as images keep them, whatever was met; where the last steps were made, kept
--- as a run ends with them, one for each key that was begun and for each that had one before
+-- the rows of an image: each is kept as images keep them, and each key that had one before has one
+pub record AreImageRows (run : Run) (account : List SlotAccount) (rows : List Row) : Type 0 where
+  pub kept : AllByRecursion (IsKeptInImage account run.opening run.trace.wires) rows
+  pub stay : AllByRecursion (λ row. HasRowOf rows row.key) run.opening
+
+-- the rows that the bytes of both areas give: as those of an image, whatever was met; where the last steps were made, kept as a run
+-- ends with them, and one for each key that was begun
 pub record RowsBy (run : Run) (account : List SlotAccount) (met : Met) (rows : List Row) : Type 0 where
-  pub in_image : AllByRecursion (IsKeptInImage account run.opening run.trace.wires) rows
+  pub in_image : AreImageRows run account rows
   pub kept : AreLeft met → AllByRecursion (IsKept account run.opening run.trace.wires) rows
   pub begun : AreLeft met → AllByRecursion (HasItsRow rows) account
-  pub stay : AreLeft met → AllByRecursion (λ row. HasRowOf rows row.key) run.opening
 
 -- what both areas hold now gives rows
 abbrev pub GiveRows : {D : Type 0} → DiskWords D → Objects D → Type 0
@@ -100,10 +104,10 @@ pub record AreaSince (D : Type 0) : Type 0 where
   pub began : D
   pub now : D
 
--- each image of the area since then that is opened has only kept rows, but for one that is as the area was as the run began
+-- each image of the area since then that is opened has such rows, but for one that is as the area was as the run began
 abbrev pub HoldKeptRows : {D : Type 0} → DiskWords D → AreaSince D → Run → List SlotAccount → Type 0
 HoldKeptRows disks area run account = (image : List ℕ) (generation : ℕ) (rows : List Row) (end : ℕ) → disks.images_since area.now (disks.moment area.began) image →
-    IsOpened image generation rows end → (disks.contents area.began ≡ Some image) ⊎ AllByRecursion (IsKeptInImage account run.opening run.trace.wires) rows
+    IsOpened image generation rows end → (disks.contents area.began ≡ Some image) ⊎ AreImageRows run account rows
 
 -- so it is of both areas
 pub record ImagesHoldKeptRows {D : Type 0} (disks : DiskWords D) (objects : RunObjects D) (run : Run) (account : List SlotAccount) : Type 0 where
@@ -131,7 +135,7 @@ pub record AccountedFor {D : Type 0} (disks : DiskWords D) (settings : Settings)
   pub fits : FitsObjects objects run
   pub followed : AreFollowed run (followings_in account)
   pub sent : SendOnlyTold account run.trace.wires
-  pub opened : WereAtRest disks objects → GiveTheRows disks objects.before.a objects.before.b run.opening
+  pub opened : GiveTheRows disks objects.before.a objects.before.b run.opening
   pub given : WereAtRest disks objects → GiveRows disks objects.after
   pub rows : WereAtRest disks objects → AreRowsBy disks objects.after (RowsBy run account met)
   pub images : WereAtRest disks objects → ImagesHoldKeptRows disks objects run account

@@ -48,12 +48,12 @@ began_with {W} wires outset earlier = record {
   b = earlier.b;
 }
 
--- the clock gave its moment, its areas gave the rows of its store where they were at rest and have held no others since, and each listed file is of an input that
+-- the clock gave its moment, its areas gave the rows of its store and, where they were at rest, have held no others since, and each listed file is of an input that
 -- tells files by their paths
 pub record SetsOut {W D : Type 0} (disks : DiskWords D) (start : Began D) (outset : Outset W D) : Type 0 where
   pub gives : GivesMoment start.moments start.moment outset.moments
   pub areas : BeganAtRest disks start → HaveHeldFronts disks start.opening [] start.a start.b outset.a outset.b
-  pub gave : BeganAtRest disks start → GaveRows disks start
+  pub gave : GaveRows disks start
   pub at_rest : BeganAtRest disks start → IsAtRest disks outset.keeper outset.a outset.b
   pub of_inputs : AllByRecursion (IsOfPathInput start.settings (IsSome start.shown)) start.listed
 
