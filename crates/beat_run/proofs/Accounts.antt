@@ -1,5 +1,5 @@
 -- A run that ended before it opened a file is accounted for by what its scan listed, or by nothing; one that opened files by its account.
-use Rattle.std.proofs.Common.{◌≡◌, ◌≢◌, ◌⊎◌, inl, inr, ℕ, true, false, List, [], ◌∷◌, ◌++◌, length, map, All, Option, Some, None, IfSome, IsSome, Result, Ok, Err, IfErr, refl, sym, ap, subst, ◌∙◌}
+use Rattle.std.proofs.Common.{◌≡◌, ◌≢◌, ◌≤◌, ◌⊎◌, inl, inr, ℕ, true, false, List, [], ◌∷◌, ◌++◌, length, map, All, Option, Some, None, IfSome, IsSome, Result, Ok, Err, IfErr, refl, sym, ap, subst, ◌∙◌}
 use Rattle.std.specs.List.{AllByRecursion}
 use Rattle.batch_worker.specs.Seen.{Seen}
 use Rattle.beat_config.specs.InRange.{AreInRange}
@@ -31,15 +31,21 @@ use Rattle.wire_base.specs.declared.limits.Full.TheVariants.{Epochs, Files, Slot
 use Rattle.wire_base.specs.declared.row.Row.{Row}
 use Rattle.run_steps.specs.declared.met.Met.{Met}
 use Rattle.run_steps.specs.declared.met.Met.TheVariants as met
+use Rattle.run_steps.specs.declared.registry_error.RegistryError.{RegistryError}
+use Rattle.run_steps.specs.declared.registry_error.RegistryError.TheVariants as registry
 use Rattle.run_steps.proofs.Giving.{first_given}
 use Rattle.run_steps.proofs.RunEarly.{early_is_accounted_for, listed_all, still_is_accounted_for}
 use Rattle.run_steps.proofs.HeldRows.{some_of}
 use Rattle.run_steps.proofs.Members.{some_is}
 use Rattle.run_steps.proofs.RunRows.{OneChoice}
-use Rattle.beat_run.specs.Accounted.{IsAccounted, IsAccountedByNamed, IsMetFor, IsOpenedFrom, TellRows}
-use Rattle.beat_run.specs.Ended.{StandsForMet}
-use Rattle.beat_run.specs.Ends.{IsPrintingEnd, IsRunEnd, IsStartEnd, ShowsScanEnd}
+use Rattle.beat_run.specs.Accounted.{HasNoRoom, IsAccounted, IsAccountedByNamed, IsFullFor, IsMetFor, IsOpenedFrom, RunLent, TellRows}
+use Rattle.beat_run.specs.Ended.{StandsForMet, StandsForRegistry}
+use Rattle.beat_run.specs.Ends.{FindsNoRoom, IsPreparingEnd, IsPrintingEnd, IsRunEnd, IsStartEnd, ShowsScanEnd}
 use Rattle.beat_run.proofs.Causes.{named_so}
+
+pub each_some : {A : Type 0} (o : Option A) (P Q : A → Type 0) → ((x : A) → P x → Q x) → IfSome o P → IfSome o Q
+each_some None P Q then is = tt
+each_some (Some x) P Q then is = then x is
 
 -- ---- what was met, by the status
 
@@ -96,57 +102,118 @@ pub met_for_end : (listed : List Listed) (attempts : ℕ) (what : Met) (status :
 met_for_end listed attempts what status of (inl memory) = subst (λ (s : Status). IsMetFor s what) (sym memory) tt
 met_for_end listed attempts what status of (inr stands) = met_for listed attempts what status of stands
 
+-- ---- only a scan finds too many files
+
+pub full_for_met : {D : Type 0} (disks : DiskWords D) (settings : SettingsOf) (objects : RunObjects D) (listed : List Listed) (attempts : ℕ) (what : Met) (status : Status) → IsMetOf (length listed) what →
+    (status ≡ NoMemory) ⊎ StandsForMet listed attempts what status → IsFullFor disks settings objects status
+full_for_met {D} disks settings objects listed attempts what status of ends = by_end ends
+  where
+    IsFull : Status → Type 0
+    IsFull s = IsFullFor disks settings objects s
+
+    by_met : (m : Met) → IsMetOf (length listed) m → StandsForMet listed attempts m status → IsFullFor disks settings objects status
+    by_met met.Done of_it stands = subst IsFull (sym stands) tt
+    by_met met.Stopped of_it stands = subst IsFull (sym stands) tt
+    by_met met.NoMemory of_it stands = subst IsFull (sym stands) tt
+    by_met met.DiskFault of_it stands = subst IsFull (sym stands) tt
+    by_met met.FolderFault of_it stands = subst IsFull (sym stands) tt
+    by_met (met.Unreachable worker) of_it stands = subst IsFull (sym stands) tt
+    by_met (met.Epochs slot) of_it stands = named_so listed slot.0 status IsFull of_it stands tt (λ one is. tt)
+
+    by_end : (status ≡ NoMemory) ⊎ StandsForMet listed attempts what status → IsFullFor disks settings objects status
+    by_end (inl memory) = subst IsFull (sym memory) tt
+    by_end (inr stands) = by_met what of stands
+
+pub full_for_registry : {D : Type 0} (disks : DiskWords D) (settings : SettingsOf) (objects : RunObjects D) (error : RegistryError) (status : Status) → StandsForRegistry error status → IsFullFor disks settings objects status
+full_for_registry disks settings objects (registry.Bad area at) status stands = subst (λ (s : Status). IsFullFor disks settings objects s) (sym stands) tt
+full_for_registry disks settings objects registry.DiskFault status stands = subst (λ (s : Status). IsFullFor disks settings objects s) (sym stands) tt
+full_for_registry disks settings objects registry.NoMemory status stands = subst (λ (s : Status). IsFullFor disks settings objects s) (sym stands) tt
+
+pub full_for_prepared : {D : Type 0} (disks : DiskWords D) (settings : SettingsOf) (objects : RunObjects D) (before now : ℕ) (status : Status) → IsPreparingEnd before now status → IsFullFor disks settings objects status
+full_for_prepared disks settings objects before now Done ends = tt
+full_for_prepared disks settings objects before now Stopped ends = tt
+full_for_prepared disks settings objects before now Usage ends = tt
+full_for_prepared disks settings objects before now (Settings fault) ends = tt
+full_for_prepared disks settings objects before now (RegistryBad area at) ends = tt
+full_for_prepared disks settings objects before now DiskFault ends = tt
+full_for_prepared disks settings objects before now FolderFault ends = tt
+full_for_prepared disks settings objects before now (Unreachable worker failures) ends = tt
+full_for_prepared disks settings objects before now OutFault ends = tt
+full_for_prepared disks settings objects before now SourceFault ends = tt
+full_for_prepared disks settings objects before now (TooMany full path) ends = absurd ends
+full_for_prepared disks settings objects before now (NoNative path) ends = tt
+full_for_prepared disks settings objects before now NoMemory ends = tt
+full_for_prepared disks settings objects before now (Unbuilt what) ends = tt
+
+-- a scan that told no files finds it beside the rows that the areas gave
+pub full_for_scan : {D : Type 0} (disks : DiskWords D) (settings : SettingsOf) (objects : RunObjects D) (rows : List Row) (status : Status) → GiveTheRows disks objects.before.a objects.before.b rows →
+    IfSome objects.before.folder (λ told. ShowsScanEnd settings.inputs told rows objects.after.folder status) → IsFullFor disks settings objects status
+full_for_scan disks settings objects rows Done gave shows = tt
+full_for_scan disks settings objects rows Stopped gave shows = tt
+full_for_scan disks settings objects rows Usage gave shows = tt
+full_for_scan disks settings objects rows (Settings fault) gave shows = tt
+full_for_scan disks settings objects rows (RegistryBad area at) gave shows = tt
+full_for_scan disks settings objects rows DiskFault gave shows = tt
+full_for_scan disks settings objects rows FolderFault gave shows = tt
+full_for_scan disks settings objects rows (Unreachable worker failures) gave shows = tt
+full_for_scan disks settings objects rows OutFault gave shows = tt
+full_for_scan disks settings objects rows SourceFault gave shows = tt
+full_for_scan disks settings objects rows (TooMany Files path) gave shows =
+    each_some objects.before.folder (λ told. FindsNoRoom settings.inputs told rows path objects.after.folder) (λ told. HasNoRoom disks settings objects told path)
+    (λ told finds. record { rows = rows; given = gave; finds = finds }) shows
+full_for_scan disks settings objects rows (TooMany Epochs path) gave shows = tt
+full_for_scan disks settings objects rows (TooMany Slots path) gave shows = tt
+full_for_scan disks settings objects rows (NoNative path) gave shows = tt
+full_for_scan disks settings objects rows NoMemory gave shows = tt
+full_for_scan disks settings objects rows (Unbuilt what) gave shows = tt
+
 -- ---- a run that opened no file
 
 -- its listings are some
-pub some_listed : (inputs : List InputRule) (told : FolderHistory) (after : Option FolderHistory) (status : Status) → ShowsScanEnd inputs told after status → ListsSome (globs_of inputs) told after
-some_listed inputs told after Done shows = absurd shows
-some_listed inputs told after Stopped shows = absurd shows
-some_listed inputs told after Usage shows = absurd shows
-some_listed inputs told after (Settings fault) shows = absurd shows
-some_listed inputs told after (RegistryBad area at) shows = absurd shows
-some_listed inputs told after DiskFault shows = absurd shows
-some_listed inputs told after FolderFault shows = shows
-some_listed inputs told after (Unreachable worker failures) shows = absurd shows
-some_listed inputs told after OutFault shows = absurd shows
-some_listed inputs told after SourceFault shows = absurd shows
-some_listed inputs told after (TooMany Files path) (inl shows) = listed_all (globs_of inputs) told shows.listings after shows.listed_is
-some_listed inputs told after (TooMany Files path) (inr shows) = listed_all (globs_of inputs) told shows.scans.listings after shows.scans.listed_is
-some_listed inputs told after (TooMany Epochs path) shows = listed_all (globs_of inputs) told shows.scans.listings after shows.scans.listed_is
-some_listed inputs told after (TooMany Slots path) shows = absurd shows
-some_listed inputs told after (NoNative path) shows = absurd shows
-some_listed inputs told after NoMemory shows = shows
-some_listed inputs told after (Unbuilt what) shows = absurd shows
+pub some_listed : (inputs : List InputRule) (told : FolderHistory) (rows : List Row) (after : Option FolderHistory) (status : Status) → ShowsScanEnd inputs told rows after status → ListsSome (globs_of inputs) told after
+some_listed inputs told rows after Done shows = absurd shows
+some_listed inputs told rows after Stopped shows = absurd shows
+some_listed inputs told rows after Usage shows = absurd shows
+some_listed inputs told rows after (Settings fault) shows = absurd shows
+some_listed inputs told rows after (RegistryBad area at) shows = absurd shows
+some_listed inputs told rows after DiskFault shows = absurd shows
+some_listed inputs told rows after FolderFault shows = shows
+some_listed inputs told rows after (Unreachable worker failures) shows = absurd shows
+some_listed inputs told rows after OutFault shows = absurd shows
+some_listed inputs told rows after SourceFault shows = absurd shows
+some_listed inputs told rows after (TooMany Files path) (inl shows) = listed_all (globs_of inputs) told shows.listings after shows.listed_is
+some_listed inputs told rows after (TooMany Files path) (inr shows) = listed_all (globs_of inputs) told shows.scans.listings after shows.scans.listed_is
+some_listed inputs told rows after (TooMany Epochs path) shows = listed_all (globs_of inputs) told shows.scans.listings after shows.scans.listed_is
+some_listed inputs told rows after (TooMany Slots path) shows = absurd shows
+some_listed inputs told rows after (NoNative path) shows = absurd shows
+some_listed inputs told rows after NoMemory shows = shows
+some_listed inputs told rows after (Unbuilt what) shows = absurd shows
 
 -- files that were listed, and could not all be started
-start_shows_one : (inputs : List InputRule) (told : FolderHistory) (after : Option FolderHistory) (listed : List Listed) (status : Status) → ScansFiles inputs told listed after → IsStartEnd listed status →
-    ShowsScanEnd inputs told after status
-start_shows_one inputs told after listed Done scans ends = absurd ends
-start_shows_one inputs told after listed Stopped scans ends = absurd ends
-start_shows_one inputs told after listed Usage scans ends = absurd ends
-start_shows_one inputs told after listed (Settings fault) scans ends = absurd ends
-start_shows_one inputs told after listed (RegistryBad area at) scans ends = absurd ends
-start_shows_one inputs told after listed DiskFault scans ends = absurd ends
-start_shows_one inputs told after listed FolderFault scans ends = absurd ends
-start_shows_one inputs told after listed (Unreachable worker failures) scans ends = absurd ends
-start_shows_one inputs told after listed OutFault scans ends = absurd ends
-start_shows_one inputs told after listed SourceFault scans ends = absurd ends
-start_shows_one inputs told after listed (TooMany Files path) scans ends = inr (record { listed = listed; scans = scans; among = ends })
-start_shows_one inputs told after listed (TooMany Epochs path) scans ends = record { listed = listed; scans = scans; among = ends }
-start_shows_one inputs told after listed (TooMany Slots path) scans ends = absurd ends
-start_shows_one inputs told after listed (NoNative path) scans ends = absurd ends
-start_shows_one inputs told after listed NoMemory scans ends = listed_all (globs_of inputs) told scans.listings after scans.listed_is
-start_shows_one inputs told after listed (Unbuilt what) scans ends = absurd ends
+start_shows_one : (inputs : List InputRule) (told : FolderHistory) (rows : List Row) (after : Option FolderHistory) (listed : List Listed) (few : length listed ≤ 65_536) (status : Status) → ScansFiles inputs told listed after → IsStartEnd rows listed status →
+    ShowsScanEnd inputs told rows after status
+start_shows_one inputs told rows after listed few Done scans ends = absurd ends
+start_shows_one inputs told rows after listed few Stopped scans ends = absurd ends
+start_shows_one inputs told rows after listed few Usage scans ends = absurd ends
+start_shows_one inputs told rows after listed few (Settings fault) scans ends = absurd ends
+start_shows_one inputs told rows after listed few (RegistryBad area at) scans ends = absurd ends
+start_shows_one inputs told rows after listed few DiskFault scans ends = absurd ends
+start_shows_one inputs told rows after listed few FolderFault scans ends = absurd ends
+start_shows_one inputs told rows after listed few (Unreachable worker failures) scans ends = absurd ends
+start_shows_one inputs told rows after listed few OutFault scans ends = absurd ends
+start_shows_one inputs told rows after listed few SourceFault scans ends = absurd ends
+start_shows_one inputs told rows after listed few (TooMany Files path) scans ends = inr (record { listed = listed; scans = scans; few = few; first = ends })
+start_shows_one inputs told rows after listed few (TooMany Epochs path) scans ends = record { listed = listed; scans = scans; few = few; first = ends }
+start_shows_one inputs told rows after listed few (TooMany Slots path) scans ends = absurd ends
+start_shows_one inputs told rows after listed few (NoNative path) scans ends = absurd ends
+start_shows_one inputs told rows after listed few NoMemory scans ends = listed_all (globs_of inputs) told scans.listings after scans.listed_is
+start_shows_one inputs told rows after listed few (Unbuilt what) scans ends = absurd ends
 
-pub start_shows : {A : Type 0} (inputs : List InputRule) (before after : Option FolderHistory) (listed : List Listed) (result : Result A Status) → IfSome before (λ told. ScansFiles inputs told listed after) →
-    IfErr result (IsStartEnd listed) → IfErr result (λ status. IfSome before (λ told. ShowsScanEnd inputs told after status))
-start_shows inputs before after listed (Ok scanned) scans ends = tt
-start_shows inputs None after listed (Err status) scans ends = tt
-start_shows inputs (Some told) after listed (Err status) scans ends = start_shows_one inputs told after listed status scans ends
-
-pub each_some : {A : Type 0} (o : Option A) (P Q : A → Type 0) → ((x : A) → P x → Q x) → IfSome o P → IfSome o Q
-each_some None P Q then is = tt
-each_some (Some x) P Q then is = then x is
+pub start_shows : {A : Type 0} (inputs : List InputRule) (rows : List Row) (before after : Option FolderHistory) (listed : List Listed) (few : length listed ≤ 65_536) (result : Result A Status) → IfSome before (λ told. ScansFiles inputs told listed after) →
+    IfErr result (IsStartEnd rows listed) → IfErr result (λ status. IfSome before (λ told. ShowsScanEnd inputs told rows after status))
+start_shows inputs rows before after listed few (Ok scanned) scans ends = tt
+start_shows inputs rows None after listed few (Err status) scans ends = tt
+start_shows inputs rows (Some told) after listed few (Err status) scans ends = start_shows_one inputs told rows after listed few status scans ends
 
 nothing : (A : Type 0) → IsSome {T = A} None → ⊥
 nothing A some = let never : false ≡ true = some in cc
@@ -157,7 +224,7 @@ later_tells (Some moments) later moment (inl same) some = subst (λ (o : Option 
 later_tells (Some moments) later moment (inr grows) some = subst (λ (o : Option (List ℕ)). IsSome o) (sym grows.1) refl
 
 module _ {D : Type 0} (disks : DiskWords D) (one : OneChoice) (settings : SettingsOf) (in_range : AreInRange settings) (paths : All (λ (input : InputRule). input.file_identity ≡ Path) settings.inputs)
-    (opening : List Row) (from_a from_b a b : D) (gave : AreAtRest disks.contents disks.images from_a from_b → GiveTheRows disks from_a from_b opening)
+    (opening : List Row) (from_a from_b a b : D) (gave : GiveTheRows disks from_a from_b opening)
     (held : AreAtRest disks.contents disks.images from_a from_b → HaveHeldFronts disks opening [] from_a from_b a b) (outcomes : List (Option (List Outcome))) where
   -- what all told before it, and behind it
   abbrev pub early_run : Option FolderHistory → Option FolderHistory → Option (List ℕ) → Option (List ℕ) → RunObjects D
@@ -168,9 +235,10 @@ module _ {D : Type 0} (disks : DiskWords D) (one : OneChoice) (settings : Settin
 
   -- it scanned
   pub early : (told after : Option FolderHistory) (before later : Option (List ℕ)) (moment : ℕ) (status : Status) → IsSome told → IsSome before → GivesMoment before moment later →
-      IfSome told (λ history. ListsSome (globs_of settings.inputs) history after) → IsRunEnd status → IsAccounted disks settings (early_run told after before later) status
-  early None after before later moment status some clock gives lists ends = absurd (nothing FolderHistory some)
-  early (Some history) after before later moment status some clock gives lists ends =
+      IfSome told (λ history. ListsSome (globs_of settings.inputs) history after) → IsRunEnd status → IsFullFor disks settings (early_run told after before later) status →
+      IsAccounted disks settings (early_run told after before later) status
+  early None after before later moment status some clock gives lists ends full = absurd (nothing FolderHistory some)
+  early (Some history) after before later moment status some clock gives lists ends full =
       let scanned : FolderHistory = record history { events = history.events ++ lists.more } in
       let first = first_given moment before later gives in
       let start : Began D = record { settings = settings; opening = opening; listed = []; moment = moment; shown = Some scanned; moments = before; heard = []; a = from_a; b = from_b } in
@@ -182,25 +250,27 @@ module _ {D : Type 0} (disks : DiskWords D) (one : OneChoice) (settings : Settin
             (early_is_accounted_for disks start folder
             (record { in_range = in_range; by_path = paths; lists = record { more = lists.more; in_order = lists.in_order; kept = refl } })
             first.since later first.given (later_tells before later moment gives clock) outcomes a b one gave held (early_met status) (early_not_done status));
+        full_for = full;
       }
 
 -- it did not
 module _ {D : Type 0} (disks : DiskWords D) (one : OneChoice) (settings : SettingsOf) (opening : List Row) (from_a from_b a b : D)
-    (gave : AreAtRest disks.contents disks.images from_a from_b → GiveTheRows disks from_a from_b opening)
+    (gave : GiveTheRows disks from_a from_b opening)
     (held : AreAtRest disks.contents disks.images from_a from_b → HaveHeldFronts disks opening [] from_a from_b a b) (outcomes : List (Option (List Outcome))) where
-  abbrev still_run : Option FolderHistory → Option (List ℕ) → RunObjects D
+  abbrev pub still_run : Option FolderHistory → Option (List ℕ) → RunObjects D
   still_run told before = record {
     before = record { folder = told; moments = before; outcomes = outcomes; a = from_a; b = from_b };
     after = record { folder = told; moments = before; outcomes = outcomes; a = a; b = b };
   }
 
-  pub still : (told : Option FolderHistory) (before : Option (List ℕ)) (status : Status) → IsSome told → IsSome before → IsRunEnd status → IsAccounted disks settings (still_run told before) status
-  still None before status some clock ends = absurd (nothing FolderHistory some)
-  still (Some history) None status some clock ends = absurd (nothing (List ℕ) clock)
-  still (Some history) (Some moments) status some clock ends = record {
+  pub still : (told : Option FolderHistory) (before : Option (List ℕ)) (status : Status) → IsSome told → IsSome before → IsRunEnd status → IsFullFor disks settings (still_run told before) status → IsAccounted disks settings (still_run told before) status
+  still None before status some clock ends full = absurd (nothing FolderHistory some)
+  still (Some history) None status some clock ends full = absurd (nothing (List ℕ) clock)
+  still (Some history) (Some moments) status some clock ends full = record {
     what = early_met status;
     met_for = early_met_for status ends;
     accounted = still_is_accounted_for disks settings opening history moments outcomes from_a from_b a b one gave held (early_met status) (early_not_done status);
+    full_for = full;
   }
 
 -- ---- a run that opened files
@@ -219,39 +289,41 @@ wires_tell outcomes (w ∷ wires) tell = (tell.0, wires_tell outcomes wires tell
 -- with what the folder told, where it tells
 module _ {D : Type 0} (disks : DiskWords D) (start : Began D) (in_range : AreInRange start.settings) (paths : All (λ (input : InputRule). input.file_identity ≡ Path) start.settings.inputs)
     (outcomes : List (Option (List Outcome))) (after : Objects D) (what : Met) where
-  abbrev worked_run : Option FolderHistory → RunObjects D
+  abbrev pub worked_run : Option FolderHistory → RunObjects D
   worked_run told = record { before = record { folder = told; moments = start.moments; outcomes = outcomes; a = start.a; b = start.b }; after = after }
 
-  pub worked : (told : Option FolderHistory) (status : Status) → IsSome told → IfSome told (λ history. ScansFiles start.settings.inputs history start.listed start.shown) → IsMetFor status what →
+  pub worked : (told : Option FolderHistory) (status : Status) → IsSome told → IfSome told (λ history. ScansFiles start.settings.inputs history start.listed start.shown) → IsMetFor status what → IsFullFor disks start.settings (worked_run told) status →
       ((folder : FolderTold) → HasScanned start folder → AccountedFor disks start.settings (worked_run (Some folder.earlier)) what) → IsAccounted disks start.settings (worked_run told) status
-  worked None status some scans is accounted = absurd (nothing FolderHistory some)
-  worked (Some history) status some scans is accounted =
+  worked None status some scans is full accounted = absurd (nothing FolderHistory some)
+  worked (Some history) status some scans is full accounted =
       let scanned : FolderHistory = record history { events = history.events ++ map event_of scans.listings } in
       let folder : FolderTold = record { earlier = history; scanned = scanned; ended = scanned } in
       record {
         what = what;
         met_for = is;
         accounted = accounted folder (record { in_range = in_range; by_path = paths; shown = scans.listed_is.kept; scans = scans });
+        full_for = full;
       }
 
 -- ---- once it is printed
 
--- where the sink failed, nothing is told of its settings
-pub out_fault : {D : Type 0} (disks : DiskWords D) (source : Option (List ℕ)) (objects : RunObjects D) (ended : Status) → IsAccountedByNamed disks source objects ended → IsAccountedByNamed disks source objects OutFault
-out_fault disks source objects ended by = record {
+-- where the sink failed, its status tells nothing of the settings
+pub out_fault : {F W D : Type 0} (disks : DiskWords D) (source : Option (List ℕ)) (lent : RunLent F W D) (objects : RunObjects D) (ended : Status) → IsAccountedByNamed disks source lent objects ended → IsAccountedByNamed disks source lent objects OutFault
+out_fault disks source lent objects ended by = record {
   settings = by.settings;
   named = λ behind. absurd behind;
-  is = record { what = by.is.what; met_for = tt; accounted = by.is.accounted };
+  named_or_unused = by.named_or_unused;
+  is = record { what = by.is.what; met_for = tt; accounted = by.is.accounted; full_for = tt };
 }
 
-pub printed : {D : Type 0} (disks : DiskWords D) (source : Option (List ℕ)) (objects : RunObjects D) (before now : ℕ) (ended status : Status) → IsPrintingEnd before now ended status →
-    IsAccountedByNamed disks source objects ended → IsAccountedByNamed disks source objects status
-printed disks source objects before now ended status ends is = by_case status ends
+pub printed : {F W D : Type 0} (disks : DiskWords D) (source : Option (List ℕ)) (lent : RunLent F W D) (objects : RunObjects D) (before now : ℕ) (ended status : Status) → IsPrintingEnd before now ended status →
+    IsAccountedByNamed disks source lent objects ended → IsAccountedByNamed disks source lent objects status
+printed disks source lent objects before now ended status ends is = by_case status ends
   where
-    same : (s : Status) → s ≡ ended → IsAccountedByNamed disks source objects s
-    same s equal = subst (IsAccountedByNamed disks source objects) (sym equal) is
+    same : (s : Status) → s ≡ ended → IsAccountedByNamed disks source lent objects s
+    same s equal = subst (IsAccountedByNamed disks source lent objects) (sym equal) is
 
-    by_case : (s : Status) → IsPrintingEnd before now ended s → IsAccountedByNamed disks source objects s
+    by_case : (s : Status) → IsPrintingEnd before now ended s → IsAccountedByNamed disks source lent objects s
     by_case Done ends = same Done ends
     by_case Stopped ends = same Stopped ends
     by_case Usage ends = same Usage ends
@@ -260,7 +332,7 @@ printed disks source objects before now ended status ends is = by_case status en
     by_case DiskFault ends = same DiskFault ends
     by_case FolderFault ends = same FolderFault ends
     by_case (Unreachable worker failures) ends = same (Unreachable worker failures) ends
-    by_case OutFault ends = out_fault disks source objects ended is
+    by_case OutFault ends = out_fault disks source lent objects ended is
     by_case SourceFault ends = same SourceFault ends
     by_case (TooMany full path) ends = same (TooMany full path) ends
     by_case (NoNative path) ends = same (NoNative path) ends
@@ -291,7 +363,7 @@ pub opened_from : {D : Type 0} (disks : DiskWords D) (from_a from_b a b : D) (st
     HaveHeldFronts disks rows [] from_a from_b a b) →
     (AreAtRest disks.contents disks.images from_a from_b → AreSettled disks.contents disks.images a b (chosen_by store)) → IsOpenedFrom disks (record { a = from_a; b = from_b }) store a b
 opened_from disks from_a from_b a b store gave held settled = record {
-  gave = λ rest. gave;
+  gave = gave;
   held = λ rest.
       let (first, a_is) = some_of (disks.contents from_a) rest.a_told in
       let (second, b_is) = some_of (disks.contents from_b) rest.b_told in

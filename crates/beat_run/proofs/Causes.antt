@@ -29,10 +29,12 @@ use Rattle.run_steps.specs.declared.met.Met.TheVariants as met
 use Rattle.run_steps.specs.declared.registry_error.RegistryError.{RegistryError}
 use Rattle.run_steps.specs.declared.registry_error.RegistryError.TheVariants as registry
 use Rattle.ship_core.proofs.Members.{first_there, later_there, none_there, there_cases}
+use Rattle.wire_base.specs.declared.limits.Full.{Full}
 use Rattle.wire_base.specs.declared.limits.Full.TheVariants.{Epochs, Files, Slots}
+use Rattle.wire_base.specs.declared.row.Row.{Row}
 use Rattle.beat_run.specs.Cause.{AllSigns, Cause, CauseBy, HasAreaFailed, HasFailedAt, Signs, WasListed, without_sink}
 use Rattle.beat_run.specs.Ended.{IsTelling, StandsForMet, StandsForRegistry}
-use Rattle.beat_run.specs.Ends.{IsBehindOpening, IsBehindSettings, IsPreparingEnd, IsReportEnd, IsRunEnd, IsScanEnd, IsScannedEnd, ListsPath, ShowsScanEnd}
+use Rattle.beat_run.specs.Ends.{IsBehindOpening, IsBehindSettings, IsPreparingEnd, IsReportEnd, IsRunEnd, IsScanEnd, IsScannedEnd, FindsNoRoom, ListsTooMany, ShowsScanEnd}
 use Rattle.beat_run.specs.Named.{IsNamed}
 
 pub rose_since : (before mid now : ℕ) → before ≤ mid → Rose mid now → Rose before now
@@ -210,39 +212,40 @@ module _ {D : Type 0} (disks : DiskWords D) (a b : D) (store : Standing) (settle
 stays_so : (shown : Option FolderHistory) → GoesFurther shown shown
 stays_so shown = record { more = λ history is. ([], is ∙ ap (λ (l : List Event). Some (record { files = history.files; events = l })) (sym (append-nil history.events))) }
 
-path_was_listed : (inputs : List InputRule) (path : List ℕ) (told : FolderHistory) (after : Option FolderHistory) → ListsPath inputs told path after → WasListed path told after
-path_was_listed inputs path told after lists =
-    subst (λ (p : List ℕ). WasListed p told after) (sym lists.among.path_is)
-    (was_listed inputs told lists.listed after after lists.scans (stays_so after) lists.among.place lists.among.one lists.among.listed_there)
+path_was_listed : (inputs : List InputRule) (rows : List Row) (what : Full) (path : List ℕ) (told : FolderHistory) (after : Option FolderHistory) → ListsTooMany inputs told rows what path after → WasListed path told after
+path_was_listed inputs rows what path told after lists =
+    subst (λ (p : List ℕ). WasListed p told after) (sym lists.first.path_is)
+    (was_listed inputs told lists.listed after after lists.scans (stays_so after) lists.first.place lists.first.one lists.first.listed_there)
 
-path_listed : (inputs : List InputRule) (path : List ℕ) (told after : Option FolderHistory) → IfSome told (λ history. ListsPath inputs history path after) → IfSome told (λ history. WasListed path history after)
-path_listed inputs path None after lists = tt
-path_listed inputs path (Some history) after lists = path_was_listed inputs path history after lists
+path_listed : (inputs : List InputRule) (rows : List Row) (what : Full) (path : List ℕ) (told after : Option FolderHistory) → IfSome told (λ history. ListsTooMany inputs history rows what path after) →
+    IfSome told (λ history. WasListed path history after)
+path_listed inputs rows what path None after lists = tt
+path_listed inputs rows what path (Some history) after lists = path_was_listed inputs rows what path history after lists
 
-too_many : (inputs : List InputRule) (path : List ℕ) (told after : Option FolderHistory) → IfSome told (λ history. FindsOneMore inputs history path after ⊎ ListsPath inputs history path after) →
+too_many : (inputs : List InputRule) (rows : List Row) (path : List ℕ) (told after : Option FolderHistory) → IfSome told (λ history. FindsNoRoom inputs history rows path after) →
     IfSome told (λ history. FindsOneMore inputs history path after ⊎ WasListed path history after)
-too_many inputs path None after shows = tt
-too_many inputs path (Some history) after (inl more) = inl more
-too_many inputs path (Some history) after (inr lists) = inr (path_was_listed inputs path history after lists)
+too_many inputs rows path None after shows = tt
+too_many inputs rows path (Some history) after (inl more) = inl more
+too_many inputs rows path (Some history) after (inr lists) = inr (path_was_listed inputs rows Files path history after lists)
 
-pub scan_caused : (settings : SettingsOf) (before now : Signs) (status : Status) → IsScanEnd before.counts.folder_faults now.counts.folder_faults status →
-    IfSome before.folder (λ history. ShowsScanEnd settings.inputs history now.folder status) → CauseBy settings before now status
-scan_caused settings before now Done ends shows = absurd ends
-scan_caused settings before now Stopped ends shows = absurd ends
-scan_caused settings before now Usage ends shows = absurd ends
-scan_caused settings before now (Settings fault) ends shows = absurd ends
-scan_caused settings before now (RegistryBad area at) ends shows = absurd ends
-scan_caused settings before now DiskFault ends shows = absurd ends
-scan_caused settings before now FolderFault ends shows = ends
-scan_caused settings before now (Unreachable worker failures) ends shows = absurd ends
-scan_caused settings before now OutFault ends shows = absurd ends
-scan_caused settings before now SourceFault ends shows = absurd ends
-scan_caused settings before now (TooMany Files path) ends shows = too_many settings.inputs path before.folder now.folder shows
-scan_caused settings before now (TooMany Epochs path) ends shows = path_listed settings.inputs path before.folder now.folder shows
-scan_caused settings before now (TooMany Slots path) ends shows = absurd ends
-scan_caused settings before now (NoNative path) ends shows = absurd ends
-scan_caused settings before now NoMemory ends shows = tt
-scan_caused settings before now (Unbuilt what) ends shows = absurd ends
+pub scan_caused : (settings : SettingsOf) (rows : List Row) (before now : Signs) (status : Status) → IsScanEnd before.counts.folder_faults now.counts.folder_faults status →
+    IfSome before.folder (λ history. ShowsScanEnd settings.inputs history rows now.folder status) → CauseBy settings before now status
+scan_caused settings rows before now Done ends shows = absurd ends
+scan_caused settings rows before now Stopped ends shows = absurd ends
+scan_caused settings rows before now Usage ends shows = absurd ends
+scan_caused settings rows before now (Settings fault) ends shows = absurd ends
+scan_caused settings rows before now (RegistryBad area at) ends shows = absurd ends
+scan_caused settings rows before now DiskFault ends shows = absurd ends
+scan_caused settings rows before now FolderFault ends shows = ends
+scan_caused settings rows before now (Unreachable worker failures) ends shows = absurd ends
+scan_caused settings rows before now OutFault ends shows = absurd ends
+scan_caused settings rows before now SourceFault ends shows = absurd ends
+scan_caused settings rows before now (TooMany Files path) ends shows = too_many settings.inputs rows path before.folder now.folder shows
+scan_caused settings rows before now (TooMany Epochs path) ends shows = path_listed settings.inputs rows Epochs path before.folder now.folder shows
+scan_caused settings rows before now (TooMany Slots path) ends shows = absurd ends
+scan_caused settings rows before now (NoNative path) ends shows = absurd ends
+scan_caused settings rows before now NoMemory ends shows = tt
+scan_caused settings rows before now (Unbuilt what) ends shows = absurd ends
 
 pub scan_ended : (before now : ℕ) (status : Status) → IsScanEnd before now status → IsScannedEnd status
 scan_ended before now Done ends = absurd ends

@@ -12,16 +12,17 @@ use Rattle.report.specs.declared.passing.Passing.{Passing}
 use Rattle.report.specs.declared.status.Status.{Status}
 use Rattle.report.specs.declared.status.Status.TheVariants.{NoMemory}
 use Rattle.rounds.specs.Words.{DiskWords}
+use Rattle.run_steps.specs.AccountedFor.{RunObjects}
 use Rattle.run_steps.specs.Met.{AreLeft, IsMetOf}
 use Rattle.run_steps.specs.Worked.{IsMetByRun}
 use Rattle.run_steps.specs.declared.met.Met.{Met}
-use Rattle.beat_run.specs.Accounted.{IsMetFor}
+use Rattle.beat_run.specs.Accounted.{IsFullFor, IsMetFor}
 use Rattle.beat_run.specs.Cause.{CauseBy, Signs}
 use Rattle.beat_run.specs.Ended.{IsTelling, StandsForMet, ended}
 use Rattle.beat_run.specs.Ends.{IsBehindOpening, IsRunEnd, IsScannedEnd}
 use Rattle.beat_run.specs.Printed.{IsReportOf, ReportsStored}
 use Rattle.beat_run.specs.declared.ending.Ending.{Ending}
-use Rattle.beat_run.proofs.Accounts.{met_for_end}
+use Rattle.beat_run.proofs.Accounts.{full_for_met, met_for_end}
 use Rattle.beat_run.proofs.Causes.{FailedIn, GoesFurther, caused_at_end, gives_its_rows, left_by, left_telling, scanned_end}
 
 abbrev EndsBy : List Listed → ℕ → Met → Status → Type 0
@@ -35,6 +36,10 @@ by listed attempts what (Err status) stands refused = refused
 pub met_for_ending : (listed : List Listed) (attempts : ℕ) (what : Met) (result : Result Ending Status) → IsMetOf (length listed) what → IfOk result (λ ending. StandsForMet listed attempts what ending.status) →
     IfErr result (EndsBy listed attempts what) → IsMetFor (ended result) what
 met_for_ending listed attempts what result of stands refused = met_for_end listed attempts what (ended result) of (by listed attempts what result stands refused)
+
+pub full_for_ending : {D : Type 0} (disks : DiskWords D) (settings : SettingsOf) (objects : RunObjects D) (listed : List Listed) (attempts : ℕ) (what : Met) (result : Result Ending Status) → IsMetOf (length listed) what →
+    IfOk result (λ ending. StandsForMet listed attempts what ending.status) → IfErr result (EndsBy listed attempts what) → IsFullFor disks settings objects (ended result)
+full_for_ending disks settings objects listed attempts what result of stands refused = full_for_met disks settings objects listed attempts what (ended result) of (by listed attempts what result stands refused)
 
 pub left_by_ending : (listed : List Listed) (attempts : ℕ) (what : Met) (result : Result Ending Status) → IfOk result (λ ending. StandsForMet listed attempts what ending.status) →
     IfErr result (EndsBy listed attempts what) → IsBehindOpening (ended result) → AreLeft what

@@ -37,6 +37,6 @@ module _ {W D : Type 0} (disks : DiskWords D) (wires : WireWords W) (settings : 
   its_rows = ap (λ (s : Standing). s.rows) (sym over)
 
   pub set_out : SetsOut disks (began_with wires outset earlier) outset
-  set_out = sets_out disks wires outset earlier first.store first.pass first.is gives (λ rest. subst (GiveTheRows disks from.a from.b) its_rows (opened.gave rest)) (λ rest. subst (λ (rows : List Row). HaveHeldFronts disks rows [] from.a from.b a b) its_rows (opened.held rest))
+  set_out = sets_out disks wires outset earlier first.store first.pass first.is gives (subst (GiveTheRows disks from.a from.b) its_rows opened.gave) (λ rest. subst (λ (rows : List Row). HaveHeldFronts disks rows [] from.a from.b a b) its_rows (opened.held rest))
       (λ rest. subst (λ (s : Standing). AreSettled disks.contents disks.images a b (chosen_by s)) its_store (opened.settled rest))
       in_range paths of_inputs told (λ shown. some) scans

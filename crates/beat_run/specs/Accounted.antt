@@ -1,20 +1,22 @@
 -- A run that is accounted for, by the status that it ends with (this project's profile).
-use Rattle.std.specs.Prelude.{◌≡◌, ℕ, [], IsSome, List, Option, Some}
+use Rattle.std.specs.Prelude.{◌≡◌, ◌⊎◌, ℕ, [], IfSome, IsSome, List, Option, Some}
 use Rattle.std.specs.List.{AllByRecursion}
 use Rattle.event_tree.specs.declared.settings.Settings.{Settings}
+use Rattle.outside.specs.Folders.{FolderHistory}
 use Rattle.registry_store.specs.Choice.{GivesRows}
 use Rattle.registry_store.specs.Settled.{AreAtRest, AreSettled}
 use Rattle.registry_store.specs.Standing.{Standing, chosen_by}
 use Rattle.report.specs.declared.status.Status.{Status}
 use Rattle.report.specs.declared.status.Status.TheVariants.{Done, FolderFault, Stopped, TooMany, Unreachable}
 use Rattle.rounds.specs.Words.{DiskWords}
+use Rattle.wire_base.specs.declared.limits.Full.TheVariants.{Files}
 use Rattle.wire_base.specs.declared.row.Row.{Row}
 use Rattle.run_steps.specs.AccountedFor.{AccountedFor, Objects, RunObjects}
 use Rattle.run_steps.specs.Areas.{GiveTheRows, HaveHeldFronts}
 use Rattle.run_steps.specs.Met.{AreLeft}
 use Rattle.run_steps.specs.declared.met.Met.{Met}
 use Rattle.run_steps.specs.declared.met.Met.TheVariants as met
-use Rattle.beat_run.specs.Ends.{IsBehindSettings}
+use Rattle.beat_run.specs.Ends.{FindsNoRoom, IsBehindSettings}
 use Rattle.beat_run.specs.Named.{IsNamed}
 
 -- what a run with this status may have met; where it was refused, found no memory, or a disk or the sink failed, anything
@@ -26,10 +28,22 @@ IsMetFor (Unreachable worker failures) what = what ≡ met.Unreachable worker
 IsMetFor (TooMany full path) what = AreLeft what
 IsMetFor _ what = Unit {0}
 
+-- beside the rows that its areas gave as it began
+pub record HasNoRoom {D : Type 0} (disks : DiskWords D) (settings : Settings) (objects : RunObjects D) (told : FolderHistory) (path : List ℕ) : Type 0 where
+  pub rows : List Row
+  pub given : GiveTheRows disks objects.before.a objects.before.b rows
+  pub finds : FindsNoRoom settings.inputs told rows path objects.after.folder
+
+-- a run that ended since there were too many files tells the path of one for which there was no room
+abbrev pub IsFullFor : {D : Type 0} → DiskWords D → Settings → RunObjects D → Status → Type 0
+IsFullFor disks settings objects (TooMany Files path) = IfSome objects.before.folder (λ told. HasNoRoom disks settings objects told path)
+IsFullFor disks settings objects _ = Unit {0}
+
 pub record IsAccounted {D : Type 0} (disks : DiskWords D) (settings : Settings) (objects : RunObjects D) (status : Status) : Type 0 where
   pub what : Met
   pub met_for : IsMetFor status what
   pub accounted : AccountedFor disks settings objects what
+  pub full_for : IsFullFor disks settings objects status
 
 -- folder and clock tell before it, and each wire behind it
 pub record TellEnough {D : Type 0} (before after : Objects D) : Type 0 where
@@ -51,14 +65,27 @@ pub record AllTell {D : Type 0} (disks : DiskWords D) (objects : RunObjects D) :
   pub tell : TellEnough objects.before objects.after
   pub areas : TellRows disks objects.before.a objects.before.b
 
--- by the settings that the source spells, where the status tells that they were known
-pub record IsAccountedByNamed {D : Type 0} (disks : DiskWords D) (source : Option (List ℕ)) (objects : RunObjects D) (status : Status) : Type 0 where
+-- what a run is lent, and leaves as it was where its settings are not known
+pub record Lent (F W D : Type 0) : Type 0 where
+  pub folder : F
+  pub wires : List W
+  pub a : D
+  pub b : D
+
+-- as the run began and as it ended
+pub record RunLent (F W D : Type 0) : Type 0 where
+  pub before : Lent F W D
+  pub after : Lent F W D
+
+-- by the settings that the source spells, where the status tells that they were known, and else so where the run used what it was lent
+pub record IsAccountedByNamed {F W D : Type 0} (disks : DiskWords D) (source : Option (List ℕ)) (lent : RunLent F W D) (objects : RunObjects D) (status : Status) : Type 0 where
   pub settings : Settings
   pub named : IsBehindSettings status → IsNamed source settings
+  pub named_or_unused : IsNamed source settings ⊎ (lent.after ≡ lent.before)
   pub is : IsAccounted disks settings objects status
 
-abbrev pub IsAccountedWhereTold : {D : Type 0} → DiskWords D → Option (List ℕ) → RunObjects D → Status → Type 0
-IsAccountedWhereTold disks source objects status = AllTell disks objects → IsAccountedByNamed disks source objects status
+abbrev pub IsAccountedWhereTold : {F W D : Type 0} → DiskWords D → Option (List ℕ) → RunLent F W D → RunObjects D → Status → Type 0
+IsAccountedWhereTold disks source lent objects status = AllTell disks objects → IsAccountedByNamed disks source lent objects status
 
 -- ---- within a run
 
@@ -67,8 +94,8 @@ pub record Areas (D : Type 0) : Type 0 where
   pub a : D
   pub b : D
 
--- the store was opened from them: where they were at rest they gave its rows, gave no others since, and make the store's choice now
+-- the store was opened from them, which gave its rows: where they were at rest they gave no others since, and make the store's choice now
 pub record IsOpenedFrom {D : Type 0} (disks : DiskWords D) (from : Areas D) (store : Standing) (a b : D) : Type 0 where
-  pub gave : AreAtRest disks.contents disks.images from.a from.b → GiveTheRows disks from.a from.b store.rows
+  pub gave : GiveTheRows disks from.a from.b store.rows
   pub held : AreAtRest disks.contents disks.images from.a from.b → HaveHeldFronts disks store.rows [] from.a from.b a b
   pub settled : AreAtRest disks.contents disks.images from.a from.b → AreSettled disks.contents disks.images a b (chosen_by store)

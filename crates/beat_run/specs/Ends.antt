@@ -1,6 +1,6 @@
 -- Which statuses end which part of the run, and the count that has to have risen where one blames the outside (this
 -- project's profile). A count is given as it was before and as it is now.
-use Rattle.std.specs.Prelude.{◌≡◌, ◌⊎◌, ℕ, List, slice_get, Option, Some}
+use Rattle.std.specs.Prelude.{◌≡◌, ◌≤◌, ◌⊎◌, ℕ, List, length, Option}
 use Rattle.beat_config.specs.declared.settings_error.SettingsError.{SettingsError}
 use Rattle.event_tree.specs.declared.input_rule.InputRule.{InputRule}
 use Rattle.outside.specs.Folders.{FolderHistory}
@@ -8,7 +8,10 @@ use Rattle.prospect.specs.ListedFiles.{FindsOneMore, ScansFiles}
 use Rattle.prospect.specs.Members.{globs_of}
 use Rattle.prospect.specs.Unfinished.{ListsSome}
 use Rattle.prospect.specs.declared.listed.Listed.{Listed}
+use Rattle.run_steps.specs.Starting.{IsFirstTooMany}
+use Rattle.wire_base.specs.declared.limits.Full.{Full}
 use Rattle.wire_base.specs.declared.limits.Full.TheVariants.{Epochs, Files}
+use Rattle.wire_base.specs.declared.row.Row.{Row}
 use Rattle.outside.specs.Counts.{Rose}
 use Rattle.report.specs.declared.status.Lack.TheVariants.{Key, Follow, Generate}
 use Rattle.report.specs.declared.status.Lack.{Lack}
@@ -61,33 +64,32 @@ IsScanEnd before now (TooMany Files path) = Unit {0}
 IsScanEnd before now (TooMany Epochs path) = Unit {0}
 IsScanEnd before now _ = ⊥
 
--- a file of this path is listed
-pub record IsPathOf (listed : List Listed) (path : List ℕ) : Type 0 where
-  pub place : ℕ
-  pub one : Listed
-  pub listed_there : slice_get listed place ≡ Some one
-  pub path_is : path ≡ one.path
-
--- all was listed, and a file of this path
-pub record ListsPath (inputs : List InputRule) (told : FolderHistory) (path : List ℕ) (after : Option FolderHistory) : Type 0 where
+-- all was listed, no more than a run may list, and the first file that is too much for these rows has this path
+pub record ListsTooMany (inputs : List InputRule) (told : FolderHistory) (rows : List Row) (what : Full) (path : List ℕ) (after : Option FolderHistory) : Type 0 where
   pub listed : List Listed
   pub scans : ScansFiles inputs told listed after
-  pub among : IsPathOf listed path
+  pub few : length listed ≤ 65_536
+  pub first : IsFirstTooMany rows listed what path
 
--- what its listings show then: those that were made, or a file too many
-abbrev pub ShowsScanEnd : List InputRule → FolderHistory → Option FolderHistory → Status → Type 0
-ShowsScanEnd inputs told after FolderFault = ListsSome (globs_of inputs) told after
-ShowsScanEnd inputs told after NoMemory = ListsSome (globs_of inputs) told after
-ShowsScanEnd inputs told after (TooMany Files path) = FindsOneMore inputs told path after ⊎ ListsPath inputs told path after
-ShowsScanEnd inputs told after (TooMany Epochs path) = ListsPath inputs told path after
-ShowsScanEnd inputs told after _ = ⊥
+-- there is no room for the file of this path: it is the first behind as many as a run may list, whatever rows there are; or, of no more,
+-- the first that is too many beside these rows
+abbrev pub FindsNoRoom : List InputRule → FolderHistory → List Row → List ℕ → Option FolderHistory → Type 0
+FindsNoRoom inputs told rows path after = FindsOneMore inputs told path after ⊎ ListsTooMany inputs told rows Files path after
 
--- files that could not all be started
-abbrev pub IsStartEnd : List Listed → Status → Type 0
-IsStartEnd listed NoMemory = Unit {0}
-IsStartEnd listed (TooMany Files path) = IsPathOf listed path
-IsStartEnd listed (TooMany Epochs path) = IsPathOf listed path
-IsStartEnd listed _ = ⊥
+-- what its listings show then: those that were made, or what is too much for these rows
+abbrev pub ShowsScanEnd : List InputRule → FolderHistory → List Row → Option FolderHistory → Status → Type 0
+ShowsScanEnd inputs told rows after FolderFault = ListsSome (globs_of inputs) told after
+ShowsScanEnd inputs told rows after NoMemory = ListsSome (globs_of inputs) told after
+ShowsScanEnd inputs told rows after (TooMany Files path) = FindsNoRoom inputs told rows path after
+ShowsScanEnd inputs told rows after (TooMany Epochs path) = ListsTooMany inputs told rows Epochs path after
+ShowsScanEnd inputs told rows after _ = ⊥
+
+-- files that could not all be started beside these rows
+abbrev pub IsStartEnd : List Row → List Listed → Status → Type 0
+IsStartEnd rows listed NoMemory = Unit {0}
+IsStartEnd rows listed (TooMany Files path) = IsFirstTooMany rows listed Files path
+IsStartEnd rows listed (TooMany Epochs path) = IsFirstTooMany rows listed Epochs path
+IsStartEnd rows listed _ = ⊥
 
 -- a run that tells a report
 abbrev pub IsReportEnd : Status → Type 0

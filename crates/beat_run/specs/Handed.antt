@@ -8,6 +8,7 @@ use Rattle.rounds.specs.Making.{all_seen}
 use Rattle.rounds.specs.Words.{DiskWords, WireWords}
 use Rattle.run_steps.specs.AccountedFor.{Objects}
 use Rattle.run_steps.specs.ClockOn.{MomentsGoOn}
+use Rattle.beat_run.specs.Accounted.{Lent}
 use Rattle.beat_run.specs.Cause.{CauseBy, Signs}
 use Rattle.beat_run.specs.declared.objects.Outside.{Outside}
 
@@ -30,6 +31,15 @@ outside_words told open_tails folder_faults wires disks moments rings = record {
   disks = disks;
   moments = moments;
   rings = rings;
+}
+
+-- without its clock and its bell
+abbrev pub lent_of : {F W D K B : Type 0} → Outside F W D K B → Lent F W D
+lent_of outside = record {
+  folder = outside.folder.now;
+  wires = outside.wires.now.items;
+  a = outside.a.now;
+  b = outside.b.now;
 }
 
 module _ {F W D K B : Type 0} (words : OutsideWords F W D K B) where

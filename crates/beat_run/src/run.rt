@@ -13,7 +13,7 @@ ghost use Rattle.beat_run.specs.Asked.{AskFor, AskForOnce, IsAsked};
 ghost use Rattle.beat_run.specs.Cause.{Cause, without_sink};
 ghost use Rattle.beat_run.specs.Ended.{ended};
 ghost use Rattle.beat_run.specs.Ends.{IsBehindOpening, IsRefusal, IsReportEnd, IsRunEnd, IsScannedEnd, IsSettledEnd, IsUnprepared, RefusesArea, RefusesKey, RefusesLack, RefusesSettings, RefusesWords};
-ghost use Rattle.beat_run.specs.Handed.{CausedIn, GoesOn, objects_of, outside_words, signs_of};
+ghost use Rattle.beat_run.specs.Handed.{CausedIn, GoesOn, lent_of, objects_of, outside_words, signs_of};
 ghost use Rattle.beat_run.specs.Printed.{IsReportOf, ReportsStored};
 ghost use Rattle.beat_run.specs.Untouched.{IsRefused};
 ghost use Rattle.beat_run.specs.declared.settings.TheConstants.{LIMIT};
@@ -122,6 +122,9 @@ where
     ensures accounted { IsAccountedWhereTold
         (disk_words D.contents D.images D.moment D.images_since D.faults)
         (R.left source.old) (record {
+          before = lent_of outside.old;
+          after = lent_of outside.new;
+        }) (record {
           before = objects_of (outside_words F.told F.open_tails F.faults
               (wire_words W.outcomes W.open_links W.faults W.idles)
               (disk_words D.contents D.images D.moment D.images_since D.faults)

@@ -47,7 +47,7 @@ pub fn scan<F: Folder, K: Clock>(
         GivesMoment (K.moments clock.old) moment (K.moments clock.new)) }
     ensures clock_goes_on { MomentsGoOn (K.moments clock.old) (K.moments clock.new) }
     ensures shows_end { IfErr result (λ status. IfSome (F.told folder.old) (λ told.
-        ShowsScanEnd inputs.now told (F.told folder.new) status)) }
+        ShowsScanEnd inputs.now told rows.now (F.told folder.new) status)) }
     ensures ends { IfErr result (IsScanEnd (F.faults folder.old) (F.faults folder.new)) }
     ensures open_tails_kept { F.open_tails folder.new ≡ F.open_tails folder.old }
     ensures folder_faults_never_fall { F.faults folder.old ≤ F.faults folder.new }
@@ -74,7 +74,7 @@ fn start_files(
     ensures few { OnOk result (AreFewFiles rows.now listed.items) }
     ensures starts { IfOk result (λ scanned.
         scanned.starts.items ≡ starts_among rows.now listed.items) }
-    ensures refused { IfErr result (IsStartEnd listed.items) }
+    ensures refused { IfErr result (IsStartEnd rows.now listed.items) }
 {
     match starts_of(alloc, rows, listed.as_slice()) {
         Ok(starts) => Ok(Scanned {

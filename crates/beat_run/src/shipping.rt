@@ -127,6 +127,19 @@ where
         (disk_words D.contents D.images D.moment D.images_since D.faults)
         (R.left settings.old) (record {
           before = record {
+            folder = folder.old;
+            wires = wires.old.items;
+            a = area_a.old;
+            b = area_b.old;
+          };
+          after = record {
+            folder = folder.new;
+            wires = wires.new.items;
+            a = area_a.new;
+            b = area_b.new;
+          };
+        }) (record {
+          before = record {
             folder = F.told folder.old;
             moments = K.moments clock.old;
             outcomes = map W.outcomes wires.old.items;

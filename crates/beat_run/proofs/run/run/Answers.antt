@@ -1,4 +1,4 @@
-use Rattle.std.proofs.Common.{◌≡◌, ◌∙◌, map, ap, refl, take, Err}
+use Rattle.std.proofs.Common.{◌≡◌, ◌∙◌, inl, inr, map, ap, refl, take, Err}
 use Rattle.beat_config.specs.Document.{IsFirstFault}
 use Rattle.report.specs.declared.status.Status.{Status}
 use Rattle.report.specs.declared.status.Status.TheVariants.{Usage}
@@ -7,7 +7,7 @@ use Rattle.run_steps.proofs.Clocks.{clock_stays}
 use Rattle.run_steps.proofs.HeldRows.{rows_held_as_read}
 use Rattle.beat_run.specs.Ended.{ended}
 use Rattle.beat_run.specs.declared.settings.TheConstants.{LIMIT}
-use Rattle.beat_run.proofs.Accounts.{no_settings, rows_given, still}
+use Rattle.beat_run.proofs.Accounts.{full_for_prepared, no_settings, rows_given, still}
 use Rattle.beat_run.proofs.Causes.{caused_by_named, prepare_caused, prepare_ended, prepare_not_followed, prepare_not_named}
 use Rattle.beat_run.proofs.Endings.{told_never}
 use Rattle.beat_run.proofs.Refusals.{refused_by_areas}
@@ -31,10 +31,12 @@ returns-in-Err-clause-accounted g c = λ all.
     record {
       settings = no_settings;
       named = λ behind. absurd (prepare_not_named _ _ c.in-Err.status c.in-Err.ensures.ends behind);
-      is = still disks c.one_choice.ensures no_settings all.areas.rows a b a b (λ rest. rows_given disks a b all.areas)
+      named_or_unused = inr refl;
+      is = still disks c.one_choice.ensures no_settings all.areas.rows a b a b (rows_given disks a b all.areas)
           (λ rest. rows_held_as_read disks a b rest all.areas.first all.areas.second all.areas.rows all.areas.a_is all.areas.b_is all.areas.gives a b
           (c.unasked_disk_is_only_read.ensures a) (c.unasked_disk_is_only_read.ensures b)) (map g.W.Wire.outcomes c.args.outside.now.wires.now.items)
-          (g.F.Folder.told c.args.outside.now.folder.now) (g.K.Clock.moments c.args.outside.now.clock.now) c.in-Err.status all.tell.folder all.tell.moments (prepare_ended _ _ c.in-Err.status c.in-Err.ensures.ends);
+          (g.F.Folder.told c.args.outside.now.folder.now) (g.K.Clock.moments c.args.outside.now.clock.now) c.in-Err.status all.tell.folder all.tell.moments (prepare_ended _ _ c.in-Err.status c.in-Err.ensures.ends)
+          (full_for_prepared disks no_settings _ _ _ c.in-Err.status c.in-Err.ensures.ends);
     }
 
 pub returns-in-Err-clause-at_rest : goal.returns-in-Err-clause-at_rest
@@ -52,7 +54,7 @@ pub returns-clause-fault_refused : goal.returns-clause-fault_refused
 returns-clause-fault_refused g c = λ fault. told_never (g.R.Source.left c.args.source.now) (λ bytes. IsFirstFault (take LIMIT bytes) fault) _ (c.in-Ok.ensures.fault_refused fault)
 
 pub returns-clause-accounted : goal.returns-clause-accounted
-returns-clause-accounted g c = λ all. record { settings = c.in-Ok.settings; named = λ behind. c.in-Ok.ensures.settings; is = c.run_settings.ensures.accounted all }
+returns-clause-accounted g c = λ all. record { settings = c.in-Ok.settings; named = λ behind. c.in-Ok.ensures.settings; named_or_unused = inl c.in-Ok.ensures.settings; is = c.run_settings.ensures.accounted all }
 
 pub returns-clause-cause : goal.returns-clause-cause
 returns-clause-cause g c = caused_by_named _ c.in-Ok.settings _ _ _ _ (ended c.run_settings.result) c.in-Ok.ensures.settings c.run_settings.ensures.cause

@@ -10,7 +10,7 @@ use Rattle.wire_base.specs.declared.limits.Which.{Which}
 use Rattle.beat_run.specs.Accounted.{Areas, IsOpenedFrom}
 use Rattle.beat_run.specs.Ended.{StandsForRegistry, ended}
 use Rattle.run_steps.specs.Registry.{AreRefusedAt, RefusesAreas}
-use Rattle.beat_run.proofs.Accounts.{opened_from, rows_given, still}
+use Rattle.beat_run.proofs.Accounts.{full_for_registry, opened_from, rows_given, still}
 use Rattle.beat_run.proofs.Causes.{caused_earlier, registry_caused, registry_ended, registry_not_followed}
 use Rattle.beat_run.proofs.run.run_settings.Goals as goal
 
@@ -47,9 +47,10 @@ returns-in-Err-clause-accounted g c = λ all.
     let disks = disk_words g.D.Disk.contents g.D.Disk.images g.D.Disk.moment g.D.Disk.images_since g.D.Disk.faults in
     let a = c.args.outside.now.a.now in
     let b = c.args.outside.now.b.now in
-    still disks c.one_choice.ensures c.args.settings.now all.areas.rows a b c.open_registry.new.a c.open_registry.new.b (λ rest. rows_given disks a b all.areas)
+    still disks c.one_choice.ensures c.args.settings.now all.areas.rows a b c.open_registry.new.a c.open_registry.new.b (rows_given disks a b all.areas)
     (λ rest. c.open_registry.ensures.held all.areas.first all.areas.second all.areas.rows rest all.areas.a_is all.areas.b_is all.areas.gives) (map g.W.Wire.outcomes c.args.outside.now.wires.now.items)
     (g.F.Folder.told c.args.outside.now.folder.now) (g.K.Clock.moments c.args.outside.now.clock.now) c.status_of_registry.result all.tell.folder all.tell.moments (registry_ended c.in-Err.error c.status_of_registry.result c.status_of_registry.ensures)
+    (full_for_registry disks c.args.settings.now _ c.in-Err.error c.status_of_registry.result c.status_of_registry.ensures)
 
 pub returns-in-Err-clause-at_rest : goal.returns-in-Err-clause-at_rest
 returns-in-Err-clause-at_rest g c = λ some rest followed. absurd (registry_not_followed c.in-Err.error c.status_of_registry.result c.status_of_registry.ensures followed)

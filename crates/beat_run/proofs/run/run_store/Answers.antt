@@ -9,11 +9,11 @@ use Rattle.rounds.specs.Words.{disk_words, wire_words}
 use Rattle.run_steps.proofs.Clocks.{clock_by_two}
 use Rattle.run_steps.proofs.RunEarly.{listed_all}
 use Rattle.run_steps.specs.Outset.{began_with}
-use Rattle.beat_run.proofs.Accounts.{each_some, early, outcomes_seen, some_listed, wires_tell, worked}
+use Rattle.beat_run.proofs.Accounts.{each_some, early, full_for_scan, outcomes_seen, some_listed, wires_tell, worked}
 use Rattle.beat_run.specs.Cause.{Signs}
 use Rattle.beat_run.specs.Ended.{ended}
 use Rattle.beat_run.proofs.Causes.{at_rest, ends_without_report, is_met_of, scan_caused, scan_ended, shown_goes_further}
-use Rattle.beat_run.proofs.ReportEnds.{caused_ending, left_by_ending, met_for_ending, report_of, reports_stored, scanned_ending}
+use Rattle.beat_run.proofs.ReportEnds.{caused_ending, full_for_ending, left_by_ending, met_for_ending, report_of, reports_stored, scanned_ending}
 use Rattle.beat_run.proofs.SettingOut.{earlier, outset, set_out}
 use Rattle.beat_run.proofs.WiresFailed.{failed_by}
 use Rattle.beat_run.proofs.run.run_store.Goals as goal
@@ -24,11 +24,12 @@ pub returns-in_err-scanned-clause-cause : goal.returns-in_err-scanned-clause-cau
 returns-in_err-scanned-clause-cause g c = λ from opened.
     let inputs : c.as_slice.result.now ≡ c.args.settings.now.inputs = c.as_slice.ensures in
     let p = err_from_is_err_and c.from_residual.result c.from_residual.ensures.1 in
-    rw (p.1, p.2) (scan_caused c.args.settings.now _ _ _ c.in_err-scanned.ensures.ends (rw inputs at c.in_err-scanned.ensures.shows_end))
+    rw (p.1, p.2) (scan_caused c.args.settings.now _ _ _ _ c.in_err-scanned.ensures.ends (rw inputs at c.in_err-scanned.ensures.shows_end))
 
 pub returns-in_err-scanned-clause-accounted : goal.returns-in_err-scanned-clause-accounted
 returns-in_err-scanned-clause-accounted g c = λ from opened tells.
     let inputs : c.as_slice.result.now ≡ c.args.settings.now.inputs = c.as_slice.ensures in
+    let rows : c.rows.result.now ≡ c.args.store.rows = c.rows.ensures.rows in
     let p = err_from_is_err_and c.from_residual.result c.from_residual.ensures.1 in
     let disks = disk_words g.D.Disk.contents g.D.Disk.images g.D.Disk.moment g.D.Disk.images_since g.D.Disk.faults in
     rw (p.1, p.2)
@@ -36,8 +37,9 @@ returns-in_err-scanned-clause-accounted g c = λ from opened tells.
     c.args.store.rows from.a from.b c.args.outside.now.a.now c.args.outside.now.b.now opened.gave opened.held (map g.W.Wire.outcomes c.args.outside.now.wires.now.items)
     (g.F.Folder.told c.args.outside.now.folder.now) (g.F.Folder.told c.scan.new.folder) (g.K.Clock.moments c.args.outside.now.clock.now) (g.K.Clock.moments c.scan.new.clock)
     c.in_err-scanned.ensures.moment_given_first.0 _ tells.folder tells.moments c.in_err-scanned.ensures.moment_given_first.1
-    (each_some (g.F.Folder.told c.args.outside.now.folder.now) _ _ (λ history shows. some_listed c.args.settings.now.inputs history (g.F.Folder.told c.scan.new.folder) _ shows) (rw inputs at c.in_err-scanned.ensures.shows_end))
-    (ends_without_report _ (scan_ended _ _ _ c.in_err-scanned.ensures.ends)))
+    (each_some (g.F.Folder.told c.args.outside.now.folder.now) _ _ (λ history shows. some_listed c.args.settings.now.inputs history _ (g.F.Folder.told c.scan.new.folder) _ shows) (rw inputs at c.in_err-scanned.ensures.shows_end))
+    (ends_without_report _ (scan_ended _ _ _ c.in_err-scanned.ensures.ends))
+    (full_for_scan disks c.args.settings.now _ _ _ opened.gave (rw (inputs, rows) at c.in_err-scanned.ensures.shows_end)))
 
 -- ---- there was no memory for a queue, a box or a keeper
 
@@ -51,7 +53,7 @@ returns-in_err-parts-clause-accounted g c = λ from opened tells.
     c.args.store.rows from.a from.b c.args.outside.now.a.now c.args.outside.now.b.now opened.gave opened.held (map g.W.Wire.outcomes c.args.outside.now.wires.now.items)
     (g.F.Folder.told c.args.outside.now.folder.now) (g.F.Folder.told c.scan.new.folder) (g.K.Clock.moments c.args.outside.now.clock.now) (g.K.Clock.moments c.scan.new.clock)
     c.in_ok-scanned.scanned.now.0 NoMemory tells.folder tells.moments c.in_ok-scanned.ensures.moment_given
-    (each_some (g.F.Folder.told c.args.outside.now.folder.now) _ _ (λ history scans. listed_all (globs_of c.args.settings.now.inputs) history scans.listings (g.F.Folder.told c.scan.new.folder) scans.listed_is) (rw inputs at c.in_ok-scanned.ensures.scanned)) tt)
+    (each_some (g.F.Folder.told c.args.outside.now.folder.now) _ _ (λ history scans. listed_all (globs_of c.args.settings.now.inputs) history scans.listings (g.F.Folder.told c.scan.new.folder) scans.listed_is) (rw inputs at c.in_ok-scanned.ensures.scanned)) tt tt)
 
 -- ---- or for a crew
 
@@ -69,7 +71,7 @@ returns-in_err-worked-clause-accounted g c = λ from opened tells.
     c.args.store.rows from.a from.b c.args.outside.now.a.now c.args.outside.now.b.now opened.gave opened.held (map g.W.Wire.outcomes c.args.outside.now.wires.now.items)
     (g.F.Folder.told c.args.outside.now.folder.now) (g.F.Folder.told c.scan.new.folder) (g.K.Clock.moments c.args.outside.now.clock.now) (g.K.Clock.moments c.scan.new.clock)
     c.in_ok-scanned.scanned.now.0 NoMemory tells.folder tells.moments c.in_ok-scanned.ensures.moment_given
-    (each_some (g.F.Folder.told c.args.outside.now.folder.now) _ _ (λ history scans. listed_all (globs_of c.args.settings.now.inputs) history scans.listings (g.F.Folder.told c.scan.new.folder) scans.listed_is) (rw inputs at c.in_ok-scanned.ensures.scanned)) tt)
+    (each_some (g.F.Folder.told c.args.outside.now.folder.now) _ _ (λ history scans. listed_all (globs_of c.args.settings.now.inputs) history scans.listings (g.F.Folder.told c.scan.new.folder) scans.listed_is) (rw inputs at c.in_ok-scanned.ensures.scanned)) tt tt)
 
 -- ---- files were followed
 
@@ -129,6 +131,7 @@ returns-clause-accounted g c = λ from opened tells.
     (g.K.Clock.moments c.args.outside.now.clock.now) (g.K.Clock.moments c.scan.new.clock) c.in_ok-scanned.ensures.moment_given (g.F.Folder.told c.args.outside.now.folder.now) (g.F.Folder.told c.scan.new.folder) tells.folder (rw inputs at c.in_ok-scanned.ensures.of_inputs) (rw inputs at c.in_ok-scanned.ensures.scanned)) before in
     (worked disks start c.requires.in_range (inputs_are_by_path_where_nothing_lacks c.args.settings.now c.requires.nothing_lacks) (map g.W.Wire.outcomes c.args.outside.now.wires.now.items) _ c.in_ok-worked.worked.met (g.F.Folder.told c.args.outside.now.folder.now) (ended c.ending_of.result) tells.folder
     (rw inputs at c.in_ok-scanned.ensures.scanned) (met_for_ending c.in_ok-scanned.scanned.listed.items c.args.settings.now.output.attempts c.in_ok-worked.worked.met c.ending_of.result of (rw files at c.ending_of.ensures.stands) (rw files at c.ending_of.ensures.refused))
+    (full_for_ending disks c.args.settings.now _ c.in_ok-scanned.scanned.listed.items c.args.settings.now.output.attempts c.in_ok-worked.worked.met c.ending_of.result of (rw files at c.ending_of.ensures.stands) (rw files at c.ending_of.ensures.refused))
     (λ folder has. c.in_ok-worked.ensures.accounted before folder sets has tells.moments (wires_tell g.W.Wire.outcomes c.run_over.new.around.wires.now.items tells.wires)))
 
 pub returns-clause-at_rest : goal.returns-clause-at_rest

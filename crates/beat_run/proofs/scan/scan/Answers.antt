@@ -13,4 +13,4 @@ returns-in-Err-clause-moment_given_first g c = (c.now-now.result.0, c.now-now.en
 
 pub returns-in-Ok-clause-shows_end : goal.returns-in-Ok-clause-shows_end
 returns-in-Ok-clause-shows_end g c =
-    start_shows c.args.inputs.now (g.F.Folder.told c.args.folder.now) (g.F.Folder.told c.list_files.new.folder) c.in-Ok.listed.items c.start_files.result c.in-Ok.ensures.scanned c.start_files.ensures.refused
+    start_shows c.args.inputs.now c.args.rows.now (g.F.Folder.told c.args.folder.now) (g.F.Folder.told c.list_files.new.folder) c.in-Ok.listed.items c.in-Ok.ensures.few c.start_files.result c.in-Ok.ensures.scanned c.start_files.ensures.refused

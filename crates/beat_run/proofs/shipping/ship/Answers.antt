@@ -35,7 +35,7 @@ returns-in-Ok-clause-accounted_for_where_all_tell g c =
     let a_is : c.area_a-1.given.0 ≡ c.run.new.outside.a.now = c.area_a-1.given.1 (sym c.run.ensures.same_a) in
     let b_is : c.area_b-1.given.0 ≡ c.run.new.outside.b.now = c.area_b-1.given.1 (sym c.run.ensures.same_b) in
     rw (folder_is, clock_is, wires_is, a_is, b_is)
-    (λ all. printed (disk_words g.D.Disk.contents g.D.Disk.images g.D.Disk.moment g.D.Disk.images_since g.D.Disk.faults) (g.R.Source.left c.args.settings.now) _ (g.S.Sink.faults c.args.out.now) (g.S.Sink.faults c.print_report.new.out) c.in-Ok.ending.status c.print_report.result c.print_report.ensures.ends (rw c.in-Ok.is at c.run.ensures.accounted all))
+    (λ all. printed (disk_words g.D.Disk.contents g.D.Disk.images g.D.Disk.moment g.D.Disk.images_since g.D.Disk.faults) (g.R.Source.left c.args.settings.now) _ _ (g.S.Sink.faults c.args.out.now) (g.S.Sink.faults c.print_report.new.out) c.in-Ok.ending.status c.print_report.result c.print_report.ensures.ends (rw c.in-Ok.is at c.run.ensures.accounted all))
 
 pub returns-in-Ok-clause-reported_rows_are_stored : goal.returns-in-Ok-clause-reported_rows_are_stored
 returns-in-Ok-clause-reported_rows_are_stored g c = λ some rest ends.
@@ -99,7 +99,7 @@ returns-in-Err-clause-accounted_for_where_all_tell g c =
     let b_is : c.area_b-1.given.0 ≡ c.run.new.outside.b.now = c.area_b-1.given.1 (sym c.run.ensures.same_b) in
     rw (folder_is, clock_is, wires_is, a_is, b_is)
     (λ all. let is = rw c.in-Err.is at c.run.ensures.accounted all in
-    printed_so _ c.in-Err.status c.print_status.result (IsAccountedByNamed disks (g.R.Source.left c.args.settings.now) _) c.print_status.ensures.printed is (out_fault disks (g.R.Source.left c.args.settings.now) _ c.in-Err.status is))
+    printed_so _ c.in-Err.status c.print_status.result (IsAccountedByNamed disks (g.R.Source.left c.args.settings.now) _ _) c.print_status.ensures.printed is (out_fault disks (g.R.Source.left c.args.settings.now) _ _ c.in-Err.status is))
 
 pub returns-in-Err-clause-reported_rows_are_stored : goal.returns-in-Err-clause-reported_rows_are_stored
 returns-in-Err-clause-reported_rows_are_stored g c = λ some rest ends.
