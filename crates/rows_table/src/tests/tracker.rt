@@ -1,5 +1,5 @@
 ghost use Rattle.std.specs.Prelude.{IfOk};
-ghost use Rattle.wire_base.specs.Ranges.{IsKey, IsMoment, IsNote, IsPlace, IsRow};
+ghost use Rattle.wire_base.specs.Ranges.{IsMoment, IsNote, IsPlace, IsRow};
 
 mod listed;
 
@@ -8,8 +8,11 @@ use crate::tests::{acked, announce, begin};
 use ack_tracker::Tracker;
 use ship_core::Rows;
 use std::alloc::Global;
+use std::process::Abort;
 use std::test::Fail;
-use wire_base::{Cause, Epoch, Moment, NoMemory, Note, Op, Row, Slot, Span, Text};
+use wire_base::{
+    Cause, Epoch, MAX_KEY, MAX_PLACE, Moment, NoMemory, Note, Op, Row, Slot, Span, Text,
+};
 
 const SLOT: Slot = Slot(0);
 
@@ -86,11 +89,14 @@ fn greatest_moment_seen(rt: HostRuntime) -> Result<(), Fail> {
     Ok(())
 }
 
-fn row(alloc: Global, key: &[u8], epoch: u32, offset: u64) -> Result<Row, Fail>
-    requires key { IsKey key.now }
-    requires place { IsPlace offset }
+/// The key of a row, its epoch and its offset.
+type Line = (&'static [u8], u32, u64);
+
+fn row(rt: &impl Abort, alloc: Global, line: Line) -> Result<Row, Fail>
     ensures { IfOk result IsRow }
 {
+    let (key, epoch, offset) = line;
+    assert!(rt; key.len() <= MAX_KEY && offset <= MAX_PLACE);
     Ok(Row {
         key: Text::from_bytes(alloc, key)?,
         path: Text::from_bytes(alloc, b"/w/a.log")?,
@@ -100,9 +106,31 @@ fn row(alloc: Global, key: &[u8], epoch: u32, offset: u64) -> Result<Row, Fail>
     })
 }
 
-fn begin_at(alloc: Global, tracker: &mut Tracker, slot: u32, row: Row) -> Result<(), Fail>
-    requires { IsRow row }
-{
+/// A tracker over the one row of this line.
+fn opened(rt: &impl Abort, alloc: Global, line: Line) -> Result<Tracker, Fail> {
+    let mut opening = Rows::new(alloc);
+    opening.apply(alloc, Op::Set(row(rt, alloc, line)?))?;
+    Ok(Tracker::new(alloc, &opening)?)
+}
+
+/// A slot that begins, a span that is settled in an epoch of the slot 0, the epoch and the end at
+/// which that slot is forgotten, or a commit.
+#[derive(Clone, Copy)]
+enum Step {
+    Begin(u32, Line),
+    Acked(u32, u64, u64),
+    Forget(u32, u64),
+    Commit,
+}
+
+fn begin_at(
+    rt: &impl Abort,
+    alloc: Global,
+    tracker: &mut Tracker,
+    slot: u32,
+    line: Line,
+) -> Result<(), Fail> {
+    let row = row(rt, alloc, line)?;
     let begin = Note::Begin {
         slot: Slot(slot),
         key: row.key,
@@ -114,39 +142,65 @@ fn begin_at(alloc: Global, tracker: &mut Tracker, slot: u32, row: Row) -> Result
     tell(alloc, tracker, begin)
 }
 
+fn make(rt: &impl Abort, alloc: Global, tracker: &mut Tracker, step: Step) -> Result<(), Fail> {
+    match step {
+        Step::Begin(slot, line) => begin_at(rt, alloc, tracker, slot, line),
+        Step::Acked(epoch, start, end) => tell(alloc, tracker, acked(rt, epoch, start, end)),
+        Step::Forget(epoch, end) => {
+            assert!(rt; end <= MAX_PLACE);
+            forget(alloc, tracker, epoch, end)
+        }
+        Step::Commit => {
+            tracker.committed();
+            Ok(())
+        }
+    }
+}
+
+/// A row that is set, or the key of one that goes.
+#[derive(Clone, Copy)]
+enum Change {
+    Set(Line),
+    Remove(&'static [u8]),
+}
+
+fn changes(rt: &impl Abort, alloc: Global, listed: &[Change]) -> Result<Vec<Op>, Fail> {
+    let mut changes = Vec::new(alloc);
+    for change in listed {
+        changes.push(match *change {
+            Change::Set(line) => Op::Set(row(rt, alloc, line)?),
+            Change::Remove(key) => Op::Remove(Text::from_bytes(alloc, key)?),
+        })?;
+    }
+    Ok(changes)
+}
+
+/// Steps, and the changes since the last commit after each.
+const STEPS: [(Step, &[Change]); 8] = [
+    // A key that begins where it was changes nothing, and new keys come in their order.
+    (Step::Begin(1, (b"c", 0, 0)), &[Change::Set((b"c", 0, 0))]),
+    (Step::Begin(2, (b"a", 0, 7)), &[Change::Set((b"c", 0, 0))]),
+    (
+        Step::Begin(0, (b"b", 1, 0)),
+        &[Change::Set((b"b", 1, 0)), Change::Set((b"c", 0, 0))],
+    ),
+    (Step::Commit, &[]),
+    // A span that moves the offset, one that does not, and a row that goes.
+    (Step::Acked(1, 0, 4), &[Change::Set((b"b", 1, 4))]),
+    (Step::Acked(0, 4, 6), &[Change::Set((b"b", 1, 4))]),
+    (Step::Commit, &[]),
+    (Step::Forget(1, 4), &[Change::Remove(b"b")]),
+];
+
 #[test]
 fn changes_since_the_last_commit(rt: HostRuntime) -> Result<(), Fail> {
     let alloc = rt.alloc();
-    let mut opening = Rows::new(alloc);
-    opening.apply(alloc, Op::Set(row(alloc, b"a", 0, 7)?))?;
-    let mut tracker = Tracker::new(alloc, &opening)?;
+    let mut tracker = opened(&rt, alloc, (b"a", 0, 7))?;
     assert_eq!(rt; tracker.changes(alloc)?.len(), 0);
-
-    // A key that begins where it was changes nothing, and new keys come in their order.
-    begin_at(alloc, &mut tracker, 1, row(alloc, b"c", 0, 0)?)?;
-    begin_at(alloc, &mut tracker, 2, row(alloc, b"a", 0, 7)?)?;
-    begin_at(alloc, &mut tracker, 0, row(alloc, b"b", 1, 0)?)?;
-    let mut changes = tracker.changes(alloc)?;
-    assert_eq!(rt; changes.pop(), Some(Op::Set(row(alloc, b"c", 0, 0)?)));
-    assert_eq!(rt; changes.pop(), Some(Op::Set(row(alloc, b"b", 1, 0)?)));
-    assert_eq!(rt; changes.pop(), None);
-    tracker.committed();
-    assert_eq!(rt; tracker.changes(alloc)?.len(), 0);
-
-    // A span that moves the offset, one that does not, and a row that goes.
-    tell(alloc, &mut tracker, acked(&rt, 1, 0, 4))?;
-    tell(alloc, &mut tracker, acked(&rt, 0, 4, 6))?;
-    let mut changes = tracker.changes(alloc)?;
-    assert_eq!(rt; changes.pop(), Some(Op::Set(row(alloc, b"b", 1, 4)?)));
-    assert_eq!(rt; changes.pop(), None);
-    tracker.committed();
-    forget(alloc, &mut tracker, 1, 4)?;
-    let mut changes = tracker.changes(alloc)?;
-    assert_eq!(rt;
-        changes.pop(),
-        Some(Op::Remove(Text::from_bytes(alloc, b"b")?))
-    );
-    assert_eq!(rt; changes.pop(), None);
+    for (step, wanted) in STEPS {
+        make(&rt, alloc, &mut tracker, step)?;
+        assert_eq!(rt; tracker.changes(alloc)?, changes(&rt, alloc, wanted)?);
+    }
     Ok(())
 }
 
