@@ -7,8 +7,9 @@ use restart_join::{JoinError, join_rows};
 use ship_core::Rows;
 use std::alloc::Global;
 use std::fmt::Write;
+use std::process::Abort;
 use std::test::Fail;
-use wire_base::{Begin, Epoch, Full, MAX_KEY, Moment, Op, Row, Slot, Text};
+use wire_base::{Begin, Epoch, Full, MAX_KEY, MAX_PATH, MAX_PLACE, Moment, Op, Row, Slot, Text};
 
 fn seen(alloc: Global, key: &str, path: &str, size: u64) -> Result<Seen, Fail>
     requires key { IsKey key.now }
@@ -39,6 +40,32 @@ fn set(alloc: Global, rows: &mut Rows, key: &str, epoch: u32, offset: u64) -> Re
     Ok(())
 }
 
+/// The key of a row, its epoch and its offset.
+type Line = (&'static str, u32, u64);
+
+fn rows_of(rt: &impl Abort, alloc: Global, lines: &[Line]) -> Result<Rows, Fail> {
+    let mut rows = Rows::new(alloc);
+    for (key, epoch, offset) in lines {
+        assert!(rt; key.len() <= MAX_KEY && *offset <= MAX_PLACE);
+        set(alloc, &mut rows, key, *epoch, *offset)?;
+    }
+    Ok(rows)
+}
+
+/// The key of a file, its path and its size.
+type File = (&'static str, &'static str, u64);
+
+fn scan_of(rt: &impl Abort, alloc: Global, files: &[File]) -> Result<Vec<Seen>, Fail>
+    ensures { IfOk result (λ scan. All IsSeen scan.items) }
+{
+    let mut scan = Vec::new(alloc);
+    for (key, path, size) in files {
+        assert!(rt; key.len() <= MAX_KEY && path.len() <= MAX_PATH && *size <= MAX_PLACE);
+        scan.push(seen(alloc, key, path, *size)?)?;
+    }
+    Ok(scan)
+}
+
 /// A line for each begin.
 fn shown(alloc: Global, begins: &[Begin]) -> Result<String, Fail> {
     let mut text = String::new(alloc);
@@ -50,49 +77,71 @@ fn shown(alloc: Global, begins: &[Begin]) -> Result<String, Fail> {
     Ok(text)
 }
 
-#[test]
-fn files_begin_where_their_rows_stand(rt: HostRuntime) -> Result<(), Fail> {
-    let alloc = rt.alloc();
-    let mut rows = Rows::new(alloc);
-    set(alloc, &mut rows, "same", 2, 10)?;
-    set(alloc, &mut rows, "longer", 1, 10)?;
-    set(alloc, &mut rows, "shorter", 3, 10)?;
-    set(alloc, &mut rows, "absent", 4, 10)?;
-    // Not in byte order of the paths, and two paths of one key.
-    let scan = [
-        seen(alloc, "shorter", "/d", 9)?,
-        seen(alloc, "same", "/e", 10)?,
-        seen(alloc, "same", "/b", 10)?,
-        seen(alloc, "longer", "/c", 11)?,
-        seen(alloc, "none", "/a", 5)?,
-    ];
-    let begins = join_rows(alloc, &rows, &scan, Slot(7))?;
-    let want = "7 none /a 5 0 0\n8 same /b 10 2 10\n9 longer /c 11 1 10\n10 shorter /d 9 4 0\n";
-    assert_eq!(rt; shown(alloc, &begins)?.as_str(), want);
+/// The files of a scan begin so, with slots from the first one on, or this limit is told with this
+/// path.
+fn check(
+    rt: &impl Abort,
+    alloc: Global,
+    rows: &Rows,
+    scan: &[File],
+    first: u32,
+    wanted: Result<&str, (Full, &str)>,
+) -> Result<(), Fail> {
+    let scan = scan_of(rt, alloc, scan)?;
+    let joined = join_rows(alloc, rows, &scan, Slot(first));
+    match wanted {
+        Ok(lines) => assert_eq!(rt; shown(alloc, &joined?)?.as_str(), lines),
+        Err((what, path)) => {
+            let path = Text::from_bytes(alloc, path.as_bytes())?;
+            assert_eq!(rt; joined, Err(JoinError::TooMany { what, path }));
+        }
+    }
     Ok(())
 }
 
 #[test]
+fn files_begin_where_their_rows_stand(rt: HostRuntime) -> Result<(), Fail> {
+    let alloc = rt.alloc();
+    let rows = rows_of(
+        &rt,
+        alloc,
+        &[
+            ("same", 2, 10),
+            ("longer", 1, 10),
+            ("shorter", 3, 10),
+            ("absent", 4, 10),
+        ],
+    )?;
+    // Not in byte order of the paths, and two paths of one key.
+    let scan = [
+        ("shorter", "/d", 9),
+        ("same", "/e", 10),
+        ("same", "/b", 10),
+        ("longer", "/c", 11),
+        ("none", "/a", 5),
+    ];
+    let want = "7 none /a 5 0 0\n8 same /b 10 2 10\n9 longer /c 11 1 10\n10 shorter /d 9 4 0\n";
+    check(&rt, alloc, &rows, &scan, 7, Ok(want))
+}
+
+/// A file, the first slot, and what comes of it beside a row of the last epoch.
+const LIMITS: [(File, u32, Result<&str, (Full, &str)>); 3] = [
+    (
+        ("old", "/a", 10),
+        u32::MAX - 1,
+        Ok("4294967294 old /a 10 4294967295 10\n"),
+    ),
+    (("old", "/a", 9), 0, Err((Full::Epochs, "/a"))),
+    (("n", "/n", 1), u32::MAX, Err((Full::Slots, "/n"))),
+];
+
+#[test]
 fn limits_are_told_with_the_path(rt: HostRuntime) -> Result<(), Fail> {
     let alloc = rt.alloc();
-    let mut rows = Rows::new(alloc);
-    set(alloc, &mut rows, "old", u32::MAX, 10)?;
-    let scan = [seen(alloc, "old", "/a", 10)?];
-    let begins = join_rows(alloc, &rows, &scan, Slot(u32::MAX - 1))?;
-    assert_eq!(rt;
-        shown(alloc, &begins)?.as_str(),
-        "4294967294 old /a 10 4294967295 10\n"
-    );
-    let scan = [seen(alloc, "old", "/a", 9)?];
-    let refused = join_rows(alloc, &rows, &scan, Slot(0));
-    let path = Text::from_bytes(alloc, b"/a")?;
-    let what = Full::Epochs;
-    assert_eq!(rt; refused, Err(JoinError::TooMany { what, path }));
-    let scan = [seen(alloc, "n", "/n", 1)?];
-    let refused = join_rows(alloc, &rows, &scan, Slot(u32::MAX));
-    let path = Text::from_bytes(alloc, b"/n")?;
-    let what = Full::Slots;
-    assert_eq!(rt; refused, Err(JoinError::TooMany { what, path }));
+    let rows = rows_of(&rt, alloc, &[("old", u32::MAX, 10)])?;
+    for (file, first, wanted) in LIMITS {
+        check(&rt, alloc, &rows, &[file], first, wanted)?;
+    }
     Ok(())
 }
 
@@ -106,10 +155,6 @@ fn all_rows_count_as_files(rt: HostRuntime) -> Result<(), Fail> {
         assert!(rt; key.len() <= MAX_KEY);
         set(alloc, &mut rows, key, 0, 1)?;
     }
-    let scan = [seen(alloc, "00001", "/a", 1)?, seen(alloc, "x", "/b", 1)?];
-    let refused = join_rows(alloc, &rows, &scan, Slot(0));
-    let path = Text::from_bytes(alloc, b"/b")?;
-    let what = Full::Files;
-    assert_eq!(rt; refused, Err(JoinError::TooMany { what, path }));
-    Ok(())
+    let scan = [("00001", "/a", 1), ("x", "/b", 1)];
+    check(&rt, alloc, &rows, &scan, 0, Err((Full::Files, "/b")))
 }
