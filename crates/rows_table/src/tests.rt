@@ -12,7 +12,7 @@ use ship_core::Rows;
 use std::alloc::Global;
 use std::process::Abort;
 use std::test::Fail;
-use wire_base::{Cause, Epoch, MAX_PLACE, Moment, Note, RuleNo, Slot, Span, Text};
+use wire_base::{Cause, Epoch, MAX_KEY, MAX_PLACE, Moment, Note, RuleNo, Slot, Span, Text};
 
 pub(crate) fn begin(alloc: Global, slot: u32, key: &[u8], base: u64) -> Result<Note, Fail>
     requires key { IsKey key.now }
@@ -88,38 +88,96 @@ fn check(
     Ok(())
 }
 
+/// A slot that begins with a key, an epoch of the slot 0 that is announced, a span of an epoch of
+/// that slot, acked or dropped, or a slot that is forgotten from its start on.
+#[derive(Clone, Copy)]
+enum Step {
+    Begin(u32, &'static [u8]),
+    Announce(u32),
+    Acked(u32, u64, u64),
+    Dropped(u32, u64, u64),
+    Forget(u32),
+}
+
+fn note_of(rt: &impl Abort, alloc: Global, step: Step) -> Result<Note, Fail>
+    ensures { IfOk result IsNote }
+{
+    Ok(match step {
+        Step::Begin(slot, key) => {
+            assert!(rt; key.len() <= MAX_KEY);
+            begin(alloc, slot, key, 0)?
+        }
+        Step::Announce(epoch) => announce(epoch),
+        Step::Acked(epoch, start, end) => acked(rt, epoch, start, end),
+        Step::Dropped(epoch, start, end) => {
+            settle(rt, 0, epoch, (start, end), Cause::Dropped(RuleNo(10)))
+        }
+        Step::Forget(slot) => Note::Forget {
+            slot: Slot(slot),
+            epoch: Epoch(0),
+            end: 0,
+        },
+    })
+}
+
+/// Tells these steps, one after the other.
+fn tell(rt: &impl Abort, alloc: Global, told: &mut Told, steps: &[Step]) -> Result<(), Fail>
+    requires runs { told.old.world.runs ≡ true }
+    requires same { told.old.world.notes ≡ told.old.notes.items }
+    ensures runs { OnOk result (told.new.world.runs ≡ true) }
+    ensures same { OnOk result (told.new.world.notes ≡ told.new.notes.items) }
+{
+    for step in steps {
+        told.note(rt, alloc, note_of(rt, alloc, *step)?)?;
+    }
+    Ok(())
+}
+
+/// A file that begins, and then these notes of it, each with the epoch and the offset that follow.
+fn check_steps(rt: &impl Abort, alloc: Global, steps: &[(Step, (u32, u64))]) -> Result<(), Fail> {
+    let mut told = begun(rt, alloc)?;
+    for (step, expected) in steps {
+        check(rt, alloc, &mut told, note_of(rt, alloc, *step)?, *expected)?;
+    }
+    Ok(())
+}
+
 #[test]
 fn covered_end_over_gaps(rt: HostRuntime) -> Result<(), Fail> {
-    let alloc = rt.alloc();
-    let mut told = begun(&rt, alloc)?;
-    check(&rt, alloc, &mut told, acked(&rt, 0, 5, 9), (0, 0))?;
-    check(&rt, alloc, &mut told, acked(&rt, 0, 0, 5), (0, 9))?;
-    check(&rt, alloc, &mut told, acked(&rt, 0, 0, 5), (0, 9))
+    let steps = [
+        (Step::Acked(0, 5, 9), (0, 0)),
+        (Step::Acked(0, 0, 5), (0, 9)),
+        (Step::Acked(0, 0, 5), (0, 9)),
+    ];
+    check_steps(&rt, rt.alloc(), &steps)
 }
 
 #[test]
 fn older_epoch_changes_nothing(rt: HostRuntime) -> Result<(), Fail> {
-    let alloc = rt.alloc();
-    let mut announced = begun(&rt, alloc)?;
-    check(&rt, alloc, &mut announced, announce(1), (1, 0))?;
-    check(&rt, alloc, &mut announced, acked(&rt, 1, 0, 2), (1, 2))?;
-    check(&rt, alloc, &mut announced, acked(&rt, 0, 0, 2), (1, 2))?;
-    check(&rt, alloc, &mut announced, acked(&rt, 0, 2, 4), (1, 2))?;
-    let mut settled = begun(&rt, alloc)?;
-    check(&rt, alloc, &mut settled, acked(&rt, 1, 0, 2), (1, 2))?;
-    check(&rt, alloc, &mut settled, announce(1), (1, 2))?;
-    check(&rt, alloc, &mut settled, acked(&rt, 0, 0, 2), (1, 2))?;
-    check(&rt, alloc, &mut settled, acked(&rt, 0, 2, 4), (1, 2))
+    let announced = [
+        (Step::Announce(1), (1, 0)),
+        (Step::Acked(1, 0, 2), (1, 2)),
+        (Step::Acked(0, 0, 2), (1, 2)),
+        (Step::Acked(0, 2, 4), (1, 2)),
+    ];
+    check_steps(&rt, rt.alloc(), &announced)?;
+    let settled = [
+        (Step::Acked(1, 0, 2), (1, 2)),
+        (Step::Announce(1), (1, 2)),
+        (Step::Acked(0, 0, 2), (1, 2)),
+        (Step::Acked(0, 2, 4), (1, 2)),
+    ];
+    check_steps(&rt, rt.alloc(), &settled)
 }
 
 #[test]
 fn dropped_span_within_prefix(rt: HostRuntime) -> Result<(), Fail> {
-    let alloc = rt.alloc();
-    let mut told = begun(&rt, alloc)?;
-    let dropped = settle(&rt, 0, 0, (2, 4), Cause::Dropped(RuleNo(10)));
-    check(&rt, alloc, &mut told, dropped, (0, 0))?;
-    check(&rt, alloc, &mut told, acked(&rt, 0, 4, 6), (0, 0))?;
-    check(&rt, alloc, &mut told, acked(&rt, 0, 0, 2), (0, 6))
+    let steps = [
+        (Step::Dropped(0, 2, 4), (0, 0)),
+        (Step::Acked(0, 4, 6), (0, 0)),
+        (Step::Acked(0, 0, 2), (0, 6)),
+    ];
+    check_steps(&rt, rt.alloc(), &steps)
 }
 
 fn commit(alloc: Global, told: &mut Told, wanted: bool) -> Result<(), Fail>
@@ -140,17 +198,11 @@ fn three_files(rt: &impl Abort, alloc: Global, commits: bool) -> Result<Told, Fa
     ensures same { IfOk result (λ told. told.world.notes ≡ told.notes.items) }
 {
     let mut told = Told::new(alloc)?;
-    told.note(rt, alloc, begin(alloc, 0, b"a", 0)?)?;
-    told.note(rt, alloc, begin(alloc, 1, b"b", 0)?)?;
+    let first = [Step::Begin(0, b"a"), Step::Begin(1, b"b")];
+    tell(rt, alloc, &mut told, &first)?;
     commit(alloc, &mut told, commits)?;
-    told.note(rt, alloc, acked(rt, 0, 0, 4))?;
-    let forget = Note::Forget {
-        slot: Slot(1),
-        epoch: Epoch(0),
-        end: 0,
-    };
-    told.note(rt, alloc, forget)?;
-    told.note(rt, alloc, begin(alloc, 2, b"c", 0)?)?;
+    let then = [Step::Acked(0, 0, 4), Step::Forget(1), Step::Begin(2, b"c")];
+    tell(rt, alloc, &mut told, &then)?;
     Ok(told)
 }
 
@@ -177,29 +229,43 @@ fn go_on(rt: &impl Abort, alloc: Global, told: &mut Told) -> Result<(), Fail>
     Ok(())
 }
 
-/// With no commit the updates are a and c; with one they are a and b, and then a, the end of b, and c.
+/// How many updates were committed, and how many there are with those that the tracker has ready.
+fn check_updates(
+    rt: &impl Abort,
+    alloc: Global,
+    told: &Told,
+    expected: (u64, u64),
+) -> Result<(), Fail> {
+    let (committed, all) = expected;
+    assert_eq!(rt; told.world.updates(), expected);
+    let changes = told.tracker.changes(alloc)?;
+    assert_eq!(rt; all.checked_sub(committed), Some(changes.len() as u64));
+    Ok(())
+}
+
+/// Whether there is a commit, the updates that a crash leaves, and the rows then, by their keys
+/// and offsets. With no commit the updates are a and c; with one they are a and b, and then a, the
+/// end of b, and c.
+const CRASHES: [(bool, u64, &[(&[u8], u64)]); 7] = [
+    (false, 0, &[]),
+    (false, 1, &[(b"a", 4)]),
+    (false, 2, &[(b"a", 4), (b"c", 0)]),
+    (true, 2, &[(b"a", 0), (b"b", 0)]),
+    (true, 3, &[(b"a", 4), (b"b", 0)]),
+    (true, 4, &[(b"a", 4)]),
+    (true, 5, &[(b"a", 4), (b"c", 0)]),
+];
+
 #[test]
 fn crash_leaves_the_rows_of_as_many_updates(rt: HostRuntime) -> Result<(), Fail> {
     let alloc = rt.alloc();
-    let cases: [(bool, u64, &[(&[u8], u64)]); 7] = [
-        (false, 0, &[]),
-        (false, 1, &[(b"a", 4)]),
-        (false, 2, &[(b"a", 4), (b"c", 0)]),
-        (true, 2, &[(b"a", 0), (b"b", 0)]),
-        (true, 3, &[(b"a", 4), (b"b", 0)]),
-        (true, 4, &[(b"a", 4)]),
-        (true, 5, &[(b"a", 4), (b"c", 0)]),
-    ];
-    for (commits, left, expected) in cases {
+    for (commits, left, expected) in CRASHES {
         let mut told = three_files(&rt, alloc, commits)?;
-        let (committed, all) = if commits { (2, 5) } else { (0, 2) };
-        assert_eq!(rt; told.world.updates(), (committed, all));
-        let changes = told.tracker.changes(alloc)?;
-        assert_eq!(rt; changes.len() as u64, all - committed);
+        check_updates(&rt, alloc, &told, if commits { (2, 5) } else { (0, 2) })?;
         let rows = told.crash(&rt, alloc, left)?;
         check_rows(&rt, &rows, expected);
         check_rows(&rt, told.world.rows(), expected);
-        assert_eq!(rt; told.world.updates(), (left, left));
+        check_updates(&rt, alloc, &told, (left, left))?;
         go_on(&rt, alloc, &mut told)?;
     }
     Ok(())
