@@ -11,7 +11,7 @@ use std::alloc::Global;
 use std::process::Abort;
 use std::test::Fail;
 use wire_base::{
-    Cause, Epoch, MAX_KEY, MAX_PLACE, Moment, NoMemory, Note, Op, Row, Slot, Span, Text,
+    Cause, Epoch, MAX_KEY, MAX_PATH, MAX_PLACE, Moment, NoMemory, Note, Op, Row, Slot, Span, Text,
 };
 
 const SLOT: Slot = Slot(0);
@@ -50,45 +50,6 @@ fn seen(alloc: Global, tracker: &mut Tracker, changed: u64) -> Result<(), Fail>
     tell(alloc, tracker, seen)
 }
 
-#[test]
-fn forgotten_row_goes_once_its_end_is_reached(rt: HostRuntime) -> Result<(), Fail> {
-    let alloc = rt.alloc();
-    let mut tracker = begun(alloc)?;
-    let renamed = Note::Rename {
-        slot: SLOT,
-        scan: 1,
-        path: Text::from_bytes(alloc, b"/w/b.log")?,
-    };
-    tell(alloc, &mut tracker, renamed)?;
-    forget(alloc, &mut tracker, 0, 4)?;
-    tell(alloc, &mut tracker, acked(&rt, 0, 0, 2))?;
-    assert_eq!(rt; tracker.offset(SLOT), Some((Epoch(0), 2)));
-    assert_eq!(rt; tracker.offset(Slot(1)), None);
-    tell(alloc, &mut tracker, acked(&rt, 0, 2, 4))?;
-    assert_eq!(rt; tracker.offset(SLOT), None);
-    tell(alloc, &mut tracker, announce(1))?;
-    assert_eq!(rt; tracker.offset(SLOT), None);
-    Ok(())
-}
-
-#[test]
-fn greatest_moment_seen(rt: HostRuntime) -> Result<(), Fail> {
-    let alloc = rt.alloc();
-    let mut tracker = begun(alloc)?;
-    seen(alloc, &mut tracker, 9)?;
-    seen(alloc, &mut tracker, 7)?;
-    let row = Row {
-        key: Text::from_bytes(alloc, b"k")?,
-        path: Text::from_bytes(alloc, b"/w/a.log")?,
-        epoch: Epoch(0),
-        offset: 0,
-        changed: Moment(9),
-    };
-    assert_eq!(rt; tracker.row(alloc, SLOT)?, Some(row));
-    assert!(rt; tracker.row(alloc, Slot(1))?.is_none());
-    Ok(())
-}
-
 /// The key of a row, its epoch and its offset.
 type Line = (&'static [u8], u32, u64);
 
@@ -113,12 +74,14 @@ fn opened(rt: &impl Abort, alloc: Global, line: Line) -> Result<Tracker, Fail> {
     Ok(Tracker::new(alloc, &opening)?)
 }
 
-/// A slot that begins, a span that is settled in an epoch of the slot 0, the epoch and the end at
-/// which that slot is forgotten, or a commit.
+/// A slot that begins, what is told of the slot 0 (an epoch, a span that is settled in an epoch, a
+/// scan and a new path, the epoch and the end at which it is forgotten), or a commit.
 #[derive(Clone, Copy)]
 enum Step {
     Begin(u32, Line),
+    Announce(u32),
     Acked(u32, u64, u64),
+    Rename(u64, &'static [u8]),
     Forget(u32, u64),
     Commit,
 }
@@ -142,10 +105,28 @@ fn begin_at(
     tell(alloc, tracker, begin)
 }
 
+fn rename(
+    rt: &impl Abort,
+    alloc: Global,
+    tracker: &mut Tracker,
+    scan: u64,
+    path: &[u8],
+) -> Result<(), Fail> {
+    assert!(rt; path.len() <= MAX_PATH);
+    let renamed = Note::Rename {
+        slot: SLOT,
+        scan,
+        path: Text::from_bytes(alloc, path)?,
+    };
+    tell(alloc, tracker, renamed)
+}
+
 fn make(rt: &impl Abort, alloc: Global, tracker: &mut Tracker, step: Step) -> Result<(), Fail> {
     match step {
         Step::Begin(slot, line) => begin_at(rt, alloc, tracker, slot, line),
+        Step::Announce(epoch) => tell(alloc, tracker, announce(epoch)),
         Step::Acked(epoch, start, end) => tell(alloc, tracker, acked(rt, epoch, start, end)),
+        Step::Rename(scan, path) => rename(rt, alloc, tracker, scan, path),
         Step::Forget(epoch, end) => {
             assert!(rt; end <= MAX_PLACE);
             forget(alloc, tracker, epoch, end)
@@ -155,6 +136,50 @@ fn make(rt: &impl Abort, alloc: Global, tracker: &mut Tracker, step: Step) -> Re
             Ok(())
         }
     }
+}
+
+#[test]
+fn forgotten_row_goes_once_its_end_is_reached(rt: HostRuntime) -> Result<(), Fail> {
+    let alloc = rt.alloc();
+    let mut tracker = begun(alloc)?;
+    let steps = [
+        (Step::Rename(1, b"/w/b.log"), Some((Epoch(0), 0))),
+        (Step::Forget(0, 4), Some((Epoch(0), 0))),
+        (Step::Acked(0, 0, 2), Some((Epoch(0), 2))),
+        (Step::Acked(0, 2, 4), None),
+        (Step::Announce(1), None),
+    ];
+    for (step, wanted) in steps {
+        make(&rt, alloc, &mut tracker, step)?;
+        assert_eq!(rt; tracker.offset(SLOT), wanted);
+        assert_eq!(rt; tracker.offset(Slot(1)), None);
+    }
+    Ok(())
+}
+
+/// The row of the slot 0 is of this line and changed last at this moment.
+fn check_row(
+    rt: &impl Abort,
+    alloc: Global,
+    tracker: &Tracker,
+    line: Line,
+    changed: u64,
+) -> Result<(), Fail> {
+    let mut wanted = row(rt, alloc, line)?;
+    wanted.changed = Moment(changed);
+    assert_eq!(rt; tracker.row(alloc, SLOT)?, Some(wanted));
+    Ok(())
+}
+
+#[test]
+fn greatest_moment_seen(rt: HostRuntime) -> Result<(), Fail> {
+    let alloc = rt.alloc();
+    let mut tracker = begun(alloc)?;
+    seen(alloc, &mut tracker, 9)?;
+    seen(alloc, &mut tracker, 7)?;
+    check_row(&rt, alloc, &tracker, (b"k", 0, 0), 9)?;
+    assert!(rt; tracker.row(alloc, Slot(1))?.is_none());
+    Ok(())
 }
 
 /// A row that is set, or the key of one that goes.
