@@ -22,7 +22,7 @@ use Rattle.told_events.specs.Told.{spans_of}
 use Rattle.wire_base.specs.declared.note.Note.{Note}
 use Rattle.wire_base.specs.declared.parcel.Parcel.{Parcel}
 use Rattle.wire_base.specs.declared.row.Row.{Row}
-use Rattle.accounts.specs.RunDone.{IsAmongFiles, RunDone, IsToldWhole, WasPassed, name_of}
+use Rattle.accounts.specs.RunDone.{IsAmongFiles, IsFullScan, RunDone, IsToldWhole, WasPassed, name_of}
 use Rattle.accounts.specs.Filed.{Filed, IsNoted, account_of, accounts_of, slot_in}
 use Rattle.accounts.specs.FollowedFile.{IsFollowedFile, Named, name_in, tail_of}
 use Rattle.accounts.specs.OneScan.{IsAskedByEntry, IsByOneScan, IsByPath}
@@ -57,6 +57,15 @@ module _ (run : Run) (scan : Scan) (by : IsByOneScan run scan) where
   each_asked_well [] each = tt
   each_asked_well (asking ∷ askings) each = (asked_well asking each.0, each_asked_well askings each.1)
 
+  -- a full scan met no fault, since it asked no tail
+  pub whole_by_entries : IsFullScan run scan → IsWhole run scan
+  whole_by_entries full = record {
+    not_cut_off = full.not_cut_off;
+    none_failed = full.none_failed;
+    each_asked = full.each_asked;
+    none_faulty = each_asked_well scan.askings by.askings;
+  }
+
   -- no tail was opened for an input
   of_no_other : (askings : List Asking) (input opening : ℕ) → AllByRecursion (IsAskedByEntry run.settings.inputs) askings →
       AllByRecursion (λ (asking : Asking). asking.opening ≡ Some opening → asking.input ≡ input) askings
@@ -85,12 +94,7 @@ module _ (run : Run) (scan : Scan) (files : List Filed) (workers : List Taken) (
   notes = first ++ collected
 
   is_whole : IsWhole run scan
-  is_whole = record {
-    not_cut_off = done.full.not_cut_off;
-    none_failed = done.full.none_failed;
-    each_asked = done.full.each_asked;
-    none_faulty = each_asked_well run scan told.by scan.askings told.by.askings;
-  }
+  is_whole = whole_by_entries run scan told.by done.full
 
   module _ (file : Filed) (among : Contains files file) where
     followed : IsFollowedFile run scan file

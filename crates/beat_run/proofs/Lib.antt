@@ -1,5 +1,6 @@
 pub mod Accounts
 pub mod Causes
+pub mod Cleaned
 pub mod Endings
 pub mod FirstLacks
 pub mod PrintedEnds

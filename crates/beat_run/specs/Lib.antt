@@ -1,6 +1,7 @@
 pub mod Accounted
 pub mod Asked
 pub mod Cause
+pub mod Cleaning
 pub mod Ended
 pub mod Ends
 pub mod Handed

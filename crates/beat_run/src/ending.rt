@@ -5,8 +5,8 @@ ghost use Rattle.beat_run.specs.Ended.{IsTelling, StandsForMet};
 ghost use Rattle.beat_run.specs.Ends.{IsReportEnd, IsRunEnd};
 
 use crate::status::status_of;
-use keeper::Keeper;
 use prospect::Listed;
+use registry_store::Store;
 use report::{Status, report_text};
 use run_steps::{Met, Worked};
 use std::alloc::Global;
@@ -20,18 +20,26 @@ pub struct Ending {
     pub status: Status,
 }
 
+/// How many events of a run were shipped and dropped, by the settlements that the keeper collected.
+#[derive(Clone, Copy)]
+pub struct Totals {
+    pub shipped: u64,
+    pub dropped: u64,
+}
+
 /// What is told of what a run has done, or the status that it ends with.
 pub fn ending_of(
     alloc: Global,
     worked: Worked,
-    keeper: &Keeper,
+    store: &Store,
+    totals: Totals,
     listed: &[Listed],
     attempts: u32,
 ) -> Result<Ending, Status>
     requires of_these { IsMetOf (length listed.now) worked.met }
     ensures telling { IfOk result (λ _. IsTelling worked.met) }
-    ensures report { IfOk result (λ ending. IsReport keeper.now.store.rows worked.passed.items
-        keeper.now.shipped keeper.now.dropped ending.status ending.report) }
+    ensures report { IfOk result (λ ending. IsReport store.now.rows worked.passed.items
+        totals.shipped totals.dropped ending.status ending.report) }
     ensures stands { IfOk result (λ ending.
         StandsForMet listed.now attempts worked.met ending.status) }
     ensures with_report { IfOk result (λ ending. IsReportEnd ending.status) }
@@ -45,10 +53,10 @@ pub fn ending_of(
         Met::Done | Met::Stopped => {
             let report = report_text(
                 alloc,
-                keeper.rows(),
+                store.rows(),
                 &passed,
-                keeper.shipped(),
-                keeper.dropped(),
+                totals.shipped,
+                totals.dropped,
                 &status,
             )?;
             Ok(Ending { report, status })

@@ -1,4 +1,4 @@
-ghost use Rattle.std.specs.Prelude.{false, ◌≡◌, ◌⊎◌, [], All, IfErr, IfOk, IfSome, IsErrOf, IsSome, List, MatchResult, OnOk, Some, ℕ, take, vec_len};
+ghost use Rattle.std.specs.Prelude.{false, ◌≡◌, ◌⊎◌, [], All, IfErr, IfOk, IfSome, IsErrOf, IsSome, List, MatchResult, OnOk, Some, ℕ, length, take, vec_len};
 ghost use Rattle.beat_config.specs.Document.{AreSettingsOf, IsFirstFault};
 ghost use Rattle.beat_config.specs.InRange.{AreInRange};
 ghost use Rattle.command_line.specs.Words.{IsNoCommand};
@@ -6,11 +6,15 @@ ghost use Rattle.prospect.specs.Lacks.{IsFirstLack, lacks_of};
 ghost use Rattle.registry_log.specs.OnlyRead.{IsOnlyRead};
 ghost use Rattle.registry_store.specs.Settled.{AreAtRest};
 ghost use Rattle.rounds.specs.Words.{disk_words, wire_words};
+ghost use Rattle.registry_store.specs.Standing.{Standing};
+ghost use Rattle.run_steps.specs.Met.{AreLeft, IsMetOf};
 ghost use Rattle.run_steps.specs.Registry.{AreRefusedAt};
+ghost use Rattle.run_steps.specs.declared.met.Met.{Met};
 ghost use Rattle.wire_base.specs.declared.limits.Which.{Which};
 ghost use Rattle.beat_run.specs.Accounted.{AllTell, Areas, IsAccounted, IsAccountedWhereTold, IsOpenedFrom, TellEnough};
 ghost use Rattle.beat_run.specs.Asked.{AskFor, AskForOnce, IsAsked};
 ghost use Rattle.beat_run.specs.Cause.{Cause, without_sink};
+ghost use Rattle.beat_run.specs.Cleaning.{Finishes};
 ghost use Rattle.beat_run.specs.Ended.{ended};
 ghost use Rattle.beat_run.specs.Ends.{IsBehindOpening, IsRefusal, IsReportEnd, IsRunEnd, IsScannedEnd, IsSettledEnd, IsUnprepared, RefusesArea, RefusesKey, RefusesLack, RefusesSettings, RefusesWords};
 ghost use Rattle.beat_run.specs.Handed.{CausedIn, GoesOn, lent_of, objects_of, outside_words, signs_of};
@@ -18,7 +22,8 @@ ghost use Rattle.beat_run.specs.Printed.{IsReportOf, ReportsStored};
 ghost use Rattle.beat_run.specs.Untouched.{IsRefused};
 ghost use Rattle.beat_run.specs.declared.settings.TheConstants.{LIMIT};
 
-use crate::ending::{Ending, ending_of};
+use crate::cleaning::clean;
+use crate::ending::{Ending, Totals, ending_of};
 use crate::laws::unasked_disk_is_only_read;
 use crate::objects::Outside;
 use crate::parts::{Parts, parts_of};
@@ -27,12 +32,14 @@ use crate::scan::scan;
 use crate::status::status_of_registry;
 use beat_config::SettingsError;
 use event_tree::Settings;
+use keeper::Keeper;
 use lanes::Outlets;
 use outside::{Bell, Clock, Disk, Folder, Link, Source, Wire};
+use prospect::Listed;
 use registry_store::{Store, one_choice};
 use report::{Lack, Status};
 use rounds::{Stored, Storing};
-use run_steps::{Context, Surroundings, open_registry, run_over};
+use run_steps::{Context, Surroundings, Worked, open_registry, run_over};
 use std::alloc::Global;
 use std::sync::Wait;
 use std::thread::Threads;
@@ -386,24 +393,57 @@ where
             desk: &desk,
         },
     };
-    let mut storing = Storing {
-        keeper: &mut keeper,
-        a: &mut *outside.a,
-        b: &mut *outside.b,
-        stored: Stored::begun(),
+    let worked = {
+        let mut storing = Storing {
+            keeper: &mut keeper,
+            a: &mut *outside.a,
+            b: &mut *outside.b,
+            stored: Stored::begun(),
+        };
+        let mut around = Surroundings {
+            folder: &mut *outside.folder,
+            wires: &mut *outside.wires,
+            clock: &mut *outside.clock,
+            bell: &mut *outside.bell,
+        };
+        run_over(rt, context, passes, &scanned, &mut storing, &mut around)?
     };
-    let mut around = Surroundings {
-        folder: &mut *outside.folder,
-        wires: &mut *outside.wires,
-        clock: &mut *outside.clock,
-        bell: &mut *outside.bell,
-    };
-    let worked = run_over(rt, context, passes, &scanned, &mut storing, &mut around)?;
-    ending_of(
-        alloc,
-        worked,
-        storing.keeper,
+    finish(
+        context,
         scanned.listed.as_slice(),
-        settings.output.attempts,
+        worked,
+        keeper,
+        outside.a,
+        outside.b,
     )
+}
+
+/// Takes the rows of removed files out of the registry, and makes what is told of the run.
+fn finish<D: Disk>(
+    context: Context<'_, '_>,
+    listed: &[Listed],
+    worked: Worked,
+    keeper: Keeper,
+    a: &mut D,
+    b: &mut D,
+) -> Result<Ending, Status>
+    requires of_these { IsMetOf (length listed.now) worked.met }
+    requires open { AreLeft worked.met → keeper.store.closed ≡ false }
+    ensures finished { (now : Met) × (store : Standing) ×
+        Finishes (disk_words D.contents D.images D.moment D.images_since D.faults)
+        context.entry.settings.now listed.now worked.passed.items keeper
+        (record { met = worked.met; store = keeper.store; a = a.old; b = b.old })
+        (record { met = now; store = store; a = a.new; b = b.new }) result }
+    ensures with_report { IfOk result (λ ending. IsReportEnd ending.status) }
+    ensures without_report { IfErr result IsRunEnd }
+{
+    let totals = Totals {
+        shipped: keeper.shipped(),
+        dropped: keeper.dropped(),
+    };
+    let (mut store, _) = keeper.end();
+    let Worked { passed, met } = worked;
+    let met = clean(context, listed, met, &mut store, a, b);
+    let attempts = context.settings.output.attempts;
+    ending_of(context.alloc, Worked { passed, met }, &store, totals, listed, attempts)
 }

@@ -1,0 +1,9 @@
+pub mod Deciding
+pub mod GoneAccounts
+pub mod GoneDrained
+pub mod GoneFollowed
+pub mod GoneKept
+pub mod GoneLost
+pub mod GoneRows
+pub mod GoneSlots
+mod WorkedGone

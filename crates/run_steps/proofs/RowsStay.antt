@@ -18,7 +18,10 @@ use Rattle.wire_base.specs.KeyOrder.{compare}
 use Rattle.wire_base.specs.declared.note.Note.{Note}
 use Rattle.wire_base.specs.declared.note.Note.TheVariants.{Announce, Begin, Forget, Rename, Seen, Settle}
 use Rattle.wire_base.specs.declared.row.Row.{Row}
-use Rattle.run_steps.specs.AccountedFor.{HasRowOf}
+use Rattle.accounts.proofs.Lists.{each_then}
+use Rattle.kept_rows.specs.Account.{SlotAccount}
+use Rattle.kept_rows.specs.Run.{Run}
+use Rattle.run_steps.specs.AccountedFor.{Absences, HasRowOf}
 use Rattle.run_steps.proofs.HeldRows.{some_of}
 use Rattle.run_steps.proofs.Members.{some_is}
 use Rattle.run_steps.proofs.RowsFound.{found_key, found_there}
@@ -117,5 +120,7 @@ module _ (opening : List Row) (notes : List Note) (rows : List Row) (ordered : I
   each_stays [] within = tt
   each_stays (row ∷ some) within = (one_stays row (within row (first_there row some)), each_stays some (λ other there. within other (later_there row other some there)))
 
-  pub rows_stay : AllByRecursion (λ (row : Row). HasRowOf rows row.key) opening
-  rows_stay = each_stays opening (λ row there. there)
+  -- whichever keys may be without a row
+  pub rows_stay : (Absent : Absences) (run : Run) (account : List SlotAccount) → AllByRecursion (λ (row : Row). HasRowOf rows row.key ⊎ Absent run account row.key) opening
+  rows_stay Absent run account =
+      each_then (λ (row : Row). HasRowOf rows row.key) (λ (row : Row). HasRowOf rows row.key ⊎ Absent run account row.key) opening (λ row has. inl has) (each_stays opening (λ row there. there))

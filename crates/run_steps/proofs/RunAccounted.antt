@@ -2,19 +2,22 @@
 use Rattle.std.proofs.Common.{◌≡◌, inl, inr, ⊎_elim, ℕ, List, [], ◌++◌, map, Option, Some, refl, sym, ap, subst, ◌∙◌, arith}
 use Rattle.accounts.proofs.AccountingFor.{IsAccountedFor, is_accounted_for}
 use Rattle.accounts.proofs.BegunRows.{have_ground}
-use Rattle.accounts.proofs.Draining.{is_drained}
+use Rattle.accounts.proofs.Draining.{is_drained, whole_by_entries}
+use Rattle.accounts.proofs.Lists.{each_then}
 use Rattle.accounts.proofs.LastNotes.{none_forgotten}
 use Rattle.accounts.proofs.Ordered.{slots_apart}
-use Rattle.accounts.specs.AccountedFor.{followings_in}
+use Rattle.accounts.specs.AccountedFor.{HasItsRow, followings_in}
 use Rattle.accounts.specs.Filed.{Filed, accounts_of}
+use Rattle.accounts.specs.FollowedFile.{IsFollowedFile}
 use Rattle.accounts.specs.RunTold.{RunTold}
 use Rattle.accounts.specs.Taken.{Taken, acknowledged_in}
 use Rattle.batch_worker.specs.Standing.{length_of}
-use Rattle.kept_rows.specs.Account.{SlotAccount}
+use Rattle.kept_rows.specs.Account.{SlotAccount, key_of}
 use Rattle.kept_rows.specs.Backed.{AreRowsOverFronts}
 use Rattle.kept_rows.specs.Drained.{IsDrained}
 use Rattle.kept_rows.specs.Premises.{Premises}
 use Rattle.kept_rows.specs.Run.{Run, Scan}
+use Rattle.kept_rows.specs.Scans.{ShowsKey}
 use Rattle.outside.specs.Folders.{FolderHistory}
 use Rattle.outside.specs.Wires.{Outcome}
 use Rattle.registry_store.specs.Choice.{GivesRows}
@@ -24,7 +27,8 @@ use Rattle.ship_core.specs.Rows.{IsInOrder}
 use Rattle.ship_core.specs.RowsOver.{AreRowsOver}
 use Rattle.wire_base.specs.declared.note.Note.{Note}
 use Rattle.wire_base.specs.declared.row.Row.{Row}
-use Rattle.run_steps.specs.AccountedFor.{AccountedFor, AreImageRows, FitsFolders, FitsObjects, HoldKeptRows, RowsBy, RunObjects}
+use Rattle.run_steps.specs.AccountedFor.{AccountedWith, AreImageRows, FitsFolders, FitsObjects, HoldKeptRows, NoKey, RowsBy, RunObjects}
+use Rattle.run_steps.specs.AccountedOver.{AccountedOver}
 use Rattle.run_steps.specs.Areas.{BeganAtRest, GaveRows, HaveHeldFronts, HeldOnlyFronts}
 use Rattle.run_steps.specs.Began.{Began}
 use Rattle.run_steps.specs.Ends.{Ending, Ends}
@@ -41,7 +45,7 @@ use Rattle.run_steps.proofs.RowsStay.{rows_stay}
 use Rattle.run_steps.proofs.RunDoneOf.{run_done}
 use Rattle.run_steps.proofs.RunFits.{moments_since}
 use Rattle.run_steps.proofs.RunRows.{OneChoice, given_over_fronts, opened_over_fronts, rows_of_store}
-use Rattle.run_steps.proofs.RunToldOf.{run, run_files, run_told, scan, workers}
+use Rattle.run_steps.proofs.RunToldOf.{run, run_files, run_told, scan, the_full_scan, workers}
 
 module _ {T W L D : Type 0} (words : Words T W L D) (start : Began D) (ending : Ending D) (met : Met) (unused wires : List W) (ends : Ends words start ending met unused wires)
     (left : AreLeftSo words.disks start ending met ends.crew) (folder : FolderTold) (has : HasScanned start folder) (tell : DoTell words.wires ending folder wires) where
@@ -75,6 +79,18 @@ module _ {T W L D : Type 0} (words : Words T W L D) (start : Began D) (ending : 
   abbrev account : List SlotAccount
   account = accounts_of accounted.placed the_files
 
+  -- the scan showed the key of each file that was followed
+  keys_shown : (some : List Filed) → AllByRecursion (IsFollowedFile the_run the_scan) some → AllByRecursion (λ (one : SlotAccount). ShowsKey the_run the_scan (key_of one)) (accounts_of accounted.placed some)
+  keys_shown [] each = tt
+  keys_shown (file ∷ some) each = (
+    record {
+      number = each.0.listed.number;
+      path = each.0.shown.entry.path;
+      shows = record { shown = each.0.shown; path_is = refl; shows = (file.opened.begin.input, each.0.listed.shows) };
+    },
+    keys_shown some each.1,
+  )
+
   module _ (one : OneChoice) (gave : GaveRows words.disks start) (at_rest : BeganAtRest words.disks start) where
     held : HaveHeldFronts words.disks start.opening notes start.a start.b ending.a ending.b
     held = ends.stands.areas at_rest
@@ -100,22 +116,22 @@ module _ {T W L D : Type 0} (words : Words T W L D) (start : Began D) (ending : 
         rows_in_order before beside start.opening (gave before beside a_is b_is)
 
     -- and each of them stays, since no note forgets one
-    image_rows : (rows : List Row) → AreRowsOverFronts start.opening notes rows → AreImageRows the_run account rows
+    image_rows : (rows : List Row) → AreRowsOverFronts start.opening notes rows → AreImageRows NoKey the_run account rows
     image_rows rows over =
         let fronts = subst (λ (l : List Note). AreRowsOverFronts start.opening l rows) ends.stands.noted.are over in
         let none = none_forgotten the_files (acknowledged_in the_workers) begun collected (slots_apart 0 the_files the_run_told.followed.slots) the_run_told.noted
         (have_ground the_run the_scan the_files the_workers begun collected the_run_told) in
-        record { kept = accounted.accounts.images rows fronts; stay = rows_stay start.opening (begun ++ collected) rows opening_ordered fronts none }
+        record { kept = accounted.accounts.images rows fronts; stay = rows_stay start.opening (begun ++ collected) rows opening_ordered fronts none NoKey the_run account }
 
     rows_by : (first second : List ℕ) (rows : List Row) → words.disks.contents ending.a ≡ Some first → words.disks.contents ending.b ≡ Some second →
-        GivesRows first second rows → RowsBy the_run account met rows
+        GivesRows first second rows → RowsBy NoKey the_run account met rows
     rows_by first second rows a_is b_is gives = record {
       in_image = image_rows rows (given_over_fronts one start.opening notes first second rows (held.both first second a_is b_is) gives);
       kept = λ are_left. accounted.accounts.ends rows (rows_over are_left first second rows a_is b_is gives);
-      begun = λ are_left. accounted.accounts.begun rows (rows_over are_left first second rows a_is b_is gives);
+      begun = λ are_left. each_then (HasItsRow rows) (λ one. HasItsRow rows one ⊎ ⊥) account (λ one has. inl has) (accounted.accounts.begun rows (rows_over are_left first second rows a_is b_is gives));
     }
 
-    images_of : (began now : D) → HeldOnlyFronts words.disks start.opening notes began now → HoldKeptRows words.disks (record { began = began; now = now }) the_run account
+    images_of : (began now : D) → HeldOnlyFronts words.disks start.opening notes began now → HoldKeptRows NoKey words.disks (record { began = began; now = now }) the_run account
     images_of began now only image generation rows end since opened =
         ⊎_elim inl (λ over. inr (image_rows rows over)) (opened_over_fronts one start.opening notes (words.disks.contents began) image generation rows end (only.each image since) opened)
 
@@ -146,7 +162,7 @@ module _ {T W L D : Type 0} (words : Words T W L D) (start : Began D) (ending : 
           (run_done words start ending met unused wires ends left folder has tell is_done (served is_done)) accounted.placed premises rows
           (rows_over one gave at_rest (subst AreLeft (sym is_done) tt) first second rows a_is b_is gives)
 
-      pub accounted_for : AccountedFor words.disks start.settings objects met
+      accounted_for : AccountedWith NoKey words.disks start.settings objects met
       accounted_for = record {
         run = the_run;
         by_settings = refl;
@@ -159,4 +175,15 @@ module _ {T W L D : Type 0} (words : Words T W L D) (start : Began D) (ending : 
         rows = rows_by one gave;
         images = λ at_rest. record { of_a = images_of one gave at_rest start.a ending.a (held one gave at_rest).of_a; of_b = images_of one gave at_rest start.b ending.b (held one gave at_rest).of_b };
         supposing = λ premises. record { is = accounted.accounts.is premises; drained = λ at_rest is_done. drained at_rest is_done premises };
+      }
+
+      pub accounted_over : AccountedOver words.disks start.settings start.opening start.listed objects met
+      accounted_over = record {
+        accounted = accounted_for;
+        opening_is = refl;
+        scan = the_scan;
+        only = refl;
+        whole = whole_by_entries the_run the_scan the_run_told.by (the_full_scan words start ending met unused wires ends left folder has tell);
+        asked = refl;
+        shown = keys_shown the_files the_run_told.followed.each;
       }

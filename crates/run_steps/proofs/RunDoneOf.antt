@@ -24,10 +24,9 @@ use Rattle.run_steps.specs.Tells.{DoTell}
 use Rattle.run_steps.specs.declared.met.Met.{Met}
 use Rattle.run_steps.specs.declared.met.Met.TheVariants.{Done}
 use Rattle.run_steps.proofs.RunCounts.{all_counted, no_others}
-use Rattle.run_steps.proofs.RunFiles.{done, joined, looks_in, moment_listed}
+use Rattle.run_steps.proofs.RunFiles.{joined, looks_in, moment_listed}
 use Rattle.run_steps.proofs.RunServed.{each_entry, each_whole}
-use Rattle.run_steps.proofs.RunToldOf.{fit, run, run_files, scan, wires_told, workers}
-use Rattle.run_steps.proofs.ScanOf.{is_full_scan}
+use Rattle.run_steps.proofs.RunToldOf.{fit, run, run_files, scan, the_full_scan, wires_told, workers}
 
 module _ {T W L D : Type 0} (words : Words T W L D) (start : Began D) (ending : Ending D) (met : Met) (unused wires : List W) (ends : Ends words start ending met unused wires)
     (left : AreLeftSo words.disks start ending met ends.crew) (folder : FolderTold) (has : HasScanned start folder) (tell : DoTell words.wires ending folder wires)
@@ -70,9 +69,7 @@ module _ {T W L D : Type 0} (words : Words T W L D) (start : Began D) (ending : 
   pub run_done : RunDone (run words start ending met unused wires ends left folder has tell) (scan words start ending met unused wires ends left folder has tell)
       all_files all_workers ends.so_far.begun ends.so_far.collected
   run_done = record {
-    full = is_full_scan start folder has ends.so_far
-        (done words start (with_crew ending ends.crew) ends.so_far ends.stands left.released folder has tell.shown all_wires)
-        all_wires;
+    full = the_full_scan words start ending met unused wires ends left folder has tell;
     served = each_entry words start (with_crew ending ends.crew) ends.so_far ends.stands left.released folder has tell.shown
         all_wires all_workers
         (fit words start ending met unused wires ends left folder has tell).fits served;

@@ -40,7 +40,7 @@ use Rattle.ship_core.specs.Rows.{IsInOrder}
 use Rattle.ship_core.specs.RowsOver.{AreRowsOver, row_for}
 use Rattle.wire_base.specs.declared.note.Note.{Note}
 use Rattle.wire_base.specs.declared.row.Row.{Row}
-use Rattle.run_steps.specs.AccountedFor.{AccountedFor, AreImageRows, HoldKeptRows, RowsBy, RunObjects}
+use Rattle.run_steps.specs.AccountedFor.{AccountedFor, AreImageRows, HoldKeptRows, LostKey, RowsBy, RunObjects}
 use Rattle.run_steps.specs.Areas.{BeganAtRest, GaveRows, GiveTheRows, HaveHeldFronts, HeldOnlyFronts}
 use Rattle.run_steps.specs.Began.{Began}
 use Rattle.run_steps.specs.RunOf.{FolderTold, run_of, scan_of, wires_behind}
@@ -223,18 +223,18 @@ module _ {D : Type 0} (disks : DiskWords D) (start : Began D) (folder : FolderTo
       after = record { folder = Some folder.scanned; moments = later; outcomes = outcomes; a = a; b = b };
     }
 
-    image_rows : IsInOrder start.opening → (rows : List Row) → AreRowsOverFronts start.opening [] rows → AreImageRows early_run [] rows
-    image_rows ordered rows over = record { kept = early_accounts.images rows over; stay = rows_stay start.opening [] rows ordered over tt }
+    image_rows : IsInOrder start.opening → (rows : List Row) → AreRowsOverFronts start.opening [] rows → AreImageRows LostKey early_run [] rows
+    image_rows ordered rows over = record { kept = early_accounts.images rows over; stay = rows_stay start.opening [] rows ordered over tt LostKey early_run [] }
 
-    images_of : IsInOrder start.opening → (from now : D) → HeldOnlyFronts disks start.opening [] from now → HoldKeptRows disks (record { began = from; now = now }) early_run []
+    images_of : IsInOrder start.opening → (from now : D) → HeldOnlyFronts disks start.opening [] from now → HoldKeptRows LostKey disks (record { began = from; now = now }) early_run []
     images_of ordered from now only image generation rows end since opened =
         ⊎_elim inl (λ over. inr (image_rows ordered rows over)) (opened_over_fronts one start.opening [] (disks.contents from) image generation rows end (only.each image since) opened)
 
-    rows_by : IsInOrder start.opening → (met : Met) (rows : List Row) → AreRowsOverFronts start.opening [] rows → RowsBy early_run [] met rows
+    rows_by : IsInOrder start.opening → (met : Met) (rows : List Row) → AreRowsOverFronts start.opening [] rows → RowsBy LostKey early_run [] met rows
     rows_by ordered met rows over = record {
       in_image = image_rows ordered rows over;
       kept = λ left. early_accounts.ends rows (over_no_notes start.opening rows over);
-      begun = λ left. early_accounts.begun rows (over_no_notes start.opening rows over);
+      begun = λ left. tt;
     }
 
     pub early_is_accounted_for : (met : Met) → met ≢ Done → AccountedFor disks start.settings early_objects met
@@ -305,18 +305,18 @@ module _ {D : Type 0} (disks : DiskWords D) (settings : Settings) (opening : Lis
       after = record { folder = Some told; moments = Some before; outcomes = outcomes; a = a; b = b };
     }
 
-    still_image_rows : IsInOrder opening → (rows : List Row) → AreRowsOverFronts opening [] rows → AreImageRows still_run [] rows
-    still_image_rows ordered rows over = record { kept = still_accounts.images rows over; stay = rows_stay opening [] rows ordered over tt }
+    still_image_rows : IsInOrder opening → (rows : List Row) → AreRowsOverFronts opening [] rows → AreImageRows LostKey still_run [] rows
+    still_image_rows ordered rows over = record { kept = still_accounts.images rows over; stay = rows_stay opening [] rows ordered over tt LostKey still_run [] }
 
-    still_images : IsInOrder opening → (from now : D) → HeldOnlyFronts disks opening [] from now → HoldKeptRows disks (record { began = from; now = now }) still_run []
+    still_images : IsInOrder opening → (from now : D) → HeldOnlyFronts disks opening [] from now → HoldKeptRows LostKey disks (record { began = from; now = now }) still_run []
     still_images ordered from now only image generation rows end since opened =
         ⊎_elim inl (λ over. inr (still_image_rows ordered rows over)) (opened_over_fronts one opening [] (disks.contents from) image generation rows end (only.each image since) opened)
 
-    still_rows : IsInOrder opening → (met : Met) (rows : List Row) → AreRowsOverFronts opening [] rows → RowsBy still_run [] met rows
+    still_rows : IsInOrder opening → (met : Met) (rows : List Row) → AreRowsOverFronts opening [] rows → RowsBy LostKey still_run [] met rows
     still_rows ordered met rows over = record {
       in_image = still_image_rows ordered rows over;
       kept = λ left. still_accounts.ends rows (over_no_notes opening rows over);
-      begun = λ left. still_accounts.begun rows (over_no_notes opening rows over);
+      begun = λ left. tt;
     }
 
     pub still_is_accounted_for : (met : Met) → met ≢ Done → AccountedFor disks settings still_objects met

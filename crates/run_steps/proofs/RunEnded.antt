@@ -7,7 +7,8 @@ use Rattle.outside.specs.Folders.{FolderHistory}
 use Rattle.outside.specs.Wires.{Outcome}
 use Rattle.rounds.specs.Words.{Words}
 use Rattle.run_steps.specs.Areas.{BeganAtRest, GaveRows}
-use Rattle.run_steps.specs.AccountedFor.{AccountedFor, RunObjects}
+use Rattle.run_steps.specs.AccountedFor.{RunObjects}
+use Rattle.run_steps.specs.AccountedOver.{AccountedOver}
 use Rattle.run_steps.specs.Began.{Began}
 use Rattle.run_steps.specs.Ends.{Ending}
 use Rattle.run_steps.specs.RunEnds.{HasEnded}
@@ -20,7 +21,7 @@ use Rattle.run_steps.specs.Tells.{DoTell}
 use Rattle.run_steps.specs.declared.met.Met.{Met}
 use Rattle.run_steps.specs.declared.met.Met.TheVariants.{Done}
 use Rattle.run_steps.proofs.Members.{some_is}
-use Rattle.run_steps.proofs.RunAccounted.{accounted_for}
+use Rattle.run_steps.proofs.RunAccounted.{accounted_over}
 use Rattle.run_steps.proofs.RunRows.{OneChoice}
 use Rattle.run_steps.proofs.Serving.{IsServedAtEnd}
 
@@ -61,9 +62,9 @@ module _ {T W L D : Type 0} (words : Words T W L D) (start : Began D) (ending : 
       after = record { folder = ending.shown; moments = ending.moments; outcomes = map words.wires.outcomes wires; a = ending.a; b = ending.b };
     }
 
-    pub ended_is_accounted_for : OneChoice → GaveRows words.disks start → (met ≡ Done → IsServedAtEnd start.opening start.listed ending.keeper.tracked.notes folder ending.shown) → AccountedFor words.disks start.settings ended_objects met
+    pub ended_is_accounted_for : OneChoice → GaveRows words.disks start → (met ≡ Done → IsServedAtEnd start.opening start.listed ending.keeper.tracked.notes folder ending.shown) → AccountedOver words.disks start.settings start.opening start.listed ended_objects met
     ended_is_accounted_for one gave served =
-        accounted_for words start ending met unused wires ended.ends ended.left whole has_whole do_tell outcomes starts one gave
+        accounted_over words start ending met unused wires ended.ends ended.left whole has_whole do_tell outcomes starts one gave
         (λ is_done. by_served (served is_done))
       where
         by_served : IsServedAtEnd start.opening start.listed ending.keeper.tracked.notes folder ending.shown → AreServed start.opening start.listed ending.keeper.tracked.notes whole

@@ -2,7 +2,7 @@
 use Rattle.std.proofs.Common.{◌≡◌, ◌⊎◌, inl, inr, ℕ, List, [], ◌∷◌, Option, Some, refl, sym, ap, subst, ◌∙◌, arith}
 use Rattle.std.specs.Prelude.{slice_get}
 use Rattle.kept_rows.specs.Backed.{AreRowsOverFronts}
-use Rattle.registry_log.specs.Starting.{IsClosed}
+use Rattle.registry_log.specs.Starting.{IsBlank, IsClosed}
 use Rattle.registry_log.specs.State.{Blank, IsOpened, Opened}
 use Rattle.registry_store.specs.Choice.{Choice, Chosen, GivesRows, IsChoice, rows_of}
 use Rattle.registry_store.specs.Settled.{AreSettled}
@@ -28,7 +28,7 @@ module _ (one : OneChoice) where
   chosen_alone area generation rows end opened =
       record { first_state = Opened generation rows 29 end; second_state = Blank; first_is = (refl, opened); second_is = omega arith; chosen = refl }
 
-  opened_rows : (area : List ℕ) (generation other : ℕ) (rows others : List Row) (end last : ℕ) → IsOpened area generation rows end → IsOpened area other others last → rows ≡ others
+  pub opened_rows : (area : List ℕ) (generation other : ℕ) (rows others : List Row) (end last : ℕ) → IsOpened area generation rows end → IsOpened area other others last → rows ≡ others
   opened_rows area generation other rows others end last opened again =
       some_is rows others
       (ap rows_of (one area [] (Chosen A generation rows 29 end) (Chosen A other others 29 last) (chosen_alone area generation rows end opened) (chosen_alone area other others last again)))
@@ -37,12 +37,16 @@ module _ (one : OneChoice) where
   not_closed [] gate closed = closed
   not_closed (first ∷ rest) gate closed = closed (some_is first 0x7B gate)
 
+  -- an area that is opened is read
+  pub not_shut : (area : List ℕ) (generation : ℕ) (rows : List Row) (end : ℕ) → IsOpened area generation rows end → IsBlank area ⊎ IsClosed area → ⊥
+  not_shut area generation rows end opened (inl blank) = let more = opened.reaches.unclosed.more in omega (arith, blank, more)
+  not_shut area generation rows end opened (inr closed) = not_closed area opened.reaches.unclosed.gate closed
+
   -- an area that is opened is as it was, or has rows over first ones of these notes
   pub opened_over_fronts : (opening : List Row) (notes : List Note) (before : Option (List ℕ)) (area : List ℕ) (generation : ℕ) (rows : List Row) (end : ℕ) →
       MayHoldFronts opening notes before 0 area → IsOpened area generation rows end → (before ≡ Some area) ⊎ AreRowsOverFronts opening notes rows
   opened_over_fronts opening notes before area generation rows end (inl same) opened = inl same
-  opened_over_fronts opening notes before area generation rows end (inr (inl (inl blank))) opened = absurd (let more = opened.reaches.unclosed.more in omega (arith, blank, more))
-  opened_over_fronts opening notes before area generation rows end (inr (inl (inr closed))) opened = absurd (not_closed area opened.reaches.unclosed.gate closed)
+  opened_over_fronts opening notes before area generation rows end (inr (inl shut)) opened = absurd (not_shut area generation rows end opened shut)
   opened_over_fronts opening notes before area generation rows end (inr (inr over)) opened =
       inr (subst (AreRowsOverFronts opening notes) (opened_rows area over.its_generation generation over.rows rows over.end end over.opened opened) over.fronts)
 

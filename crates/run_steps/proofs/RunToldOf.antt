@@ -4,6 +4,7 @@ use Rattle.std.specs.List.{AllByRecursion}
 use Rattle.accounts.proofs.SoFar.{joined_first_notes, joined_fit}
 use Rattle.accounts.specs.Filed.{Filed}
 use Rattle.accounts.specs.Places.{AreOfWorkers}
+use Rattle.accounts.specs.RunDone.{IsFullScan}
 use Rattle.accounts.specs.RunTold.{RunTold}
 use Rattle.accounts.specs.Taken.{Taken}
 use Rattle.batch_worker.specs.Standing.{length_of}
@@ -22,7 +23,7 @@ use Rattle.run_steps.specs.declared.met.Met.{Met}
 use Rattle.run_steps.proofs.RunBooks.{FitWith, books_fit, first_notes}
 use Rattle.run_steps.proofs.RunFiles.{are_followed_files, done, files, joined}
 use Rattle.run_steps.proofs.RunWires.{acknowledged_are, carried_are, of_workers, took_each, took_none}
-use Rattle.run_steps.proofs.ScanOf.{is_by_one_scan}
+use Rattle.run_steps.proofs.ScanOf.{is_by_one_scan, is_full_scan}
 
 module _ {T W L D : Type 0} (words : Words T W L D) (start : Began D) (ending : Ending D) (met : Met) (unused wires : List W) (ends : Ends words start ending met unused wires)
     (left : AreLeftSo words.disks start ending met ends.crew) (folder : FolderTold) (has : HasScanned start folder) (tell : DoTell words.wires ending folder wires) where
@@ -58,6 +59,10 @@ module _ {T W L D : Type 0} (words : Words T W L D) (start : Began D) (ending : 
       books_fit (lanings ends.crew.lanes.items) ends.crew.carriers.items ending.keeper so_far ends.stands.gave ends.stands.placed start.opening ends.stands.noted workers
       (acknowledged_are words.links words.wires unused so_far.told.acknowledged ends.crew.carriers.items ends.stands.booked.acknowledged)
       (carried_are words.links words.wires unused so_far.told.acknowledged ends.crew.carriers.items ends.stands.booked.acknowledged)
+
+  pub the_full_scan : IsFullScan run scan
+  the_full_scan =
+      is_full_scan start folder has so_far (done words start (with_crew ending ends.crew) so_far ends.stands left.released folder has tell.shown wires_told) wires_told
 
   pub run_told : RunTold run scan run_files workers so_far.begun so_far.collected
   run_told = record {

@@ -28,7 +28,7 @@ use Rattle.rounds.specs.declared.carrier.Carrier.{Carrier}
 use Rattle.rounds.specs.declared.crew.Crew.{Crew}
 use Rattle.rounds.specs.declared.storing.Storing.{Storing}
 use Rattle.wire_base.specs.declared.numbers.Moment.{Moment}
-use Rattle.run_steps.specs.AccountedFor.{AccountedFor}
+use Rattle.run_steps.specs.AccountedOver.{AccountedOver}
 use Rattle.run_steps.specs.Areas.{BeganAtRest, IsAtRest}
 use Rattle.run_steps.specs.Began.{Began}
 use Rattle.run_steps.specs.Beginning.{Beginning}
@@ -182,7 +182,7 @@ module _ {T W L D : Type 0} (words : Words T W L D) (reads : (disk : D) → IfSo
             by_result (Err what) all not = absurd (not is_done)
 
         pub accounted : OneChoice → IfErr result (λ _. met ≢ Done) → Collects new.keeper ending.keeper → new.keeper.held ≡ None → (events : List Event) → ending.shown ≡ with_events events new.folder.told →
-            AccountedFor words.disks settings (ended_objects words start ending met left after has_ended folder has clock_tells wires_tell (map words.wires.outcomes wires) starts) met
+            AccountedOver words.disks settings old.keeper.store.rows listed (ended_objects words start ending met left after has_ended folder has clock_tells wires_tell (map words.wires.outcomes wires) starts) met
         accounted one not_done collects none_held events then =
             ended_is_accounted_for words start ending met left after has_ended folder has clock_tells wires_tell (map words.wires.outcomes wires) starts one sets.gave
             (λ is_done. served is_done not_done collects none_held events then)

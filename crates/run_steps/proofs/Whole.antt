@@ -41,7 +41,7 @@ use Rattle.run_steps.proofs.Released.{rose_where_some}
 
 -- ---- whether the last steps are left
 
-left_or_not : (met : Met) → AreLeft met ⊎ (¬ AreLeft met)
+pub left_or_not : (met : Met) → AreLeft met ⊎ (¬ AreLeft met)
 left_or_not Done = inl tt
 left_or_not Stopped = inl tt
 left_or_not NoMemory = inr (λ left. left)

@@ -1,16 +1,18 @@
 -- A run that is accounted for (this project's profile): a run by its settings that fits what its objects told before and after it, and
 -- an account of it. Its opening rows are those that its areas gave. Its files are followed so, only told events were sent, the rows that
--- its areas give are kept, and so is each row that any image of an area had since it began, but for images that are as that area was. Where files keep their identities and truncations are seen, the account is one of the run, and a
--- run that is done drained its folder. It is said where the folder, the clock and each wire tell.
+-- its areas give are kept, and so is each row that any image of an area had since it began, but for images that are as that area was. A key
+-- that had a row, or was begun, has one or lost it rightly. Where files keep their identities and truncations are seen, the account is one
+-- of the run, and a run that is done drained its folder. It is said where the folder, the clock and each wire tell.
 use Rattle.std.specs.Prelude.{◌≡◌, ◌⊎◌, ℕ, ◌-◌, ◌≤◌, true, Contains, List, [], drop, length, map, Option, Some, None}
 use Rattle.std.specs.List.{AllByRecursion}
 use Rattle.accounts.specs.AccountedFor.{HasItsRow, followings_in}
 use Rattle.batch_worker.specs.Standing.{length_of}
 use Rattle.event_tree.specs.declared.settings.Settings.{Settings}
-use Rattle.kept_rows.specs.Account.{SlotAccount}
+use Rattle.kept_rows.specs.Account.{SlotAccount, key_of}
 use Rattle.kept_rows.specs.Drained.{IsDrained}
 use Rattle.kept_rows.specs.Followed.{AreFollowed}
 use Rattle.kept_rows.specs.Kept.{IsKept, IsKeptInImage}
+use Rattle.kept_rows.specs.Lost.{IsRightlyLost}
 use Rattle.kept_rows.specs.Premises.{Premises}
 use Rattle.kept_rows.specs.Run.{Run}
 use Rattle.kept_rows.specs.Sent.{SendOnlyTold}
@@ -72,23 +74,36 @@ pub record FitsObjects {D : Type 0} (objects : RunObjects D) (run : Run) : Type 
 
 -- ---- its rows
 
+-- which keys may be without a row
+abbrev pub Absences : Type 1
+Absences = Run → List SlotAccount → List ℕ → Type 0
+
+-- none
+abbrev pub NoKey : Absences
+NoKey run account key = ⊥
+
+-- those that lost it rightly
+abbrev pub LostKey : Absences
+LostKey run account key = IsRightlyLost run account run.trace.wires key
+
 -- the key has one of these
 pub record HasRowOf (rows : List Row) (key : List ℕ) : Type 0 where
   pub row : Row
   pub of_rows : Contains rows row
   pub key_is : row.key ≡ key
 
--- the rows of an image: each is kept as images keep them, and each key that had one before has one
-pub record AreImageRows (run : Run) (account : List SlotAccount) (rows : List Row) : Type 0 where
-  pub kept : AllByRecursion (IsKeptInImage account run.opening run.trace.wires) rows
-  pub stay : AllByRecursion (λ row. HasRowOf rows row.key) run.opening
+module _ (Absent : Absences) (run : Run) (account : List SlotAccount) where
+  -- the rows of an image: each is kept as images keep them, and each key that had one before has one, or may be without
+  pub record AreImageRows (rows : List Row) : Type 0 where
+    pub kept : AllByRecursion (IsKeptInImage account run.opening run.trace.wires) rows
+    pub stay : AllByRecursion (λ row. HasRowOf rows row.key ⊎ Absent run account row.key) run.opening
 
--- the rows that the bytes of both areas give: as those of an image, whatever was met; where the last steps were made, kept as a run
--- ends with them, and one for each key that was begun
-pub record RowsBy (run : Run) (account : List SlotAccount) (met : Met) (rows : List Row) : Type 0 where
-  pub in_image : AreImageRows run account rows
-  pub kept : AreLeft met → AllByRecursion (IsKept account run.opening run.trace.wires) rows
-  pub begun : AreLeft met → AllByRecursion (HasItsRow rows) account
+  -- the rows that the bytes of both areas give: as those of an image, whatever was met; where the last steps were made, kept as a run
+  -- ends with them, and one for each key that was begun, or may be without
+  pub record RowsBy (met : Met) (rows : List Row) : Type 0 where
+    pub in_image : AreImageRows rows
+    pub kept : AreLeft met → AllByRecursion (IsKept account run.opening run.trace.wires) rows
+    pub begun : AreLeft met → AllByRecursion (λ one. HasItsRow rows one ⊎ Absent run account (key_of one)) account
 
 -- what both areas hold now gives rows
 abbrev pub GiveRows : {D : Type 0} → DiskWords D → Objects D → Type 0
@@ -105,14 +120,14 @@ pub record AreaSince (D : Type 0) : Type 0 where
   pub now : D
 
 -- each image of the area since then that is opened has such rows, but for one that is as the area was as the run began
-abbrev pub HoldKeptRows : {D : Type 0} → DiskWords D → AreaSince D → Run → List SlotAccount → Type 0
-HoldKeptRows disks area run account = (image : List ℕ) (generation : ℕ) (rows : List Row) (end : ℕ) → disks.images_since area.now (disks.moment area.began) image →
-    IsOpened image generation rows end → (disks.contents area.began ≡ Some image) ⊎ AreImageRows run account rows
+abbrev pub HoldKeptRows : Absences → {D : Type 0} → DiskWords D → AreaSince D → Run → List SlotAccount → Type 0
+HoldKeptRows Absent disks area run account = (image : List ℕ) (generation : ℕ) (rows : List Row) (end : ℕ) → disks.images_since area.now (disks.moment area.began) image →
+    IsOpened image generation rows end → (disks.contents area.began ≡ Some image) ⊎ AreImageRows Absent run account rows
 
 -- so it is of both areas
-pub record ImagesHoldKeptRows {D : Type 0} (disks : DiskWords D) (objects : RunObjects D) (run : Run) (account : List SlotAccount) : Type 0 where
-  pub of_a : HoldKeptRows disks (record { began = objects.before.a; now = objects.after.a }) run account
-  pub of_b : HoldKeptRows disks (record { began = objects.before.b; now = objects.after.b }) run account
+pub record ImagesHoldKeptRows (Absent : Absences) {D : Type 0} (disks : DiskWords D) (objects : RunObjects D) (run : Run) (account : List SlotAccount) : Type 0 where
+  pub of_a : HoldKeptRows Absent disks (record { began = objects.before.a; now = objects.after.a }) run account
+  pub of_b : HoldKeptRows Absent disks (record { began = objects.before.b; now = objects.after.b }) run account
 
 -- as the run began, both areas told what they held, and nothing was pending on them
 abbrev pub WereAtRest : {D : Type 0} → DiskWords D → RunObjects D → Type 0
@@ -128,7 +143,7 @@ pub record AreAccounted {D : Type 0} (disks : DiskWords D) (objects : RunObjects
 
 -- ---- together
 
-pub record AccountedFor {D : Type 0} (disks : DiskWords D) (settings : Settings) (objects : RunObjects D) (met : Met) : Type 0 where
+pub record AccountedWith (Absent : Absences) {D : Type 0} (disks : DiskWords D) (settings : Settings) (objects : RunObjects D) (met : Met) : Type 0 where
   pub run : Run
   pub by_settings : run.settings ≡ settings
   pub account : List SlotAccount
@@ -137,6 +152,9 @@ pub record AccountedFor {D : Type 0} (disks : DiskWords D) (settings : Settings)
   pub sent : SendOnlyTold account run.trace.wires
   pub opened : GiveTheRows disks objects.before.a objects.before.b run.opening
   pub given : WereAtRest disks objects → GiveRows disks objects.after
-  pub rows : WereAtRest disks objects → AreRowsBy disks objects.after (RowsBy run account met)
-  pub images : WereAtRest disks objects → ImagesHoldKeptRows disks objects run account
+  pub rows : WereAtRest disks objects → AreRowsBy disks objects.after (RowsBy Absent run account met)
+  pub images : WereAtRest disks objects → ImagesHoldKeptRows Absent disks objects run account
   pub supposing : Premises run (followings_in account) → AreAccounted disks objects met run account
+
+abbrev pub AccountedFor : {D : Type 0} → DiskWords D → Settings → RunObjects D → Met → Type 0
+AccountedFor = AccountedWith LostKey

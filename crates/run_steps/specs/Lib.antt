@@ -1,4 +1,5 @@
 pub mod AccountedFor
+pub mod AccountedOver
 pub mod Areas
 pub mod Began
 pub mod BeginFor

@@ -28,6 +28,7 @@ pub use beginning::{Scanned, begin_all};
 pub use context::{Context, Surroundings};
 pub use crew::{BOX_NOTES, Passes, crew_of};
 pub use follow::{PAUSE, met_in, pause_where_still};
+pub use laws::disk_images_are_counted;
 pub use leave::{end_crew, end_lanes, release_all};
 pub use met::Met;
 pub use opening::Opening;

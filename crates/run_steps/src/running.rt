@@ -1,4 +1,4 @@
-ghost use Rattle.std.specs.Prelude.{◌≡◌, ◌≤◌, ◌+◌, ◌-◌, ◌^◌, ◌<◌, ℕ, All, IfOk, IfSome, IsSome, OnErr, Some, drop, length, map, vec_len};
+ghost use Rattle.std.specs.Prelude.{◌≡◌, ◌≤◌, ◌+◌, ◌-◌, ◌^◌, ◌<◌, ℕ, All, IfOk, IfSome, IsSome, OnErr, Some, drop, length, map, vec_len, false};
 ghost use Rattle.std.specs.List.{AllByRecursion};
 ghost use Rattle.beat_config.specs.InRange.{AreInRange};
 ghost use Rattle.prospect.specs.ListedFiles.{IsListedInRange};
@@ -6,11 +6,12 @@ ghost use Rattle.rounds.specs.KeeperTurns.{StillTell};
 ghost use Rattle.rounds.specs.Making.{all_seen};
 ghost use Rattle.rounds.specs.Words.{disk_words, link_words, tail_words, wire_words, words};
 ghost use Rattle.wire_base.specs.Ranges.{IsMoment};
-ghost use Rattle.run_steps.specs.AccountedFor.{AccountedFor};
+ghost use Rattle.run_steps.specs.AccountedOver.{AccountedOver};
 ghost use Rattle.run_steps.specs.BegunCrew.{AreFirstPasses};
 ghost use Rattle.run_steps.specs.BeginsAll.{IsOfInputs};
 ghost use Rattle.run_steps.specs.CarriersFail.{FailedAsMet, counts_told};
 ghost use Rattle.run_steps.specs.ClockOn.{MomentsGoOn};
+ghost use Rattle.run_steps.specs.Met.{AreLeft};
 ghost use Rattle.run_steps.specs.Outset.{Earlier, IsFirstKeeper, SetsOut, began_with};
 ghost use Rattle.run_steps.specs.PassedOver.{ArePassedOver};
 ghost use Rattle.run_steps.specs.RunEnds.{HasEnded};
@@ -113,7 +114,7 @@ where
         }) worked.met
         (drop context.entry.settings.now.output.workers around.old.wires.now.items)
         around.new.wires.now.items) }
-    // Where the scan is known, and folder, clock and wires tell, the run is accounted for.
+    // Where the scan is known, and folder, clock and wires tell, the run is accounted for, and each key keeps its row.
     ensures accounted { (earlier : Earlier D) (folder : FolderTold) →
         SetsOut (disk_words D.contents D.images D.moment D.images_since D.faults)
         (began_with (wire_words W.outcomes W.open_links W.faults W.idles) (record {
@@ -149,9 +150,10 @@ where
           b = storing.old.b.now;
         }) earlier) folder → IsSome earlier.moments →
         AllByRecursion (λ wire. IsSome (W.outcomes wire)) around.new.wires.now.items →
-        IfOk result (λ worked. AccountedFor
+        IfOk result (λ worked. AccountedOver
         (disk_words D.contents D.images D.moment D.images_since D.faults)
-        context.entry.settings.now (record {
+        context.entry.settings.now storing.old.keeper.now.store.rows
+        scanned.entry.now.listed.items (record {
           before = record {
             folder = Some folder.earlier;
             moments = earlier.moments;
@@ -167,6 +169,8 @@ where
             b = storing.new.b.now;
           };
         }) worked.met) }
+    ensures is_open { IfOk result (λ worked.
+        AreLeft worked.met → storing.new.keeper.now.store.closed ≡ false) }
     ensures cause { IfOk result (λ worked. IsMetByRun context.entry.settings.now.output.workers
         (length scanned.entry.now.listed.items)
         (record {

@@ -106,6 +106,7 @@ where
     ensures clock_goes_on { MomentsGoOn (K.moments around.old.clock.now)
         (K.moments around.new.clock.now) }
     ensures done_only_where_begun { IfErr begun (λ _. result.met ≢ Done) }
+    ensures is_open { AreLeft result.met → storing.new.keeper.now.store.closed ≡ false }
     ensures passed { HasPassed begun result.passed.items }
     ensures cause { IsBegunWith begun result.met ⊎ IsWorkedBy crew
         (record {

@@ -1,0 +1,315 @@
+-- A run over listed files that was accounted for is so still once rows of removed files were taken out of the registry.
+use Rattle.std.proofs.Common.{◌≡◌, ◌≢◌, ◌⊎◌, inl, inr, ⊎_elim, ℕ, ◌≤◌, Contains, IfSome, List, [], ◌∷◌, map, Option, Some, None, refl, sym, ap, subst, ◌∙◌}
+use Rattle.std.proofs.lemmas.List.Elements.{recursion_from_All}
+use Rattle.std.specs.Prelude.{slice_get}
+use Rattle.std.specs.List.{AllByRecursion}
+use Rattle.accounts.proofs.Grounded.{of_map}
+use Rattle.accounts.proofs.Lists.{each_then}
+use Rattle.accounts.specs.AccountedFor.{HasItsRow, followings_in}
+use Rattle.event_tree.specs.declared.input_rule.IdentityRule.TheVariants.{Path}
+use Rattle.event_tree.specs.declared.input_rule.InputRule.{InputRule}
+use Rattle.event_tree.specs.declared.settings.Settings.{Settings}
+use Rattle.file_identity.specs.Key.{named_key}
+use Rattle.kept_rows.specs.Account.{SlotAccount, key_of}
+use Rattle.kept_rows.specs.Drained.{IsDrained}
+use Rattle.kept_rows.specs.Kept.{IsKept, IsKeptInImage}
+use Rattle.kept_rows.specs.Premises.{Premises}
+use Rattle.kept_rows.specs.Run.{Asking, Run, Scan}
+use Rattle.kept_rows.specs.Scans.{Gave, ShowsKey, ShowsFileTo}
+use Rattle.prospect.specs.declared.listed.Listed.{Listed}
+use Rattle.registry_log.specs.State.{IsOpened}
+use Rattle.registry_store.specs.Choice.{GivesRows, IsChoice}
+use Rattle.registry_store.specs.Standing.{Standing, chosen_by}
+use Rattle.removed_rows.proofs.GoneAccounts.{account_with_gone}
+use Rattle.removed_rows.proofs.GoneDrained.{drained_with_gone}
+use Rattle.removed_rows.proofs.GoneFollowed.{apart_from_gone, followed_with_gone, premises_before}
+use Rattle.removed_rows.proofs.GoneKept.{kept_in_image_with_gone, kept_with_gone, sent_with_gone}
+use Rattle.removed_rows.proofs.GoneLost.{lost}
+use Rattle.removed_rows.proofs.GoneRows.{each_is_gone_of, each_there, gones, may_all_go, removed_is_gone}
+use Rattle.removed_rows.proofs.GoneSlots.{has_with_gone}
+use Rattle.removed_rows.specs.Gone.{Gone, IsApartFrom, MayAllGo, gone_key, with_gone}
+use Rattle.removed_rows.specs.Leaving.{GiveLeft, MayHoldLeft}
+use Rattle.removed_rows.specs.Removed.{IsListedKey, IsRemoved, LeavesRows, RemovesRows}
+use Rattle.rounds.specs.Words.{DiskWords}
+use Rattle.run_steps.proofs.Members.{member_is, some_is}
+use Rattle.run_steps.proofs.RunRows.{OneChoice, not_shut, opened_rows, rows_of_store, same_rows}
+use Rattle.run_steps.proofs.Whole.{left_or_not}
+use Rattle.run_steps.specs.AccountedFor.{AccountedFor, AccountedWith, AreImageRows, FitsObjects, GiveRows, HasRowOf, HoldKeptRows, LostKey, NoKey, Objects, RowsBy, RunObjects, WereAtRest}
+use Rattle.run_steps.specs.AccountedOver.{AccountedOver}
+use Rattle.run_steps.specs.BeginsAll.{IsOfPathInput}
+use Rattle.run_steps.specs.Met.{AreLeft}
+use Rattle.run_steps.specs.RunOf.{asking_of}
+use Rattle.run_steps.specs.declared.met.Met.{Met}
+use Rattle.run_steps.specs.declared.met.Met.TheVariants.{Done}
+use Rattle.ship_core.specs.Rows.{IsInOrder}
+use Rattle.wire_base.specs.declared.row.Row.{Row}
+use Rattle.beat_run.specs.Cleaning.{Cleaning, Cleans, HeldOnlyLeft, IsAtRestIn}
+
+-- ---- the scan showed no key of a row that is removed
+
+module _ (run : Run) (scan : Scan) (listed : List Listed) (asked : scan.askings ≡ map asking_of listed) (of_inputs : AllByRecursion (IsOfPathInput run.settings (Unit {0})) listed) where
+  listed_key : (key : List ℕ) → ShowsKey run scan key → IsListedKey listed key
+  listed_key key shows = by_asking shows.shows.shows.0 shows.shows.shows.1
+    where
+      by_asking : (input : ℕ) → ShowsFileTo run scan input key shows.number shows.shows.shown → IsListedKey listed key
+      by_asking input to =
+          let of = of_map asking_of listed to.asking (subst (λ (l : List Asking). Contains l to.asking) asked to.asks.of_scan) in
+          by_listed of.item of.among of.is
+        where
+          by_listed : (one : Listed) → Contains listed one → asking_of one ≡ to.asking → IsListedKey listed key
+          by_listed one among is =
+              let of_input = member_is (IsOfPathInput run.settings (Unit {0})) listed one of_inputs among in
+              let input_same : one.input ≡ input = ap (λ (a : Asking). a.input) is ∙ to.asks.input_is in
+              let path_same : one.path ≡ shows.shows.shown.entry.path = ap (λ (a : Asking). a.path) is ∙ to.asks.path_is in
+              let opening_same : None ≡ to.asking.opening = ap (λ (a : Asking). a.opening) is in
+              let rule_same : of_input.rule ≡ to.rule =
+              some_is of_input.rule to.rule (sym of_input.rule_is ∙ ap (slice_get run.settings.inputs) input_same ∙ to.rule_is) in
+              let gave = subst (λ (o : Option ℕ). Gave run.trace to.rule shows.shows.shown o (Some key) shows.number) (sym opening_same) to.gave in
+              let by_path : to.rule.file_identity ≡ Path = ap (λ (r : InputRule). r.file_identity) (sym rule_same) ∙ of_input.by_path in
+              let keyed = of_input.keyed tt in
+              let key_is : one.key ≡ Some key =
+              keyed.1
+              ∙ ap (λ (r : InputRule). named_key r.id Path one.path keyed.0) rule_same
+              ∙ ap (λ (p : List ℕ). named_key to.rule.id Path p keyed.0) path_same
+              ∙ sym (gave.gave ∙ ap (λ (i : _). named_key to.rule.id i shows.shows.shown.entry.path shows.shows.shown.entry.native) by_path) in
+              (among.0, one, among.1, among.2, key_is)
+
+-- ---- the run, with other areas behind it
+
+abbrev pub with_areas : {D : Type 0} → RunObjects D → D → D → RunObjects D
+with_areas objects a b = record { before = objects.before; after = record objects.after { a = a; b = b } }
+
+module _ {D : Type 0} (disks : DiskWords D) (reads : (disk : D) → IfSome (disks.contents disk) (disks.images disk))
+    (counts : (disk : D) (since : ℕ) (image : List ℕ) → since ≤ disks.moment disk → disks.images disk image → disks.images_since disk since image) (one : OneChoice)
+    (settings : Settings) (opening : List Row) (ordered : IsInOrder opening) (listed : List Listed) (of_inputs : AllByRecursion (IsOfPathInput settings (Unit {0})) listed)
+    (objects : RunObjects D) (old new : Cleaning D) (over : AccountedOver disks settings opening listed (with_areas objects old.a old.b) old.met)
+    (cleans : Cleans disks settings.inputs listed old new) (later_a : WereAtRest disks objects → disks.moment objects.before.a ≤ disks.moment old.a)
+    (later_b : WereAtRest disks objects → disks.moment objects.before.b ≤ disks.moment old.b)
+    (at_rest : AreLeft old.met → WereAtRest disks objects → IsAtRestIn disks old) where
+  abbrev run : Run
+  run = over.accounted.run
+
+  abbrev inputs : List InputRule
+  inputs = run.settings.inputs
+
+  inputs_are : settings.inputs ≡ inputs
+  inputs_are = ap (λ (s : Settings). s.inputs) (sym over.accounted.by_settings)
+
+  -- in the words of the run
+  cleaned : Cleans disks inputs listed old new
+  cleaned = subst (λ (l : List InputRule). Cleans disks l listed old new) inputs_are cleans
+
+  hidden : (key : List ℕ) → IsRemoved inputs listed key → ¬ (ShowsKey run over.scan key)
+  hidden key removed shows =
+      removed.unlisted
+      (listed_key run over.scan listed over.asked (subst (λ (s : Settings). AllByRecursion (IsOfPathInput s (Unit {0})) listed) (sym over.accounted.by_settings) of_inputs) key shows)
+
+  in_order : IsInOrder run.opening
+  in_order = subst IsInOrder (sym over.opening_is) ordered
+
+  abbrev went : List Gone
+  went = gones run over.scan listed in_order hidden
+
+  may : MayAllGo run over.scan went
+  may = may_all_go run over.scan listed in_order hidden over.only over.whole
+
+  abbrev account : List SlotAccount
+  account = over.accounted.account
+
+  abbrev behind : List SlotAccount
+  behind = with_gone account went
+
+  apart : AllByRecursion (IsApartFrom went) account
+  apart = apart_from_gone run over.scan went may account over.shown
+
+  -- ---- its rows
+
+  -- a key without a row lost it rightly
+  lost_where_removed : (row : Row) → Contains run.opening row → IsRemoved inputs listed row.key → LostKey run behind row.key
+  lost_where_removed row there removed =
+      let of = removed_is_gone inputs listed run.opening row there removed in
+      subst (λ (r : Row). LostKey run behind r.key) of.2 (lost run over.scan went may account run.trace.wires of.0 of.1 apart)
+
+  image_left : (rows left : List Row) → AreImageRows NoKey run account rows → ((row : Row) → Contains left row → Contains rows row) →
+      ((row : Row) → Contains rows row → Contains left row ⊎ IsRemoved inputs listed row.key) → AreImageRows LostKey run behind left
+  image_left rows left is of_these others = record { kept = each_there (IsKeptInImage behind run.opening run.trace.wires) left kept; stay = each_there (λ (row : Row). HasRowOf left row.key ⊎ LostKey run behind row.key) run.opening stay }
+    where
+      kept : (row : Row) → Contains left row → IsKeptInImage behind run.opening run.trace.wires row
+      kept row there = kept_in_image_with_gone account went run.opening run.trace.wires row (member_is (IsKeptInImage account run.opening run.trace.wires) rows row is.kept (of_these row there))
+
+      stay : (row : Row) → Contains run.opening row → HasRowOf left row.key ⊎ LostKey run behind row.key
+      stay row there = by_row (member_is (λ (r : Row). HasRowOf rows r.key ⊎ ⊥) run.opening row is.stay there)
+        where
+          by_row : HasRowOf rows row.key ⊎ ⊥ → HasRowOf left row.key ⊎ LostKey run behind row.key
+          by_row (inr never) = absurd never
+          by_row (inl has) =
+              ⊎_elim (λ still. inl (record { row = has.row; of_rows = still; key_is = has.key_is }))
+              (λ removed. inr (lost_where_removed row there (subst (IsRemoved inputs listed) has.key_is removed)))
+              (others has.row has.of_rows)
+
+  abbrev leaves_of : {rows left : List Row} → LeavesRows inputs listed rows left → (row : Row) → Contains left row → Contains rows row
+  leaves_of {rows} {left} leaves row there = member_is (Contains rows) left row (recursion_from_All (Contains rows) left leaves.of_these) there
+
+  abbrev leaves_others : {rows left : List Row} → LeavesRows inputs listed rows left → (row : Row) → Contains rows row → Contains left row ⊎ IsRemoved inputs listed row.key
+  leaves_others {rows} {left} leaves row there =
+      member_is (λ (r : Row). Contains left r ⊎ IsRemoved inputs listed r.key) rows row (recursion_from_All (λ (r : Row). Contains left r ⊎ IsRemoved inputs listed r.key) rows leaves.others_stay) there
+
+  image_leaves : (rows left : List Row) → AreImageRows NoKey run account rows → LeavesRows inputs listed rows left → AreImageRows LostKey run behind left
+  image_leaves rows left is leaves = image_left rows left is (leaves_of leaves) (leaves_others leaves)
+
+  image_same : (rows : List Row) → AreImageRows NoKey run account rows → AreImageRows LostKey run behind rows
+  image_same rows is = image_left rows rows is (λ row there. there) (λ row there. inl there)
+
+  -- where all that were removed are out
+  module _ (rows left : List Row) (removes : RemovesRows inputs listed rows left) where
+    none_left : (row : Row) → Contains left row → ¬ (IsRemoved inputs listed row.key)
+    none_left row there = member_is (λ (r : Row). ¬ (IsRemoved inputs listed r.key)) left row (recursion_from_All (λ (r : Row). ¬ (IsRemoved inputs listed r.key)) left removes.none_is_left) there
+
+    kept_left : AllByRecursion (IsKept account run.opening run.trace.wires) rows → AllByRecursion (IsKept behind run.opening run.trace.wires) left
+    kept_left kept = each_there (IsKept behind run.opening run.trace.wires) left each
+      where
+        each : (row : Row) → Contains left row → IsKept behind run.opening run.trace.wires row
+        each row there =
+            kept_with_gone account went run.opening run.trace.wires row
+            (each_there (λ (gone : Gone). gone_key gone ≢ row.key) went
+            (λ gone among same. none_left row there (subst (IsRemoved inputs listed) same (each_is_gone_of inputs listed run.opening gone among).removed)))
+            (member_is (IsKept account run.opening run.trace.wires) rows row kept (leaves_of removes.leaves row there))
+
+    begun_left : AllByRecursion (λ (slot : SlotAccount). HasItsRow rows slot ⊎ ⊥) account → AllByRecursion (λ (slot : SlotAccount). HasItsRow left slot ⊎ LostKey run behind (key_of slot)) behind
+    begun_left begun =
+        has_with_gone (λ (slot : SlotAccount). HasItsRow left slot ⊎ LostKey run behind (key_of slot)) account went (each_there (λ (slot : SlotAccount). HasItsRow left slot ⊎ LostKey run behind (key_of slot)) account each)
+        (λ slot gone among. inr (lost run over.scan went may account run.trace.wires gone among apart))
+      where
+        each : (slot : SlotAccount) → Contains account slot → HasItsRow left slot ⊎ LostKey run behind (key_of slot)
+        each slot there = by_row (member_is (λ (s : SlotAccount). HasItsRow rows s ⊎ ⊥) account slot begun there)
+          where
+            by_row : HasItsRow rows slot ⊎ ⊥ → HasItsRow left slot ⊎ LostKey run behind (key_of slot)
+            by_row (inr never) = absurd never
+            by_row (inl has) =
+                ⊎_elim (λ still. inl (record { row = has.row; of_rows = still; key_is = has.key_is }))
+                (λ removed. absurd (hidden (key_of slot) (subst (IsRemoved inputs listed) has.key_is removed) (member_is (λ (s : SlotAccount). ShowsKey run over.scan (key_of s)) account slot over.shown there)))
+                (leaves_others removes.leaves has.row has.of_rows)
+
+    rows_left : (met : Met) → AreLeft met → RowsBy NoKey run account met rows → (then : Met) → RowsBy LostKey run behind then left
+    rows_left met are_left by then = record {
+      in_image = image_leaves rows left by.in_image removes.leaves;
+      kept = λ so. kept_left (by.kept are_left);
+      begun = λ so. begun_left (by.begun are_left);
+    }
+
+    drained_left : IsDrained run account rows → IsDrained run behind left
+    drained_left drained = drained_with_gone run went account rows left over.scan may each drained
+      where
+        each : (row : Row) → Contains rows row → ShowsKey run over.scan row.key → Contains left row
+        each row there shows = ⊎_elim (λ still. still) (λ removed. absurd (hidden row.key removed shows)) (leaves_others removes.leaves row there)
+
+  -- ---- what the areas give
+
+  -- the rows of the store, by what the areas held before
+  store_gives : WereAtRest disks objects → (rest : IsAtRestIn disks old) → GivesRows rest.first rest.second old.store.rows
+  store_gives were rest = record { choice = chosen_by old.store; chosen = rest.chosen; given = refl }
+
+  rows_before : WereAtRest disks objects → IsAtRestIn disks old → RowsBy NoKey run account old.met old.store.rows
+  rows_before were rest = over.accounted.rows were rest.first rest.second old.store.rows rest.a_holds rest.b_holds (store_gives were rest)
+
+  same_state : ¬ (AreLeft old.met) → new ≡ old
+  same_state = cleaned.untouched
+
+  left_before : AreLeft new.met → AreLeft old.met
+  left_before are_left = ⊎_elim (λ is. is) (λ not. absurd (not (subst (λ (s : Cleaning D). AreLeft s.met) (same_state not) are_left))) (left_or_not old.met)
+
+  given : WereAtRest disks objects → GiveRows disks (with_areas objects new.a new.b).after
+  given were first second a_is b_is = by_left (left_or_not old.met)
+    where
+      by_left : AreLeft old.met ⊎ (¬ AreLeft old.met) → (rows : List Row) × GivesRows first second rows
+      by_left (inl are_left) = let of = cleaned.left are_left (at_rest are_left were) first second a_is b_is in (of.left, of.given)
+      by_left (inr not) =
+          over.accounted.given were first second (ap (λ (s : Cleaning D). disks.contents s.a) (sym (same_state not)) ∙ a_is) (ap (λ (s : Cleaning D). disks.contents s.b) (sym (same_state not)) ∙ b_is)
+
+  rows_after : WereAtRest disks objects → (first second : List ℕ) (rows : List Row) → disks.contents new.a ≡ Some first → disks.contents new.b ≡ Some second → GivesRows first second rows →
+      RowsBy LostKey run behind new.met rows
+  rows_after were first second rows a_is b_is gives = by_left (left_or_not old.met) (left_or_not new.met)
+    where
+      by_left : AreLeft old.met ⊎ (¬ AreLeft old.met) → AreLeft new.met ⊎ (¬ AreLeft new.met) → RowsBy LostKey run behind new.met rows
+      by_left (inl are_left) (inl still) =
+          let rest = at_rest are_left were in
+          subst (RowsBy LostKey run behind new.met) (rows_of_store one disks new.a new.b new.store first second rows (cleaned.at_rest still rest) a_is b_is gives)
+          (rows_left old.store.rows new.store.rows (cleaned.rows still) old.met are_left (rows_before were rest) new.met)
+      by_left (inl are_left) (inr no_more) =
+          let rest = at_rest are_left were in
+          let of = cleaned.left are_left rest first second a_is b_is in
+          record {
+            in_image = subst (AreImageRows LostKey run behind) (same_rows one first second of.left rows of.given gives) (image_leaves old.store.rows of.left (rows_before were rest).in_image of.leaves);
+            kept = λ so. absurd (no_more so);
+            begun = λ so. absurd (no_more so);
+          }
+      by_left (inr not) now =
+          let same = same_state not in
+          record {
+            in_image = image_same rows
+                (over.accounted.rows were first second rows (ap (λ (s : Cleaning D). disks.contents s.a) (sym same) ∙ a_is) (ap (λ (s : Cleaning D). disks.contents s.b) (sym same) ∙ b_is) gives).in_image;
+            kept = λ so. absurd (not (left_before so));
+            begun = λ so. absurd (not (left_before so));
+          }
+
+  -- ---- what a crash leaves
+
+  module _ (were : WereAtRest disks objects) (began : D) where
+    images_after : (before now : D) → HoldKeptRows NoKey disks (record { began = began; now = before }) run account → disks.moment began ≤ disks.moment before →
+        (AreLeft old.met → HeldOnlyLeft disks inputs listed old.store before now) → (¬ (AreLeft old.met) → now ≡ before) → HoldKeptRows LostKey disks (record { began = began; now = now }) run behind
+    images_after before now held later left kept image generation rows end since opened = by_left (left_or_not old.met)
+      where
+        earlier : disks.images_since before (disks.moment began) image → (disks.contents began ≡ Some image) ⊎ AreImageRows LostKey run behind rows
+        earlier was = ⊎_elim inl (λ is. inr (image_same rows is)) (held image generation rows end was opened)
+
+        meanwhile : AreLeft old.met → MayHoldLeft inputs listed old.store.rows (disks.contents before) image → (disks.contents began ≡ Some image) ⊎ AreImageRows LostKey run behind rows
+        meanwhile are_left (inl was) = earlier (counts before (disks.moment began) image later (subst (λ (o : Option (List ℕ)). IfSome o (disks.images before)) was (reads before)))
+        meanwhile are_left (inr (inl shut)) = absurd (not_shut one image generation rows end opened shut)
+        meanwhile are_left (inr (inr is)) =
+            inr (subst (AreImageRows LostKey run behind) (opened_rows one image is.generation generation is.left rows is.end end is.opened opened)
+            (image_leaves old.store.rows is.left (rows_before were (at_rest are_left were)).in_image is.leaves))
+
+        by_left : AreLeft old.met ⊎ (¬ AreLeft old.met) → (disks.contents began ≡ Some image) ⊎ AreImageRows LostKey run behind rows
+        by_left (inl are_left) = ⊎_elim earlier (meanwhile are_left) ((left are_left).before (disks.moment began) image later since)
+        by_left (inr not) = earlier (subst (λ (d : D). disks.images_since d (disks.moment began) image) (kept not) since)
+
+  -- ---- together
+
+  drained : WereAtRest disks objects → new.met ≡ Done → Premises run (followings_in account) → (first second : List ℕ) (rows : List Row) → disks.contents new.a ≡ Some first → disks.contents new.b ≡ Some second →
+      GivesRows first second rows → IsDrained run behind rows
+  drained were is_done premises first second rows a_is b_is gives =
+      let still : AreLeft new.met = subst AreLeft (sym is_done) tt in
+      let are_left = left_before still in
+      let rest = at_rest are_left were in
+      let was_done : old.met ≡ Done = ⊎_elim (λ same. sym same ∙ is_done) (λ by. absurd (subst (λ (m : Met). _) is_done by)) cleaned.met in
+      subst (IsDrained run behind) (rows_of_store one disks new.a new.b new.store first second rows (cleaned.at_rest still rest) a_is b_is gives)
+      (drained_left old.store.rows new.store.rows (cleaned.rows still)
+      ((over.accounted.supposing premises).drained were was_done rest.first rest.second old.store.rows rest.a_holds rest.b_holds (store_gives were rest)))
+
+  fits : FitsObjects (with_areas objects new.a new.b) run
+  fits = let was = over.accounted.fits in record { once = was.once; one_scan = was.one_scan; folder = was.folder; moments = was.moments; wires = was.wires }
+
+  pub cleaned_is_accounted_for : AccountedFor disks settings (with_areas objects new.a new.b) new.met
+  cleaned_is_accounted_for = record {
+    run = run;
+    by_settings = over.accounted.by_settings;
+    account = behind;
+    fits = fits;
+    followed = followed_with_gone run over.scan went may account apart over.accounted.followed;
+    sent = sent_with_gone account went run.trace.wires over.accounted.sent;
+    opened = over.accounted.opened;
+    given = given;
+    rows = rows_after;
+    images = λ were.
+        let held = over.accounted.images were in
+        record {
+          of_a = images_after were objects.before.a old.a new.a held.of_a (later_a were) (λ are_left. cleaned.of_a are_left (at_rest are_left were)) (λ not. ap (λ (s : Cleaning D). s.a) (same_state not));
+          of_b = images_after were objects.before.b old.b new.b held.of_b (later_b were) (λ are_left. cleaned.of_b are_left (at_rest are_left were)) (λ not. ap (λ (s : Cleaning D). s.b) (same_state not));
+        };
+    supposing = λ premises.
+        let before = premises_before run over.scan went may account premises in
+        record {
+          is = account_with_gone run over.scan went may account apart (over.accounted.supposing before).is;
+          drained = λ were is_done. drained were is_done before;
+        };
+  }

@@ -1,0 +1,24 @@
+-- A run over listed files that is accounted for (this project's profile), before rows of removed files go: each key that had a row, or was
+-- begun, has one. It began with the rows of its store; its one scan was whole, asked for the keys of the listed files by their entries, and
+-- showed the key of each slot.
+use Rattle.std.specs.Prelude.{◌≡◌, List, [], ◌∷◌, map}
+use Rattle.std.specs.List.{AllByRecursion}
+use Rattle.event_tree.specs.declared.settings.Settings.{Settings}
+use Rattle.kept_rows.specs.Account.{key_of}
+use Rattle.kept_rows.specs.Run.{Scan}
+use Rattle.kept_rows.specs.Scans.{IsWhole, ShowsKey}
+use Rattle.prospect.specs.declared.listed.Listed.{Listed}
+use Rattle.rounds.specs.Words.{DiskWords}
+use Rattle.wire_base.specs.declared.row.Row.{Row}
+use Rattle.run_steps.specs.AccountedFor.{AccountedWith, NoKey, RunObjects}
+use Rattle.run_steps.specs.RunOf.{asking_of}
+use Rattle.run_steps.specs.declared.met.Met.{Met}
+
+pub record AccountedOver {D : Type 0} (disks : DiskWords D) (settings : Settings) (opening : List Row) (listed : List Listed) (objects : RunObjects D) (met : Met) : Type 0 where
+  pub accounted : AccountedWith NoKey disks settings objects met
+  pub opening_is : accounted.run.opening ≡ opening
+  pub scan : Scan
+  pub only : accounted.run.scans ≡ scan ∷ []
+  pub whole : IsWhole accounted.run scan
+  pub asked : scan.askings ≡ map asking_of listed
+  pub shown : AllByRecursion (λ one. ShowsKey accounted.run scan (key_of one)) accounted.account
