@@ -1,6 +1,6 @@
 #!/usr/bin/env python3
 """Ships two plain lines once for each allocation of such a run, and makes that allocation fail. The answer has to be
-want of memory or the right one, and the area has to be absent, not opened, or one that the run may leave.
+out of memory or the right one, and the area has to be absent, not opened, or one that the run may leave.
 
     python3 tests/end_to_end/allocations.py [--program PATH]
 

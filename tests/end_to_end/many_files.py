@@ -114,7 +114,7 @@ class ManyFiles(Shipping):
         self.assertEqual(sorted(sent, key=str), sorted(EVENTS_SENT, key=str))
 
     def test_globs_over_folders(self):
-        """`**` stands for none to eight folders. Folders, symbolic links and files of another name are passed over."""
+        """`**` stands for none to eight folders. Folders, symbolic links and files of another name are skipped."""
         since = now()
         logs = self.folder / "logs"
         depths = [Path(*["d"] * depth) for depth in range(10)]
@@ -135,7 +135,7 @@ class ManyFiles(Shipping):
         self.assertEqual(peer.connections, 0)
 
     def test_config_and_data(self):
-        """The settings and the registry lie where the words say."""
+        """The settings and the registry lie where the arguments say."""
         Path(self.path).write_text("a\n")
         self.area = self.folder / "state" / "of" / "beat" / "registry.a"
         with Peer() as peer:

@@ -1,4 +1,4 @@
-"""Words, settings and folders that are refused, each by its name, and settings that are taken."""
+"""Arguments, settings and folders that are refused, each by its name, and settings that are taken."""
 
 import re
 from pathlib import Path
