@@ -43,7 +43,7 @@ class Restarts(Shipping):
 
     def test_many_files_of_which_some_changed(self):
         """One that grew is read on, one that was cut anew, and one of a new name from its start; the row of a name that is
-        gone stays. A further run sends nothing."""
+        gone goes. A further run sends nothing."""
         paths = [self.logs / f"{number:04}.log" for number in range(FILES)]
         for path in paths:
             path.write_text("first\nsecond\n")
@@ -67,6 +67,7 @@ class Restarts(Shipping):
             events.append((str(path), 0, "anew"))
         for path in renamed:
             other = path.rename(path.with_suffix(".1.log"))
+            del rows[path]
             rows[other] = changed(row(str(other), 13))
             events += [(str(other), 0, "first"), (str(other), 6, "second")]
         with Peer() as peer:
@@ -76,6 +77,22 @@ class Restarts(Shipping):
         with Peer() as peer:
             ran = self.ship_logs(peer)
         self.assert_shipped(ran, peer, rows.values(), [])
+
+    def test_rows_of_removed_files(self):
+        """They stay where the input says so, and else they go."""
+        path = self.logs / "a.log"
+        path.write_text("first\n")
+        with Peer() as peer:
+            ran = self.ship_logs(peer)
+        stored = [changed(row(str(path), 6))]
+        self.assert_shipped(ran, peer, stored, [(str(path), 0, "first")])
+        path.unlink()
+        for clean, rows in (("false", stored), ("true", [])):
+            with self.subTest(clean_removed=clean), Peer() as peer:
+                text = program.settings_text(self.logs / "*.log", peer.host)
+                self.write_settings(text.replace("[output]", f"clean_removed = {clean}\n[output]"))
+                ran = program.finish(self.start_prepared(), PATIENCE)
+                self.assert_shipped(ran, peer, rows, [])
 
     def run_and_kill(self, peer, seconds):
         """A run over the logs, killed after so many seconds where it has not ended by then."""

@@ -6,4 +6,10 @@ pub mod GoneKept
 pub mod GoneLost
 pub mod GoneRows
 pub mod GoneSlots
+mod Leftovers
+mod ListedKeys
+mod Meanwhile
+mod Spelled
+mod TakenOut
 mod WorkedGone
+mod WorkedRemovals

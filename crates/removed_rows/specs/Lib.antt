@@ -1,3 +1,6 @@
 pub mod Gone
 pub mod Leaving
+pub mod Listing
+pub mod RemovalErrors
+pub mod Removals
 pub mod Removed

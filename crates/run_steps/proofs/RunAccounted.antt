@@ -1,5 +1,6 @@
 -- A run is accounted for, however it ends.
-use Rattle.std.proofs.Common.{◌≡◌, inl, inr, ⊎_elim, ℕ, List, [], ◌++◌, map, Option, Some, refl, sym, ap, subst, ◌∙◌, arith}
+use Rattle.std.proofs.Common.{◌≡◌, ◌⊎◌, inl, inr, ⊎_elim, ℕ, List, [], ◌∷◌, ◌++◌, map, Option, Some, refl, sym, ap, subst, ◌∙◌, arith}
+use Rattle.std.specs.List.{AllByRecursion}
 use Rattle.accounts.proofs.AccountingFor.{IsAccountedFor, is_accounted_for}
 use Rattle.accounts.proofs.BegunRows.{have_ground}
 use Rattle.accounts.proofs.Draining.{is_drained, whole_by_entries}
@@ -162,7 +163,7 @@ module _ {T W L D : Type 0} (words : Words T W L D) (start : Began D) (ending : 
           (run_done words start ending met unused wires ends left folder has tell is_done (served is_done)) accounted.placed premises rows
           (rows_over one gave at_rest (subst AreLeft (sym is_done) tt) first second rows a_is b_is gives)
 
-      accounted_for : AccountedWith NoKey words.disks start.settings objects met
+      abbrev accounted_for : AccountedWith NoKey words.disks start.settings objects met
       accounted_for = record {
         run = the_run;
         by_settings = refl;

@@ -59,9 +59,43 @@ const SHORTER_FILE: Restart = Restart {
     ..SAME_FILE
 };
 
+const ROW_OF_ABSENT_FILE_GOES: Restart = Restart {
+    name: "row_of_absent_file_goes",
+    second: Start {
+        files: &[],
+        ..PLAIN
+    },
+    wanted: Wanted {
+        rows: Some(""),
+        ..NOTHING_MORE
+    },
+    ..SAME_FILE
+};
+
+/// Its peer is away, and the row of the absent file goes all the same.
 const OTHER_FILE: Restart = Restart {
     name: "other_file",
     second: Start {
+        output: "attempts = 1",
+        failing: &[(Object::Wire, 0)],
+        files: &[("/w/b.log", b"c\n", &[])],
+        ..PLAIN
+    },
+    wanted: Wanted {
+        status: 7,
+        rows: Some("file \"filestream::w::path::/w/b.log\" 0 0 \"/w/b.log\"\n"),
+        printed: "status 7 unreachable worker 0 failures 1\n",
+        sent: Sent::Events(0),
+        ..NOTHING_MORE
+    },
+    ..SAME_FILE
+};
+
+/// The input keeps the rows of its removed files.
+const ROW_IS_KEPT: Restart = Restart {
+    name: "row_is_kept",
+    second: Start {
+        input: "clean_removed = false",
         files: &[("/w/b.log", b"c\n", &[])],
         ..PLAIN
     },
@@ -73,6 +107,19 @@ const OTHER_FILE: Restart = Restart {
         sent: Sent::Events(1),
         ..NOTHING_MORE
     },
+    ..SAME_FILE
+};
+
+/// The settings have no input of the row's key, whose id only begins like that of theirs.
+const ROW_OF_NO_INPUT_STAYS: Restart = Restart {
+    name: "row_of_no_input_stays",
+    second: Start {
+        settings: Some(
+            "[[inputs]]\nid = 'ww'\npaths = ['/v/*.log']\nfile_identity = 'path'\n[output]\nhosts = ['h:5044']\n",
+        ),
+        ..PLAIN
+    },
+    wanted: NOTHING_MORE,
     ..SAME_FILE
 };
 
@@ -111,7 +158,10 @@ const RESTARTS: &[Restart] = &[
     SAME_FILE,
     GROWN_FILE,
     SHORTER_FILE,
+    ROW_OF_ABSENT_FILE_GOES,
     OTHER_FILE,
+    ROW_IS_KEPT,
+    ROW_OF_NO_INPUT_STAYS,
     UNREACHABLE_BEFORE,
     PARTLY_ACKNOWLEDGED_BEFORE,
 ];
