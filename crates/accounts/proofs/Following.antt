@@ -33,7 +33,7 @@ got_each P [] k x all at = absurd (let q : None ≡ Some x = at in cc)
 got_each P (first ∷ xs) zero x all at = let q : Some first ≡ Some x = at in let same : first ≡ x = cc in subst P same all.0
 got_each P (first ∷ xs) (suc k) x all at = got_each P xs k x all.1 at
 
-got_there : {A : Type 0} (xs : List A) (k : ℕ) (x : A) → slice_get xs k ≡ Some x → Contains xs x
+pub got_there : {A : Type 0} (xs : List A) (k : ℕ) (x : A) → slice_get xs k ≡ Some x → Contains xs x
 got_there [] k x at = absurd (let q : None ≡ Some x = at in cc)
 got_there (first ∷ xs) zero x at = let q : Some first ≡ Some x = at in let same : first ≡ x = cc in subst (λ y. Contains (first ∷ xs) y) same (first_there first xs)
 got_there (first ∷ xs) (suc k) x at = later_there first x xs (got_there xs k x at)

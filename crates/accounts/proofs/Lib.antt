@@ -17,6 +17,7 @@ pub mod Given
 pub mod Ground
 pub mod Grounded
 pub mod Histories
+pub mod InARow
 pub mod Joining
 pub mod Keeping
 pub mod LastEpoch

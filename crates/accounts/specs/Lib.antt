@@ -11,6 +11,7 @@ pub mod Opened
 pub mod Places
 pub mod RunDone
 pub mod RunTold
+pub mod RunsInARow
 pub mod Same
 pub mod Taken
 pub mod ToldFile

@@ -13,5 +13,12 @@
 //! How a worker fails is kept over each of its turns (`IsFailing`); of one that failed as often in a row as it may, so many of the
 //! last outcomes of its wire are failures.
 //!
-//! Definitions and lemmas alone; nothing here runs.
+//! Where a run takes up the row that the run before left, the events of both adjoin, by their accounts
+//! (`accounted_runs_adjoin`).
+//!
+//! Definitions, a law and lemmas alone; nothing here runs.
 #![tactic(auto)]
+
+mod laws;
+
+pub use laws::accounted_runs_adjoin;

@@ -1,0 +1,8 @@
+use Rattle.accounts.proofs.InARow.{adjoin_by_accounts, known_at_first}
+use Rattle.accounts.proofs.laws.accounted_runs_adjoin.Goals as goal
+
+pub returns-clause-adjoin : goal.returns-clause-adjoin
+returns-clause-adjoin c = adjoin_by_accounts
+
+pub returns-clause-known : goal.returns-clause-known
+returns-clause-known c = known_at_first
