@@ -42,4 +42,5 @@ pub mod Turning
 pub mod Unscanned
 pub mod Within
 pub mod Worked
+pub mod WorkedInARow
 pub mod WorkedRun

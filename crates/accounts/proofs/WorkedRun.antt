@@ -171,7 +171,7 @@ collected =
     ∷ Settle (record { 0 = 0 }) (record { 0 = 0 }) (record { start = 2; end = 4 }) Acked
     ∷ []
 
-acknowledged : Acknowledges worked.talk.pieces worked.payloads
+pub acknowledged : Acknowledges worked.talk.pieces worked.payloads
 acknowledged = record {
   windows = worked.payloads ∷ [];
   sent = record { each = (worked.window, tt); rest = []; whole = sym (append-nil (window_bytes worked.payloads ++ [])); cut = none_in_nothing };

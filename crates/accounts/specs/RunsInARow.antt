@@ -45,17 +45,19 @@ IsOfLife run one epoch life = (epoch.told ≡ []) ⊎ HasLife run one.number epo
 
 -- ---- what is given of the two runs
 
--- the later run found the earlier one's row as it opened its registry, also where runs between the two left it as it stood; its slot
--- was known from its first scan on, so the row had not gone before; and its own row is of the same epoch
+-- the later run takes up the row that the earlier one left, and its own row is of the same epoch
 pub record TakesUp (earlier later : AccountedRun) (life : List ℕ) (left reached : Row) : Type 0 where
   pub same_settings : later.run.settings ≡ earlier.run.settings
   pub own_ids : HaveOwnIds earlier.run.settings.inputs
   pub left_is : IsRowOf earlier left
+  -- the row stood so as the later run opened its registry, also where runs between the two let it stand
   pub found : StandsAsOpened later.run.opening left
   pub reached_is : IsRowOf later reached
   pub same_key : reached.key ≡ left.key
   pub same_epoch : reached.epoch.0 ≡ left.epoch.0
+  -- its slot was known from the first scan on: a key whose row went is begun anew, from the first byte
   pub known_at_first : reached_is.one.following.known_from ≡ 0
+  -- both told the epoch of one life
   pub life_before : IsOfLife earlier.run left_is.one left_is.epoch life
   pub life_after : IsOfLife later.run reached_is.one reached_is.epoch life
 
@@ -70,8 +72,8 @@ NoneWentBefore account one =
 abbrev pub part_of : (accounted : AccountedRun) (row : Row) → IsRowOf accounted row → Part
 part_of accounted row is = record { epoch = is.epoch; wires = accounted.run.trace.wires }
 
--- both rows are of one input, the later run told from where the earlier one's row stood, and the events of both adjoin by the input's
--- rules
+-- both slots are of one input, whose key it is; the later run told from where the earlier one's row stood; and the events of both
+-- adjoin by the input's rules
 pub record AdjoinInARow (earlier later : AccountedRun) (life : List ℕ) (left reached : Row) (up : TakesUp earlier later life left reached) : Type 0 where
   pub rule : InputRule
   pub rule_before : slice_get earlier.run.settings.inputs up.left_is.one.following.input ≡ Some rule

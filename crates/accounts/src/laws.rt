@@ -11,7 +11,7 @@ pub fn accounted_runs_adjoin()
     ensures adjoin { (earlier later : AccountedRun) (life : List ℕ) (left reached : Row)
         (up : TakesUp earlier later life left reached) →
         AdjoinInARow earlier later life left reached up }
-    ensures known { (accounted : AccountedRun) (one : SlotAccount) (row : Row) →
+    ensures known_at_first { (accounted : AccountedRun) (one : SlotAccount) (row : Row) →
         Contains accounted.account one → find (key_of one) accounted.run.opening ≡ Some row →
         NoneWentBefore accounted.account one → one.following.known_from ≡ 0 }
 {}

@@ -4,5 +4,5 @@ use Rattle.accounts.proofs.laws.accounted_runs_adjoin.Goals as goal
 pub returns-clause-adjoin : goal.returns-clause-adjoin
 returns-clause-adjoin c = adjoin_by_accounts
 
-pub returns-clause-known : goal.returns-clause-known
-returns-clause-known c = known_at_first
+pub returns-clause-known_at_first : goal.returns-clause-known_at_first
+returns-clause-known_at_first c = known_at_first
