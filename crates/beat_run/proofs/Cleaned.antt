@@ -1,5 +1,5 @@
 -- A run over listed files that was accounted for is so still once rows of removed files were taken out of the registry.
-use Rattle.std.proofs.Common.{◌≡◌, ◌≢◌, ◌⊎◌, inl, inr, ⊎_elim, ℕ, ◌≤◌, Contains, IfSome, List, [], ◌∷◌, map, Option, Some, None, refl, sym, ap, subst, ◌∙◌}
+use Rattle.std.proofs.Common.{◌≡◌, ◌≢◌, ◌⊎◌, inl, inr, ⊎_elim, ℕ, ◌<◌, ◌≤◌, Contains, IfSome, IsSome, List, [], ◌∷◌, map, Option, Some, None, refl, sym, ap, subst, ◌∙◌, arith}
 use Rattle.std.proofs.lemmas.List.Elements.{recursion_from_All}
 use Rattle.std.specs.Prelude.{slice_get}
 use Rattle.std.specs.List.{AllByRecursion}
@@ -16,6 +16,7 @@ use Rattle.kept_rows.specs.Kept.{IsKept, IsKeptInImage}
 use Rattle.kept_rows.specs.Premises.{Premises}
 use Rattle.kept_rows.specs.Run.{Asking, Run, Scan}
 use Rattle.kept_rows.specs.Scans.{Gave, ShowsKey, ShowsFileTo}
+use Rattle.outside.specs.Counts.{Rose}
 use Rattle.prospect.specs.declared.listed.Listed.{Listed}
 use Rattle.registry_log.specs.State.{IsOpened}
 use Rattle.registry_store.specs.Choice.{GivesRows, IsChoice}
@@ -37,15 +38,102 @@ use Rattle.run_steps.proofs.Whole.{left_or_not}
 use Rattle.run_steps.specs.AccountedFor.{AccountedFor, AccountedWith, AreImageRows, FitsObjects, GiveRows, HasRowOf, HoldKeptRows, LostKey, NoKey, Objects, RowsBy, RunObjects, WereAtRest}
 use Rattle.run_steps.specs.AccountedOver.{AccountedOver}
 use Rattle.run_steps.specs.BeginsAll.{IsOfPathInput}
-use Rattle.run_steps.specs.Met.{AreLeft}
+use Rattle.run_steps.specs.Met.{AreLeft, IsMetOf}
 use Rattle.run_steps.specs.RunOf.{asking_of}
+use Rattle.run_steps.specs.Settling.{IsMetByStoring}
+use Rattle.run_steps.specs.Worked.{IsMetByRun, Tolls}
 use Rattle.run_steps.specs.declared.met.Met.{Met}
-use Rattle.run_steps.specs.declared.met.Met.TheVariants.{Done}
+use Rattle.run_steps.specs.declared.met.Met.TheVariants.{DiskFault, Done, Epochs, FolderFault, NoMemory, Stopped, Unreachable}
 use Rattle.ship_core.specs.Rows.{IsInOrder}
 use Rattle.wire_base.specs.declared.row.Row.{Row}
+use Rattle.beat_run.specs.Cause.{Signs}
 use Rattle.beat_run.specs.Cleaning.{Cleaning, Cleans, HeldOnlyLeft, IsAtRestIn}
+use Rattle.beat_run.proofs.Causes.{FailedIn}
+
+-- ---- what is met
+
+-- a count that rose since has risen since before
+rose_since : (x y z : ℕ) → x ≤ y → Rose y z → Rose x z
+rose_since x y z less (inl more) = inl (omega (arith, less, more))
+rose_since x y z less (inr end) = inr end
+
+-- and has risen still
+rose_still : (x y z : ℕ) → Rose x y → y ≤ z → Rose x z
+rose_still x y z (inl more) less = inl (omega (arith, less, more))
+rose_still x y z (inr end) less = inr (omega (arith, end, less))
+
+module _ {D : Type 0} (disks : DiskWords D) (inputs : List InputRule) (listed : List Listed) (old new : Cleaning D) (cleans : Cleans disks inputs listed old new) where
+  -- where nothing is left to be done now, nothing was before
+  pub left_before_cleaning : AreLeft new.met → AreLeft old.met
+  left_before_cleaning are_left = ⊎_elim (λ is. is) (λ not. absurd (not (subst (λ (s : Cleaning D). AreLeft s.met) (cleans.untouched not) are_left))) (left_or_not old.met)
+
+  -- what cleaning met is no other thing than a disk's fault or no memory
+  other_met : (P : Met → Type 0) → P NoMemory → P DiskFault → P old.met → P new.met
+  other_met P memory fault was = by_case cleans.met
+    where
+      by_storing : (m : Met) → IsMetByStoring disks (record { a = old.a; b = old.b; new_a = new.a; new_b = new.b }) m → P m
+      by_storing NoMemory by = memory
+      by_storing DiskFault by = fault
+      by_storing Done by = absurd by
+      by_storing Stopped by = absurd by
+      by_storing FolderFault by = absurd by
+      by_storing (Unreachable worker) by = absurd by
+      by_storing (Epochs slot) by = absurd by
+
+      by_case : (new.met ≡ old.met) ⊎ IsMetByStoring disks (record { a = old.a; b = old.b; new_a = new.a; new_b = new.b }) new.met → P new.met
+      by_case (inl same) = subst P (sym same) was
+      by_case (inr by) = by_storing new.met by
+
+  pub of_these_after_cleaning : (files : ℕ) → IsMetOf files old.met → IsMetOf files new.met
+  of_these_after_cleaning files of = other_met (IsMetOf files) tt tt of
+
+  pub failed_after_cleaning : (settings : Settings) (before now : Signs) → FailedIn settings before now old.met → FailedIn settings before now new.met
+  failed_after_cleaning settings before now failed = other_met (FailedIn settings before now) tt tt failed
+
+  abbrev tolls_of : Cleaning D → ℕ → ℕ → Tolls
+  tolls_of state folder rings = record { a_faults = disks.faults state.a; b_faults = disks.faults state.b; folder_faults = folder; rings = rings }
+
+  -- a disk's fault of cleaning shows in the counts, too
+  pub met_after_cleaning : (workers files folder rings : ℕ) (before : Tolls) → before.a_faults ≤ disks.faults old.a → before.b_faults ≤ disks.faults old.b →
+      IsMetByRun workers files before (tolls_of old folder rings) old.met →
+      IsMetByRun workers files before (tolls_of new folder rings) new.met
+  met_after_cleaning workers files folder rings before less_a less_b by = by_case cleans.met
+    where
+      later : (m : Met) → IsMetByRun workers files before (tolls_of old folder rings) m → IsMetByRun workers files before (tolls_of new folder rings) m
+      later Done was = tt
+      later Stopped was = was
+      later NoMemory was = tt
+      later DiskFault was =
+          ⊎_elim (λ a. inl (rose_still before.a_faults (disks.faults old.a) (disks.faults new.a) a cleans.a_faults))
+          (λ b. inr (rose_still before.b_faults (disks.faults old.b) (disks.faults new.b) b cleans.b_faults)) was
+      later FolderFault was = was
+      later (Unreachable worker) was = was
+      later (Epochs slot) was = was
+
+      by_storing : (m : Met) → IsMetByStoring disks (record { a = old.a; b = old.b; new_a = new.a; new_b = new.b }) m → IsMetByRun workers files before (tolls_of new folder rings) m
+      by_storing NoMemory fault = tt
+      by_storing DiskFault fault =
+          ⊎_elim (λ a. inl (rose_since before.a_faults (disks.faults old.a) (disks.faults new.a) less_a a))
+          (λ b. inr (rose_since before.b_faults (disks.faults old.b) (disks.faults new.b) less_b b)) fault
+      by_storing Done fault = absurd fault
+      by_storing Stopped fault = absurd fault
+      by_storing FolderFault fault = absurd fault
+      by_storing (Unreachable worker) fault = absurd fault
+      by_storing (Epochs slot) fault = absurd fault
+
+      by_case : (new.met ≡ old.met) ⊎ IsMetByStoring disks (record { a = old.a; b = old.b; new_a = new.a; new_b = new.b }) new.met → IsMetByRun workers files before (tolls_of new folder rings) new.met
+      by_case (inl same) = subst (IsMetByRun workers files before (tolls_of new folder rings)) (sym same) (later old.met by)
+      by_case (inr fault) = by_storing new.met fault
 
 -- ---- the scan showed no key of a row that is removed
+
+-- where the folder tells, each listed file is keyed by its path
+pub keyed_where_told : (settings : Settings) (told : Type 0) (listed : List Listed) → told → AllByRecursion (IsOfPathInput settings told) listed → AllByRecursion (IsOfPathInput settings (Unit {0})) listed
+keyed_where_told settings told [] tells each = tt
+keyed_where_told settings told (one ∷ listed) tells each = (
+  record { rule = each.0.rule; rule_is = each.0.rule_is; by_path = each.0.by_path; in_range = each.0.in_range; keyed = λ _. each.0.keyed tells },
+  keyed_where_told settings told listed tells each.1,
+)
 
 module _ (run : Run) (scan : Scan) (listed : List Listed) (asked : scan.askings ≡ map asking_of listed) (of_inputs : AllByRecursion (IsOfPathInput run.settings (Unit {0})) listed) where
   listed_key : (key : List ℕ) → ShowsKey run scan key → IsListedKey listed key
@@ -198,7 +286,7 @@ module _ {D : Type 0} (disks : DiskWords D) (reads : (disk : D) → IfSome (disk
     }
 
     drained_left : IsDrained run account rows → IsDrained run behind left
-    drained_left drained = drained_with_gone run went account rows left over.scan may each drained
+    drained_left drained = drained_with_gone run account went rows left over.scan may each drained
       where
         each : (row : Row) → Contains rows row → ShowsKey run over.scan row.key → Contains left row
         each row there shows = ⊎_elim (λ still. still) (λ removed. absurd (hidden row.key removed shows)) (leaves_others removes.leaves row there)
@@ -216,7 +304,7 @@ module _ {D : Type 0} (disks : DiskWords D) (reads : (disk : D) → IfSome (disk
   same_state = cleaned.untouched
 
   left_before : AreLeft new.met → AreLeft old.met
-  left_before are_left = ⊎_elim (λ is. is) (λ not. absurd (not (subst (λ (s : Cleaning D). AreLeft s.met) (same_state not) are_left))) (left_or_not old.met)
+  left_before are_left = left_before_cleaning disks inputs listed old new cleaned are_left
 
   given : WereAtRest disks objects → GiveRows disks (with_areas objects new.a new.b).after
   given were first second a_is b_is = by_left (left_or_not old.met)
@@ -281,7 +369,7 @@ module _ {D : Type 0} (disks : DiskWords D) (reads : (disk : D) → IfSome (disk
       let still : AreLeft new.met = subst AreLeft (sym is_done) tt in
       let are_left = left_before still in
       let rest = at_rest are_left were in
-      let was_done : old.met ≡ Done = ⊎_elim (λ same. sym same ∙ is_done) (λ by. absurd (subst (λ (m : Met). _) is_done by)) cleaned.met in
+      let was_done : old.met ≡ Done = ⊎_elim (λ same. sym same ∙ is_done) (λ by. absurd (subst (IsMetByStoring disks (record { a = old.a; b = old.b; new_a = new.a; new_b = new.b })) is_done by)) cleaned.met in
       subst (IsDrained run behind) (rows_of_store one disks new.a new.b new.store first second rows (cleaned.at_rest still rest) a_is b_is gives)
       (drained_left old.store.rows new.store.rows (cleaned.rows still)
       ((over.accounted.supposing premises).drained were was_done rest.first rest.second old.store.rows rest.a_holds rest.b_holds (store_gives were rest)))

@@ -1,12 +1,11 @@
 -- What is so of a run by what it met, whether it tells a report or its status alone.
 use Rattle.std.proofs.Common.{◌≡◌, ◌⊎◌, inr, ℕ, ◌≤◌, List, length, Option, IfErr, IfOk, IfSome, IsSome, Result, Ok, Err}
 use Rattle.event_tree.specs.declared.settings.Settings.{Settings as SettingsOf}
-use Rattle.keeper.specs.Keeping.{Keeping}
 use Rattle.outside.specs.Folders.{FolderHistory}
 use Rattle.prospect.specs.ListedFiles.{ScansFiles}
 use Rattle.prospect.specs.declared.listed.Listed.{Listed}
 use Rattle.registry_store.specs.Settled.{AreSettled}
-use Rattle.registry_store.specs.Standing.{chosen_by}
+use Rattle.registry_store.specs.Standing.{Standing, chosen_by}
 use Rattle.report.specs.Report.{IsReport}
 use Rattle.report.specs.declared.passing.Passing.{Passing}
 use Rattle.report.specs.declared.status.Status.{Status}
@@ -16,6 +15,7 @@ use Rattle.run_steps.specs.AccountedFor.{RunObjects}
 use Rattle.run_steps.specs.Met.{AreLeft, IsMetOf}
 use Rattle.run_steps.specs.Worked.{IsMetByRun}
 use Rattle.run_steps.specs.declared.met.Met.{Met}
+use Rattle.wire_base.specs.declared.row.Row.{Row}
 use Rattle.beat_run.specs.Accounted.{IsFullFor, IsMetFor}
 use Rattle.beat_run.specs.Cause.{CauseBy, Signs}
 use Rattle.beat_run.specs.Ended.{IsTelling, StandsForMet, ended}
@@ -56,16 +56,16 @@ pub caused_ending : (settings : SettingsOf) (listed : List Listed) (before now :
 caused_ending settings listed before now scanned faults no_less scans goes what result cause failed stands refused =
     caused_at_end settings listed before now scanned faults no_less scans goes what (ended result) cause failed (by listed settings.output.attempts what result stands refused)
 
-pub reports_stored : {D : Type 0} (disks : DiskWords D) (a b : D) (keeper : Keeping) (passed : List Passing) (what : Met) (result : Result Ending Status) → IfOk result (λ _. IsTelling what) →
-    IfOk result (λ ending. IsReport keeper.store.rows passed keeper.shipped keeper.dropped ending.status ending.report) → (AreLeft what → AreSettled disks.contents disks.images a b (chosen_by keeper.store)) →
+pub reports_stored : {D : Type 0} (disks : DiskWords D) (a b : D) (store : Standing) (passed : List Passing) (shipped dropped : ℕ) (what : Met) (result : Result Ending Status) → IfOk result (λ _. IsTelling what) →
+    IfOk result (λ ending. IsReport store.rows passed shipped dropped ending.status ending.report) → (AreLeft what → AreSettled disks.contents disks.images a b (chosen_by store)) →
     IfOk result (λ ending. ReportsStored disks a b ending.status ending.report)
-reports_stored disks a b keeper passed what (Ok ending) telling report settled = record {
-  is = record { rows = keeper.store.rows; passed = passed; shipped = keeper.shipped; dropped = keeper.dropped; report = report };
-  stored = gives_its_rows disks a b keeper.store (settled (left_telling what telling));
+reports_stored disks a b store passed shipped dropped what (Ok ending) telling report settled = record {
+  is = record { rows = store.rows; passed = passed; shipped = shipped; dropped = dropped; report = report };
+  stored = gives_its_rows disks a b store (settled (left_telling what telling));
 }
-reports_stored disks a b keeper passed what (Err status) telling report settled = tt
+reports_stored disks a b store passed shipped dropped what (Err status) telling report settled = tt
 
-pub report_of : (keeper : Keeping) (passed : List Passing) (result : Result Ending Status) → IfOk result (λ ending. IsReport keeper.store.rows passed keeper.shipped keeper.dropped ending.status ending.report) →
+pub report_of : (rows : List Row) (passed : List Passing) (shipped dropped : ℕ) (result : Result Ending Status) → IfOk result (λ ending. IsReport rows passed shipped dropped ending.status ending.report) →
     IfOk result (λ ending. IsReportOf ending.status ending.report)
-report_of keeper passed (Ok ending) report = record { rows = keeper.store.rows; passed = passed; shipped = keeper.shipped; dropped = keeper.dropped; report = report }
-report_of keeper passed (Err status) report = tt
+report_of rows passed shipped dropped (Ok ending) report = record { rows = rows; passed = passed; shipped = shipped; dropped = dropped; report = report }
+report_of rows passed shipped dropped (Err status) report = tt

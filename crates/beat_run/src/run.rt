@@ -39,7 +39,7 @@ use prospect::Listed;
 use registry_store::{Store, one_choice};
 use report::{Lack, Status};
 use rounds::{Stored, Storing};
-use run_steps::{Context, Surroundings, Worked, open_registry, run_over};
+use run_steps::{Context, Surroundings, Worked, disk_images_are_counted, open_registry, run_over};
 use std::alloc::Global;
 use std::sync::Wait;
 use std::thread::Threads;
@@ -371,6 +371,7 @@ where
     ensures same_bell { outside.new.bell.ghost_name ≡ outside.old.bell.ghost_name }
 {
     one_choice();
+    disk_images_are_counted::<D>();
     let scanned = scan(
         alloc,
         settings.inputs.as_slice(),
@@ -445,5 +446,12 @@ fn finish<D: Disk>(
     let Worked { passed, met } = worked;
     let met = clean(context, listed, met, &mut store, a, b);
     let attempts = context.settings.output.attempts;
-    ending_of(context.alloc, Worked { passed, met }, &store, totals, listed, attempts)
+    ending_of(
+        context.alloc,
+        Worked { passed, met },
+        &store,
+        totals,
+        listed,
+        attempts,
+    )
 }

@@ -6,6 +6,7 @@ ghost use Rattle.registry_store.specs.Settled.{AreSettled};
 ghost use Rattle.registry_store.specs.Standing.{chosen_by};
 ghost use Rattle.removed_rows.specs.Leaving.{GiveLeft, MayHoldLeft};
 ghost use Rattle.removed_rows.specs.Listing.{IsCleanedBeside, SomeMayGo};
+ghost use Rattle.removed_rows.specs.OneArea.{WritesOneArea};
 ghost use Rattle.removed_rows.specs.Removals.{AreRemovalsOf};
 ghost use Rattle.removed_rows.specs.Removed.{IsRemoved, LeavesRows, RemovesRows};
 ghost use Rattle.ship_core.specs.Replay.{replay_on};
@@ -57,7 +58,12 @@ pub fn remove_rows<D: Disk>(
         LeavesOnly D.moment D.images_since b.old b.new
         (MayHoldLeft inputs.now listed.now store.old.rows (D.contents b.old)) }
 
-    // And what both give, also after an error.
+    // At every moment of the call both together give such rows.
+    ensures each_moment { AreSettled D.contents D.images a.old b.old (chosen_by store.old) →
+        WritesOneArea D.images D.moment D.images_since inputs.now listed.now store.old.rows
+        a.old b.old a.new b.new }
+
+    // And what is left does, also by an error.
     ensures left { AreSettled D.contents D.images a.old b.old (chosen_by store.old) →
         (first second : List ℕ) → D.contents a.new ≡ Some first → D.contents b.new ≡ Some second →
         GiveLeft inputs.now listed.now store.old.rows first second }

@@ -194,6 +194,8 @@ where
         earlier (counts_told (wire_words W.outcomes W.open_links W.faults W.idles)
         context.entry.settings.now.output.workers around.old.wires.now.items)
         (K.moments around.new.clock.now) around.new.wires.now.items worked.met) }
+    ensures a_faults_never_fall { D.faults storing.old.a.now ≤ D.faults storing.new.a.now }
+    ensures b_faults_never_fall { D.faults storing.old.b.now ≤ D.faults storing.new.b.now }
     ensures passed_over { IfOk result (λ worked.
         ArePassedOver scanned.entry.now.listed.items worked.passed.items) }
     ensures clock_goes_on { MomentsGoOn (K.moments around.old.clock.now)

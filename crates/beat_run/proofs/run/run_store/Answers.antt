@@ -1,5 +1,7 @@
-use Rattle.std.proofs.Common.{◌≡◌, ◌∙◌, ℕ, ◌+◌, ◌-◌, ◌^◌, ◌<◌, ◌≤◌, ap, length, map, refl, arith}
+use Rattle.std.proofs.Common.{◌≡◌, ◌∙◌, ℕ, ◌+◌, ◌-◌, ◌^◌, ◌<◌, ◌≤◌, IsSome, Option, Some, ap, length, map, refl, subst, sym, arith}
 use Rattle.std.proofs.lemmas.Result.{err_from_is_err_and}
+use Rattle.keeper.specs.Keeping.{Keeping}
+use Rattle.outside.specs.Folders.{FolderHistory}
 use Rattle.prospect.proofs.LacksNone.{inputs_are_by_path_where_nothing_lacks}
 use Rattle.prospect.specs.Members.{globs_of}
 use Rattle.report.specs.declared.status.Status.TheVariants.{NoMemory}
@@ -10,9 +12,11 @@ use Rattle.run_steps.proofs.Clocks.{clock_by_two}
 use Rattle.run_steps.proofs.RunEarly.{listed_all}
 use Rattle.run_steps.specs.Outset.{began_with}
 use Rattle.beat_run.proofs.Accounts.{each_some, early, full_for_scan, outcomes_seen, some_listed, wires_tell, worked}
+use Rattle.ship_core.specs.Rows.{IsInOrder}
 use Rattle.beat_run.specs.Cause.{Signs}
 use Rattle.beat_run.specs.Ended.{ended}
 use Rattle.beat_run.proofs.Causes.{at_rest, ends_without_report, is_met_of, scan_caused, scan_ended, shown_goes_further}
+use Rattle.beat_run.proofs.Cleaned.{cleaned_is_accounted_for, failed_after_cleaning, keyed_where_told, left_before_cleaning, met_after_cleaning, of_these_after_cleaning}
 use Rattle.beat_run.proofs.ReportEnds.{caused_ending, full_for_ending, left_by_ending, met_for_ending, report_of, reports_stored, scanned_ending}
 use Rattle.beat_run.proofs.SettingOut.{earlier, outset, set_out}
 use Rattle.beat_run.proofs.WiresFailed.{failed_by}
@@ -79,6 +83,7 @@ pub returns-clause-cause : goal.returns-clause-cause
 returns-clause-cause g c = λ from opened.
     let inputs : c.as_slice.result.now ≡ c.args.settings.now.inputs = c.as_slice.ensures in
     let files : c.as_slice-2.result.now ≡ c.in_ok-scanned.scanned.listed.items = c.as_slice-2.ensures.value in
+    let fin = c.finish.ensures.finished in
     let disks = disk_words g.D.Disk.contents g.D.Disk.images g.D.Disk.moment g.D.Disk.images_since g.D.Disk.faults in
     let wires = wire_words g.W.Wire.outcomes g.W.Wire.open_links g.W.Wire.faults g.W.Wire.idles in
     let before : Signs = record {
@@ -91,7 +96,7 @@ returns-clause-cause g c = λ from opened.
       folder = g.F.Folder.told c.run_over.new.around.folder.now;
       moments = g.K.Clock.moments c.run_over.new.around.clock.now;
       wires = all_seen wires c.run_over.new.around.wires.now.items;
-      counts = record { a_faults = g.D.Disk.faults c.run_over.new.storing.a.now; b_faults = g.D.Disk.faults c.run_over.new.storing.b.now; folder_faults = g.F.Folder.faults c.run_over.new.around.folder.now; rings = g.B.Bell.rings c.run_over.new.around.bell.now };
+      counts = record { a_faults = g.D.Disk.faults c.finish.new.a; b_faults = g.D.Disk.faults c.finish.new.b; folder_faults = g.F.Folder.faults c.run_over.new.around.folder.now; rings = g.B.Bell.rings c.run_over.new.around.bell.now };
     } in
     (caused_ending c.args.settings.now c.in_ok-scanned.scanned.listed.items before now (g.F.Folder.told c.scan.new.folder) (g.F.Folder.faults c.scan.new.folder) c.scan.ensures.folder_faults_never_fall
     (rw inputs at c.in_ok-scanned.ensures.scanned)
@@ -105,18 +110,23 @@ returns-clause-cause g c = λ from opened.
     c.in_ok-parts.parts.desk.id c.in_ok-parts.parts.keeper c.args.store c.in_ok-parts.ensures.keeper c.in_ok-parts.ensures.store c.args.outside.now.wires.now.items from
     c.args.outside.now.a.now c.args.outside.now.b.now opened c.in_ok-scanned.scanned.listed.items c.in_ok-scanned.scanned.now.0
     (g.K.Clock.moments c.args.outside.now.clock.now) (g.K.Clock.moments c.scan.new.clock) c.in_ok-scanned.ensures.moment_given (g.F.Folder.told c.args.outside.now.folder.now) (g.F.Folder.told c.scan.new.folder) some (rw inputs at c.in_ok-scanned.ensures.of_inputs) (rw inputs at c.in_ok-scanned.ensures.scanned))).1.ends.stands.shown)
-    c.in_ok-worked.worked.met c.ending_of.result c.in_ok-worked.ensures.cause
+    fin.0 c.finish.result
+    (met_after_cleaning disks _ _ _ _ fin.2.cleans c.args.settings.now.output.workers (length c.in_ok-scanned.scanned.listed.items) _ _ _ c.run_over.ensures.a_faults_never_fall c.run_over.ensures.b_faults_never_fall
+    c.in_ok-worked.ensures.cause)
+    (failed_after_cleaning disks _ _ _ _ fin.2.cleans c.args.settings.now before now
     (failed_by wires c.args.settings.now c.args.outside.now.wires.now.items c.run_over.new.around.wires.now.items before now refl refl c.in_ok-scanned.scanned.now.0 (g.K.Clock.moments c.scan.new.clock)
-    c.in_ok-scanned.ensures.moment_given _ _ _ c.in_ok-worked.worked.met c.in_ok-worked.ensures.cause c.in_ok-worked.ensures.failing)
-    (rw files at c.ending_of.ensures.stands) (rw files at c.ending_of.ensures.refused))
+    c.in_ok-scanned.ensures.moment_given _ _ _ c.in_ok-worked.worked.met c.in_ok-worked.ensures.cause c.in_ok-worked.ensures.failing))
+    (rw files at fin.2.stands) (rw files at fin.2.refused))
 
 pub returns-clause-accounted : goal.returns-clause-accounted
 returns-clause-accounted g c = λ from opened tells.
     let inputs : c.as_slice.result.now ≡ c.args.settings.now.inputs = c.as_slice.ensures in
     let files : c.as_slice-2.result.now ≡ c.in_ok-scanned.scanned.listed.items = c.as_slice-2.ensures.value in
+    let fin = c.finish.ensures.finished in
+    let cleans = rw files at fin.2.cleans in
     let disks = disk_words g.D.Disk.contents g.D.Disk.images g.D.Disk.moment g.D.Disk.images_since g.D.Disk.faults in
     let wires = wire_words g.W.Wire.outcomes g.W.Wire.open_links g.W.Wire.faults g.W.Wire.idles in
-    let of = is_met_of c.args.settings.now.output.workers _ _ _ c.in_ok-worked.worked.met c.in_ok-worked.ensures.cause in
+    let of = of_these_after_cleaning disks _ _ _ _ cleans (length c.in_ok-scanned.scanned.listed.items) (is_met_of c.args.settings.now.output.workers _ _ _ c.in_ok-worked.worked.met c.in_ok-worked.ensures.cause) in
     let before = earlier disks wires c.args.settings.now c.requires.in_range (inputs_are_by_path_where_nothing_lacks c.args.settings.now c.requires.nothing_lacks)
     c.in_ok-parts.parts.desk.id c.in_ok-parts.parts.keeper c.args.store c.in_ok-parts.ensures.keeper c.in_ok-parts.ensures.store c.args.outside.now.wires.now.items from
     c.args.outside.now.a.now c.args.outside.now.b.now opened c.in_ok-scanned.scanned.listed.items c.in_ok-scanned.scanned.now.0
@@ -129,15 +139,34 @@ returns-clause-accounted g c = λ from opened tells.
     c.in_ok-parts.parts.desk.id c.in_ok-parts.parts.keeper c.args.store c.in_ok-parts.ensures.keeper c.in_ok-parts.ensures.store c.args.outside.now.wires.now.items from
     c.args.outside.now.a.now c.args.outside.now.b.now opened c.in_ok-scanned.scanned.listed.items c.in_ok-scanned.scanned.now.0
     (g.K.Clock.moments c.args.outside.now.clock.now) (g.K.Clock.moments c.scan.new.clock) c.in_ok-scanned.ensures.moment_given (g.F.Folder.told c.args.outside.now.folder.now) (g.F.Folder.told c.scan.new.folder) tells.folder (rw inputs at c.in_ok-scanned.ensures.of_inputs) (rw inputs at c.in_ok-scanned.ensures.scanned)) before in
-    (worked disks start c.requires.in_range (inputs_are_by_path_where_nothing_lacks c.args.settings.now c.requires.nothing_lacks) (map g.W.Wire.outcomes c.args.outside.now.wires.now.items) _ c.in_ok-worked.worked.met (g.F.Folder.told c.args.outside.now.folder.now) (ended c.ending_of.result) tells.folder
-    (rw inputs at c.in_ok-scanned.ensures.scanned) (met_for_ending c.in_ok-scanned.scanned.listed.items c.args.settings.now.output.attempts c.in_ok-worked.worked.met c.ending_of.result of (rw files at c.ending_of.ensures.stands) (rw files at c.ending_of.ensures.refused))
-    (full_for_ending disks c.args.settings.now _ c.in_ok-scanned.scanned.listed.items c.args.settings.now.output.attempts c.in_ok-worked.worked.met c.ending_of.result of (rw files at c.ending_of.ensures.stands) (rw files at c.ending_of.ensures.refused))
-    (λ folder has. c.in_ok-worked.ensures.accounted before folder sets has tells.moments (wires_tell g.W.Wire.outcomes c.run_over.new.around.wires.now.items tells.wires)))
+    let ends = c.in_ok-worked.ensures.ends before sets in
+    let keeper = c.in_ok-parts.ensures.keeper in
+    let keeper_is : c.keeper-2-1.given.0 ≡ c.run_over.new.storing.keeper.now = c.keeper-2-1.given.1 (sym c.run_over.ensures.same_keeper) in
+    (worked disks start c.requires.in_range (inputs_are_by_path_where_nothing_lacks c.args.settings.now c.requires.nothing_lacks) (map g.W.Wire.outcomes c.args.outside.now.wires.now.items) _ fin.0 (g.F.Folder.told c.args.outside.now.folder.now) (ended c.finish.result) tells.folder
+    (rw inputs at c.in_ok-scanned.ensures.scanned) (met_for_ending c.in_ok-scanned.scanned.listed.items c.args.settings.now.output.attempts fin.0 c.finish.result of (rw files at fin.2.stands) (rw files at fin.2.refused))
+    (full_for_ending disks c.args.settings.now _ c.in_ok-scanned.scanned.listed.items c.args.settings.now.output.attempts fin.0 c.finish.result of (rw files at fin.2.stands) (rw files at fin.2.refused))
+    (λ folder has.
+    cleaned_is_accounted_for disks c.disk_images_are_counted.ensures.reads c.disk_images_are_counted.ensures.counts c.one_choice.ensures c.args.settings.now c.in_ok-parts.parts.keeper.store.rows
+    (subst (λ (k : Keeping). IsInOrder k.store.rows) (sym keeper.is) keeper.in_order) c.in_ok-scanned.scanned.listed.items
+    (keyed_where_told c.args.settings.now _ c.in_ok-scanned.scanned.listed.items (subst (λ (o : Option FolderHistory). IsSome o) (sym has.shown) refl) sets.of_inputs)
+    (record {
+      before = record { folder = Some folder.earlier; moments = g.K.Clock.moments c.args.outside.now.clock.now; outcomes = map g.W.Wire.outcomes c.args.outside.now.wires.now.items; a = from.a; b = from.b };
+      after = record {
+        folder = g.F.Folder.told c.run_over.new.around.folder.now;
+        moments = g.K.Clock.moments c.run_over.new.around.clock.now;
+        outcomes = map g.W.Wire.outcomes c.run_over.new.around.wires.now.items;
+        a = c.finish.new.a;
+        b = c.finish.new.b;
+      };
+    })
+    _ _ (c.in_ok-worked.ensures.accounted before folder sets has tells.moments (wires_tell g.W.Wire.outcomes c.run_over.new.around.wires.now.items tells.wires)) cleans
+    (λ were. (ends.1.ends.stands.areas were).of_a.later) (λ were. (ends.1.ends.stands.areas were).of_b.later) (λ left were. rw (← keeper_is) at (ends.1.left.at_rest left were).settled)))
 
 pub returns-clause-at_rest : goal.returns-clause-at_rest
 returns-clause-at_rest g c = λ from opened some rest followed.
     let inputs : c.as_slice.result.now ≡ c.args.settings.now.inputs = c.as_slice.ensures in
     let files : c.as_slice-2.result.now ≡ c.in_ok-scanned.scanned.listed.items = c.as_slice-2.ensures.value in
+    let fin = c.finish.ensures.finished in
     let disks = disk_words g.D.Disk.contents g.D.Disk.images g.D.Disk.moment g.D.Disk.images_since g.D.Disk.faults in
     let wires = wire_words g.W.Wire.outcomes g.W.Wire.open_links g.W.Wire.faults g.W.Wire.idles in
     let ends = c.in_ok-worked.ensures.ends
@@ -149,12 +178,15 @@ returns-clause-at_rest g c = λ from opened some rest followed.
     c.in_ok-parts.parts.desk.id c.in_ok-parts.parts.keeper c.args.store c.in_ok-parts.ensures.keeper c.in_ok-parts.ensures.store c.args.outside.now.wires.now.items from
     c.args.outside.now.a.now c.args.outside.now.b.now opened c.in_ok-scanned.scanned.listed.items c.in_ok-scanned.scanned.now.0
     (g.K.Clock.moments c.args.outside.now.clock.now) (g.K.Clock.moments c.scan.new.clock) c.in_ok-scanned.ensures.moment_given (g.F.Folder.told c.args.outside.now.folder.now) (g.F.Folder.told c.scan.new.folder) some (rw inputs at c.in_ok-scanned.ensures.of_inputs) (rw inputs at c.in_ok-scanned.ensures.scanned)) in
-    let left = left_by_ending c.in_ok-scanned.scanned.listed.items c.args.settings.now.output.attempts c.in_ok-worked.worked.met c.ending_of.result (rw files at c.ending_of.ensures.stands) (rw files at c.ending_of.ensures.refused) followed in
-    (at_rest disks c.run_over.new.storing.a.now c.run_over.new.storing.b.now c.run_over.new.storing.keeper.now.store (ends.1.left.at_rest left rest).settled)
+    let left = left_by_ending c.in_ok-scanned.scanned.listed.items c.args.settings.now.output.attempts fin.0 c.finish.result (rw files at fin.2.stands) (rw files at fin.2.refused) followed in
+    let before = left_before_cleaning disks _ _ _ _ fin.2.cleans left in
+    let keeper_is : c.keeper-2-1.given.0 ≡ c.run_over.new.storing.keeper.now = c.keeper-2-1.given.1 (sym c.run_over.ensures.same_keeper) in
+    (at_rest disks c.finish.new.a c.finish.new.b fin.1 (fin.2.cleans.at_rest left (rw (← keeper_is) at (ends.1.left.at_rest before rest).settled)))
 
 pub returns-clause-reported : goal.returns-clause-reported
 returns-clause-reported g c = λ from opened some rest.
     let inputs : c.as_slice.result.now ≡ c.args.settings.now.inputs = c.as_slice.ensures in
+    let fin = c.finish.ensures.finished in
     let disks = disk_words g.D.Disk.contents g.D.Disk.images g.D.Disk.moment g.D.Disk.images_since g.D.Disk.faults in
     let wires = wire_words g.W.Wire.outcomes g.W.Wire.open_links g.W.Wire.faults g.W.Wire.idles in
     let ends = c.in_ok-worked.ensures.ends
@@ -166,14 +198,19 @@ returns-clause-reported g c = λ from opened some rest.
     c.in_ok-parts.parts.desk.id c.in_ok-parts.parts.keeper c.args.store c.in_ok-parts.ensures.keeper c.in_ok-parts.ensures.store c.args.outside.now.wires.now.items from
     c.args.outside.now.a.now c.args.outside.now.b.now opened c.in_ok-scanned.scanned.listed.items c.in_ok-scanned.scanned.now.0
     (g.K.Clock.moments c.args.outside.now.clock.now) (g.K.Clock.moments c.scan.new.clock) c.in_ok-scanned.ensures.moment_given (g.F.Folder.told c.args.outside.now.folder.now) (g.F.Folder.told c.scan.new.folder) some (rw inputs at c.in_ok-scanned.ensures.of_inputs) (rw inputs at c.in_ok-scanned.ensures.scanned)) in
-    (reports_stored disks c.run_over.new.storing.a.now c.run_over.new.storing.b.now c.run_over.new.storing.keeper.now c.in_ok-worked.worked.passed.items
-    c.in_ok-worked.worked.met c.ending_of.result c.ending_of.ensures.telling c.ending_of.ensures.report (λ left. (ends.1.left.at_rest left rest).settled))
+    let keeper = c.keeper-2-1.given.0 in
+    let keeper_is : keeper ≡ c.run_over.new.storing.keeper.now = c.keeper-2-1.given.1 (sym c.run_over.ensures.same_keeper) in
+    (reports_stored disks c.finish.new.a c.finish.new.b fin.1 c.in_ok-worked.worked.passed.items keeper.shipped keeper.dropped fin.0 c.finish.result fin.2.telling fin.2.report
+    (λ left. fin.2.cleans.at_rest left (rw (← keeper_is) at (ends.1.left.at_rest (left_before_cleaning disks _ _ _ _ fin.2.cleans left) rest).settled)))
 
 pub returns-clause-ends : goal.returns-clause-ends
 returns-clause-ends g c =
     let files : c.as_slice-2.result.now ≡ c.in_ok-scanned.scanned.listed.items = c.as_slice-2.ensures.value in
+    let fin = c.finish.ensures.finished in
+    let disks = disk_words g.D.Disk.contents g.D.Disk.images g.D.Disk.moment g.D.Disk.images_since g.D.Disk.faults in
     let of = is_met_of c.args.settings.now.output.workers _ _ _ c.in_ok-worked.worked.met c.in_ok-worked.ensures.cause in
-    scanned_ending c.in_ok-scanned.scanned.listed.items c.args.settings.now.output.attempts c.in_ok-worked.worked.met c.ending_of.result of (rw files at c.ending_of.ensures.refused) c.ending_of.ensures.without_report
+    scanned_ending c.in_ok-scanned.scanned.listed.items c.args.settings.now.output.attempts fin.0 c.finish.result (of_these_after_cleaning disks _ _ _ _ fin.2.cleans (length c.in_ok-scanned.scanned.listed.items) of)
+    (rw files at fin.2.refused) c.finish.ensures.without_report
 
 -- ---- what goes on
 
@@ -216,9 +253,11 @@ returns-clause-goes_on g c =
       wires = c.run_over.ensures.as_many_wires;
       tails = λ few. tails_by_two (g.F.Folder.open_tails c.args.outside.now.folder.now) (g.F.Folder.open_tails c.scan.new.folder) (g.F.Folder.open_tails c.run_over.new.around.folder.now) (length c.in_ok-scanned.scanned.listed.items)
           c.scan.ensures.open_tails_kept c.in_ok-scanned.ensures.few_listed c.run_over.ensures.tails_closed few;
-      a_told = c.run_over.ensures.still_tell.a;
-      b_told = c.run_over.ensures.still_tell.b;
+      a_told = λ told. c.finish.ensures.finished.2.cleans.a_told (c.run_over.ensures.still_tell.a told);
+      b_told = λ told. c.finish.ensures.finished.2.cleans.b_told (c.run_over.ensures.still_tell.b told);
     }
 
 pub returns-clause-report : goal.returns-clause-report
-returns-clause-report g c = report_of c.run_over.new.storing.keeper.now c.in_ok-worked.worked.passed.items c.ending_of.result c.ending_of.ensures.report
+returns-clause-report g c =
+    let fin = c.finish.ensures.finished in
+    report_of fin.1.rows c.in_ok-worked.worked.passed.items c.keeper-2-1.given.0.shipped c.keeper-2-1.given.0.dropped c.finish.result fin.2.report
