@@ -38,7 +38,7 @@ use Rattle.run_steps.proofs.RunEarly.{early_is_accounted_for, listed_all, still_
 use Rattle.run_steps.proofs.HeldRows.{some_of}
 use Rattle.run_steps.proofs.Members.{some_is}
 use Rattle.run_steps.proofs.RunRows.{OneChoice}
-use Rattle.beat_run.specs.Accounted.{HasNoRoom, IsAccounted, IsAccountedByNamed, IsFullFor, IsMetFor, IsOpenedFrom, RunLent, TellRows}
+use Rattle.beat_run.specs.Accounted.{HasNoRoom, IsAccounted, IsAccountedByNamed, IsFullFor, IsMetFor, IsOpenedFrom, LeavesNoRemoved, RunLent, TellRows}
 use Rattle.beat_run.specs.Ended.{StandsForMet, StandsForRegistry}
 use Rattle.beat_run.specs.Ends.{FindsNoRoom, IsPreparingEnd, IsPrintingEnd, IsRunEnd, IsStartEnd, ShowsScanEnd}
 use Rattle.beat_run.proofs.Causes.{named_so}
@@ -250,6 +250,7 @@ module _ {D : Type 0} (disks : DiskWords D) (one : OneChoice) (settings : Settin
             (early_is_accounted_for disks start folder
             (record { in_range = in_range; by_path = paths; lists = record { more = lists.more; in_order = lists.in_order; kept = refl } })
             first.since later first.given (later_tells before later moment gives clock) outcomes a b one gave held (early_met status) (early_not_done status));
+        cleaned = λ rest is_done. absurd (early_not_done status is_done);
         full_for = full;
       }
 
@@ -270,6 +271,7 @@ module _ {D : Type 0} (disks : DiskWords D) (one : OneChoice) (settings : Settin
     what = early_met status;
     met_for = early_met_for status ends;
     accounted = still_is_accounted_for disks settings opening history moments outcomes from_a from_b a b one gave held (early_met status) (early_not_done status);
+    cleaned = λ rest is_done. absurd (early_not_done status is_done);
     full_for = full;
   }
 
@@ -293,17 +295,14 @@ module _ {D : Type 0} (disks : DiskWords D) (start : Began D) (in_range : AreInR
   worked_run told = record { before = record { folder = told; moments = start.moments; outcomes = outcomes; a = start.a; b = start.b }; after = after }
 
   pub worked : (told : Option FolderHistory) (status : Status) → IsSome told → IfSome told (λ history. ScansFiles start.settings.inputs history start.listed start.shown) → IsMetFor status what → IsFullFor disks start.settings (worked_run told) status →
-      ((folder : FolderTold) → HasScanned start folder → AccountedFor disks start.settings (worked_run (Some folder.earlier)) what) → IsAccounted disks start.settings (worked_run told) status
+      ((folder : FolderTold) → HasScanned start folder → (is : AccountedFor disks start.settings (worked_run (Some folder.earlier)) what) × LeavesNoRemoved disks (worked_run (Some folder.earlier)) what is.run) →
+      IsAccounted disks start.settings (worked_run told) status
   worked None status some scans is full accounted = absurd (nothing FolderHistory some)
   worked (Some history) status some scans is full accounted =
       let scanned : FolderHistory = record history { events = history.events ++ map event_of scans.listings } in
       let folder : FolderTold = record { earlier = history; scanned = scanned; ended = scanned } in
-      record {
-        what = what;
-        met_for = is;
-        accounted = accounted folder (record { in_range = in_range; by_path = paths; shown = scans.listed_is.kept; scans = scans });
-        full_for = full;
-      }
+      let both = accounted folder (record { in_range = in_range; by_path = paths; shown = scans.listed_is.kept; scans = scans }) in
+      record { what = what; met_for = is; accounted = both.0; cleaned = both.1; full_for = full }
 
 -- ---- once it is printed
 
@@ -313,7 +312,7 @@ out_fault disks source lent objects ended by = record {
   settings = by.settings;
   named = λ behind. absurd behind;
   named_or_unused = by.named_or_unused;
-  is = record { what = by.is.what; met_for = tt; accounted = by.is.accounted; full_for = tt };
+  is = record { what = by.is.what; met_for = tt; accounted = by.is.accounted; cleaned = by.is.cleaned; full_for = tt };
 }
 
 pub printed : {F W D : Type 0} (disks : DiskWords D) (source : Option (List ℕ)) (lent : RunLent F W D) (objects : RunObjects D) (before now : ℕ) (ended status : Status) → IsPrintingEnd before now ended status →

@@ -1,6 +1,6 @@
 -- A run over listed files that was accounted for is so still once rows of removed files were taken out of the registry.
-use Rattle.std.proofs.Common.{◌≡◌, ◌≢◌, ◌⊎◌, inl, inr, ⊎_elim, ℕ, ◌<◌, ◌≤◌, Contains, IfSome, IsSome, List, [], ◌∷◌, map, Option, Some, None, refl, sym, ap, subst, ◌∙◌, arith}
-use Rattle.std.proofs.lemmas.List.Elements.{recursion_from_All}
+use Rattle.std.proofs.Common.{◌≡◌, ◌≢◌, ◌⊎◌, inl, inr, ⊎_elim, ℕ, zero, suc, ◌<◌, ◌≤◌, true, All, Any, Contains, IfSome, IsSome, List, [], ◌∷◌, map, Option, Some, None, refl, sym, ap, subst, ◌∙◌, arith}
+use Rattle.std.proofs.lemmas.List.Elements.{All-from_recursion, recursion_from_All}
 use Rattle.std.specs.Prelude.{slice_get}
 use Rattle.std.specs.List.{AllByRecursion}
 use Rattle.accounts.proofs.Grounded.{of_map}
@@ -12,6 +12,7 @@ use Rattle.event_tree.specs.declared.settings.Settings.{Settings}
 use Rattle.file_identity.specs.Key.{named_key}
 use Rattle.kept_rows.specs.Account.{SlotAccount, key_of}
 use Rattle.kept_rows.specs.Drained.{IsDrained}
+use Rattle.kept_rows.specs.Followed.{IsKeyOf}
 use Rattle.kept_rows.specs.Kept.{IsKept, IsKeptInImage}
 use Rattle.kept_rows.specs.Premises.{Premises}
 use Rattle.kept_rows.specs.Run.{Asking, Run, Scan}
@@ -46,6 +47,7 @@ use Rattle.run_steps.specs.declared.met.Met.{Met}
 use Rattle.run_steps.specs.declared.met.Met.TheVariants.{DiskFault, Done, Epochs, FolderFault, NoMemory, Stopped, Unreachable}
 use Rattle.ship_core.specs.Rows.{IsInOrder}
 use Rattle.wire_base.specs.declared.row.Row.{Row}
+use Rattle.beat_run.specs.Accounted.{IsOfRemovedFile, LeavesNoRemoved}
 use Rattle.beat_run.specs.Cause.{Signs}
 use Rattle.beat_run.specs.Cleaning.{Cleaning, Cleans, HeldOnlyLeft, IsAtRestIn}
 use Rattle.beat_run.proofs.Causes.{FailedIn}
@@ -126,6 +128,12 @@ module _ {D : Type 0} (disks : DiskWords D) (inputs : List InputRule) (listed : 
       by_case (inr fault) = by_storing new.met fault
 
 -- ---- the scan showed no key of a row that is removed
+
+-- the item at this place
+any_got : {A : Type 0} (P : A → Type 0) (xs : List A) (i : ℕ) (x : A) → slice_get xs i ≡ Some x → P x → Any P xs
+any_got P [] i x at is = absurd (let q : None ≡ Some x = at in cc)
+any_got P (first ∷ xs) zero x at is = (0, x, omega arith, some_is first x at, is)
+any_got P (first ∷ xs) (suc i) x at is = let later = any_got P xs i x at is in (suc later.0, later.1, omega (arith, later.2), later.3, later.4)
 
 -- where the folder tells, each listed file is keyed by its path
 pub keyed_where_told : (settings : Settings) (told : Type 0) (listed : List Listed) → told → AllByRecursion (IsOfPathInput settings told) listed → AllByRecursion (IsOfPathInput settings (Unit {0})) listed
@@ -377,7 +385,7 @@ module _ {D : Type 0} (disks : DiskWords D) (reads : (disk : D) → IfSome (disk
   fits : FitsObjects (with_areas objects new.a new.b) run
   fits = let was = over.accounted.fits in record { once = was.once; one_scan = was.one_scan; folder = was.folder; moments = was.moments; wires = was.wires }
 
-  pub cleaned_is_accounted_for : AccountedFor disks settings (with_areas objects new.a new.b) new.met
+  abbrev cleaned_is_accounted_for : AccountedFor disks settings (with_areas objects new.a new.b) new.met
   cleaned_is_accounted_for = record {
     run = run;
     by_settings = over.accounted.by_settings;
@@ -401,3 +409,30 @@ module _ {D : Type 0} (disks : DiskWords D) (reads : (disk : D) → IfSome (disk
           drained = λ were is_done. drained were is_done before;
         };
   }
+
+  -- ---- none of a removed file is left
+
+  known : All (λ (listing : Listed). IsSome listing.key) listed
+  known = All-from_recursion (λ (listing : Listed). IsSome listing.key) listed (each_then (IsOfPathInput settings (Unit {0})) (λ (listing : Listed). IsSome listing.key) listed is_known of_inputs)
+    where
+      is_known : (listing : Listed) → IsOfPathInput settings (Unit {0}) listing → IsSome listing.key
+      is_known listing of = subst (λ (o : Option (List ℕ)). IsSome o) (sym (of.keyed tt).1) refl
+
+  is_removed : (row : Row) → IsOfRemovedFile run row → IsRemoved inputs listed row.key
+  is_removed row of = record {
+    all_known = known;
+    cleaned = any_got (λ (rule : InputRule). (rule.clean_removed ≡ true) × IsKeyOf rule.id row.key) inputs of.input of.rule of.rule_is (of.cleans, of.key_of_input);
+    unlisted = λ there.
+        (subst (AllByRecursion (λ (s : Scan). ¬ (ShowsKey run s row.key))) over.only of.hidden).0
+        (over.lists there.1 row.key (there.0, there.2, there.3) there.4);
+  }
+
+  none_of_removed_files : LeavesNoRemoved disks (with_areas objects new.a new.b) new.met run
+  none_of_removed_files were is_done first second rows a_is b_is gives =
+      let still : AreLeft new.met = subst AreLeft (sym is_done) tt in
+      let rest = at_rest (left_before still) were in
+      subst (AllByRecursion (λ (row : Row). ¬ (IsOfRemovedFile run row))) (rows_of_store one disks new.a new.b new.store first second rows (cleaned.at_rest still rest) a_is b_is gives)
+      (each_there (λ (row : Row). ¬ (IsOfRemovedFile run row)) new.store.rows (λ row there of. none_left old.store.rows new.store.rows (cleaned.rows still) row there (is_removed row of)))
+
+  pub accounted_and_cleaned : (is : AccountedFor disks settings (with_areas objects new.a new.b) new.met) × LeavesNoRemoved disks (with_areas objects new.a new.b) new.met is.run
+  accounted_and_cleaned = (cleaned_is_accounted_for, none_of_removed_files)

@@ -1,7 +1,11 @@
 -- A run that is accounted for, by the status that it ends with (this project's profile).
-use Rattle.std.specs.Prelude.{◌≡◌, ◌⊎◌, ℕ, [], IfSome, IsSome, List, Option, Some}
+use Rattle.std.specs.Prelude.{◌≡◌, ◌⊎◌, ℕ, true, [], slice_get, IfSome, IsSome, List, Option, Some}
 use Rattle.std.specs.List.{AllByRecursion}
+use Rattle.event_tree.specs.declared.input_rule.InputRule.{InputRule}
 use Rattle.event_tree.specs.declared.settings.Settings.{Settings}
+use Rattle.kept_rows.specs.Followed.{IsKeyOf}
+use Rattle.kept_rows.specs.Run.{Run}
+use Rattle.kept_rows.specs.Scans.{ShowsKey}
 use Rattle.outside.specs.Folders.{FolderHistory}
 use Rattle.registry_store.specs.Choice.{GivesRows}
 use Rattle.registry_store.specs.Settled.{AreAtRest, AreSettled}
@@ -11,7 +15,7 @@ use Rattle.report.specs.declared.status.Status.TheVariants.{Done, FolderFault, S
 use Rattle.rounds.specs.Words.{DiskWords}
 use Rattle.wire_base.specs.declared.limits.Full.TheVariants.{Files}
 use Rattle.wire_base.specs.declared.row.Row.{Row}
-use Rattle.run_steps.specs.AccountedFor.{AccountedFor, Objects, RunObjects}
+use Rattle.run_steps.specs.AccountedFor.{AccountedFor, AreRowsBy, Objects, RunObjects, WereAtRest}
 use Rattle.run_steps.specs.Areas.{GiveTheRows, HaveHeldFronts}
 use Rattle.run_steps.specs.Met.{AreLeft}
 use Rattle.run_steps.specs.declared.met.Met.{Met}
@@ -39,10 +43,25 @@ abbrev pub IsFullFor : {D : Type 0} → DiskWords D → Settings → RunObjects 
 IsFullFor disks settings objects (TooMany Files path) = IfSome objects.before.folder (λ told. HasNoRoom disks settings objects told path)
 IsFullFor disks settings objects _ = Unit {0}
 
+-- a row of a removed file: of an input that cleans such rows, while no scan showed its key
+pub record IsOfRemovedFile (run : Run) (row : Row) : Type 0 where
+  pub input : ℕ
+  pub rule : InputRule
+  pub rule_is : slice_get run.settings.inputs input ≡ Some rule
+  pub cleans : rule.clean_removed ≡ true
+  pub key_of_input : IsKeyOf rule.id row.key
+  pub hidden : AllByRecursion (λ scan. ¬ (ShowsKey run scan row.key)) run.scans
+
+-- a run that is done leaves no row of a removed file
+abbrev pub LeavesNoRemoved : {D : Type 0} → DiskWords D → RunObjects D → Met → Run → Type 0
+LeavesNoRemoved disks objects what run =
+    WereAtRest disks objects → what ≡ met.Done → AreRowsBy disks objects.after (λ rows. AllByRecursion (λ row. ¬ (IsOfRemovedFile run row)) rows)
+
 pub record IsAccounted {D : Type 0} (disks : DiskWords D) (settings : Settings) (objects : RunObjects D) (status : Status) : Type 0 where
   pub what : Met
   pub met_for : IsMetFor status what
   pub accounted : AccountedFor disks settings objects what
+  pub cleaned : LeavesNoRemoved disks objects what accounted.run
   pub full_for : IsFullFor disks settings objects status
 
 -- folder and clock tell before it, and each wire behind it

@@ -46,7 +46,7 @@ use Rattle.run_steps.proofs.RowsStay.{rows_stay}
 use Rattle.run_steps.proofs.RunDoneOf.{run_done}
 use Rattle.run_steps.proofs.RunFits.{moments_since}
 use Rattle.run_steps.proofs.RunRows.{OneChoice, given_over_fronts, opened_over_fronts, rows_of_store}
-use Rattle.run_steps.proofs.RunToldOf.{run, run_files, run_told, scan, the_full_scan, workers}
+use Rattle.run_steps.proofs.RunToldOf.{keys_are_shown, run, run_files, run_told, scan, the_full_scan, workers}
 
 module _ {T W L D : Type 0} (words : Words T W L D) (start : Began D) (ending : Ending D) (met : Met) (unused wires : List W) (ends : Ends words start ending met unused wires)
     (left : AreLeftSo words.disks start ending met ends.crew) (folder : FolderTold) (has : HasScanned start folder) (tell : DoTell words.wires ending folder wires) where
@@ -186,5 +186,6 @@ module _ {T W L D : Type 0} (words : Words T W L D) (start : Began D) (ending : 
         only = refl;
         whole = whole_by_entries the_run the_scan the_run_told.by (the_full_scan words start ending met unused wires ends left folder has tell);
         asked = refl;
+        lists = keys_are_shown words start ending met unused wires ends left folder has tell;
         shown = keys_shown the_files the_run_told.followed.each;
       }

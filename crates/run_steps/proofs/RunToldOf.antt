@@ -1,5 +1,5 @@
 -- From what stands of a run as it ends to what accounts ask of it.
-use Rattle.std.proofs.Common.{ℕ, List, ◌++◌, map, IsSome, sym, subst}
+use Rattle.std.proofs.Common.{◌≡◌, ℕ, Contains, List, ◌++◌, map, IsSome, Some, sym, subst}
 use Rattle.std.specs.List.{AllByRecursion}
 use Rattle.accounts.proofs.SoFar.{joined_first_notes, joined_fit}
 use Rattle.accounts.specs.Filed.{Filed}
@@ -9,7 +9,9 @@ use Rattle.accounts.specs.RunTold.{RunTold}
 use Rattle.accounts.specs.Taken.{Taken}
 use Rattle.batch_worker.specs.Standing.{length_of}
 use Rattle.kept_rows.specs.Run.{Run, Scan}
+use Rattle.kept_rows.specs.Scans.{ShowsKey}
 use Rattle.kept_rows.specs.Trace.{WireTold}
+use Rattle.prospect.specs.declared.listed.Listed.{Listed}
 use Rattle.rounds.specs.Crewed.{lanings}
 use Rattle.rounds.specs.Words.{Words}
 use Rattle.run_steps.specs.Began.{Began}
@@ -23,7 +25,7 @@ use Rattle.run_steps.specs.declared.met.Met.{Met}
 use Rattle.run_steps.proofs.RunBooks.{FitWith, books_fit, first_notes}
 use Rattle.run_steps.proofs.RunFiles.{are_followed_files, done, files, joined}
 use Rattle.run_steps.proofs.RunWires.{acknowledged_are, carried_are, of_workers, took_each, took_none}
-use Rattle.run_steps.proofs.ScanOf.{is_by_one_scan, is_full_scan}
+use Rattle.run_steps.proofs.ScanOf.{is_by_one_scan, is_full_scan, key_is_shown}
 
 module _ {T W L D : Type 0} (words : Words T W L D) (start : Began D) (ending : Ending D) (met : Met) (unused wires : List W) (ends : Ends words start ending met unused wires)
     (left : AreLeftSo words.disks start ending met ends.crew) (folder : FolderTold) (has : HasScanned start folder) (tell : DoTell words.wires ending folder wires) where
@@ -63,6 +65,10 @@ module _ {T W L D : Type 0} (words : Words T W L D) (start : Began D) (ending : 
   pub the_full_scan : IsFullScan run scan
   the_full_scan =
       is_full_scan start folder has so_far (done words start (with_crew ending ends.crew) so_far ends.stands left.released folder has tell.shown wires_told) wires_told
+
+  pub keys_are_shown : (one : Listed) (key : List ℕ) → Contains start.listed one → one.key ≡ Some key → ShowsKey run scan key
+  keys_are_shown =
+      key_is_shown start folder has so_far (done words start (with_crew ending ends.crew) so_far ends.stands left.released folder has tell.shown wires_told) wires_told
 
   pub run_told : RunTold run scan run_files workers so_far.begun so_far.collected
   run_told = record {

@@ -3,17 +3,19 @@ use Rattle.std.proofs.Common.{◌≡◌, ◌⊎◌, inl, inr, ℕ, zero, suc, �
 use Rattle.std.proofs.Math.Seq.{drop-append_seam}
 use Rattle.std.proofs.lemmas.Bool.{cases_lt}
 use Rattle.std.proofs.lemmas.List.{length-map}
+use Rattle.std.proofs.lemmas.List.Elements.{recursion_from_All}
 use Rattle.std.proofs.lemmas.Option.{slice_get-get_or}
 use Rattle.std.specs.Prelude.{slice_get}
 use Rattle.std.specs.List.{AllByRecursion}
 use Rattle.accounts.proofs.Backing.{mapped_there}
+use Rattle.accounts.proofs.Following.{got_each}
 use Rattle.accounts.specs.OneScan.{IsAskedByEntry, IsByOneScan}
 use Rattle.accounts.specs.RunDone.{IsFullScan}
 use Rattle.event_tree.specs.declared.input_rule.IdentityRule.TheVariants.{Path}
 use Rattle.event_tree.specs.declared.input_rule.InputRule.{InputRule}
 use Rattle.file_identity.specs.Key.{named_key}
 use Rattle.kept_rows.specs.Run.{Run, Scan}
-use Rattle.kept_rows.specs.Scans.{AreScans, IsBefore, IsCovered, IsGoodListing, IsNoFingerprint, ListGlobs, ShowsEntry, ShowsFileTo, globs_in, listings_from, listings_of}
+use Rattle.kept_rows.specs.Scans.{AreScans, IsBefore, IsCovered, IsGoodListing, IsNoFingerprint, ListGlobs, ShowsEntry, ShowsFileTo, ShowsKey, globs_in, listings_from, listings_of}
 use Rattle.kept_rows.specs.Trace.{WireTold}
 use Rattle.outside.specs.Folders.{Event, FolderHistory, Opened as OpenedAs}
 use Rattle.outside.specs.declared.history.Shown.{Shown}
@@ -28,7 +30,7 @@ use Rattle.run_steps.specs.Scanned.{HasScanned}
 use Rattle.run_steps.specs.Shown.{HasDone}
 use Rattle.run_steps.specs.SoFar.{SoFar}
 use Rattle.run_steps.proofs.ByPath.{each_of, inputs_are_by_path}
-use Rattle.run_steps.proofs.Members.{some_is}
+use Rattle.run_steps.proofs.Members.{member_is, some_is}
 use Rattle.run_steps.proofs.Scanning.{AreAt, are_at, as_many_listings, good_listings, list_globs, listings_before, no_more_listings, no_opening, shown_by, shows_at}
 
 pub got_there : {A : Type 0} (xs : List A) (k : ℕ) (x : A) → slice_get xs k ≡ Some x → Contains xs x
@@ -204,6 +206,16 @@ module _ {D : Type 0} (start : Began D) (folder : FolderTold) (has : HasScanned 
         gave = sym keyed ∙ of.by.key_is ∙ ap (λ (r : InputRule). named_key r.id r.file_identity of.shown.entry.path of.shown.entry.native) same_rule;
       };
     }
+
+  pub key_is_shown : (one : Listed) (key : List ℕ) → Contains start.listed one → one.key ≡ Some key → ShowsKey run scan key
+  key_is_shown one key among keyed =
+      let of = member_is (IsOfEntry inputs listings) start.listed one entries among in
+      let by_path = got_each (λ (input : InputRule). input.file_identity ≡ Path) inputs one.input of.by.rule (recursion_from_All (λ (input : InputRule). input.file_identity ≡ Path) inputs has.by_path) of.by.rule_is in
+      record {
+        number = of.shown.file;
+        path = of.shown.entry.path;
+        shows = record { shown = of.shown; path_is = refl; shows = (one.input, shows_file one among of key keyed of.by.rule of.by.rule_is by_path) };
+      }
 
   -- ---- it is full
 

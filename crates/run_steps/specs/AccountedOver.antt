@@ -1,7 +1,7 @@
 -- A run over listed files that is accounted for (this project's profile), before rows of removed files go: each key that had a row, or was
 -- begun, has one. It began with the rows of its store; its one scan was whole, asked for the keys of the listed files by their entries, and
--- showed the key of each slot.
-use Rattle.std.specs.Prelude.{◌≡◌, List, [], ◌∷◌, map}
+-- showed the key of each listed file and of each slot.
+use Rattle.std.specs.Prelude.{◌≡◌, ℕ, List, [], ◌∷◌, Contains, Some, map}
 use Rattle.std.specs.List.{AllByRecursion}
 use Rattle.event_tree.specs.declared.settings.Settings.{Settings}
 use Rattle.kept_rows.specs.Account.{key_of}
@@ -21,4 +21,5 @@ pub record AccountedOver {D : Type 0} (disks : DiskWords D) (settings : Settings
   pub only : accounted.run.scans ≡ scan ∷ []
   pub whole : IsWhole accounted.run scan
   pub asked : scan.askings ≡ map asking_of listed
+  pub lists : (one : Listed) (key : List ℕ) → Contains listed one → one.key ≡ Some key → ShowsKey accounted.run scan key
   pub shown : AllByRecursion (λ one. ShowsKey accounted.run scan (key_of one)) accounted.account

@@ -16,7 +16,7 @@ use Rattle.ship_core.specs.Rows.{IsInOrder}
 use Rattle.beat_run.specs.Cause.{Signs}
 use Rattle.beat_run.specs.Ended.{ended}
 use Rattle.beat_run.proofs.Causes.{at_rest, ends_without_report, is_met_of, scan_caused, scan_ended, shown_goes_further}
-use Rattle.beat_run.proofs.Cleaned.{cleaned_is_accounted_for, failed_after_cleaning, keyed_where_told, left_before_cleaning, met_after_cleaning, of_these_after_cleaning}
+use Rattle.beat_run.proofs.Cleaned.{accounted_and_cleaned, failed_after_cleaning, keyed_where_told, left_before_cleaning, met_after_cleaning, of_these_after_cleaning}
 use Rattle.beat_run.proofs.ReportEnds.{caused_ending, full_for_ending, left_by_ending, met_for_ending, report_of, reports_stored, scanned_ending}
 use Rattle.beat_run.proofs.SettingOut.{earlier, outset, set_out}
 use Rattle.beat_run.proofs.WiresFailed.{failed_by}
@@ -146,7 +146,7 @@ returns-clause-accounted g c = λ from opened tells.
     (rw inputs at c.in_ok-scanned.ensures.scanned) (met_for_ending c.in_ok-scanned.scanned.listed.items c.args.settings.now.output.attempts fin.0 c.finish.result of (rw files at fin.2.stands) (rw files at fin.2.refused))
     (full_for_ending disks c.args.settings.now _ c.in_ok-scanned.scanned.listed.items c.args.settings.now.output.attempts fin.0 c.finish.result of (rw files at fin.2.stands) (rw files at fin.2.refused))
     (λ folder has.
-    cleaned_is_accounted_for disks c.disk_images_are_counted.ensures.reads c.disk_images_are_counted.ensures.counts c.one_choice.ensures c.args.settings.now c.in_ok-parts.parts.keeper.store.rows
+    accounted_and_cleaned disks c.disk_images_are_counted.ensures.reads c.disk_images_are_counted.ensures.counts c.one_choice.ensures c.args.settings.now c.in_ok-parts.parts.keeper.store.rows
     (subst (λ (k : Keeping). IsInOrder k.store.rows) (sym keeper.is) keeper.in_order) c.in_ok-scanned.scanned.listed.items
     (keyed_where_told c.args.settings.now _ c.in_ok-scanned.scanned.listed.items (subst (λ (o : Option FolderHistory). IsSome o) (sym has.shown) refl) sets.of_inputs)
     (record {
