@@ -3,7 +3,7 @@ use Rattle.std.proofs.Common.{◌≡◌, ◌⊎◌, inl, inr, ℕ, ◌+◌, ◌�
 use Rattle.std.specs.List.{AllByRecursion}
 use Rattle.file_looks.specs.Segment.{Segment, segments_of}
 use Rattle.harvester.specs.History.{Telling}
-use Rattle.kept_rows.specs.Account.{EpochAccount, Place, SlotAccount}
+use Rattle.kept_rows.specs.Account.{EpochAccount, Place}
 use Rattle.kept_rows.specs.Account as account
 use Rattle.kept_rows.specs.Backed.{AreInRows, IsInOneRow}
 use Rattle.kept_rows.specs.Scans.{AreDistinct}

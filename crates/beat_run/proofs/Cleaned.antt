@@ -1,5 +1,5 @@
 -- A run over listed files that was accounted for is so still once rows of removed files were taken out of the registry.
-use Rattle.std.proofs.Common.{◌≡◌, ◌≢◌, ◌⊎◌, inl, inr, ⊎_elim, ℕ, zero, suc, ◌<◌, ◌≤◌, true, All, Any, Contains, IfSome, IsSome, List, [], ◌∷◌, map, Option, Some, None, refl, sym, ap, subst, ◌∙◌, arith}
+use Rattle.std.proofs.Common.{◌≡◌, ◌≢◌, ◌⊎◌, inl, inr, ⊎_elim, ℕ, zero, suc, ◌≤◌, true, All, Any, Contains, IfSome, IsSome, List, [], ◌∷◌, map, Option, Some, None, refl, sym, ap, subst, ◌∙◌, arith}
 use Rattle.std.proofs.lemmas.List.Elements.{All-from_recursion, recursion_from_All}
 use Rattle.std.specs.Prelude.{slice_get}
 use Rattle.std.specs.List.{AllByRecursion}
@@ -19,9 +19,8 @@ use Rattle.kept_rows.specs.Run.{Asking, Run, Scan}
 use Rattle.kept_rows.specs.Scans.{Gave, ShowsKey, ShowsFileTo}
 use Rattle.outside.specs.Counts.{Rose}
 use Rattle.prospect.specs.declared.listed.Listed.{Listed}
-use Rattle.registry_log.specs.State.{IsOpened}
-use Rattle.registry_store.specs.Choice.{GivesRows, IsChoice}
-use Rattle.registry_store.specs.Standing.{Standing, chosen_by}
+use Rattle.registry_store.specs.Choice.{GivesRows}
+use Rattle.registry_store.specs.Standing.{chosen_by}
 use Rattle.removed_rows.proofs.GoneAccounts.{account_with_gone}
 use Rattle.removed_rows.proofs.GoneDrained.{drained_with_gone}
 use Rattle.removed_rows.proofs.GoneFollowed.{apart_from_gone, followed_with_gone, premises_before}
@@ -30,13 +29,13 @@ use Rattle.removed_rows.proofs.GoneLost.{lost}
 use Rattle.removed_rows.proofs.GoneRows.{each_is_gone_of, each_there, gones, may_all_go, removed_is_gone}
 use Rattle.removed_rows.proofs.GoneSlots.{has_with_gone}
 use Rattle.removed_rows.specs.Gone.{Gone, IsApartFrom, MayAllGo, gone_key, with_gone}
-use Rattle.removed_rows.specs.Leaving.{GiveLeft, MayHoldLeft}
+use Rattle.removed_rows.specs.Leaving.{MayHoldLeft}
 use Rattle.removed_rows.specs.Removed.{IsListedKey, IsRemoved, LeavesRows, RemovesRows}
 use Rattle.rounds.specs.Words.{DiskWords}
 use Rattle.run_steps.proofs.Members.{member_is, some_is}
 use Rattle.run_steps.proofs.RunRows.{OneChoice, not_shut, opened_rows, rows_of_store, same_rows}
 use Rattle.run_steps.proofs.Whole.{left_or_not}
-use Rattle.run_steps.specs.AccountedFor.{AccountedFor, AccountedWith, AreImageRows, FitsObjects, GiveRows, HasRowOf, HoldKeptRows, LostKey, NoKey, Objects, RowsBy, RunObjects, WereAtRest}
+use Rattle.run_steps.specs.AccountedFor.{AccountedFor, AreImageRows, FitsObjects, GiveRows, HasRowOf, HoldKeptRows, LostKey, NoKey, RowsBy, RunObjects, WereAtRest}
 use Rattle.run_steps.specs.AccountedOver.{AccountedOver}
 use Rattle.run_steps.specs.BeginsAll.{IsOfPathInput}
 use Rattle.run_steps.specs.Met.{AreLeft, IsMetOf}

@@ -135,8 +135,8 @@ asked_stays before now rule path opening on asked =
 
 no_fault_stays : (before now : Trace) (rule : IdentityRule) (path : List ℕ) (opening : Option ℕ) → TraceGoesOn before now → MetNoFault before rule path opening → MetNoFault now rule path opening
 no_fault_stays before now rule path None on well = well
-no_fault_stays before now rule path (Some opening) on (inl asked) = inl (asked_stays before now rule path opening on asked)
-no_fault_stays before now rule path (Some opening) on (inr gone) = inr (gone_stays before now opening path on gone)
+no_fault_stays before now rule path (Some opening) on (reads, inl asked) = (reads, inl (asked_stays before now rule path opening on asked))
+no_fault_stays before now rule path (Some opening) on (reads, inr gone) = (reads, inr (gone_stays before now opening path on gone))
 
 looks_in_common : (trace : Trace) (opening : ℕ) (first second : List Look) → looks_of trace opening ≡ Some first → looks_of trace opening ≡ Some second → first ≡ second
 looks_in_common trace opening first second is also =
@@ -149,10 +149,10 @@ pub gave_stays : (before now : Trace) (rule : InputRule) (shown : Shown) (openin
     MetNoFault before rule.file_identity shown.entry.path opening → Gave before rule shown opening key number → Gave now rule shown opening key number
 unfolding asked_stays
 gave_stays before now rule shown None key number on well gave = gave
-gave_stays before now rule shown (Some opening) key number on (inr gone) gave =
+gave_stays before now rule shown (Some opening) key number on (reads, inr gone) gave =
     let q : Some (Opened shown.entry.path number gave.tail.begun) ≡ Some (NotThere shown.entry.path) = sym gave.tail.opened ∙ gone.not_there in
     absurd cc
-gave_stays before now rule shown (Some opening) key number on (inl asked) gave =
+gave_stays before now rule shown (Some opening) key number on (reads, inl asked) gave =
     let still = asked_stays before now rule.file_identity shown.entry.path opening on asked in
     let same = looks_in_common before opening gave.looks asked.looks gave.tail.tells asked.tail.tells in
     record {
@@ -177,11 +177,11 @@ pub gave_was : (before now : Trace) (rule : InputRule) (shown : Shown) (opening 
     MetNoFault before rule.file_identity shown.entry.path opening → Gave now rule shown opening key number → Gave before rule shown opening key number
 unfolding number_of asked_stays
 gave_was before now rule shown None key number on well gave = gave
-gave_was before now rule shown (Some opening) key number on (inr gone) gave =
+gave_was before now rule shown (Some opening) key number on (reads, inr gone) gave =
     let q : Some (Opened shown.entry.path number gave.tail.begun) ≡ Some (NotThere shown.entry.path) =
     sym gave.tail.opened ∙ event_stays before now opening (NotThere shown.entry.path) on gone.not_there in
     absurd cc
-gave_was before now rule shown (Some opening) key number on (inl asked) gave =
+gave_was before now rule shown (Some opening) key number on (reads, inl asked) gave =
     let still = asked_stays before now rule.file_identity shown.entry.path opening on asked in
     let same = looks_in_common now opening gave.looks asked.looks gave.tail.tells still.tail.tells in
     let event = event_was before now opening (Opened shown.entry.path asked.number asked.tail.begun) (Opened shown.entry.path number gave.tail.begun) on asked.tail.opened gave.tail.opened in
@@ -210,8 +210,8 @@ asking_of run scan asking whole there =
 
 -- its opening, where it has one, stands in the list
 stands_within : (trace : Trace) (rule : IdentityRule) (path : List ℕ) (opening : ℕ) → MetNoFault trace rule path (Some opening) → opening < length trace.events
-stands_within trace rule path opening (inl asked) = slice_get_within trace.events opening (Opened path asked.number asked.tail.begun) asked.tail.opened
-stands_within trace rule path opening (inr gone) = slice_get_within trace.events opening (NotThere path) gone.not_there
+stands_within trace rule path opening (reads, inl asked) = slice_get_within trace.events opening (Opened path asked.number asked.tail.begun) asked.tail.opened
+stands_within trace rule path opening (reads, inr gone) = slice_get_within trace.events opening (NotThere path) gone.not_there
 
 pub all_behind : (opening least : ℕ) → opening < least → (scans : List Scan) → AllByRecursion (IsMadeFrom least) scans → AllByRecursion (IsBehind opening) scans
 all_behind opening least less [] all = tt

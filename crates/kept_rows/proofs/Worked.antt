@@ -47,7 +47,7 @@ use Rattle.kept_rows.specs.Followed.{AreFollowed, EachOpeningServes}
 use Rattle.kept_rows.specs.Kept.{IsKept}
 use Rattle.kept_rows.specs.Premises.{Premises, TailKeepsIdentity, WasKnown}
 use Rattle.kept_rows.specs.Run.{Asking, Run, Scan}
-use Rattle.kept_rows.specs.Scans.{AllButTheLast, AreAsked, AsksFor, Gave, IsAsked, IsCovered, IsFirstPath, IsWhole, ShowsEntry, ShowsFile, ShowsFileTo}
+use Rattle.kept_rows.specs.Scans.{AllButTheLast, AreAsked, AsksFor, Gave, IsAsked, IsCovered, IsFirstPath, IsNoFingerprint, IsWhole, ShowsEntry, ShowsFile, ShowsFileTo}
 use Rattle.kept_rows.specs.Sent.{SendOnlyTold, Sending, ToldAt}
 use Rattle.kept_rows.specs.Telling.{AreToldIn, IsAccount, IsPathOf, IsToldOf}
 use Rattle.kept_rows.specs.Trace.{IsTail, Trace, WireTold}
@@ -237,6 +237,15 @@ whole = record {
     by_input other zero rule shows is in_glob =
         record { asking = record { input = 0; path = a_log; opening = None }; asks = subst (λ (s : Shown). AsksFor run scan s 0 (record { input = 0; path = a_log; opening = None })) (only_entry other shows) asks }
     by_input other (suc number) rule shows is in_glob = absurd (let q : None ≡ Some rule = is in cc)
+
+-- a scan that names an opening for the key of a path is not whole, whatever that opening told
+opened_scan_is_refused : IsWhole run (record scan { askings = record { input = 0; path = a_log; opening = Some 1 } ∷ [] }) → ⊥
+opened_scan_is_refused is =
+    let asked = is.none_faulty.0 in
+    let q : Some input ≡ Some asked.rule = asked.rule_is in
+    let same : input ≡ asked.rule = cc in
+    let reads = subst (λ (r : InputRule). ¬ (IsNoFingerprint r.file_identity)) (sym same) asked.well.0 in
+    reads tt
 
 -- ---- the account is one of the run
 

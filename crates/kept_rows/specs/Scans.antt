@@ -174,8 +174,8 @@ pub record IsFirstPath (run : Run) (scan : Scan) (key : List ℕ) (number : ℕ)
 
 -- ---- whole scans
 
--- a tail was opened where the identity reads the file, it told one whole asking, and it was closed without a fault; or
--- nothing was there by the path
+-- a tail was opened where the identity reads the file, and there alone: it told one whole asking, and was closed without
+-- a fault; or nothing was there by the path
 pub record WasAskedByTail (trace : Trace) (rule : IdentityRule) (path : List ℕ) (opening : ℕ) : Type 0 where
   pub number : ℕ
   pub looks : List Look
@@ -185,7 +185,7 @@ pub record WasAskedByTail (trace : Trace) (rule : IdentityRule) (path : List ℕ
 
 abbrev pub MetNoFault : Trace → IdentityRule → List ℕ → Option ℕ → Type 0
 MetNoFault trace rule path None = IsNoFingerprint rule
-MetNoFault trace rule path (Some opening) = WasAskedByTail trace rule path opening ⊎ WasGone trace opening path
+MetNoFault trace rule path (Some opening) = (¬ (IsNoFingerprint rule)) × (WasAskedByTail trace rule path opening ⊎ WasGone trace opening path)
 
 pub record WasAskedWell (run : Run) (scan : Scan) (asking : Asking) : Type 0 where
   pub asked_in : IsAskedIn run scan asking.opening

@@ -1,9 +1,8 @@
 -- The opening rows that are removed, and that they may go: the scan did not show their keys.
-use Rattle.std.proofs.Common.{◌≡◌, ◌≢◌, ◌⊎◌, inl, inr, ℕ, zero, suc, ◌<◌, Bool, true, Contains, List, [], ◌∷◌, length, map, Option, Some, refl, sym, ap, subst, ◌∙◌, arith}
+use Rattle.std.proofs.Common.{◌≡◌, ◌⊎◌, inl, inr, ℕ, Contains, List, [], ◌∷◌, length, map, Some, refl, sym, subst, ◌∙◌}
 use Rattle.std.proofs.lemmas.Option.{slice_get_read}
 use Rattle.std.specs.Prelude.{slice_get}
 use Rattle.std.specs.List.{AllByRecursion}
-use Rattle.std.specs.declared.cmp.Ordering.{Ordering}
 use Rattle.std.specs.declared.cmp.Ordering.TheVariants.{Equal, Less}
 use Rattle.event_tree.specs.declared.input_rule.InputRule.{InputRule}
 use Rattle.kept_rows.proofs.Images.{found_by_its_key}
@@ -11,7 +10,7 @@ use Rattle.kept_rows.specs.Run.{Run, Scan}
 use Rattle.kept_rows.specs.Scans.{AreDistinct, IsWhole, ShowsKey}
 use Rattle.prospect.specs.declared.listed.Listed.{Listed}
 use Rattle.ship_core.proofs.Members.{first_there, later_there, none_there, there_cases}
-use Rattle.ship_core.specs.Rows.{IsBefore, IsInOrder, find}
+use Rattle.ship_core.specs.Rows.{IsBefore, IsInOrder}
 use Rattle.wire_base.proofs.ByteOrder.{compare_same}
 use Rattle.wire_base.specs.KeyOrder.{compare}
 use Rattle.wire_base.specs.declared.row.Row.{Row}

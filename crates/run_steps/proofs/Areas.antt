@@ -1,5 +1,5 @@
 -- What the areas may have held at any moment, over several turns of the keeper.
-use Rattle.std.proofs.Common.{◌≡◌, inl, inr, ⊎_elim, ℕ, zero, suc, ◌≤◌, List, [], ◌++◌, Option, Some, IfSome, sym, subst, arith}
+use Rattle.std.proofs.Common.{◌≡◌, inl, inr, ⊎_elim, ℕ, zero, suc, ◌≤◌, List, ◌++◌, Option, Some, IfSome, sym, subst, arith}
 use Rattle.kept_rows.proofs.Images.{fronts_go_on}
 use Rattle.outside.specs.DiskImages.{LeavesOnly}
 use Rattle.rounds.specs.Images.{GivesFronts, MayHoldFronts, TurnsLeave}

@@ -37,10 +37,8 @@ use Rattle.settle_box.specs.declared.sender.Sent.{Sent}
 use Rattle.settle_box.specs.declared.sender.Sender.{Sender}
 use Rattle.registry_store.specs.Standing.{Standing}
 use Rattle.ship_core.specs.Rows.{IsInOrder}
-use Rattle.ship_core.specs.RowsOver.{AreRowsOver}
 use Rattle.ship_core.proofs.Members.{none_there}
 use Rattle.pass_sums.specs.Weight.{AsOften, weigh}
-use Rattle.wire_base.specs.declared.row.Row.{Row}
 use Rattle.wire_base.specs.declared.note.Note.{Note}
 use Rattle.run_steps.specs.Areas.{BeganAtRest, HaveHeldFronts}
 use Rattle.run_steps.specs.Began.{Began}

@@ -1,6 +1,6 @@
 -- What the areas of a run have held since it began to open its registry: where they gave rows they give the same rows still, and each
 -- area is as it was, or holds nothing that is read, or is opened with no row.
-use Rattle.std.proofs.Common.{◌≡◌, ◌≢◌, ◌⊎◌, inl, inr, ⊎_elim, ℕ, ◌≤◌, Bool, true, false, List, [], Option, Some, None, IfOk, IfSome, IsErrOf, IsSome, Result, Ok, Err, MatchResult, nat_lt, if◌then◌else◌, refl, sym, ap, subst, ◌∙◌, arith}
+use Rattle.std.proofs.Common.{◌≡◌, ◌≢◌, ◌⊎◌, inl, inr, ⊎_elim, ℕ, ◌≤◌, Bool, true, false, List, [], Option, Some, None, IfSome, IsSome, nat_lt, if◌then◌else◌, refl, sym, ap, subst, ◌∙◌, arith}
 use Rattle.kept_rows.specs.Backed.{AreRowsOverFronts}
 use Rattle.outside.specs.DiskImages.{LeavesOnly, Only}
 use Rattle.registry_log.specs.OnlyRead.{IsOnlyRead}
@@ -8,7 +8,7 @@ use Rattle.registry_log.specs.Starting.{IsBlank}
 use Rattle.registry_log.specs.State.{Blank, Broken, Closed as ClosedState, IsOpened, IsState, Opened, State, operations_of}
 use Rattle.registry_store.specs.Choice.{Choice, Chosen, Fresh, GivesRows, IsChoice, Refused, chosen_area, rows_of}
 use Rattle.registry_store.specs.Settled.{AreAtRest}
-use Rattle.registry_store.specs.Standing.{IsEmpty, IsOpenedBy, Standing}
+use Rattle.registry_store.specs.Standing.{IsOpenedBy, Standing}
 use Rattle.registry_store.specs.declared.store_error.StoreError.{StoreError}
 use Rattle.registry_store.specs.declared.store_error.StoreError.TheVariants.{Bad as StoreBad, Closed, DiskFault as StoreDiskFault, NoMemory as StoreNoMemory}
 use Rattle.rounds.specs.Images.{MayHoldFronts}
@@ -21,11 +21,10 @@ use Rattle.run_steps.specs.Areas.{HaveHeldFronts, HeldOnlyFronts}
 use Rattle.run_steps.specs.Registry.{RefusesAreas}
 use Rattle.run_steps.specs.RegistryErrors.{IsErrorOfStore}
 use Rattle.run_steps.specs.declared.registry_error.RegistryError.{RegistryError}
-use Rattle.run_steps.specs.declared.registry_error.RegistryError.TheVariants.{Bad, DiskFault, NoMemory}
 use Rattle.run_steps.proofs.RowsFound.{ordered_after}
 use Rattle.run_steps.proofs.Areas.{weaker}
 use Rattle.run_steps.proofs.Members.{some_is}
-use Rattle.run_steps.proofs.RunRows.{OneChoice, same_rows}
+use Rattle.run_steps.proofs.RunRows.{OneChoice}
 
 pub some_of : {A : Type 0} (o : Option A) → IsSome o → (x : A) × (o ≡ Some x)
 some_of None some = cc some

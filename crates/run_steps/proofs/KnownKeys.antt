@@ -1,5 +1,5 @@
 -- Keys that a keeper knows: those of the rows of a registry, and of the files of a scan that have none.
-use Rattle.std.proofs.Common.{◌≡◌, ◌⊎◌, inl, inr, ⊎_elim, ℕ, zero, suc, ◌+◌, ◌≤◌, ◌==◌, All, Contains, List, [], ◌∷◌, ◌++◌, length, map, take, Option, None, Some, IfSome, is_none, true, false, Bool, refl, sym, ap, subst, ◌∙◌, arith}
+use Rattle.std.proofs.Common.{◌≡◌, ◌⊎◌, ⊎_elim, ℕ, zero, suc, ◌+◌, ◌≤◌, ◌==◌, All, Contains, List, [], ◌∷◌, ◌++◌, length, map, take, Option, None, Some, IfSome, is_none, true, false, Bool, refl, sym, ap, subst, arith}
 use Rattle.std.proofs.lemmas.List.{length-append, length-map}
 use Rattle.std.proofs.lemmas.List.Elements.{All-from_recursion, All-weaker, Contains-append_left, Contains-append_right}
 use Rattle.std.specs.Prelude.{if◌then◌else◌}
@@ -7,7 +7,6 @@ use Rattle.std.specs.List.{AllByRecursion, cons_option, filter, filter_map}
 use Rattle.accounts.proofs.Lists.{each_last}
 use Rattle.keeper.specs.FewKeys.{HasRoomFor}
 use Rattle.keeper.specs.Keeping.{Keeping}
-use Rattle.kept_rows.proofs.Showing.{both}
 use Rattle.prospect.specs.declared.listed.Listed.{Listed}
 use Rattle.restart_join.specs.declared.start.Start.{Start}
 use Rattle.ship_core.proofs.Members.{first_there, later_there, none_there, there_cases, there_given, there_passed}

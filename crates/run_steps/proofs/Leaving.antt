@@ -17,7 +17,7 @@ use Rattle.kept_rows.specs.Scans.{AreDistinct}
 use Rattle.lanes.specs.Giving.{notes_in, parcels_in}
 use Rattle.lanes.specs.Laning.{Laning}
 use Rattle.mem_queue.specs.Entries.{parcels}
-use Rattle.outside.specs.Folders.{Closed, Event, FolderHistory, Listed, ListingFailed, NotThere, OpeningFailed}
+use Rattle.outside.specs.Folders.{Closed, Event, FolderHistory}
 use Rattle.outside.specs.Folders as folders
 use Rattle.outside.specs.Tails.{TailHistory}
 use Rattle.outside.specs.declared.history.Sight.{Sight}

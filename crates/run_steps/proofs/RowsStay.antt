@@ -7,7 +7,7 @@ use Rattle.std.specs.Option.{is_some}
 use Rattle.std.specs.Ordering.{is_eq}
 use Rattle.std.specs.declared.cmp.Ordering.{Ordering}
 use Rattle.std.specs.declared.cmp.Ordering.TheVariants.{Equal, Greater, Less}
-use Rattle.kept_rows.proofs.Begun.{ForgetNone, IsNoForget, slot_stands}
+use Rattle.kept_rows.proofs.Begun.{ForgetNone, slot_stands}
 use Rattle.kept_rows.proofs.Images.{found_by_its_key}
 use Rattle.kept_rows.specs.Backed.{AreRowsOverFronts, IsRowOverAFront}
 use Rattle.ship_core.proofs.Members.{first_there, given_there, later_there, none_there, passed_there, there_given}

@@ -6,7 +6,7 @@ use Rattle.batch_worker.specs.Standing.{length_of}
 use Rattle.outside.specs.Folders.{FolderHistory}
 use Rattle.outside.specs.Wires.{Outcome}
 use Rattle.rounds.specs.Words.{Words}
-use Rattle.run_steps.specs.Areas.{BeganAtRest, GaveRows}
+use Rattle.run_steps.specs.Areas.{GaveRows}
 use Rattle.run_steps.specs.AccountedFor.{RunObjects}
 use Rattle.run_steps.specs.AccountedOver.{AccountedOver}
 use Rattle.run_steps.specs.Began.{Began}

@@ -1,4 +1,4 @@
-use Rattle.std.proofs.Common.{◌≡◌, ◌-◌, ◌≤◌, ◌<◌, length, take}
+use Rattle.std.proofs.Common.{◌-◌, ◌≤◌, ◌<◌, length, take}
 use Rattle.rounds.specs.Words.{tail_words}
 use Rattle.run_steps.specs.Beginning.{beginning}
 use Rattle.run_steps.specs.BeginsAll.{BeginsFrom}
