@@ -25,6 +25,7 @@ pub mod LastNotes
 pub mod Licensed
 pub mod Lists
 pub mod Lives
+pub mod Numbers
 pub mod Often
 pub mod Onward
 pub mod Ordered
@@ -43,4 +44,5 @@ pub mod Unscanned
 pub mod Within
 pub mod Worked
 pub mod WorkedInARow
+pub mod WorkedNumbers
 pub mod WorkedRun

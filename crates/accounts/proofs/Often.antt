@@ -33,7 +33,7 @@ often_both xs ys more others first then h = omega (arith, weigh-append h xs more
 -- ---- what stands in them, by a test
 
 module _ {A : Type 0} (same : A → A → Bool) (is : TellsSame same) where
-  there_counts : (xs : List A) (x : A) → Contains xs x → 0 < count_of same x xs
+  pub there_counts : (xs : List A) (x : A) → Contains xs x → 0 < count_of same x xs
   there_counts [] x there = absurd (none_there x there)
   there_counts (first ∷ xs) x there = by_case (there_cases first x xs there) (there_counts xs x)
     where

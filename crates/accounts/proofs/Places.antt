@@ -18,6 +18,7 @@ use Rattle.accounts.specs.Places.{AreOfWorkers, ArePlaces, IsPlacedWell, Placeme
 use Rattle.accounts.specs.Same.{same_parcel}
 use Rattle.accounts.specs.Taken.{Taken, acknowledged_in}
 use Rattle.accounts.specs.Turning.{Pairs}
+use Rattle.accounts.proofs.Backing.{mapped_there}
 use Rattle.accounts.proofs.Grounded.{of_map}
 use Rattle.accounts.proofs.Orderly.{member_is}
 use Rattle.accounts.proofs.Same.{tells_parcels}
@@ -333,5 +334,11 @@ module _ (workers : List Taken) (wires : List WireTold) (of : AreOfWorkers worke
             (subst (IsAcknowledgedAt wires one.one.parcel.payload) one.place_is (acknowledged_there wires parts.all one.one parts.are located));
       }
 
+  no_other : (parcel : Parcel) (place : Place) → place_among placements parcel ≡ Some place → Contains (acknowledged_in workers) parcel
+  no_other parcel place is =
+      let one = among placements parcel place is in
+      subst (Contains (acknowledged_in workers)) one.parcel_is
+      (subst (λ (l : List Parcel). Contains l one.one.parcel) (all_parcels 0 parts.all ∙ parts.together) (mapped_there (λ (s : Placement). s.parcel) placements one.one one.among))
+
   pub have_places : HavePlaces workers wires
-  have_places = record { placed = place_among placements; are = record { one_each = one_each; well = well } }
+  have_places = record { placed = place_among placements; are = record { one_each = one_each; well = well; no_other = no_other } }

@@ -24,7 +24,7 @@ one_each item = 1
 
 -- ---- what workers took
 
-taken_weighs : (h : Parcel → ℕ) (workers : List Taken) → weigh h (taken_in workers) ≡ weigh h (acknowledged_in workers) + weigh h (carried_in workers)
+pub taken_weighs : (h : Parcel → ℕ) (workers : List Taken) → weigh h (taken_in workers) ≡ weigh h (acknowledged_in workers) + weigh h (carried_in workers)
 taken_weighs h [] = omega arith
 taken_weighs h (taken ∷ workers) =
     let later = taken_weighs h workers in
@@ -79,7 +79,7 @@ files_weigh (turned ∷ files) =
     omega (arith, own, others, parcels, notes)
 
 -- each acknowledged parcel is settled by its note
-acknowledged_weigh : (parcels : List Parcel) → weigh settles (notes_of parcels) ≡ weigh one_each parcels
+pub acknowledged_weigh : (parcels : List Parcel) → weigh settles (notes_of parcels) ≡ weigh one_each parcels
 acknowledged_weigh [] = refl
 acknowledged_weigh (parcel ∷ parcels) = let later = acknowledged_weigh parcels in omega (arith, later)
 

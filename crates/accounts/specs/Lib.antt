@@ -5,6 +5,7 @@ pub mod Filed
 pub mod FirstNotes
 pub mod FollowedFile
 pub mod Ground
+pub mod Numbers
 pub mod Once
 pub mod OneScan
 pub mod Opened
