@@ -39,7 +39,7 @@ use Rattle.run_steps.proofs.HeldRows.{some_of}
 use Rattle.run_steps.proofs.Members.{some_is}
 use Rattle.run_steps.proofs.RunRows.{OneChoice}
 use Rattle.beat_run.specs.Accounted.{HasNoRoom, IsAccounted, IsAccountedByNamed, IsFullFor, IsMetFor, IsOpenedFrom, LeavesNoRemoved, RunLent, TellRows}
-use Rattle.beat_run.specs.Ended.{StandsForMet, StandsForRegistry}
+use Rattle.beat_run.specs.Ended.{IsTelling, StandsForMet, StandsForRegistry}
 use Rattle.beat_run.specs.Ends.{FindsNoRoom, IsPreparingEnd, IsPrintingEnd, IsRunEnd, IsStartEnd, ShowsScanEnd}
 use Rattle.beat_run.proofs.Causes.{named_so}
 
@@ -72,21 +72,21 @@ early_met_for (NoNative path) ends = tt
 early_met_for NoMemory ends = tt
 early_met_for (Unbuilt what) ends = tt
 
-early_not_done : (status : Status) → early_met status ≢ met.Done
-early_not_done Done is = absurd cc
-early_not_done Stopped is = absurd cc
-early_not_done Usage is = absurd cc
-early_not_done (Settings fault) is = absurd cc
-early_not_done (RegistryBad area at) is = absurd cc
-early_not_done DiskFault is = absurd cc
-early_not_done FolderFault is = absurd cc
-early_not_done (Unreachable worker failures) is = absurd cc
-early_not_done OutFault is = absurd cc
-early_not_done SourceFault is = absurd cc
-early_not_done (TooMany full path) is = absurd cc
-early_not_done (NoNative path) is = absurd cc
-early_not_done NoMemory is = absurd cc
-early_not_done (Unbuilt what) is = absurd cc
+early_not_telling : (status : Status) → IsTelling (early_met status) → ⊥
+early_not_telling Done telling = absurd telling
+early_not_telling Stopped telling = absurd telling
+early_not_telling Usage telling = absurd telling
+early_not_telling (Settings fault) telling = absurd telling
+early_not_telling (RegistryBad area at) telling = absurd telling
+early_not_telling DiskFault telling = absurd telling
+early_not_telling FolderFault telling = absurd telling
+early_not_telling (Unreachable worker failures) telling = absurd telling
+early_not_telling OutFault telling = absurd telling
+early_not_telling SourceFault telling = absurd telling
+early_not_telling (TooMany full path) telling = absurd telling
+early_not_telling (NoNative path) telling = absurd telling
+early_not_telling NoMemory telling = absurd telling
+early_not_telling (Unbuilt what) telling = absurd telling
 
 -- as it was worked
 met_for : (listed : List Listed) (attempts : ℕ) (what : Met) (status : Status) → IsMetOf (length listed) what → StandsForMet listed attempts what status → IsMetFor status what
@@ -250,7 +250,7 @@ module _ {D : Type 0} (disks : DiskWords D) (one : OneChoice) (settings : Settin
             (early_is_accounted_for disks start folder
             (record { in_range = in_range; by_path = paths; lists = record { more = lists.more; in_order = lists.in_order; kept = refl } })
             first.since later first.given (later_tells before later moment gives clock) outcomes a b one gave held (early_met status) (early_not_done status));
-        cleaned = λ rest is_done. absurd (early_not_done status is_done);
+        cleaned = λ rest telling. absurd (early_not_telling status telling);
         full_for = full;
       }
 
@@ -271,7 +271,7 @@ module _ {D : Type 0} (disks : DiskWords D) (one : OneChoice) (settings : Settin
     what = early_met status;
     met_for = early_met_for status ends;
     accounted = still_is_accounted_for disks settings opening history moments outcomes from_a from_b a b one gave held (early_met status) (early_not_done status);
-    cleaned = λ rest is_done. absurd (early_not_done status is_done);
+    cleaned = λ rest telling. absurd (early_not_telling status telling);
     full_for = full;
   }
 
@@ -312,6 +312,7 @@ out_fault disks source lent objects ended by = record {
   settings = by.settings;
   named = λ behind. absurd behind;
   named_or_unused = by.named_or_unused;
+  supported = by.supported;
   is = record { what = by.is.what; met_for = tt; accounted = by.is.accounted; cleaned = by.is.cleaned; full_for = tt };
 }
 

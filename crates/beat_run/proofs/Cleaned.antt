@@ -49,7 +49,7 @@ use Rattle.wire_base.specs.declared.row.Row.{Row}
 use Rattle.beat_run.specs.Accounted.{IsOfRemovedFile, LeavesNoRemoved}
 use Rattle.beat_run.specs.Cause.{Signs}
 use Rattle.beat_run.specs.Cleaning.{Cleaning, Cleans, HeldOnlyLeft, IsAtRestIn}
-use Rattle.beat_run.proofs.Causes.{FailedIn}
+use Rattle.beat_run.proofs.Causes.{FailedIn, left_telling}
 
 -- ---- what is met
 
@@ -427,8 +427,8 @@ module _ {D : Type 0} (disks : DiskWords D) (reads : (disk : D) → IfSome (disk
   }
 
   none_of_removed_files : LeavesNoRemoved disks (with_areas objects new.a new.b) new.met run
-  none_of_removed_files were is_done first second rows a_is b_is gives =
-      let still : AreLeft new.met = subst AreLeft (sym is_done) tt in
+  none_of_removed_files were telling first second rows a_is b_is gives =
+      let still = left_telling new.met telling in
       let rest = at_rest (left_before still) were in
       subst (AllByRecursion (λ (row : Row). ¬ (IsOfRemovedFile run row))) (rows_of_store one disks new.a new.b new.store first second rows (cleaned.at_rest still rest) a_is b_is gives)
       (each_there (λ (row : Row). ¬ (IsOfRemovedFile run row)) new.store.rows (λ row there of. none_left old.store.rows new.store.rows (cleaned.rows still) row there (is_removed row of)))

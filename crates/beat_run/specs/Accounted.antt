@@ -7,6 +7,7 @@ use Rattle.kept_rows.specs.Followed.{IsKeyOf}
 use Rattle.kept_rows.specs.Run.{Run}
 use Rattle.kept_rows.specs.Scans.{ShowsKey}
 use Rattle.outside.specs.Folders.{FolderHistory}
+use Rattle.prospect.specs.Lacks.{lacks_of}
 use Rattle.registry_store.specs.Choice.{GivesRows}
 use Rattle.registry_store.specs.Settled.{AreAtRest, AreSettled}
 use Rattle.registry_store.specs.Standing.{Standing, chosen_by}
@@ -20,6 +21,7 @@ use Rattle.run_steps.specs.Areas.{GiveTheRows, HaveHeldFronts}
 use Rattle.run_steps.specs.Met.{AreLeft}
 use Rattle.run_steps.specs.declared.met.Met.{Met}
 use Rattle.run_steps.specs.declared.met.Met.TheVariants as met
+use Rattle.beat_run.specs.Ended.{IsTelling}
 use Rattle.beat_run.specs.Ends.{FindsNoRoom, IsBehindSettings}
 use Rattle.beat_run.specs.Named.{IsNamed}
 
@@ -52,10 +54,10 @@ pub record IsOfRemovedFile (run : Run) (row : Row) : Type 0 where
   pub key_of_input : IsKeyOf rule.id row.key
   pub hidden : AllByRecursion (λ scan. ¬ (ShowsKey run scan row.key)) run.scans
 
--- a run that is done leaves no row of a removed file
+-- a run that is done or stopped leaves no row of a removed file
 abbrev pub LeavesNoRemoved : {D : Type 0} → DiskWords D → RunObjects D → Met → Run → Type 0
 LeavesNoRemoved disks objects what run =
-    WereAtRest disks objects → what ≡ met.Done → AreRowsBy disks objects.after (λ rows. AllByRecursion (λ row. ¬ (IsOfRemovedFile run row)) rows)
+    WereAtRest disks objects → IsTelling what → AreRowsBy disks objects.after (λ rows. AllByRecursion (λ row. ¬ (IsOfRemovedFile run row)) rows)
 
 pub record IsAccounted {D : Type 0} (disks : DiskWords D) (settings : Settings) (objects : RunObjects D) (status : Status) : Type 0 where
   pub what : Met
@@ -96,11 +98,13 @@ pub record RunLent (F W D : Type 0) : Type 0 where
   pub before : Lent F W D
   pub after : Lent F W D
 
--- by the settings that the source spells, where the status tells that they were known, and else so where the run used what it was lent
+-- by the settings that the source spells, where the status tells that they were known, and else so where the run used what it was lent;
+-- and by none that the program does not support
 pub record IsAccountedByNamed {F W D : Type 0} (disks : DiskWords D) (source : Option (List ℕ)) (lent : RunLent F W D) (objects : RunObjects D) (status : Status) : Type 0 where
   pub settings : Settings
   pub named : IsBehindSettings status → IsNamed source settings
   pub named_or_unused : IsNamed source settings ⊎ (lent.after ≡ lent.before)
+  pub supported : lacks_of settings ≡ []
   pub is : IsAccounted disks settings objects status
 
 abbrev pub IsAccountedWhereTold : {F W D : Type 0} → DiskWords D → Option (List ℕ) → RunLent F W D → RunObjects D → Status → Type 0

@@ -6,5 +6,6 @@ pub mod Ended
 pub mod Ends
 pub mod Handed
 pub mod Named
+pub mod NextRun
 pub mod Printed
 pub mod Untouched

@@ -1,5 +1,5 @@
--- What the areas hold while rows are removed (this project's profile): at every moment the rows, of which some that are removed are left
--- out.
+-- What the areas hold while rows are removed (this project's profile): at every moment the rows, but for some that
+-- are removed.
 use Rattle.std.specs.Prelude.{◌≡◌, ◌⊎◌, ℕ, List, Option, Some}
 use Rattle.event_tree.specs.declared.input_rule.InputRule.{InputRule}
 use Rattle.prospect.specs.declared.listed.Listed.{Listed}

@@ -1,5 +1,5 @@
 -- What two areas give together while rows are removed (this project's profile): one area alone is written, and at every moment each
--- image of it gives with each image of the other one the rows, of which some that are removed are left out.
+-- image of it gives with each image of the other one the rows, but for some that are removed.
 use Rattle.std.specs.Prelude.{◌≡◌, ℕ, List}
 use Rattle.event_tree.specs.declared.input_rule.InputRule.{InputRule}
 use Rattle.outside.specs.DiskImages.{LeavesOnly}

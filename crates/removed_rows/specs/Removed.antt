@@ -1,5 +1,5 @@
 -- Which rows are removed (Filebeat reference, filestream input, `clean_removed`; this project's profile): those of an input that cleans
--- them, where no listed file has their key, and the key of each listed file is known.
+-- them, where no listed file has their key, and the key of each listed file is known; that a file's key is not known keeps all rows.
 use Rattle.std.specs.Prelude.{◌≡◌, ◌⊎◌, ℕ, true, All, Any, Contains, IsSome, List, Some}
 use Rattle.event_tree.specs.declared.input_rule.InputRule.{InputRule}
 use Rattle.kept_rows.specs.Followed.{IsKeyOf}
@@ -20,13 +20,13 @@ pub record IsRemoved (inputs : List InputRule) (listed : List Listed) (key : Lis
   pub cleaned : IsCleaned inputs key
   pub unlisted : ¬ (IsListedKey listed key)
 
--- of these rows some that are removed are left out
+-- these rows, but for some that are removed
 pub record LeavesRows (inputs : List InputRule) (listed : List Listed) (rows left : List Row) : Type 0 where
   pub in_order : IsInOrder left
   pub of_these : All (Contains rows) left
   pub others_stay : All (λ row. Contains left row ⊎ IsRemoved inputs listed row.key) rows
 
--- all of them
+-- and but for all of these
 pub record RemovesRows (inputs : List InputRule) (listed : List Listed) (rows left : List Row) : Type 0 where
   pub leaves : LeavesRows inputs listed rows left
   pub none_is_left : All (λ row. ¬ (IsRemoved inputs listed row.key)) left

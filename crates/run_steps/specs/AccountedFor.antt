@@ -1,8 +1,9 @@
 -- A run that is accounted for (this project's profile): a run by its settings that fits what its objects told before and after it, and
 -- an account of it. Its opening rows are those that its areas gave. Its files are followed so, only told events were sent, the rows that
--- its areas give are kept, and so is each row that any image of an area had since it began, but for images that are as that area was. A key
--- that had a row, or was begun, has one or lost it rightly. Where files keep their identities and truncations are seen, the account is one
--- of the run, and a run that is done drained its folder. It is said where the folder, the clock and each wire tell.
+-- its areas give are kept, and so is each row that any image of an area had since it began, but for images that are as that area was. A
+-- key that had a row has one or lost it rightly, and so has one that was begun, where the last steps were made. Where files keep their
+-- identities and truncations are seen, the account is one of the run, and a run that is done drained its folder. It is said where the
+-- folder, the clock and each wire tell.
 use Rattle.std.specs.Prelude.{◌≡◌, ◌⊎◌, ℕ, ◌-◌, ◌≤◌, true, Contains, List, [], drop, length, map, Option, Some, None}
 use Rattle.std.specs.List.{AllByRecursion}
 use Rattle.accounts.specs.AccountedFor.{HasItsRow, followings_in}

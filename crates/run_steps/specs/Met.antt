@@ -21,7 +21,7 @@ IsMetOf count FolderFault = Unit {0}
 IsMetOf count (Unreachable worker) = Unit {0}
 IsMetOf count (Epochs slot) = slot.0 < count
 
--- the last steps are left to be made
+-- behind it the last steps are made
 abbrev pub AreLeft : Met → Type 0
 AreLeft Done = Unit {0}
 AreLeft Stopped = Unit {0}

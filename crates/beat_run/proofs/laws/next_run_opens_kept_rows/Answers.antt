@@ -1,0 +1,13 @@
+use Rattle.accounts.proofs.InARow.{by_path_have_own_ids}
+use Rattle.prospect.proofs.LacksNone.{inputs_are_by_path_where_nothing_lacks}
+use Rattle.run_steps.proofs.ByPath.{inputs_are_by_path}
+use Rattle.beat_run.proofs.laws.next_run_opens_kept_rows.Goals as goal
+
+pub returns-clause-opening : goal.returns-clause-opening
+returns-clause-opening g c = λ earlier later as_left.
+    let gives = later.accounted.opened as_left.first as_left.second as_left.a_found as_left.b_found in
+    (earlier.accounted.rows as_left.were_at_rest as_left.first as_left.second later.accounted.run.opening as_left.a_left as_left.b_left gives).in_image.kept
+
+pub returns-clause-own_ids : goal.returns-clause-own_ids
+returns-clause-own_ids g c = λ settings in_range supported.
+    by_path_have_own_ids settings.inputs (inputs_are_by_path settings in_range (inputs_are_by_path_where_nothing_lacks settings supported))

@@ -1,0 +1,29 @@
+-- A run behind another one (this project's profile), both accounted for: it found both areas as the other left them, and each row that it
+-- opened was told by the other, whatever that met, or stood as the other opened it.
+use Rattle.std.specs.Prelude.{◌≡◌, ℕ, List, Some}
+use Rattle.std.specs.List.{AllByRecursion}
+use Rattle.event_tree.specs.declared.settings.Settings.{Settings}
+use Rattle.kept_rows.specs.Kept.{IsKeptInImage}
+use Rattle.rounds.specs.Words.{DiskWords}
+use Rattle.run_steps.specs.AccountedFor.{AccountedFor, RunObjects, WereAtRest}
+use Rattle.run_steps.specs.declared.met.Met.{Met}
+
+module _ {D : Type 0} (disks : DiskWords D) where
+  pub record EndedRun : Type 0 where
+    pub settings : Settings
+    pub objects : RunObjects D
+    pub met : Met
+    pub accounted : AccountedFor disks settings objects met
+
+  pub record FindsAreasAsLeft (earlier later : RunObjects D) : Type 0 where
+    pub were_at_rest : WereAtRest disks earlier
+    pub first : List ℕ
+    pub second : List ℕ
+    pub a_left : disks.contents earlier.after.a ≡ Some first
+    pub b_left : disks.contents earlier.after.b ≡ Some second
+    pub a_found : disks.contents later.before.a ≡ Some first
+    pub b_found : disks.contents later.before.b ≡ Some second
+
+  abbrev pub OpensKeptRows : EndedRun → EndedRun → Type 0
+  OpensKeptRows earlier later =
+      AllByRecursion (IsKeptInImage earlier.accounted.account earlier.accounted.run.opening earlier.accounted.run.trace.wires) later.accounted.run.opening
