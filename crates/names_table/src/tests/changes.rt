@@ -1,161 +1,238 @@
+use crate::tests::parts::text;
 use prospector_core::{Change, ProspectError, Prospector, Seen};
 use std::alloc::Global;
-use std::fmt::Write;
 use std::test::Fail;
-use wire_base::{Begin, Epoch, Full, Slot, Text};
+use wire_base::{Begin, Epoch, Full, Slot, TextError};
 
-/// Members as `KEY PATH SIZE`, those whose key begins with `c` of the input that cleans, a line each.
-fn members(alloc: Global, lines: &str) -> Result<Vec<Seen>, Fail> {
+/// The key of a file, its path and its size. One whose key begins with `c` is of the input that cleans.
+type Member = (&'static str, &'static str, u64);
+
+/// Whether the removed files of each input are to be forgotten.
+const CLEAN: [bool; 2] = [false, true];
+
+/// The member, as a scan shows it.
+fn seen(alloc: Global, member: &Member) -> Result<Seen, TextError> {
+    let (key, path, size) = *member;
+    Ok(Seen {
+        input: if key.starts_with('c') { 1 } else { 0 },
+        key: text(alloc, key)?,
+        path: text(alloc, path)?,
+        size,
+    })
+}
+
+/// A scan of these members.
+fn members(alloc: Global, rows: &[Member]) -> Result<Vec<Seen>, Fail> {
     let mut members = Vec::new(alloc);
-    for line in lines.lines() {
-        let mut words = line.split(' ');
-        let key = words.next().ok_or("no key")?;
-        members.push(Seen {
-            input: u32::from(key.starts_with('c')),
-            key: Text::from_bytes(alloc, key.as_bytes())?,
-            path: Text::from_bytes(alloc, words.next().ok_or("no path")?.as_bytes())?,
-            size: words
-                .next()
-                .ok_or("no size")?
-                .parse::<u64>()
-                .map_err(|_| "size")?,
-        })?;
+    for row in rows {
+        members.push(seen(alloc, row)?)?;
     }
     Ok(members)
 }
 
-/// A line for each change.
-fn shown(alloc: Global, changes: &[Change]) -> Result<String, Fail> {
-    let mut text = String::new(alloc);
-    for change in changes {
-        show(&mut text, change)?;
-    }
-    Ok(text)
+/// A change, with a slot first in all but the last, and the values of its fields behind it.
+enum Told {
+    Created(u32, u32, Member),
+    Returned(u32, &'static str, u64),
+    Renamed(u32, &'static str, &'static str),
+    Written(u32, u64),
+    Truncated(u32, u64),
+    Removed(u32),
+    Doubled(&'static str),
 }
 
-fn show(text: &mut String, change: &Change) -> Result<(), Fail> {
-    match change {
-        Change::Created {
-            slot,
-            input,
-            key,
-            path,
-            size,
-        } => {
-            let (slot, key, path) = (slot.0, key.as_str(), path.as_str());
-            writeln!(text, "created {slot} {input} {key} {path} {size}")?;
+/// The change is this one.
+fn is_told(change: &Change, told: &Told) -> bool {
+    match (change, told) {
+        (
+            Change::Created {
+                slot,
+                input,
+                key,
+                path,
+                size,
+            },
+            Told::Created(number, of, member),
+        ) => {
+            slot.0 == *number
+                && input == of
+                && key.as_str() == member.0
+                && path.as_str() == member.1
+                && *size == member.2
         }
-        Change::Returned { slot, path, size } => {
-            let (slot, path) = (slot.0, path.as_str());
-            writeln!(text, "returned {slot} {path} {size}")?;
+        (Change::Returned { slot, path, size }, Told::Returned(number, at, now)) => {
+            slot.0 == *number && path.as_str() == *at && size == now
         }
-        Change::Renamed { slot, from, to } => {
-            let (slot, from, to) = (slot.0, from.as_str(), to.as_str());
-            writeln!(text, "renamed {slot} {from} {to}")?;
+        (Change::Renamed { slot, from, to }, Told::Renamed(number, old, new)) => {
+            slot.0 == *number && from.as_str() == *old && to.as_str() == *new
         }
-        Change::Written { slot, size } => {
-            let slot = slot.0;
-            writeln!(text, "written {slot} {size}")?;
+        (Change::Written { slot, size }, Told::Written(number, now))
+        | (Change::Truncated { slot, size }, Told::Truncated(number, now)) => {
+            slot.0 == *number && size == now
         }
-        Change::Truncated { slot, size } => {
-            let slot = slot.0;
-            writeln!(text, "truncated {slot} {size}")?;
-        }
-        Change::Removed { slot } => {
-            let slot = slot.0;
-            writeln!(text, "removed {slot}")?;
-        }
-        Change::Doubled { path } => {
-            let path = path.as_str();
-            writeln!(text, "doubled {path}")?;
-        }
+        (Change::Removed { slot }, Told::Removed(number)) => slot.0 == *number,
+        (Change::Doubled { path }, Told::Doubled(at)) => path.as_str() == *at,
+        _ => false,
     }
-    Ok(())
 }
+
+/// The changes are these, in this order.
+fn are_told(changes: &[Change], told: &[Told]) -> bool {
+    changes.len() == told.len()
+        && changes
+            .iter()
+            .zip(told)
+            .all(|(change, told)| is_told(change, told))
+}
+
+/// The files of a scan, whether it is whole, and its changes.
+type Scan = (&'static [Member], bool, &'static [Told]);
+
+/// The prospector tells the changes of the scan.
+fn tells(alloc: Global, prospector: &mut Prospector, scan: &Scan) -> Result<bool, Fail> {
+    let (rows, whole, told) = *scan;
+    let seen = members(alloc, rows)?;
+    let changes = prospector.compare(alloc, &seen, whole, &CLEAN)?;
+    Ok(are_told(&changes, told))
+}
+
+const SCANS: [Scan; 14] = [
+    (
+        &[("a", "/a", 5), ("b", "/b", 5)],
+        true,
+        &[
+            Told::Created(0, 0, ("a", "/a", 5)),
+            Told::Created(1, 0, ("b", "/b", 5)),
+        ],
+    ),
+    (&[("a", "/a", 5), ("b", "/b", 5)], true, &[]),
+    (
+        &[("a", "/a", 6), ("b", "/b", 4)],
+        true,
+        &[Told::Written(0, 6), Told::Truncated(1, 4)],
+    ),
+    (
+        &[("a", "/d", 6), ("b", "/e", 9)],
+        true,
+        &[
+            Told::Renamed(0, "/a", "/d"),
+            Told::Renamed(1, "/b", "/e"),
+            Told::Written(1, 9),
+        ],
+    ),
+    (
+        &[("a", "/d", 6), ("a", "/e", 6), ("b", "/f", 2)],
+        true,
+        &[
+            Told::Doubled("/e"),
+            Told::Renamed(1, "/e", "/f"),
+            Told::Truncated(1, 2),
+        ],
+    ),
+    (&[("a", "/d", 6)], false, &[]),
+    (&[("b", "/f", 2)], true, &[Told::Removed(0)]),
+    (&[("b", "/f", 2)], true, &[]),
+    (
+        &[("a", "/a", 7), ("a", "/b", 8), ("b", "/f", 2)],
+        true,
+        &[Told::Returned(0, "/a", 7), Told::Doubled("/b")],
+    ),
+    (
+        &[("c", "/c", 1)],
+        true,
+        &[
+            Told::Created(2, 1, ("c", "/c", 1)),
+            Told::Removed(0),
+            Told::Removed(1),
+        ],
+    ),
+    (&[], true, &[Told::Removed(2)]),
+    (
+        &[("c", "/c", 4), ("c", "/d", 4)],
+        true,
+        &[Told::Doubled("/d")],
+    ),
+    (
+        &[("n", "/n", 1), ("n", "/o", 1)],
+        false,
+        &[Told::Created(3, 0, ("n", "/n", 1)), Told::Doubled("/o")],
+    ),
+    (&[], true, &[Told::Removed(3)]),
+];
 
 #[test]
 fn each_change_alone_and_in_pairs(rt: HostRuntime) -> Result<(), Fail> {
-    let alloc = rt.alloc();
-    let mut prospector = Prospector::begin(alloc, &[], 0)?;
-    let scans: [(&str, bool, &str); 14] = [
-        (
-            "a /a 5\nb /b 5",
-            true,
-            "created 0 0 a /a 5\ncreated 1 0 b /b 5\n",
-        ),
-        ("a /a 5\nb /b 5", true, ""),
-        ("a /a 6\nb /b 4", true, "written 0 6\ntruncated 1 4\n"),
-        (
-            "a /d 6\nb /e 9",
-            true,
-            "renamed 0 /a /d\nrenamed 1 /b /e\nwritten 1 9\n",
-        ),
-        (
-            "a /d 6\na /e 6\nb /f 2",
-            true,
-            "doubled /e\nrenamed 1 /e /f\ntruncated 1 2\n",
-        ),
-        ("a /d 6", false, ""),
-        ("b /f 2", true, "removed 0\n"),
-        ("b /f 2", true, ""),
-        (
-            "a /a 7\na /b 8\nb /f 2",
-            true,
-            "returned 0 /a 7\ndoubled /b\n",
-        ),
-        ("c /c 1", true, "created 2 1 c /c 1\nremoved 0\nremoved 1\n"),
-        ("", true, "removed 2\n"),
-        ("c /c 4\nc /d 4", true, "doubled /d\n"),
-        ("n /n 1\nn /o 1", false, "created 3 0 n /n 1\ndoubled /o\n"),
-        ("", true, "removed 3\n"),
-    ];
-    let clean = [false, true];
-    for (lines, whole, want) in scans {
-        let seen = members(alloc, lines)?;
-        let changes = prospector.compare(alloc, &seen, whole, &clean)?;
-        let text = shown(alloc, &changes)?;
-        assert_eq!(rt; text.as_str(), want, "{lines}");
+    let mut prospector = Prospector::begin(rt.alloc(), &[], 0)?;
+    for (number, scan) in SCANS.iter().enumerate() {
+        assert!(rt; tells(rt.alloc(), &mut prospector, scan)?, "scan {number}");
     }
     Ok(())
 }
 
+/// Files that come, go, and come again after the first was forgotten.
+const FORGOTTEN: [Scan; 3] = [
+    (
+        &[("c", "/c", 1), ("x", "/x", 1)],
+        true,
+        &[
+            Told::Created(0, 1, ("c", "/c", 1)),
+            Told::Created(1, 0, ("x", "/x", 1)),
+        ],
+    ),
+    (&[], true, &[Told::Removed(0), Told::Removed(1)]),
+    (
+        &[("c", "/c", 9), ("x", "/x", 1)],
+        true,
+        &[
+            Told::Created(2, 1, ("c", "/c", 9)),
+            Told::Returned(1, "/x", 1),
+        ],
+    ),
+];
+
 #[test]
 fn a_forgotten_file_begins_anew(rt: HostRuntime) -> Result<(), Fail> {
-    let alloc = rt.alloc();
-    let mut prospector = Prospector::begin(alloc, &[], 0)?;
-    let clean = [false, true];
-    let both = members(alloc, "c /c 1\nx /x 1")?;
-    prospector.compare(alloc, &both, true, &clean)?;
-    let removed = prospector.compare(alloc, &[], true, &clean)?;
-    assert_eq!(rt; shown(alloc, &removed)?.as_str(), "removed 0\nremoved 1\n");
-    prospector.gone(Slot(0));
-    let seen = members(alloc, "c /c 9\nx /x 1")?;
-    let changes = prospector.compare(alloc, &seen, true, &clean)?;
-    let want = "created 2 1 c /c 9\nreturned 1 /x 1\n";
-    assert_eq!(rt; shown(alloc, &changes)?.as_str(), want);
+    let mut prospector = Prospector::begin(rt.alloc(), &[], 0)?;
+    for (number, scan) in FORGOTTEN.iter().enumerate() {
+        if number == 2 {
+            prospector.gone(Slot(0));
+        }
+        assert!(rt; tells(rt.alloc(), &mut prospector, scan)?, "scan {number}");
+    }
     Ok(())
 }
 
-#[test]
-fn one_file_too_many(rt: HostRuntime) -> Result<(), Fail> {
-    let alloc = rt.alloc();
+/// A prospector that remembers the file `a`, beside all but one of the rows that there may be.
+fn nearly_full(alloc: Global) -> Result<Prospector, Fail> {
     let begin = Begin {
         slot: Slot(0),
         input: 0,
-        key: Text::from_bytes(alloc, b"a")?,
-        path: Text::from_bytes(alloc, b"/a")?,
+        key: text(alloc, "a")?,
+        path: text(alloc, "/a")?,
         size: 3,
         epoch: Epoch(1),
         base: 2,
     };
-    let mut prospector = Prospector::begin(alloc, &[begin], 65_535)?;
-    let seen = members(alloc, "a /a 4\nb /b 1")?;
-    let refused = prospector.compare(alloc, &seen, true, &[false]);
-    let path = Text::from_bytes(alloc, b"/b")?;
-    let what = Full::Files;
-    assert_eq!(rt; refused, Err(ProspectError::TooMany { what, path }));
-    let seen = members(alloc, "a /a 4")?;
-    let changes = prospector.compare(alloc, &seen, true, &[false])?;
-    assert_eq!(rt; shown(alloc, &changes)?.as_str(), "written 0 4\n");
+    Ok(Prospector::begin(alloc, &[begin], 65_535)?)
+}
+
+const AFTER_REFUSAL: Scan = (&[("a", "/a", 4)], true, &[Told::Written(0, 4)]);
+
+#[test]
+fn one_file_too_many(rt: HostRuntime) -> Result<(), Fail> {
+    let alloc = rt.alloc();
+    let mut prospector = nearly_full(alloc)?;
+    let seen = members(alloc, &[("a", "/a", 4), ("b", "/b", 1)])?;
+    let path = match prospector.compare(alloc, &seen, true, &CLEAN) {
+        Err(
+            ProspectError::TooMany {
+                what: Full::Files,
+                path,
+            },
+        ) => path,
+        _ => return Err("not refused".into()),
+    };
+    assert!(rt; path.as_str() == "/b");
+    assert!(rt; tells(alloc, &mut prospector, &AFTER_REFUSAL)?);
     Ok(())
 }

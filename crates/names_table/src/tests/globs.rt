@@ -1,25 +1,21 @@
+use crate::tests::parts::text;
 use glob_paths::*;
+use std::alloc::Global;
+use std::process::Abort;
 use std::test::Fail;
-use wire_base::Text;
 
-fn glob(rt: &HostRuntime, text: &str) -> Result<Glob, Fail> {
-    let text = Text::from_bytes(rt.alloc(), text.as_bytes())?;
-    Ok(Glob::read(rt.alloc(), &text)?)
-}
+/// A glob, a path, and whether the one covers the other.
+type Row = (&'static str, &'static [u8], bool);
 
-#[test]
-fn glob_covers(rt: HostRuntime) -> Result<(), Fail> {
-    let logs = glob(&rt, "/var/log/*.log")?;
-    assert!(rt; logs.covers(b"/var/log/a.log"));
-    assert!(rt; !logs.covers(b"/var/log/x/a.log"));
-    let deep = glob(&rt, "/l/**/a")?;
-    assert!(rt; deep.covers(b"/l/a"));
-    assert!(rt; deep.covers(b"/l/1/2/3/4/5/6/7/8/a"));
-    assert!(rt; !deep.covers(b"/l/1/2/3/4/5/6/7/8/9/a"));
-    Ok(())
-}
+const WORKED: [Row; 5] = [
+    ("/var/log/*.log", b"/var/log/a.log", true),
+    ("/var/log/*.log", b"/var/log/x/a.log", false),
+    ("/l/**/a", b"/l/a", true),
+    ("/l/**/a", b"/l/1/2/3/4/5/6/7/8/a", true),
+    ("/l/**/a", b"/l/1/2/3/4/5/6/7/8/9/a", false),
+];
 
-const RUNS: [(&str, &[u8], bool); 34] = [
+const RUNS: [Row; 34] = [
     ("/var/log/*.log", b"/var/log/.log", true),
     ("/var/log/*.log", b"/var/log/a.logs", false),
     ("/var/log/*.log", b"var/log/a.log", false),
@@ -56,7 +52,7 @@ const RUNS: [(&str, &[u8], bool); 34] = [
     ("/**", b"/", false),
 ];
 
-const CHARACTERS: [(&str, &[u8], bool); 49] = [
+const CHARACTERS: [Row; 49] = [
     ("/a?", b"/ab", true),
     ("/a?", b"/a", false),
     ("/a?", b"/abc", false),
@@ -108,20 +104,33 @@ const CHARACTERS: [(&str, &[u8], bool); 49] = [
     ("/[+--]", b"/,", true),
 ];
 
-#[test]
-fn runs_and_parts_are_covered(rt: HostRuntime) -> Result<(), Fail> {
-    for (pattern, path, covered) in &RUNS {
-        assert_eq!(rt; glob(&rt, pattern)?.covers(path), *covered);
+/// The glob of the pattern, which has no fault.
+fn glob(alloc: Global, pattern: &str) -> Result<Glob, Fail> {
+    Ok(Glob::read(alloc, &text(alloc, pattern)?)?)
+}
+
+/// Each glob covers its path, or does not, as its row says.
+fn check_rows(rt: &impl Abort, alloc: Global, rows: &[Row]) -> Result<(), Fail> {
+    for (pattern, path, covered) in rows {
+        let glob = glob(alloc, pattern)?;
+        assert!(rt; glob.covers(path) == *covered, "{pattern}");
     }
     Ok(())
 }
 
 #[test]
+fn glob_covers(rt: HostRuntime) -> Result<(), Fail> {
+    check_rows(&rt, rt.alloc(), &WORKED)
+}
+
+#[test]
+fn runs_and_parts_are_covered(rt: HostRuntime) -> Result<(), Fail> {
+    check_rows(&rt, rt.alloc(), &RUNS)
+}
+
+#[test]
 fn characters_and_classes_are_covered(rt: HostRuntime) -> Result<(), Fail> {
-    for (pattern, path, covered) in &CHARACTERS {
-        assert_eq!(rt; glob(&rt, pattern)?.covers(path), *covered);
-    }
-    Ok(())
+    check_rows(&rt, rt.alloc(), &CHARACTERS)
 }
 
 const REFUSALS: [(&str, GlobError); 35] = [
@@ -165,30 +174,32 @@ const REFUSALS: [(&str, GlobError); 35] = [
 #[test]
 fn refusals_tell_their_places(rt: HostRuntime) -> Result<(), Fail> {
     for (pattern, refusal) in &REFUSALS {
-        let text = Text::from_bytes(rt.alloc(), pattern.as_bytes())?;
-        match Glob::read(rt.alloc(), &text) {
-            Ok(_) => assert!(rt; false),
-            Err(found) => assert_eq!(rt; found, *refusal),
-        }
+        let text = text(rt.alloc(), pattern)?;
+        let found = Glob::read(rt.alloc(), &text).err();
+        assert!(rt; found == Some(*refusal), "{pattern}");
     }
     Ok(())
 }
 
+/// A glob, the folder to list and how deep.
+const LISTED: [(&str, &str, u32); 7] = [
+    ("/var/log/*.log", "/var/log", 1),
+    ("/a", "/", 1),
+    ("/a/b", "/a", 1),
+    ("/*/b", "/", 2),
+    ("/l/**/a", "/l", 9),
+    ("/a\\b/c", "/", 2),
+    ("/a/b]/c?/d/[e]", "/a/b]", 3),
+];
+
 #[test]
 fn a_glob_tells_what_to_list(rt: HostRuntime) -> Result<(), Fail> {
-    let cases = [
-        ("/var/log/*.log", "/var/log", 1),
-        ("/a", "/", 1),
-        ("/a/b", "/a", 1),
-        ("/*/b", "/", 2),
-        ("/l/**/a", "/l", 9),
-        ("/a\\b/c", "/", 2),
-        ("/a/b]/c?/d/[e]", "/a/b]", 3),
-    ];
-    for (pattern, root, depth) in cases {
-        let glob = glob(&rt, pattern)?;
-        assert_eq!(rt; glob.root().as_str(), root);
-        assert_eq!(rt; glob.depth(), depth);
+    for (pattern, root, depth) in &LISTED {
+        let glob = glob(rt.alloc(), pattern)?;
+        assert!(rt;
+            glob.root().as_str() == *root && glob.depth() == *depth,
+            "{pattern}"
+        );
     }
     Ok(())
 }

@@ -4,15 +4,16 @@ ghost use Rattle.prospect.specs.Members.{HaveGlobs};
 mod asks;
 mod listed_folder;
 
-use crate::tests::parts::texts;
+use crate::tests::parts::{text, texts};
 use asks::{Ask, globs, input, settings};
-use event_tree::InputRule;
+use event_tree::{InputRule, Settings};
 use listed_folder::ListedFolder;
 use prospect::*;
 use std::alloc::Global;
 use std::test::Fail;
-use wire_base::Text;
+use wire_base::{NoMemory, Text};
 
+/// Inputs of these ids and globs.
 fn inputs(
     alloc: Global,
     rules: &[(&str, &[&str])],
@@ -28,6 +29,7 @@ fn inputs(
     Ok(inputs)
 }
 
+/// A folder of these paths, of which the listing of this number fails.
 fn folder(alloc: Global, paths: &[&str], failing: usize) -> Result<ListedFolder, Fail> {
     Ok(ListedFolder {
         paths: texts(alloc, paths)?,
@@ -46,83 +48,129 @@ const INPUTS: [(&str, &[&str]); 3] = [
     ("none", &["/none/*"]),
 ];
 
+/// What `list_files` answers; none of its contract is needed here.
+fn scan(
+    alloc: Global,
+    folder: &mut ListedFolder,
+    inputs: &[InputRule],
+) -> Result<Vec<Listed>, ScanError>
+    requires { HaveGlobs inputs.now }
+{
+    list_files(alloc, folder, inputs)
+}
+
 #[test]
 fn failed_listing_ends_the_scan(rt: HostRuntime) -> Result<(), Fail> {
     let alloc = rt.alloc();
     let inputs = inputs(alloc, &INPUTS, &[])?;
     let mut folder = folder(alloc, &PATHS, 2)?;
-    let listed = list_files(alloc, &mut folder, &inputs);
+    let listed = scan(alloc, &mut folder, &inputs);
     assert!(rt; matches!(listed, Err(ScanError::Failed)));
-    assert_eq!(rt; folder.listings.as_str(), "/w 1\n/w 1\n");
+    assert!(rt; folder.listings.as_str() == "/w 1\n/w 1\n");
     Ok(())
 }
 
-/// What each input asks of identities, and the files: the input, its key, the path, its size and its
-/// moment of change.
-const FILES: [(&[(usize, Ask)], &str); 2] = [
+/// A file: the input, its key, the path, its size and its moment of change.
+type Row = (u32, Option<&'static str>, &'static str, u64, u64);
+
+/// The key is this, or neither is there.
+fn is_key(found: &Option<Text>, wanted: Option<&str>) -> bool {
+    match found {
+        Some(key) => wanted == Some(key.as_str()),
+        None => wanted.is_none(),
+    }
+}
+
+/// The file is of this row.
+fn is_listed(file: &Listed, row: &Row) -> bool {
+    file.input == row.0
+        && is_key(&file.key, row.1)
+        && file.path.as_str() == row.2
+        && file.size == row.3
+        && file.changed.0 == row.4
+}
+
+/// The files are those of the rows, one for each.
+fn are_listed(files: &[Listed], rows: &[Row]) -> bool {
+    files.len() == rows.len()
+        && files
+            .iter()
+            .zip(rows)
+            .all(|(file, row)| is_listed(file, row))
+}
+
+/// What each input asks of identities, and the files.
+const FILES: [(&[(usize, Ask)], &[Row]); 2] = [
     (
         &[],
-        "\
-0 filestream::w::path::/w/a.log /w/a.log 8 8
-1 filestream::w-x::path::/w/a.log /w/a.log 8 8
-0 filestream::w::path::/w/a.txt /w/a.txt 8 8
-0 filestream::w::path::/w/b.log /w/b.log 8 8
-1 filestream::w-x::path::/w/x/a.log /w/x/a.log 10 10
-",
+        &[
+            (0, Some("filestream::w::path::/w/a.log"), "/w/a.log", 8, 8),
+            (1, Some("filestream::w-x::path::/w/a.log"), "/w/a.log", 8, 8),
+            (0, Some("filestream::w::path::/w/a.txt"), "/w/a.txt", 8, 8),
+            (0, Some("filestream::w::path::/w/b.log"), "/w/b.log", 8, 8),
+            (
+                1,
+                Some("filestream::w-x::path::/w/x/a.log"),
+                "/w/x/a.log",
+                10,
+                10,
+            ),
+        ],
     ),
     (
         &[(0, Ask::Native), (1, Ask::Fingerprint)],
-        "\
-0 filestream::w::native::8-1 /w/a.log 8 8
-1 - /w/a.log 8 8
-0 - /w/a.txt 8 8
-0 filestream::w::native::8-1 /w/b.log 8 8
-1 - /w/x/a.log 10 10
-",
+        &[
+            (0, Some("filestream::w::native::8-1"), "/w/a.log", 8, 8),
+            (1, None, "/w/a.log", 8, 8),
+            (0, None, "/w/a.txt", 8, 8),
+            (0, Some("filestream::w::native::8-1"), "/w/b.log", 8, 8),
+            (1, None, "/w/x/a.log", 10, 10),
+        ],
     ),
 ];
 
 #[test]
 fn each_covered_path_is_told_for_each_input_by_path_and_input(rt: HostRuntime) -> Result<(), Fail> {
     let alloc = rt.alloc();
-    for (asks, wanted) in &FILES {
+    for (asks, rows) in &FILES {
         let inputs = inputs(alloc, &INPUTS, asks)?;
         let mut folder = folder(alloc, &PATHS, usize::MAX)?;
-        let mut found = String::new(alloc);
-        for file in &list_files(alloc, &mut folder, &inputs)? {
-            let key = file.key.as_ref().map(|key| key.as_str()).unwrap_or("-");
-            let (input, path) = (file.input, file.path.as_str());
-            let (size, changed) = (file.size, file.changed.0);
-            writeln!(&mut found, "{input} {key} {path} {size} {changed}")?;
-        }
-        assert_eq!(rt; found.as_str(), *wanted);
-        assert_eq!(rt; folder.listings.as_str(), "/w 1\n/w 1\n/w 9\n/none 1\n");
+        let files = scan(alloc, &mut folder, &inputs)?;
+        assert!(rt; are_listed(&files, rows));
+        assert!(rt; folder.listings.as_str() == "/w 1\n/w 1\n/w 9\n/none 1\n");
     }
     Ok(())
+}
+
+/// A folder of as many files as two inputs may have together.
+fn full_folder(alloc: Global) -> Result<ListedFolder, Fail> {
+    let mut folder = folder(alloc, &[], usize::MAX)?;
+    for number in (10_000..42_768u32).rev() {
+        let path = format!(in alloc; "/w/{number}.log")?;
+        folder.paths.push(Text::from_string(path))?;
+    }
+    Ok(folder)
+}
+
+/// The scan is refused for the file of this path.
+fn is_full_at(listed: &Result<Vec<Listed>, ScanError>, wanted: &str) -> bool {
+    match listed {
+        Err(ScanError::TooMany { path }) => path.as_str() == wanted,
+        _ => false,
+    }
 }
 
 #[test]
 fn first_file_too_many_is_told_by_its_path(rt: HostRuntime) -> Result<(), Fail> {
     let alloc = rt.alloc();
     let inputs = inputs(alloc, &[("b", &["/w/*.log"]), ("a", &["/w/*.log"])], &[])?;
-    let mut folder = folder(alloc, &[], usize::MAX)?;
-    for number in (0..32_768u32).rev() {
-        let path = format!(in alloc; "/w/{number:05}.log")?;
-        folder.paths.push(Text::from_string(path))?;
-    }
-    let count = list_files(alloc, &mut folder, &inputs)?.len();
-    folder
-        .paths
-        .push(Text::from_bytes(alloc, b"/w/99999.log")?)?;
-    let listed = list_files(alloc, &mut folder, &inputs);
-    let path = match &listed {
-        Err(ScanError::TooMany { path }) => path.as_str(),
-        _ => "",
-    };
-    assert_eq!(rt; count, 65_536);
-    assert_eq!(rt; path, "/w/99999.log");
+    let mut folder = full_folder(alloc)?;
+    assert!(rt; scan(alloc, &mut folder, &inputs)?.len() == 65_536);
+    folder.paths.push(text(alloc, "/w/99999.log")?)?;
+    let listed = scan(alloc, &mut folder, &inputs);
+    assert!(rt; is_full_at(&listed, "/w/99999.log"));
     folder.failing = 5;
-    let listed = list_files(alloc, &mut folder, &inputs);
+    let listed = scan(alloc, &mut folder, &inputs);
     assert!(rt; matches!(listed, Err(ScanError::Failed)));
     Ok(())
 }
@@ -177,14 +225,16 @@ const LACKS: [(usize, &[(usize, Ask)], Option<&str>); 11] = [
     (0, &[], None),
 ];
 
+/// The first key of the settings that asks for what is not built is this.
+fn lacks(alloc: Global, settings: &Settings, wanted: Option<&str>) -> Result<bool, NoMemory> {
+    Ok(is_key(&first_lack(alloc, settings)?, wanted))
+}
+
 #[test]
 fn first_lack_is_told_in_byte_order(rt: HostRuntime) -> Result<(), Fail> {
-    let alloc = rt.alloc();
     for (inputs, asks, wanted) in &LACKS {
-        let settings = settings(alloc, *inputs, asks)?;
-        let found = first_lack(alloc, &settings)?;
-        let key = found.as_ref().map(|key| key.as_str());
-        assert_eq!(rt; key, *wanted);
+        let settings = settings(rt.alloc(), *inputs, asks)?;
+        assert!(rt; lacks(rt.alloc(), &settings, *wanted)?);
     }
     Ok(())
 }

@@ -1,10 +1,8 @@
-use crate::tests::parts::{text, texts};
+use crate::tests::parts::texts;
 use command_line::*;
+use std::alloc::Global;
+use std::process::Abort;
 use std::test::Fail;
-
-fn read(rt: &HostRuntime, words: &[&str]) -> Result<Option<Words>, Fail> {
-    Ok(read_words(rt.alloc(), texts(rt.alloc(), words)?.as_slice())?)
-}
 
 const REFUSED: [&[&str]; 53] = [
     &[],
@@ -61,14 +59,6 @@ const REFUSED: [&[&str]; 53] = [
     &["-c", "f", "--generate", "1e3"],
     &["-c", "f", "--generate", "18446744073709551617"],
 ];
-
-#[test]
-fn usage_refusals(rt: HostRuntime) -> Result<(), Fail> {
-    for words in REFUSED {
-        assert_eq!(rt; read(&rt, words)?, None, "of {words:?}");
-    }
-    Ok(())
-}
 
 /// The words, and the settings file, the folder, `--once` and the count that they ask for.
 type Taken = (
@@ -130,47 +120,113 @@ const TAKEN: [Taken; 24] = [
     ),
 ];
 
+/// The words ask for this.
+fn ask_for(words: &Words, taken: &Taken) -> bool {
+    let Words {
+        settings,
+        data,
+        once,
+        generate,
+    } = words;
+    settings.as_str() == taken.1
+        && data.as_str() == taken.2
+        && *once == taken.3
+        && *generate == taken.4
+}
+
+/// The words are taken and ask for this, or are refused.
+fn check_words(
+    rt: &impl Abort,
+    alloc: Global,
+    words: &[&str],
+    taken: Option<&Taken>,
+) -> Result<(), Fail> {
+    let texts = texts(alloc, words)?;
+    let as_wanted = match (&read_words(alloc, texts.as_slice())?, taken) {
+        (Some(found), Some(taken)) => ask_for(found, taken),
+        (None, None) => true,
+        _ => false,
+    };
+    assert!(rt; as_wanted, "of {words:?}");
+    Ok(())
+}
+
 #[test]
-fn taken_words_ask_for_what_they_say(rt: HostRuntime) -> Result<(), Fail> {
-    for (words, settings, data, once, generate) in TAKEN {
-        let asked = Words {
-            settings: text(rt.alloc(), settings)?,
-            data: text(rt.alloc(), data)?,
-            once,
-            generate,
-        };
-        assert_eq!(rt; read(&rt, words)?, Some(asked), "of {words:?}");
+fn usage_refusals(rt: HostRuntime) -> Result<(), Fail> {
+    for words in &REFUSED {
+        check_words(&rt, rt.alloc(), words, None)?;
     }
     Ok(())
 }
 
 #[test]
-fn places_stand_in_the_named_folder(rt: HostRuntime) -> Result<(), Fail> {
-    let words = texts(
-        rt.alloc(),
-        &["-c", "/etc/f", "--data", "/v/d", "--generate", "9"],
-    )?;
-    let named = Places {
-        settings: text(rt.alloc(), "/etc/f")?,
-        area_a: text(rt.alloc(), "/v/d/registry.a")?,
-        area_b: text(rt.alloc(), "/v/d/registry.b")?,
-        stop: text(rt.alloc(), "/v/d/stop")?,
-        generate: Some(9),
-    };
-    assert_eq!(rt; places(rt.alloc(), words.as_slice())?, named);
+fn taken_words_ask_for_what_they_say(rt: HostRuntime) -> Result<(), Fail> {
+    for taken in &TAKEN {
+        check_words(&rt, rt.alloc(), taken.0, Some(taken))?;
+    }
+    Ok(())
+}
+
+/// The settings file, the registry's two areas, the bell and the count.
+type Placed = (
+    &'static str,
+    &'static str,
+    &'static str,
+    &'static str,
+    Option<u32>,
+);
+
+/// The places are these.
+fn are_placed(found: &Places, placed: &Placed) -> bool {
+    let Places {
+        settings,
+        area_a,
+        area_b,
+        stop,
+        generate,
+    } = found;
+    settings.as_str() == placed.0
+        && area_a.as_str() == placed.1
+        && area_b.as_str() == placed.2
+        && stop.as_str() == placed.3
+        && *generate == placed.4
+}
+
+/// The words name these places.
+fn check_places(
+    rt: &impl Abort,
+    alloc: Global,
+    words: &[&str],
+    placed: &Placed,
+) -> Result<(), Fail> {
+    let words = texts(alloc, words)?;
+    let found = places(alloc, words.as_slice())?;
+    assert!(rt; are_placed(&found, placed));
     Ok(())
 }
 
 #[test]
+fn places_stand_in_the_named_folder(rt: HostRuntime) -> Result<(), Fail> {
+    let words = ["-c", "/etc/f", "--data", "/v/d", "--generate", "9"];
+    let placed = (
+        "/etc/f",
+        "/v/d/registry.a",
+        "/v/d/registry.b",
+        "/v/d/stop",
+        Some(9),
+    );
+    check_places(&rt, rt.alloc(), &words, &placed)
+}
+
+#[test]
 fn refused_words_have_the_default_places(rt: HostRuntime) -> Result<(), Fail> {
-    let words = texts(rt.alloc(), &["-c", "f", "--data", "d", "--generate", "0"])?;
-    let default = Places {
-        settings: text(rt.alloc(), "beat.toml")?,
-        area_a: text(rt.alloc(), "data/registry.a")?,
-        area_b: text(rt.alloc(), "data/registry.b")?,
-        stop: text(rt.alloc(), "data/stop")?,
-        generate: None,
-    };
-    assert_eq!(rt; places(rt.alloc(), words.as_slice())?, default);
-    Ok(())
+    let words = ["-c", "f", "--data", "d", "--generate", "0"];
+    let placed = (
+        "beat.toml",
+        "data/registry.a",
+        "data/registry.b",
+        "data/stop",
+        None,
+    );
+    check_places(&rt, rt.alloc(), &words, &placed)
 }

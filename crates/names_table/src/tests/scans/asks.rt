@@ -1,4 +1,5 @@
-ghost use Rattle.std.specs.Prelude.{◌≡◌, IfOk};
+ghost use Rattle.std.specs.Prelude.{◌≡◌, IfOk, None};
+ghost use Rattle.glob_paths.specs.Fault.{fault_of};
 ghost use Rattle.prospect.specs.Members.{AreGlobs};
 
 use crate::tests::parts::text;
@@ -6,6 +7,7 @@ use event_tree::*;
 use glob_paths::Glob;
 use std::alloc::Global;
 use std::test::Fail;
+use wire_base::Text;
 
 /// What a setting asks for that is not built.
 #[derive(Clone, Copy, PartialEq, Eq)]
@@ -35,15 +37,22 @@ fn none_or_one(alloc: Global, one: bool) -> Result<Texts, Fail> {
     Ok(ListOf::from_vec(texts))
 }
 
+/// The text, where it is a glob.
+fn glob(alloc: Global, chars: &str) -> Result<Text, Fail>
+    ensures { IfOk result (λ glob. fault_of glob ≡ None) }
+{
+    let glob = text(alloc, chars)?;
+    Glob::read(alloc, &glob)?;
+    Ok(glob)
+}
+
 /// The globs of these texts, which have no fault.
 pub fn globs(alloc: Global, texts: &[&str]) -> Result<Texts, Fail>
     ensures { IfOk result AreGlobs }
 {
     let mut globs = Vec::new(alloc);
     for chars in texts {
-        let glob = text(alloc, chars)?;
-        Glob::read(alloc, &glob)?;
-        globs.push(glob)?;
+        globs.push(glob(alloc, chars)?)?;
     }
     Ok(ListOf::from_vec(globs))
 }
