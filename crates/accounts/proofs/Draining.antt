@@ -1,4 +1,4 @@
--- A run that is done drained its folder: each entry that an input covers was passed over, or its file has a row that stands at the end
+-- A run that is done drained its folder: each entry that an input covers was skipped, or its file has a row that stands at the end
 -- of its last complete line.
 use Rattle.std.proofs.Common.{◌≡◌, ◌⊎◌, inl, inr, ℕ, List, [], ◌∷◌, ◌++◌, Contains, Option, None, Some, refl, sym, ap, subst, ◌∙◌, append-nil}
 use Rattle.std.specs.Prelude.{slice_get}

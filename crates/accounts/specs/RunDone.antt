@@ -39,7 +39,7 @@ pub record WasPassed (run : Run) (shown : Shown) : Type 0 where
   pub opening : ℕ
   pub was : WasGone run.trace opening shown.entry.path
 
--- each entry that an input covers was listed, and each listed one was begun or passed over
+-- each entry that an input covers was listed, and each listed one was begun or skipped
 abbrev pub EachEntryIsServed : Run → Scan → List Filed → Type 0
 EachEntryIsServed run scan files = (shown : Shown) (input : ℕ) (rule : InputRule) → ShowsEntry run.trace scan shown →
     slice_get run.settings.inputs input ≡ Some rule → IsCovered rule.paths shown.entry.path → IsAmongFiles files shown input ⊎ WasPassed run shown
@@ -66,7 +66,7 @@ pub record IsToldWhole (run : Run) (scan : Scan) (first : List Note) (file : Fil
 -- ---- what was told
 
 -- each parcel that files told is acknowledged, and each note that they told, or that settles a parcel, is collected: by counts that
--- are equal and do not stand still
+-- are equal and not saturated
 pub record AreAllCollected (files : List Turned) (workers : List Taken) (collected : List Note) : Type 0 where
   pub parcels_are : AsOften (flat_map parcels_told files) (acknowledged_in workers)
   pub notes_are : AsOften (flat_map notes_told files ++ notes_of (acknowledged_in workers)) collected

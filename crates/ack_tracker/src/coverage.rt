@@ -43,7 +43,7 @@ impl Coverage {
         self.end
     }
 
-    /// One span more is settled. `Err` is want of memory.
+    /// One span more is settled. `Err` means out of memory.
     pub(crate) fn settle(&mut self, span: Span) -> Result<(), NoMemory>
         requires { IsPlace span.end }
         ensures settled { OnOk result (AddsSpan self.old span self.new) }

@@ -108,7 +108,7 @@ impl File {
         self.key == *key
     }
 
-    /// Notes one thing more of the file. `Err` is want of memory, and gives the note back.
+    /// Notes one thing more of the file. `Err` means out of memory, and gives the note back.
     pub(crate) fn note(&mut self, alloc: Global, note: Note) -> Result<(), Note>
         requires { IsNote note }
         ensures noted { OnOk result ((notes : List Note) → MayAdd notes note →

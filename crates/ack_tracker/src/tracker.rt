@@ -66,7 +66,7 @@ impl Tracker {
         })
     }
 
-    /// Notes one thing more, whatever it is. `Err` is want of memory, and gives the note back.
+    /// Notes one thing more, whatever it is. `Err` means out of memory, and gives the note back.
     pub fn note(&mut self, alloc: Global, note: Note) -> Result<(), Note>
         requires { IsNote note }
         ensures noted { OnOk result (self.new.notes ≡ self.old.notes ++ note ∷ []) }

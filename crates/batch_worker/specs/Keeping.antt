@@ -69,7 +69,7 @@ abbrev pub failures_since : List Parcel → ℕ → ℕ
 failures_since [] failures = failures
 failures_since (parcel ∷ parcels) failures = 0
 
--- with one more; the number stands still at 2^32 - 1
+-- with one more; the number saturates at 2^32 - 1
 abbrev pub one_failure_more : ℕ → ℕ
 one_failure_more failures = min (failures + 1) (2 ^ 32 - 1)
 

@@ -104,7 +104,7 @@ impl<L: Link> Worker<L> {
         }
     }
 
-    /// How many failures in a row had no new acknowledgement between them; the number stands still
+    /// How many failures in a row had no new acknowledgement between them; the number saturates
     /// at 4,294,967,295.
     pub fn failures(&self) -> u32
         ensures { result ≡ self.now.failures }

@@ -1,4 +1,4 @@
--- The times of an input: the pause between two scans, how long a file without news stays open, which files are passed over
+-- The times of an input: the pause between two scans, how long a file without news stays open, which files are skipped
 -- for their age, and when a row is cleaned (Filebeat reference, filestream input; the ranges and the defaults that the
 -- reference does not fix are this project's profile).
 use Rattle.std.specs.Prelude.{ℕ, Bool, ◌+◌, ◌==◌, ◌&&◌, not, nat_le, List, [], ◌∷◌, ◌++◌, codes, if◌then◌else◌}

@@ -7,7 +7,7 @@ use std::sync::Wait;
 use std::test::Fail;
 use wire_base::{NoMemory, Text};
 
-/// What a run is given: its words, the log, and the reads and writes that fail.
+/// What a run is given: its arguments, the log, and the reads and writes that fail.
 #[derive(Clone, Copy)]
 struct Case<'a> {
     words: &'a [&'a str],

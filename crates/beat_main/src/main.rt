@@ -1,4 +1,4 @@
-//! The program: makes the objects that its words name, and calls `ship`.
+//! The program: makes the objects that its arguments name, and calls `ship`.
 #![tactic(auto)]
 
 mod objects;

@@ -15,7 +15,7 @@ use wire_base::{NoMemory, Text};
 /// One wire for each worker that a run may have.
 const WIRES: usize = 16;
 
-/// The words of the program, and the objects over files and sockets that they name.
+/// The arguments of the program, and the objects over files and sockets that they name.
 #[derive(Drop)]
 pub struct Objects<R> {
     pub words: Vec<Text>,
@@ -72,7 +72,7 @@ fn wires_of<R: Net<Stream = TcpStream> + Clock>(
     Ok(wires)
 }
 
-/// The words behind the program's name; none where one of them is not UTF-8, which no command takes.
+/// The arguments behind the program's name; none where one of them is not UTF-8, which no command takes.
 fn words_of(rt: &(impl Env + AllocGlobal), alloc: Global) -> Result<Vec<Text>, NoMemory> {
     let mut words = Vec::new(alloc);
     match env::args(rt) {

@@ -43,7 +43,7 @@ rose_since before mid now no_less (inr ended) = inr ended
 
 -- ---- the status
 
--- what is so of want of memory, and of the path of each file, is so of the status that names a file's path
+-- what is so of `NoMemory`, and of the path of each file, is so of the status that names a file's path
 pub named_so : (listed : List Listed) (place : ℕ) (status : Status) (P : Status → Type 0) → place < length listed → (status ≡ NoMemory) ⊎ IfSome (slice_get listed place) (λ one. status ≡ TooMany Epochs one.path) →
     P NoMemory → ((one : Listed) → slice_get listed place ≡ Some one → P (TooMany Epochs one.path)) → P status
 named_so listed place status P within (inl memory) wanting each = subst P (sym memory) wanting
@@ -326,7 +326,7 @@ module _ (settings : SettingsOf) (before now : Signs) (a_faults b_faults : ℕ) 
   caused_earlier NoMemory cause = tt
   caused_earlier (Unbuilt what) cause = absurd cause
 
--- ---- words and settings
+-- ---- arguments and settings
 
 pub prepare_caused : (source : Option (List ℕ)) (signs : Signs) (before now : ℕ) (status : Status) → IsPreparingEnd before now status → Cause source (without_sink signs before) (without_sink signs now) status
 prepare_caused source signs before now Done ends = absurd ends

@@ -34,7 +34,7 @@ pub not_unprepared_printing : (before now : ℕ) (P : Type 0) (ended status : St
 not_unprepared_printing before now P ended status report ends =
     report_cases before now (λ s. IsUnprepared s → P) (λ refused. absurd refused) (λ refused. absurd refused) (λ rose refused. absurd refused) ended status report ends
 
--- ---- the last line alone
+-- ---- the status line alone
 
 -- a status that is no fault of the sink was met as it was printed
 pub was_met : (faulted : Type 0) (status printed other : Status) → ((printed ≡ status) ⊎ ((printed ≡ OutFault) × faulted)) → (OutFault ≡ other → ⊥) → printed ≡ other → status ≡ other

@@ -21,7 +21,7 @@ use Rattle.wire_base.proofs.ByteOrder.{neither_before}
 
 -- ---- settings of the same bytes
 
--- all settings of the same bytes have the same lacks
+-- all settings of the same bytes have the same unsupported keys
 same_lacks : (bytes : List ℕ) (settings other : Settings) → AreSettingsOf bytes settings → AreSettingsOf bytes other → lacks_of settings ≡ lacks_of other
 same_lacks bytes settings other are also =
     let said : AreSettings also.document settings = subst (λ d. AreSettings d settings) (same_Some _ _ (sym are.parsed ∙ also.parsed)) are.said in
@@ -91,7 +91,7 @@ fault_refuses_key (Some bytes) before now status settings key law ends first = �
     settings_cases before now (λ s. ((fault : SettingsError) → s ≡ SettingsFault fault → IsFirstFault (take LIMIT bytes) fault) → RefusesKey key s)
     (λ firsts. tt) (λ firsts. tt) (λ fault firsts. absurd (law (take LIMIT bytes) settings fault are (firsts fault refl))) status ends first
 
--- nothing lacks, so no key is refused
+-- no key is unsupported, so none is refused
 pub no_lack : (source : Option (List ℕ)) (found settings : Settings) (key : List ℕ) (P : Type 0) → IsNamed source found → lacks_of found ≡ [] →
     IfSome source (λ bytes. AreSettingsOf (take LIMIT bytes) settings → IsFirstLack settings key → P)
 no_lack None found settings key P named none = tt

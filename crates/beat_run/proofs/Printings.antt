@@ -8,7 +8,7 @@ use Rattle.report.specs.declared.status.Status.TheVariants.{Done, Stopped, Usage
 use Rattle.beat_run.specs.Ends.{IsRunEnd}
 use Rattle.beat_run.specs.Printed.{HoldsFront, IsPrintable, IsPrinted}
 
--- the last line, or a front of it where the sink failed
+-- the status line, or a front of it where the sink failed
 pub status_printed : (old : Option (List ℕ)) (status : Status) (after : Option (List ℕ)) → IsRunEnd status →
     WritesAll old (status_bytes status) (Ok tt) after → IfSome old (λ written. IsPrinted written after status)
 status_printed None status after ends writes = tt

@@ -28,7 +28,7 @@ keyless : (source : Option (List ℕ)) → ((settings : Settings) (key : List �
 keyless None never is = absurd is
 keyless (Some bytes) never is = never is.1.settings is.0 is.1.are is.1.first
 
--- once words and settings are found good, only the areas may refuse a run
+-- once arguments and settings are found good, only the areas may refuse a run
 pub refused_by_areas : (words : List (List ℕ)) (source first second : Option (List ℕ)) (P : Type 0) → (IsNoCommand words → ⊥) → ((lack : Lack) → AskFor words lack → ⊥) →
     ((fault : SettingsError) → IfSome source (λ bytes. IsFirstFault (take LIMIT bytes) fault → ⊥)) →
     ((settings : Settings) (key : List ℕ) → IfSome source (λ bytes. AreSettingsOf (take LIMIT bytes) settings → IsFirstLack settings key → ⊥)) →

@@ -1,5 +1,5 @@
--- What the words and the settings ask for (this project's profile): that files are read once; or what is not built yet, to
--- go on at the end of the files, to generate them, or what a key of the settings says.
+-- What the arguments and the settings ask for (this project's profile): that files are read once; or what is not built
+-- yet, to go on at the end of the files, to generate them, or what a key of the settings says.
 use Rattle.std.specs.Prelude.{◌≡◌, ℕ, true, false, List, Option, IsSome}
 use Rattle.command_line.specs.Words.{IsCommand}
 use Rattle.command_line.specs.declared.words.Words.{Words}
@@ -9,19 +9,19 @@ use Rattle.report.specs.declared.status.Lack.{Lack}
 use Rattle.report.specs.declared.status.Lack.TheVariants.{Key, Follow, Generate}
 use Rattle.beat_run.specs.Named.{IsNamed}
 
--- by what the words ask for
+-- by what the arguments ask for
 abbrev pub LacksFor : Words → Lack → Type 0
 LacksFor asked Follow = asked.once ≡ false
 LacksFor asked Generate = (asked.once ≡ true) × IsSome asked.generate
 LacksFor asked (Key key) = ⊥
 
--- the command takes the words, and they ask for it
+-- the command takes the arguments, and they ask for it
 pub record AskFor (words : List (List ℕ)) (lack : Lack) : Type 0 where
   pub asked : Words
   pub taken : IsCommand words asked
   pub lacks : LacksFor asked lack
 
--- the command takes the words, and they ask for files that are read once
+-- the command takes the arguments, and they ask for files that are read once
 pub record AskForOnce (words : List (List ℕ)) : Type 0 where
   pub asked : Words
   pub taken : IsCommand words asked
@@ -33,7 +33,7 @@ pub record AsksByKey (source : Option (List ℕ)) (key : List ℕ) : Type 0 wher
   pub named : IsNamed source settings
   pub first : IsFirstLack settings key
 
--- the words or the settings ask for it
+-- the arguments or the settings ask for it
 abbrev pub IsAsked : List (List ℕ) → Option (List ℕ) → Lack → Type 0
 IsAsked words source Follow = AskFor words Follow
 IsAsked words source Generate = AskFor words Generate

@@ -93,7 +93,7 @@ pub record HasCauseByNamed (source : Option (List ℕ)) (before now : Signs) (st
   pub named : IsNamed source settings
   pub by : CauseBy settings before now status
 
--- which words, settings and areas are refused, and what is done, is told by clauses of their own
+-- which arguments, settings and areas are refused, and what is done, is told by clauses of their own
 abbrev pub Cause : Option (List ℕ) → AllSigns → AllSigns → Status → Type 0
 Cause source before now Done = Unit {0}
 Cause source before now Stopped = Rose before.signs.counts.rings now.signs.counts.rings

@@ -18,7 +18,7 @@ use Rattle.report.specs.declared.status.Lack.{Lack}
 use Rattle.report.specs.declared.status.Status.{Status}
 use Rattle.report.specs.declared.status.Status.TheVariants.{Done, Stopped, Usage, Settings, RegistryBad, DiskFault, FolderFault, Unreachable, OutFault, SourceFault, TooMany, NoNative, NoMemory, Unbuilt}
 
--- reading the words
+-- reading the arguments
 abbrev pub IsWordsEnd : Status → Type 0
 IsWordsEnd Usage = Unit {0}
 IsWordsEnd NoMemory = Unit {0}
@@ -97,7 +97,7 @@ IsReportEnd Done = Unit {0}
 IsReportEnd Stopped = Unit {0}
 IsReportEnd _ = ⊥
 
--- a run that tells its last line alone
+-- a run that prints its status line alone
 abbrev pub IsRunEnd : Status → Type 0
 IsRunEnd Done = ⊥
 IsRunEnd Stopped = ⊥
@@ -134,21 +134,21 @@ IsUnprepared (Unbuilt Follow) = Unit {0}
 IsUnprepared (Unbuilt Generate) = Unit {0}
 IsUnprepared _ = ⊥
 
--- words that the command refuses end the run so
+-- arguments that the command refuses end the run so
 abbrev pub RefusesWords : Status → Type 0
 RefusesWords Usage = Unit {0}
 RefusesWords NoMemory = Unit {0}
 RefusesWords OutFault = Unit {0}
 RefusesWords _ = ⊥
 
--- words that ask for what is not built end the run so
+-- arguments that ask for what is not built end the run so
 abbrev pub RefusesLack : Lack → Status → Type 0
 RefusesLack lack (Unbuilt what) = what ≡ lack
 RefusesLack lack NoMemory = Unit {0}
 RefusesLack lack OutFault = Unit {0}
 RefusesLack lack _ = ⊥
 
--- the words, the source, want of memory or the sink end the run before its settings are known
+-- the arguments, the source, out of memory or the sink end the run before its settings are known
 abbrev pub IsEarlier : Status → Type 0
 IsEarlier Usage = Unit {0}
 IsEarlier (Unbuilt Follow) = Unit {0}

@@ -1,4 +1,4 @@
--- What a run prints (this project's profile): where it is done or stopped, the report; else the last line alone.
+-- What a run prints (this project's profile): where it is done or stopped, the report; else the status line alone.
 use Rattle.std.specs.Prelude.{◌≡◌, ◌⊎◌, ℕ, List, ◌++◌, take, Option, Some}
 use Rattle.report.specs.Report.{IsReport, status_bytes}
 use Rattle.report.specs.declared.passing.Passing.{Passing}
@@ -28,7 +28,7 @@ pub record Prints (Kind : List ℕ → Type 0) (written : List ℕ) (after : Opt
   pub is : Kind text
   pub held : after ≡ Some (written ++ text)
 
--- a text that a run may print: a report, or the last line of a run that tells none
+-- a text that a run may print: a report, or the status line of a run that tells none
 abbrev pub IsPrintable : List ℕ → Type 0
 IsPrintable text =
     ((status : Status) × (IsReportEnd status × IsReportOf status text))
@@ -41,8 +41,8 @@ pub record HoldsFront (written : List ℕ) (after : Option (List ℕ)) : Type 0 
   pub count : ℕ
   pub held : after ≡ Some (written ++ take count text)
 
--- the last line stands behind what the sink held, or a front of what was to be printed where the sink failed; a run that is
--- done or stopped prints a report
+-- the status line stands behind what the sink held, or a front of what was to be printed where the sink failed; a run that
+-- is done or stopped prints a report
 abbrev pub IsPrinted : List ℕ → Option (List ℕ) → Status → Type 0
 IsPrinted written after Done = Prints (IsReportOf Done) written after
 IsPrinted written after Stopped = Prints (IsReportOf Stopped) written after

@@ -17,8 +17,8 @@ pub record AskByKey (bytes key : List ℕ) : Type 0 where
   pub are : AreSettingsOf bytes settings
   pub first : IsFirstLack settings key
 
--- the command refuses the words, or they ask for what is not built; the settings have a fault, or ask for what is not
--- built; or both areas tell, and are refused
+-- the command refuses the arguments, or they ask for what is not built; the settings have a fault, or ask for what is
+-- not built; or both areas tell, and are refused
 abbrev pub IsRefused : List (List ℕ) → Option (List ℕ) → Option (List ℕ) → Option (List ℕ) → Type 0
 IsRefused words source first second =
     IsNoCommand words

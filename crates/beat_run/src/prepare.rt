@@ -18,7 +18,7 @@ use report::{Lack, Status};
 use std::alloc::Global;
 use wire_base::{NoMemory, Text};
 
-/// Everything before the registry: the words, the settings, and what they ask for.
+/// Everything before the registry: the arguments, the settings, and what they ask for.
 pub fn prepare<R: Source>(alloc: Global, words: &[Text], source: &mut R) -> Result<Settings, Status>
     ensures settings { IfOk result (IsNamed (R.left source.old)) }
     ensures in_range { IfOk result AreInRange }
@@ -48,7 +48,7 @@ pub fn prepare<R: Source>(alloc: Global, words: &[Text], source: &mut R) -> Resu
     }
 }
 
-/// Answers Ok where the words ask for files that are read once.
+/// Answers Ok where the arguments ask for files that are read once.
 fn check_words(alloc: Global, words: &[Text]) -> Result<(), Status>
     ensures once { OnOk result (AskForOnce words.now) }
     ensures usage_only { IsErrOf result Status.Usage → IsNoCommand words.now }

@@ -1,4 +1,4 @@
-//! The receiver's program: makes the objects that its words name, and calls `receive`. It prints nothing.
+//! The receiver's program: makes the objects that its arguments name, and calls `receive`. It prints nothing.
 #![tactic(auto)]
 
 mod objects;

@@ -12,7 +12,7 @@ use std::rt::Files;
 use std::time::Clock;
 use wire_base::{NoMemory, Text};
 
-/// The words of the program, and the objects over sockets and files that they name.
+/// The arguments of the program, and the objects over sockets and files that they name.
 #[derive(Drop)]
 pub struct Objects<R> {
     pub words: Vec<Text>,
@@ -47,7 +47,7 @@ fn stop_file(alloc: Global) -> Result<Text, NoMemory> {
     Ok(Text::from_string(String::from_str(alloc, "stop")?))
 }
 
-/// The words behind the program's name; none where one of them is not UTF-8, which no command takes.
+/// The arguments behind the program's name; none where one of them is not UTF-8, which no command takes.
 fn words_of(rt: &(impl Env + AllocGlobal), alloc: Global) -> Result<Vec<Text>, NoMemory> {
     let mut words = Vec::new(alloc);
     match env::args(rt) {

@@ -1,4 +1,4 @@
--- What the definition of the command comes to at plain words.
+-- What the definition of the command comes to at plain arguments.
 use Rattle.std.proofs.Common.{◌≡◌, refl, sym, subst, ap₂, ◌∙◌, ◌==◌, ◌&&◌, cond, is_some, List, ℕ, Bool, [], ◌∷◌, ◌++◌, codes, Option, Some, None, IsSomeAnd, true, false, inl, inr, arith}
 use Rattle.std.proofs.lemmas.Bool.{false≢true}
 use Rattle.std.specs.Str.{bytes_eq}
@@ -15,7 +15,7 @@ use Rattle.command_line.specs.Words.{AsksFor, IsCommand, IsGenerateBy, IsNoComma
 use Rattle.command_line.specs.declared.words.Words.{Words}
 use Rattle.wire_base.specs.Decimal.{value_of}
 
--- ---- words that are taken
+-- ---- arguments that are taken
 
 abbrev pub once_over : List ℕ → Words
 once_over file = record {
@@ -102,7 +102,7 @@ file_has_no_fault file plain dashes = rw (plain, dashes) (rw plain refl)
 abbrev pub apart_words : List ℕ → List (List ℕ)
 apart_words file = codes "-c" ∷ file ∷ codes "--once" ∷ []
 
--- the faults of those words, by what FILE comes to
+-- the faults of those arguments, by what FILE comes to
 abbrev faults_by : Kinds → Walk → Kinds
 faults_by at_file behind =
     let end = walked top.rules [] behind (codes "--once") in
@@ -150,9 +150,9 @@ apart_is_taken file plain = (apart_has_no_fault file plain (no_dashes file plain
         by_test true h = cc
         by_test false h = refl
 
--- ---- words that are refused
+-- ---- arguments that are refused
 
--- no words are both taken and refused
+-- no arguments are both taken and refused
 pub not_both : (words : List (List ℕ)) (asked : Words) → IsCommand words asked → IsNoCommand words → ⊥
 not_both words asked taken (inl fault) = fault taken.0
 not_both words asked taken (inr no_count) = go (first_of (codes "generate") (matches_of beat_command words)) taken.1.generate no_count

@@ -47,7 +47,7 @@ pub some_count : (o : Option (List ℕ)) (digits : List ℕ) (r : Option ℕ) (n
 some_count o digits r n is count made =
     subst (λ (x : Option (List ℕ)). IsGenerateBy x r) (sym is) (count.0, made ∙ ap (λ k. Some k) count.1)
 
--- `==` tells the words from a default
+-- `==` tells the command line from a default
 is_words : (E : ValueSource → ValueSource → Bool) → E CommandLine CommandLine ≡ true → E DefaultValue CommandLine ≡ false
     → (o : Option ValueSource) → IsTrue (option_eq E o (Some CommandLine)) ↔ (o ≡ Some CommandLine)
 is_words E same other None = (λ no. absurd (false≢true no), λ no. cc)
@@ -64,7 +64,7 @@ source_test f id o b E same other got test =
     subst (λ (x : Bool). IsTrue x ↔ (source_of id (rows_of f) ≡ Some CommandLine)) (sym test)
     (subst (λ (x : Option ValueSource). IsTrue (option_eq E o (Some CommandLine)) ↔ (x ≡ Some CommandLine)) row (is_words E same other o))
 
--- what the rows ask for is what the words ask for, where clap takes them
+-- what the rows ask for is what the arguments ask for, where clap takes them
 pub asks_of_words : (words : List (List ℕ)) (rows : List Row) (found : Option Words) → fault_of beat_command words ≡ []
     → rows ≡ matches_of beat_command words → MatchOption found (HasNoCount rows) (AsksFor rows)
     → MatchOption found (IsNoCommand words) (IsCommand words)

@@ -30,7 +30,7 @@ use Rattle.clap.proofs.SimpleLemmas.{ready_simple, simple_groups}
 use Rattle.clap.proofs.TakesLemmas.{each_rule, free_arg}
 use Rattle.command_line.specs.Command.{beat_command, config_option, data_option}
 
--- ---- which words are taken
+-- ---- which arguments are taken
 
 pub ok_taken : {T : Type 0} (kinds : Kinds) (r : Result T Error) → FailsBy kinds r → IfOk r (λ _. kinds ≡ [])
 ok_taken kinds (Ok x) h = h

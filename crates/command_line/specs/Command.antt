@@ -1,4 +1,4 @@
--- The command that reads the words, as clap defines one (this project's profile).
+-- The command that reads the arguments, as clap defines one (this project's profile).
 use Rattle.std.specs.Prelude.{[], ◌∷◌, Some, true, codes}
 use Rattle.clap.specs.Walk.{Rule}
 use Rattle.clap.specs.Simple.{App, new_rule, new_shape}
@@ -33,7 +33,7 @@ generate_option = record (new_rule (codes "generate")) {
 }
 
 -- these four and no other: no positional argument, no help and no version; the program's name is
--- none of the words
+-- none of the arguments
 abbrev pub beat_command : App
 beat_command = record {
   top = record (new_shape (codes "beat_main")) {

@@ -11,7 +11,7 @@ defaults = record {
   generate = None;
 }
 
--- what the words ask for, or the defaults where the command refuses them
+-- what the arguments ask for, or the defaults where the command refuses them
 abbrev pub IsAskedOrDefault : List (List ℕ) → Words → Type 0
 IsAskedOrDefault words asked = IsCommand words asked ⊎ (IsNoCommand words × (asked ≡ defaults))
 

@@ -1,4 +1,4 @@
--- What the words ask for, and which words are refused (this project's profile).
+-- What the arguments ask for, and which are refused (this project's profile).
 use Rattle.std.specs.Prelude.{◌≡◌, ◌≢◌, ◌↔◌, ◌⊎◌, ℕ, List, [], Option, Some, None, IsSomeAnd, IsTrue, codes}
 use Rattle.std.specs.Prelude.{find, option_and_then}
 use Rattle.std.specs.Str.{bytes_eq}
@@ -12,9 +12,9 @@ use Rattle.command_line.specs.LineCount.{IsLineCount}
 use Rattle.command_line.specs.declared.words.Words.{Words}
 use Rattle.wire_base.specs.Decimal.{value_of}
 
--- ---- what clap finds in the words, a row for each argument
+-- ---- what clap finds, a row for each argument
 
--- where the value of this argument comes from: the words or its default
+-- where the value of this argument comes from: the command line or its default
 abbrev pub source_of : List ℕ → List Row → Option ValueSource
 source_of id rows = option_and_then (λ row. row.source) (find (λ row. bytes_eq row.id id) rows)
 
@@ -35,13 +35,13 @@ HasNoCount rows = IsSomeAnd (first_of (codes "generate") rows) (λ digits. ¬ (I
 
 -- ---- the command
 
--- the command takes the words, and they ask for this
+-- the command takes the arguments, and they ask for this
 abbrev pub IsCommand : List (List ℕ) → Words → Type 0
 IsCommand words asked =
     (fault_of beat_command words ≡ []) × AsksFor (matches_of beat_command words) asked
 
--- the command refuses the words: clap finds a fault in them (a word that the command does not know or
--- a request for help, an argument given twice or without its value, no `--config`), or the value of
+-- the command refuses the arguments: clap finds a fault in them (one that the command does not know or
+-- a request for help, one given twice or without its value, no `--config`), or the value of
 -- `--generate` is no such number
 abbrev pub IsNoCommand : List (List ℕ) → Type 0
 IsNoCommand words =

@@ -7,7 +7,7 @@ use clap::error::ErrorKind;
 use clap::{Arg, ArgAction, ArgMatches, Command, Error};
 use std::alloc::{AllocError, Global};
 
-/// What the command finds in the words.
+/// What the command finds in the arguments.
 pub(crate) fn parse<'a>(alloc: Global, words: &'a [&'a str]) -> Result<ArgMatches<'a>, Error>
     ensures taken { IfOk result (λ _. fault_of beat_command (map (λ word. word.now) words.now) ≡ []) }
     ensures refused { IfErr result (λ error. (kind_of error ≡ ErrorKind.OutOfMemory)

@@ -7,8 +7,9 @@ use crate::words::Words;
 use std::alloc::Global;
 use wire_base::{NoMemory, Text};
 
-/// The places that the words name: the settings file, and in the data folder the areas `registry.a` and `registry.b`
-/// and the file `stop`. Where the command refuses the words, `beat.toml`, the folder `data` and no generator.
+/// The places that the arguments name: the settings file, and in the data folder the areas `registry.a` and
+/// `registry.b` and the file `stop`. Where the command refuses the arguments, `beat.toml`, the folder `data` and no
+/// generator.
 pub fn places(alloc: Global, words: &[Text]) -> Result<Places, NoMemory>
     ensures settings_named_or_default { IfOk result (λ places. IsSettingsPlace words.now places.settings) }
     ensures first_area_in_data { IfOk result (λ places. IsInData words.now (codes "/registry.a") places.area_a) }

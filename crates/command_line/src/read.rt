@@ -11,8 +11,8 @@ use clap::parser::ValueSource;
 use std::alloc::Global;
 use wire_base::{NoMemory, Text};
 
-/// What the words ask for; `None` exactly where the command refuses them. The program's name is none of the words.
-/// An `Err` is want of memory.
+/// What the arguments ask for; `None` exactly where the command refuses them. The program's name is none of them.
+/// An `Err` means out of memory.
 pub fn read_words(alloc: Global, words: &[Text]) -> Result<Option<Words>, NoMemory>
     ensures asked_exactly_where_taken { IfOk result (λ found.
         MatchOption found (IsNoCommand words.now) (IsCommand words.now)) }
@@ -56,7 +56,7 @@ fn words_of(alloc: Global, matches: &ArgMatches) -> Result<Option<Words>, NoMemo
     }))
 }
 
-/// Whether the argument has its value from the words, and not from a default.
+/// Whether the argument has its value from the command line, and not from a default.
 fn is_in_words(matches: &ArgMatches, id: &str) -> bool
     ensures { IsTrue result ↔ (source_of id.now (rows_of (found_of matches.now)) ≡ Some ValueSource.CommandLine) }
 {

@@ -1,6 +1,6 @@
 use wire_base::Text;
 
-/// What the words ask for.
+/// What the arguments ask for.
 #[derive(Debug, Drop, PartialEq, Eq)]
 pub struct Words {
     /// The settings file, `-c FILE`.

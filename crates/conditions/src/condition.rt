@@ -23,7 +23,7 @@ pub struct Condition {
 
 impl Condition {
     /// Reads the rule's paths and compiles its patterns. A pattern that is too large when it is compiled is told as
-    /// want of memory.
+    /// out of memory.
     pub fn new(alloc: Global, rule: &ConditionRule) -> Result<Condition, NoMemory>
         requires { IsConditionInRange 16 rule.now }
         ensures { IfOk result (Asks rule.now) }

@@ -6,7 +6,7 @@
 //!
 //! A `Condition` is made of a rule of the settings, nested at most 16 deep. It reads the rule's paths and compiles its
 //! patterns once, for as long as it lives, and none for an event; its truth values are those of the definition. A
-//! contract speaks of it by the rules that it asks, which are the same after each call, also after want of memory. The
+//! contract speaks of it by the rules that it asks, which are the same after each call, also where memory was out. The
 //! laws say what the joined conditions are over the lists that settings hold, and what it is that a text stands within
 //! another. Nothing here reads settings.
 #![tactic(auto)]

@@ -1,5 +1,5 @@
--- The words of the program (this project's profile): exactly `--format F --stream S`, F being `cri` or `docker` and S
--- `all`, `stdout` or `stderr`.
+-- The arguments of the program (this project's profile): exactly `--format F --stream S`, F being `cri` or `docker` and
+-- S `all`, `stdout` or `stderr`.
 use Rattle.std.specs.Prelude.{ℕ, ◌&&◌, List, [], ◌∷◌, codes, Option, Some, None, option_map, option_and_then, if◌then◌else◌}
 use Rattle.std.specs.Str.{bytes_eq}
 use Rattle.container_lines.specs.declared.format.Format.{Format}
@@ -22,7 +22,7 @@ abbrev pub asked_by : List ℕ → List ℕ → List ℕ → List ℕ → Option
 asked_by first format second stream =
     if bytes_eq first (codes "--format") && bytes_eq second (codes "--stream") then option_and_then (λ named. option_map (λ keep. asked named keep) (keep_named stream)) (format_named format) else None
 
--- what the words ask for; none where they are not these
+-- what the arguments ask for; none where they are not these
 abbrev pub asked_of : List (List ℕ) → Option Asked
 asked_of [] = None
 asked_of (first ∷ []) = None

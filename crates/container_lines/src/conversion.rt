@@ -165,7 +165,7 @@ impl Conversion {
 }
 
 /// The lines of no format, with one more that begins at this place. No log has so many lines that their number does not
-/// fit; that it does not is answered as want of memory.
+/// fit; that it does not is answered as out of memory.
 fn noted(bad: Option<BadLines>, start: u64) -> Result<BadLines, NoMemory>
     ensures { IfOk result (λ found. found ≡ noted bad start) }
 {

@@ -15,7 +15,7 @@ pub struct BadLines {
 pub enum ContainerStatus {
     /// Each complete line is of the format.
     Done,
-    /// The words are not those of the program.
+    /// The arguments are not those of the program.
     Usage,
     SourceFault,
     /// Lines are not of the format; the first begins at `first`, and `count` is their number.

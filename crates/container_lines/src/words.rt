@@ -5,14 +5,14 @@ use crate::format::{Format, Keep};
 use crate::part::stream_named;
 use wire_base::Text;
 
-/// What the words ask for.
+/// What the arguments ask for.
 #[derive(Clone, Copy, Debug, PartialEq, Eq)]
 pub struct Asked {
     pub format: Format,
     pub keep: Keep,
 }
 
-/// What the words ask for; `None` exactly where they are not `--format F --stream S`.
+/// What the arguments ask for; `None` exactly where they are not `--format F --stream S`.
 pub fn read_words(words: &[Text]) -> Option<Asked>
     ensures { result ≡ asked_of words.now }
 {
@@ -31,7 +31,7 @@ pub fn read_words(words: &[Text]) -> Option<Asked>
     Some(Asked { format, keep })
 }
 
-/// The format that this word names.
+/// The format that this argument names.
 fn format_named(name: &[u8]) -> Option<Format>
     ensures { result ≡ format_named name.now }
 {
@@ -44,7 +44,7 @@ fn format_named(name: &[u8]) -> Option<Format>
     }
 }
 
-/// The streams that this word names.
+/// The streams that this argument names.
 fn keep_named(name: &[u8]) -> Option<Keep>
     ensures { result ≡ keep_named name.now }
 {

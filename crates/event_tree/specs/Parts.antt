@@ -20,7 +20,7 @@ empty_place [] = None
 empty_place ([] ∷ parts) = Some 0
 empty_place ((byte ∷ bytes) ∷ parts) = option_map (λ at. length (byte ∷ bytes) + 1 + at) (empty_place parts)
 
--- `at` is the byte place of the first empty part; want of memory may come with any text
+-- `at` is the byte place of the first empty part; out of memory may come with any text
 abbrev pub IsPathRefusal : List ℕ → PathError → Type 0
 IsPathRefusal text (EmptyPart at) = empty_place (parts_of text) ≡ Some at
 IsPathRefusal text NoMemory = Unit {0}

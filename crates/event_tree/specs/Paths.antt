@@ -31,7 +31,7 @@ abbrev pub get_at : Parts → TreeValue → Option TreeValue
 get_at [] v = Some v
 get_at (part ∷ parts) v = option_and_then (get_at parts) (member_at part v)
 
--- a part whose holder is no map; a part that its holder lacks; else what the later parts say of its value
+-- a part whose holder is no map; a part that its holder does not have; else what the later parts say of its value
 abbrev pub blocked_by : Option (Option TreeValue) → (TreeValue → Option ℕ) → Option ℕ
 blocked_by None later = Some 0
 blocked_by (Some None) later = None

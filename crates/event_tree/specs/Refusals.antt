@@ -1,4 +1,4 @@
--- When a change of a tree is refused (this project's profile). Want of memory may come with any.
+-- When a change of a tree is refused (this project's profile). Out of memory may come with any.
 use Rattle.std.specs.Prelude.{◌≡◌, Some, None, IsSome, IsNone}
 use Rattle.event_tree.specs.Value.{TreeValue}
 use Rattle.event_tree.specs.Paths.{Parts, get_at, blocked_at}

@@ -77,7 +77,7 @@ impl Fields {
         }
     }
 
-    /// Replaces the key's value. `Err` is want of memory, and gives both back.
+    /// Replaces the key's value. `Err` means out of memory, and gives both back.
     pub fn set(&mut self, key: Text, value: Tree) -> Result<(), (Text, Tree)>
         ensures set { OnOk result (self.new ≡ set_field key (value_of value) self.old) }
         ensures found { OnOk result (find key self.new ≡ Some (value_of value)) }

@@ -18,8 +18,8 @@ pub struct InputRule {
     pub clean_removed: bool,
     /// How long a file without news stays open, 1 to 86,400,000 milliseconds.
     pub close_inactive: u64,
-    /// A file that has not changed for this long, 0 to 31,536,000,000 milliseconds, is passed over; 0
-    /// passes over none.
+    /// A file that has not changed for this long, 0 to 31,536,000,000 milliseconds, is skipped; 0
+    /// skips none.
     pub ignore_older: u64,
     /// The row of a file that has not changed for this long, 0 to 31,536,000,000 milliseconds, goes; 0
     /// keeps each. Where it is not 0, it is above `ignore_older` and `check_interval` together.

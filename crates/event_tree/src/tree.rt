@@ -106,7 +106,7 @@ impl Tree {
 
     /// Moves what stands at one path to another. The three refusals are of the tree as it stands
     /// before, the first that holds in the order in which they are listed; each leaves the tree as it
-    /// was. The tree is copied, so that want of memory leaves it, too.
+    /// was. The tree is copied, so that it stays where memory is out, too.
     pub fn rename(
         &mut self,
         alloc: Global,

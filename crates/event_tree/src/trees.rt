@@ -61,7 +61,7 @@ impl Trees {
         &self.trees[i]
     }
 
-    /// `Err` is want of memory, and gives the tree back.
+    /// `Err` means out of memory, and gives the tree back.
     pub fn push(&mut self, tree: Tree) -> Result<(), Tree>
         ensures pushed { OnOk result (self.new ≡ self.old ++ value_of tree ∷ []) }
         ensures kept { OnErr result (self.new ≡ self.old) }

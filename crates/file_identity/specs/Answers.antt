@@ -65,7 +65,7 @@ pub record IsAsked (id : List ℕ) (rule : IdentityRule) (path : List ℕ) (numb
   pub added : Adds told looks after
   pub gave : IsGiven id rule path (with_numbers numbers told.file) looks result
 
--- ---- refusals; want of memory may come with any
+-- ---- refusals; out of memory may come with any
 
 -- the kind is native and no numbers were told
 abbrev pub LacksNumbers : IdentityRule → Option (ℕ × ℕ) → Type 0

@@ -34,8 +34,8 @@ impl Model for Glob {
 }
 
 impl Glob {
-    /// The glob of a text, or the first fault from the left. `NoMemory` is answered for want of
-    /// memory, and for a depth above 4,294,967,295.
+    /// The glob of a text, or the first fault from the left. `NoMemory` means out of
+    /// memory, or a depth above 4,294,967,295.
     pub fn read(alloc: Global, text: &Text) -> Result<Glob, GlobError>
         ensures of_the_text { IfOk result (λ glob. glob ≡ text.now) }
         ensures without_fault { IfOk result (λ _. fault_of text.now ≡ None) }

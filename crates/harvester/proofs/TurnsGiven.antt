@@ -188,7 +188,7 @@ module _ {T : Type 0} (numbers : T → Option (ℕ × ℕ)) (told : T → Option
       (ends : did.stage ≡ Ended → EndsHere told may_end h old new)
       (due : (did.licences ≡ []) ⊎ MayFlush now did.stage did.licences (with_read now did.bytes h))
       (still : h.stage ≡ Ended → did.stage ≡ Ended) (asks : h.stage ≡ Reads → did.stage ≡ Asks → NoneCloses h) where
-    -- a fault, or want of memory
+    -- a fault, or out of memory
     pub goes_refused : HasTold numbers told (did_with now [] did h) new → (result : Result Turn TurnError) → IsErr result →
         Goes numbers told most now may_end h old (answer_of result) new
     goes_refused has (Ok answer) err = absurd (let no : false ≡ true = err in cc)

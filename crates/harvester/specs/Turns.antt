@@ -89,7 +89,7 @@ pub record IsEnd {T : Type 0} (told : T → Option TailHistory) (now : ℕ) (may
   pub last_line : last_line_of new ≡ after.last_line
   pub which : (before.stage ≡ Ended) ⊎ EndsNow told now may_end before did after old new
 
--- no event was told, and memory was not wanting
+-- no event was told, and memory was not out
 abbrev pub IsQuiet : Turn → Type 0
 IsQuiet turn.More = Unit {0}
 IsQuiet turn.AtEnd = Unit {0}
@@ -98,8 +98,8 @@ IsQuiet turn.Changed = Unit {0}
 IsQuiet turn.EpochsOut = Unit {0}
 IsQuiet answer = ⊥
 
--- when each answer comes; a fault is told by the tail's count, and want of memory is free. Which key the file had the looks
--- tell: where it is read or asked on, has another key, or its last epoch is over
+-- when each answer comes; a fault is told by the tail's count, and out of memory needs no cause. Which key the file had the
+-- looks tell: where it is read or asked on, has another key, or its last epoch is over
 abbrev pub IsCaused : {T : Type 0} → (T → Option TailHistory) → ℕ → Bool → History → Did → History → Harvester T → Turn → Harvester T → Type 0
 IsCaused told now may_end before did after old (turn.Issued parcel) new = MayTurn did.stage
 IsCaused told now may_end before did after old (turn.Passed span rule) new = MayTurn did.stage

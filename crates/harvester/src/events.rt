@@ -23,7 +23,7 @@ pub(crate) struct Events {
     pub(crate) lines: LineRule,
     pub(crate) cutter: Cutter,
     pub(crate) grouper: Grouper,
-    /// A line that is cut and, for want of memory, not gathered yet.
+    /// A line that is cut and, since memory was out, not gathered yet.
     pub(crate) line: Option<Line>,
     pub(crate) closed: Option<Group>,
     /// When the last line was read that was gathered.
@@ -182,7 +182,7 @@ impl Events {
         }
     }
 
-    /// Gathers one more line, and keeps it where memory is wanting; whether it closes an event.
+    /// Gathers one more line, and keeps it where memory is out; whether it closes an event.
     fn gather(&mut self, alloc: Global, line: Line, now: Moment) -> Result<bool, NoMemory>
         requires no_line { self.old.line ≡ None }
         requires none_closed { self.old.closed ≡ None }

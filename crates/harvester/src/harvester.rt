@@ -30,8 +30,8 @@ pub struct Harvester<T> {
 }
 
 impl<T: Tail> Harvester<T> {
-    /// Follows the file on from its begin's place. `Err` is want of memory, and gives the tail back; a pattern that is too
-    /// large when it is compiled is told as that, too.
+    /// Follows the file on from its begin's place. `Err` means out of memory, and gives the tail back; a pattern that is
+    /// too large when it is compiled is told as that, too.
     pub fn open(
         alloc: Global,
         rule: &InputRule,

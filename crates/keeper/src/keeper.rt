@@ -64,7 +64,7 @@ impl Model for Keeper {
 }
 
 impl Keeper {
-    /// A keeper over the rows of a store, which is open. `Err` is want of memory.
+    /// A keeper over the rows of a store, which is open. `Err` means out of memory.
     pub fn new(
         alloc: Global,
         store: Store,
@@ -98,7 +98,7 @@ impl Keeper {
         (self.store, self.pass)
     }
 
-    /// Notes one thing more. `Err` is want of memory, and gives the note back.
+    /// Notes one thing more. `Err` means out of memory, and gives the note back.
     pub fn tell(&mut self, alloc: Global, note: Note) -> Result<(), Note>
         requires range { IsNote note }
         requires few { HasRoomFor self.old.store.rows self.old.tracked note }
@@ -206,7 +206,7 @@ impl Keeper {
         self.store.rows()
     }
 
-    /// How many notes were collected that settle what a peer acknowledged. The count stands still at
+    /// How many notes were collected that settle what a peer acknowledged. The count saturates at
     /// 2^64 - 1.
     pub fn shipped(&self) -> u64
         ensures { result ≡ self.now.shipped }
@@ -214,7 +214,7 @@ impl Keeper {
         self.shipped
     }
 
-    /// How many notes were collected that settle what a rule dropped. The count stands still at
+    /// How many notes were collected that settle what a rule dropped. The count saturates at
     /// 2^64 - 1.
     pub fn dropped(&self) -> u64
         ensures { result ≡ self.now.dropped }
@@ -222,7 +222,7 @@ impl Keeper {
         self.dropped
     }
 
-    /// How many notes were collected. The count stands still at 2^64 - 1.
+    /// How many notes were collected. The count saturates at 2^64 - 1.
     pub fn collected(&self) -> u64
         ensures { result ≡ self.now.collected }
     {

@@ -1,5 +1,5 @@
 -- A drained folder (this project's profile): the first scan is whole, and each entry that a glob of an input covers was
--- passed over for its named reason, or its file was found with another key in a new life, or its key has a row that stands
+-- skipped for its named reason, or its file was found with another key in a new life, or its key has a row that stands
 -- at the end of the last complete line before the file's end.
 use Rattle.std.specs.Prelude.{◌≡◌, ◌≢◌, ◌⊎◌, ℕ, max, List, [], ◌∷◌, ◌++◌, Contains, slice_get, Option, Some, None}
 use Rattle.std.specs.List.{AllByRecursion}
@@ -20,7 +20,7 @@ use Rattle.kept_rows.specs.Scans.{AsksFor, Gave, IsCovered, IsOld, IsWhole, Show
 use Rattle.kept_rows.specs.Telling.{opening_moment}
 use Rattle.kept_rows.specs.Trace.{IsTail, WasGone}
 
--- ---- the reasons for which a path is passed over
+-- ---- the reasons for which a path is skipped
 
 -- an earlier path had its key
 pub record IsDoubled (run : Run) (scan : Scan) (shown : Shown) (input : ℕ) : Type 0 where

@@ -78,7 +78,7 @@ HadNoOpenTailBehind run number one = AllByRecursion (WasClosedBehind run number)
 abbrev pub moment_or_first : ℕ → Scan → ℕ
 moment_or_first moment first = if moment == 0 then first.moment else moment
 
--- the scan showed it under a path that it passed over as old
+-- the scan showed it under a path that it skipped as old
 pub record WasPassedOverAsOld (run : Run) (rule : InputRule) (scan : Scan) (key : List ℕ) : Type 0 where
   pub number : ℕ
   pub shown : Shown

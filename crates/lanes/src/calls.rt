@@ -34,7 +34,7 @@ impl<T: Tail> Lane<T> {
         }
     }
 
-    /// Takes a harvester in, behind the others. `Err` is want of memory, and gives it back.
+    /// Takes a harvester in, behind the others. `Err` means out of memory, and gives it back.
     pub fn admit(&mut self, harvester: Harvester<T>) -> Result<(), Harvester<T>>
         ensures admitted { OnOk result (laning self.new ≡ record (laning self.old) {
           harvesters = (laning self.old).harvesters ++ harvester ∷ [];
@@ -142,7 +142,7 @@ impl<T: Tail> Lane<T> {
         true
     }
 
-    /// How many spans its harvesters told in this lane. The count stands still at 2^64 - 1.
+    /// How many spans its harvesters told in this lane. The count saturates at 2^64 - 1.
     pub fn spans(&self) -> u64
         ensures { result ≡ self.now.spans }
     {

@@ -11,7 +11,7 @@ pub struct Tally {
     pub moved: bool,
     /// Some turn found no memory.
     pub memory: bool,
-    /// How many turns met a read fault. The count stands still at 2^64 - 1.
+    /// How many turns met a read fault. The count saturates at 2^64 - 1.
     pub tail_faults: u64,
     /// The first file whose last epoch was over.
     pub epochs: Option<Slot>,

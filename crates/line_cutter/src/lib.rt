@@ -5,8 +5,8 @@
 //! many as the rule keeps. The complete lines of bytes are a definition of `specs/`, as one whole list.
 //!
 //! A `Cutter` is made with a rule and the place of the first byte, and is fed pieces of any lengths. It hands out the
-//! complete lines of all that it was fed, each once, in order, and none exactly where no other is complete; want of
-//! memory leaves it as before. It holds the head of a line that is not complete, and the bytes that were fed behind the
+//! complete lines of all that it was fed, each once, in order, and none exactly where no other is complete; out of
+//! memory it stays as before. It holds the head of a line that is not complete, and the bytes that were fed behind the
 //! last line handed out: once it has none to hand out, the head alone. So contracts speak of a cutter by a relation to
 //! the bytes that it was fed and the lines that it has handed out.
 //!

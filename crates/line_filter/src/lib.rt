@@ -5,7 +5,7 @@
 //! message's bytes, whatever these are.
 //!
 //! A `Filter` is seen as its two lists of patterns. It compiles each once, for as long as it lives, and none for a
-//! message; its verdicts are those of the definition in `specs/`, and it stays as it was, after want of memory too. The
+//! message; its verdicts are those of the definition in `specs/`, and it stays as it was, also where memory is out. The
 //! law says what each verdict comes to. Nothing here reads settings or a file.
 #![tactic(auto)]
 

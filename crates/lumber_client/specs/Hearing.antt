@@ -12,7 +12,7 @@ pub record Hearing : Type 0 where
   pub frame : List ℕ
   -- it asks of the oldest window in flight, and not of the last that was acknowledged in full
   pub asks_oldest : Bool
-  -- how many bytes were given; the count stands still at 2^64 - 1
+  -- how many bytes were given; the count saturates at 2^64 - 1
   pub given : ℕ
   -- a fault was told
   pub failed : Bool

@@ -9,6 +9,6 @@ pub enum Heard {
     /// `to` are.
     Acked { from: u32, to: u32 },
     /// A fault of the peer, by the byte at this place of those that were given since the window was
-    /// made or made again, from 0 on; the place stands still at 2^64 - 1.
+    /// made or made again, from 0 on; the place saturates at 2^64 - 1.
     PeerFault { at: u64 },
 }

@@ -10,7 +10,7 @@
 //! with, as a fault at its place, or as too short for either. Numbers of any value are read, and no
 //! payload is looked into. Reading and writing a frame take no memory.
 //!
-//! `acknowledged` says which payloads a talk acknowledges, for the rooms that send and receive. It is
+//! `acknowledged` says which payloads a talk acknowledges, for the crates that send and receive. It is
 //! written to be compared with, not to be quick. Nothing here sends, receives or keeps a window.
 #![tactic(auto)]
 

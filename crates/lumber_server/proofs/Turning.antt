@@ -59,7 +59,7 @@ failed_stop served received (inl is) = let P : Served → Type 0 = λ s. StopsAs
 failed_stop served received (inr (inl is)) = let P : Served → Type 0 = λ s. StopsAs received s in subst P (sym is) tt
 failed_stop served received (inr (inr is)) = let P : Served → Type 0 = λ s. StopsAs received s in subst P (sym is) tt
 
--- a fault of the link or the sink, or want of memory
+-- a fault of the link or the sink, or out of memory
 pub fails_end : (a b : Told) (s : State) (served : Served) → (served ≡ SendFault) ⊎ ((served ≡ OutFault) ⊎ (served ≡ NoMemory)) → Fails a b s → EndsAs a b s served
 fails_end a b s served is fails = record {
   pieces = fails.pieces;
@@ -107,7 +107,7 @@ settled_end a b s served is settled moves = record {
     stop_of served (inl is) received none = let P : Served → Type 0 = λ s. StopsAs received s in subst P (sym is) none
     stop_of served (inr is) received none = let P : Served → Type 0 = λ s. StopsAs received s in subst P (sym is) none
 
--- want of memory before anything came
+-- out of memory before anything came
 pub nothing_end : (a b : Told) (s : State) → Moves a b [] [] → EndsAs a b s NoMemory
 nothing_end a b s moves = record {
   pieces = [];

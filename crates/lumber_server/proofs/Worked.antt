@@ -40,6 +40,6 @@ stops =
       is = refl;
     }
 
--- the words of the program are all of them
+-- the arguments of the program are all of them
 too_few : IsAskedOf (codes "--links" ∷ codes "1" ∷ []) None
 too_few = refl

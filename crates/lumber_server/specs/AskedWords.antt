@@ -1,4 +1,4 @@
--- What is read of the words, as values (this project's profile).
+-- What is read of the arguments, as values (this project's profile).
 use Rattle.wire_base.specs.declared.host.Host.{Host}
 use Rattle.lumber_server.specs.Words.{Asked}
 use Rattle.lumber_server.specs.declared.words.AskedWords.{AskedWords}

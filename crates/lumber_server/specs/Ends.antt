@@ -1,4 +1,4 @@
--- Places that are counted in 64 bits: a count stands still at the end of its type (this project's profile).
+-- Places that are counted in 64 bits: a count saturates (this project's profile).
 use Rattle.std.specs.Prelude.{ℕ, ◌-◌, ◌^◌, min}
 
 abbrev pub up_to_end : ℕ → ℕ

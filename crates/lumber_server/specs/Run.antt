@@ -79,7 +79,7 @@ AreEarlierEnded [] = Unit {0}
 AreEarlierEnded (link ∷ []) = Unit {0}
 AreEarlierEnded (link ∷ (next ∷ links)) = IsOneLinksEnd link.served × AreEarlierEnded (next ∷ links)
 
--- all the links that the words ask for were served, each to an end of its own
+-- all the links that the arguments ask for were served, each to an end of its own
 pub record ServesAll (words : List (List ℕ)) (links : List ServedLink) : Type 0 where
   pub asked : Asked
   pub is : IsAskedOf words (Some asked)

@@ -1,5 +1,5 @@
--- The words of the program (this project's profile): exactly `-l HOST:PORT -o FILE --links N`, in this order. HOST is 1 to
--- 253 of `A-Z a-z 0-9 . _ -`, PORT a decimal from 1 to 65535, FILE not empty, and N a decimal from 1 to 1,000,000.
+-- The arguments of the program (this project's profile): exactly `-l HOST:PORT -o FILE --links N`, in this order. HOST is
+-- 1 to 253 of `A-Z a-z 0-9 . _ -`, PORT a decimal from 1 to 65535, FILE not empty, and N a decimal from 1 to 1,000,000.
 use Rattle.std.specs.Prelude.{◌≡◌, ◌≤◌, ℕ, Bool, true, false, ◌==◌, ◌&&◌, ◌||◌, not, nat_lt, nat_le, List, [], ◌∷◌, length, take, drop, Option, Some, None, if◌then◌else◌, codes}
 use Rattle.std.specs.List.{list_all, prefix_len}
 use Rattle.std.specs.Str.{bytes_eq}
@@ -7,7 +7,7 @@ use Rattle.wire_base.specs.Decimal.{IsDecimal, value_of}
 use Rattle.wire_base.specs.declared.host.Host.{Host}
 use Rattle.lumber_server.specs.declared.places.SinkPlaces.{SinkPlaces}
 
--- what the words ask for
+-- what the arguments ask for
 pub record Asked : Type 0 where
   pub host : Host
   pub file : List ℕ
@@ -65,12 +65,12 @@ abbrev pub IsAskedWhere : Bool → List ℕ → List ℕ → List ℕ → Option
 IsAskedWhere true place file count asked = IsAskedBy place file count asked
 IsAskedWhere false place file count asked = asked ≡ None
 
--- what the words ask for; nothing where they are not the command's
+-- what the arguments ask for; nothing where they are not the command's
 abbrev pub IsAskedOf : List (List ℕ) → Option Asked → Type 0
 IsAskedOf (listen ∷ place ∷ out ∷ file ∷ links ∷ count ∷ []) asked = IsAskedWhere (are_marks listen out file links) place file count asked
 IsAskedOf _ asked = asked ≡ None
 
--- where the program listens and writes: as the words ask, or by default
+-- where the program listens and writes: as the arguments ask, or by default
 abbrev pub places_of : Option Asked → SinkPlaces
 places_of None = record { host = record { name = codes "localhost"; port = 5044 }; file = codes "out" }
 places_of (Some asked) = record { host = asked.host; file = asked.file }

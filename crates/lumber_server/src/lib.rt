@@ -1,8 +1,8 @@
 //! The receiver: takes the frames of Lumberjack v2 from links, writes one line for each event, and acknowledges what it
 //! has written.
 //!
-//! `serve` serves one link, `receive` as many as the words of the program ask for, one after the other, and `sink_places`
-//! says where the program listens and writes. What is received, written and answered of any bytes are definitions of
+//! `serve` serves one link, `receive` as many as the arguments ask for, one after the other, and `sink_places` says
+//! where the program listens and writes. What is received, written and answered of any bytes are definitions of
 //! `specs/`, over whole lists; the receiver's promise is stated in them, whatever becomes of link and sink: no byte of an
 //! acknowledgement goes out before all lines up to its frame are in the sink.
 //!

@@ -24,8 +24,8 @@ enum Waited {
     Failed,
 }
 
-/// Serves as many links as the words `-l HOST:PORT -o FILE --links N` say, one after the other. The sink is written to
-/// once with no bytes before the first link, so that one that cannot be written is known at once.
+/// Serves as many links as the arguments `-l HOST:PORT -o FILE --links N` say, one after the other. The sink is written
+/// to once with no bytes before the first link, so that one that cannot be written is known at once.
 pub fn receive<X: Wait, P: Port, S: Sink, B: Bell>(
     rt: &X,
     alloc: Global,

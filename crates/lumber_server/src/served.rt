@@ -8,7 +8,7 @@ pub enum Served {
     /// A line could not be written.
     OutFault,
     /// What the peer sent is no frame, or not the frame that is owed; `at` is the place of the byte that shows it, counted
-    /// from the first byte that was received; it stands still at 2^64 - 1.
+    /// from the first byte that was received; it saturates at 2^64 - 1.
     Bad { at: u64 },
     /// The bell rang.
     Stopped,

@@ -5,7 +5,7 @@ pub enum SinkStatus {
     Done,
     /// The bell rang.
     Stopped,
-    /// The words are not the command's.
+    /// The arguments are not the command's.
     Usage,
     /// A line could not be written.
     OutFault,

@@ -30,7 +30,7 @@ pub(crate) enum Taken {
 pub(crate) struct Transfer {
     reading: Reading,
     outgoing: Outgoing,
-    /// How many bytes were read; the count stands still at its type's end.
+    /// How many bytes were read; the count saturates.
     passed: u64,
 }
 

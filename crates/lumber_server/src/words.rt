@@ -16,7 +16,7 @@ const MOST_PORT: u64 = 65_535;
 /// The most bytes of a host's name.
 const MOST_NAME: usize = 253;
 
-/// What the words ask for.
+/// What the arguments ask for.
 #[derive(Clone, Copy)]
 pub(crate) struct AskedWords<'a> {
     name: &'a [u8],
@@ -32,8 +32,8 @@ struct Named<'a> {
     port: u16,
 }
 
-/// Where the program listens and which file it writes, as the words `-l HOST:PORT -o FILE --links N` say; `localhost`,
-/// 5044 and `out` where the words are not these.
+/// Where the program listens and which file it writes, as the arguments `-l HOST:PORT -o FILE --links N` say;
+/// `localhost`, 5044 and `out` where the arguments are not these.
 pub fn sink_places(alloc: Global, words: &[Text]) -> Result<SinkPlaces, NoMemory>
     ensures named_or_default { IfOk result (λ places. ArePlaces words.now places) }
 {
@@ -62,7 +62,7 @@ fn text(alloc: Global, bytes: &[u8]) -> Result<Text, NoMemory>
     Text::from_bytes(alloc, bytes).map_err(|_| NoMemory)
 }
 
-/// What the words ask for; `None` exactly where they are not the command's. Takes no memory.
+/// What the arguments ask for; `None` exactly where they are not the command's. Takes no memory.
 pub(crate) fn asked<'a>(words: &'a [Text]) -> Option<AskedWords<'a>>
     ensures { IsAskedOf words.now (option_map asked_value result) }
 {

@@ -8,7 +8,7 @@
 //! lines so far, whatever follows, have one: with `after` a line that neither continues nor flushes closes the event
 //! before it. It keeps the message of an event that has not ended, cut, and not its lines; so contracts speak of a
 //! grouper by a relation to the lines that it was given since the last event ended. `flush` hands out what waits, and
-//! `due` tells when its timeout has passed. Want of memory leaves it as before and gives the line back.
+//! `due` tells when its timeout has passed. Out of memory it stays as before and gives the line back.
 //!
 //! The laws say what the definitions are good for: at each place begins at most one event by rule, the events of a
 //! file's bytes stay events however the file grows, the spans of a partition adjoin, and without a rule each complete

@@ -1,5 +1,5 @@
 -- Counts of an object of the outside, such as its faults (this project's profile). A count is a 64-bit number that
--- never falls; where one more does not fit, it stands still.
+-- never falls; where one more does not fit, it saturates.
 use Rattle.std.specs.Prelude.{ℕ, ◌+◌, ◌-◌, ◌^◌, ◌<◌, ◌≤◌, ◌⊎◌, min, max}
 
 -- the count stands at the end of its type

@@ -62,7 +62,7 @@ pub record ListsFiles (told : FolderHistory) (states : List Sight) (present : Li
   pub shows : ShowsPresent told.files states present root depth shown
   pub kept : after ≡ Some (with_event told (Listed root depth shown))
 
--- a listing that failed stands in the list, also for want of memory, until the count of faults stands at its end
+-- a listing that failed stands in the list, also where memory was out, until the count of faults stands at its end
 abbrev pub KeepsFailure : FolderHistory → Option FolderHistory → ℕ → Type 0
 KeepsFailure told after faults = (after ≡ Some (with_event told ListingFailed)) ⊎ (IsAtEnd faults × (after ≡ Some told))
 

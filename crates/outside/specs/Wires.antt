@@ -9,7 +9,7 @@ pub data Outcome : Type 0 where
   Refused : Outcome
   Finished : Talk → ℕ → ℕ → Outcome
 
--- a connection that failed stands in the list, also for want of memory, until the count of faults stands at its end
+-- a connection that failed stands in the list, also where memory was out, until the count of faults stands at its end
 abbrev pub KeepsRefusal : List Outcome → Option (List Outcome) → ℕ → Type 0
 KeepsRefusal outcomes after faults = (after ≡ Some (outcomes ++ Refused ∷ [])) ⊎ (IsAtEnd faults × (after ≡ Some outcomes))
 

@@ -30,7 +30,7 @@ pub trait Folder {
     ghost faults: { Self → ℕ };
 
     /// The regular files at most `depth` path parts below `root`, as they are at one moment; paths of
-    /// more than `MAX_PATH` bytes are passed over. A root that is not there has none.
+    /// more than `MAX_PATH` bytes are skipped. A root that is not there has none.
     fn list(&mut self, alloc: Global, root: &Text, depth: u32) -> Result<Vec<Entry>, FolderError>
         ensures in_range { IfOk result (λ entries. All IsListable entries.items) }
         ensures told { TellsListing (told self.old) (states self.old) (present self.old) root.now depth result (told self.new) (faults self.new) }

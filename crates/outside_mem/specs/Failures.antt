@@ -16,7 +16,7 @@ pub record Fails (old new : Failures) : Type 0 where
   pub starved : new.starved ≡ old.starved
   pub asked : new.asked ≡ next_count old.asked
 
--- one fault was counted, for want of memory
+-- one fault was counted, because memory was out
 pub record Starves (old new : Failures) : Type 0 where
   pub faults : new.faults ≡ next_count old.faults
   pub no_less : old.faults ≤ new.faults

@@ -138,7 +138,7 @@ fn kept(alloc: Global, contents: &[u8], at: u64, len: usize) -> Result<Vec<u8>, 
 }
 
 /// The contents with at least one byte put over them, and `filler` in a gap before these; an end past
-/// `MAX_PLACE` is want of memory.
+/// `MAX_PLACE` is out of memory.
 pub(crate) fn patched(
     alloc: Global,
     contents: &[u8],

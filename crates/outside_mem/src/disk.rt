@@ -64,7 +64,7 @@ impl MemDisk {
         self.failures.stop_after(calls);
     }
 
-    /// How often it failed for want of memory.
+    /// How often it failed because memory was out.
     pub fn starved(&self) -> u64
         ensures { ⟦<MemDisk as Disk>⟧.faults self.now ≡ added_counts result (disk_asked self.now) }
     {

@@ -63,7 +63,7 @@ impl Failures {
         fails
     }
 
-    /// Counts a fault for want of memory.
+    /// Counts a fault because memory is out.
     pub(crate) fn starve(&mut self)
         ensures { Starves self.old self.new }
     {

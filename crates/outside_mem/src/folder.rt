@@ -99,7 +99,7 @@ impl MemFolder {
         Ok(())
     }
 
-    /// How often it, or a tail that was closed, failed for want of memory.
+    /// How often it, or a tail that was closed, failed because memory was out.
     pub fn starved(&self) -> u64
         ensures { ⟦<MemFolder as Folder>⟧.faults self.now ≡ added_counts result (folder_asked self.now) }
     {

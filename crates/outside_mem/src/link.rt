@@ -148,7 +148,7 @@ impl MemLink {
         self.asked = self.asked.saturating_add(1);
     }
 
-    /// Fails for want of memory.
+    /// Fails because memory is out.
     fn starve(&mut self)
         ensures history { Faults self.old.history self.new.history }
         ensures failed_sends { self.new.failed_sends ≡ self.old.failed_sends }

@@ -34,7 +34,7 @@ impl Due {
 }
 
 impl Script {
-    /// Bytes past `MAX_PLACE` are want of memory.
+    /// Bytes past `MAX_PLACE` are out of memory.
     pub(crate) fn new(file: MemFile) -> Result<Script, NoMemory>
         ensures { IfOk result (λ script. script.file ≡ file) }
     {

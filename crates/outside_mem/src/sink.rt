@@ -43,7 +43,7 @@ impl MemSink {
         &self.bytes
     }
 
-    /// How often it failed for want of memory.
+    /// How often it failed because memory was out.
     pub fn starved(&self) -> u64
         ensures { ⟦<MemSink as Sink>⟧.faults self.now ≡ added_counts result (sink_asked self.now) }
     {

@@ -39,7 +39,7 @@ impl MemSource {
         self.failures.fail_at(calls)
     }
 
-    /// How often it failed for want of memory.
+    /// How often it failed because memory was out.
     pub fn starved(&self) -> u64
         ensures { ⟦<MemSource as Source>⟧.faults self.now ≡ added_counts result (source_asked self.now) }
     {

@@ -87,7 +87,7 @@ impl MemWire {
         self.outcomes.last_talk()
     }
 
-    /// How often it failed for want of memory, its finished links included.
+    /// How often it failed because memory was out, its finished links included.
     pub fn starved(&self) -> u64
         ensures { ⟦<MemWire as Wire>⟧.faults self.now ≡ added_counts result (wire_asked self.now) }
     {

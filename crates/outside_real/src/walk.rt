@@ -24,7 +24,7 @@ pub(crate) fn folder_error(error: &io::Error) -> FolderError {
     }
 }
 
-/// Passes over what is not there any more and what cannot be named.
+/// Skips what is not there any more and what cannot be named.
 fn pass_over(error: &io::Error) -> Result<(), FolderError> {
     let kind = error.kind();
     if is_absent(kind) || kind == ErrorKind::InvalidFilename {

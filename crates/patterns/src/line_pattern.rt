@@ -29,7 +29,7 @@ impl Model for LinePattern {
 }
 
 impl LinePattern {
-    /// Compiles the pattern. One that is too large when it is compiled is told as want of memory.
+    /// Compiles the pattern. One that is too large when it is compiled is told as out of memory.
     pub fn new(alloc: Global, text: &Text) -> Result<LinePattern, NoMemory>
         requires { IsLinePattern text.now }
         ensures { IfOk result (λ pattern. pattern ≡ text.now) }

@@ -26,7 +26,7 @@ pub(crate) struct Matcher {
 }
 
 impl Matcher {
-    /// Compiles a pattern. One that is too large for it is told as want of memory.
+    /// Compiles a pattern. One that is too large for it is told as out of memory.
     pub fn new(alloc: Global, text: &str, config: &Config) -> Result<Matcher, NoMemory>
         requires { IsTrue (is_pattern config.now text.now) }
         ensures tree { IfOk result (λ m. IsReadAs config.now text.now (pattern_of m.program)) }

@@ -31,7 +31,7 @@ impl Model for TextPattern {
 }
 
 impl TextPattern {
-    /// Compiles the pattern. One that is too large when it is compiled is told as want of memory.
+    /// Compiles the pattern. One that is too large when it is compiled is told as out of memory.
     pub fn new(alloc: Global, text: &Text) -> Result<TextPattern, NoMemory>
         requires { IsTextPattern text.now }
         ensures { IfOk result (λ pattern. pattern ≡ text.now) }

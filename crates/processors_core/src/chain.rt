@@ -24,7 +24,7 @@ pub struct Chain {
 
 impl Chain {
     /// Reads the processors' paths and compiles their patterns. A pattern that is too large when it is compiled is told
-    /// as want of memory.
+    /// as out of memory.
     pub fn new(alloc: Global, rules: &[ProcessorRule]) -> Result<Chain, NoMemory>
         requires few { length rules.now ≤ 64 }
         requires in_range { All IsProcessorInRange rules.now }
@@ -39,8 +39,8 @@ impl Chain {
         Ok(Chain { processors })
     }
 
-    /// What the processors make of the tree, one behind the other. Want of memory loses the tree; the chain is as
-    /// before.
+    /// What the processors make of the tree, one behind the other. Where memory is out the tree is lost; the chain is
+    /// as before.
     pub fn run(&mut self, alloc: Global, tree: Tree) -> Result<Fate, NoMemory>
         ensures fate { IfOk result (λ fate. (rules : List ProcessorRule) → Runs rules self.old →
             shown fate ≡ by_rule (outcome_of rules (value_of tree))) }

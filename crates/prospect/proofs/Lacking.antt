@@ -1,4 +1,4 @@
--- The lacking keys of the inputs, with one input more.
+-- The unsupported keys of the inputs, with one input more.
 use Rattle.std.proofs.Common.{◌≡◌, ℕ, ◌+◌, ◌<◌, List, [], ◌∷◌, ◌++◌, length, take, get_or, sym, ap, ◌∙◌, append_assoc, append-nil, arith}
 use Rattle.std.proofs.lemmas.List.{take_more, length-take}
 use Rattle.event_tree.specs.declared.input_rule.InputRule.{InputRule}

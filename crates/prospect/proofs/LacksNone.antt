@@ -1,4 +1,4 @@
--- What holds of settings in which nothing is lacking.
+-- What holds of settings in which nothing is unsupported.
 use Rattle.std.proofs.Common.{◌≡◌, ℕ, ◌+◌, List, [], ◌∷◌, ◌++◌, All, refl}
 use Rattle.std.proofs.lemmas.List.Elements.{All-cons, All-nil}
 use Rattle.event_tree.specs.declared.input_rule.IdentityRule.{IdentityRule}

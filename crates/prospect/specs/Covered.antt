@@ -71,7 +71,7 @@ pub record IsOneMore (pairs : List Pair) (old : List Listed) (path : List ℕ) :
   pub file : IsFileOf pair
   pub path_is : pair.entry.path ≡ path
 
--- why no more were added; want of memory may come with any
+-- why no more were added; out of memory may come with any
 abbrev pub StopsAt : List Pair → List Listed → ScanError → Type 0
 StopsAt pairs old Failed = ⊥
 StopsAt pairs old NoMemory = Unit {0}

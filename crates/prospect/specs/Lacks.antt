@@ -36,7 +36,7 @@ lacks_of_inputs number (input ∷ inputs) = lacks_of_input number input ++ lacks
 abbrev pub lacks_of : Settings → List (List ℕ)
 lacks_of settings = lacks_of_inputs 0 settings.inputs
 
--- the key is lacking, and no lacking key comes before it in byte order
+-- the key is unsupported, and no unsupported key comes before it in byte order
 pub record IsFirstLack (settings : Settings) (key : List ℕ) : Type 0 where
   pub lacking : Contains (lacks_of settings) key
   pub first : All (λ other. is_lt (compare other key) ≡ false) (lacks_of settings)

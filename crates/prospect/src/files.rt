@@ -24,7 +24,7 @@ pub const MAX_FILES: usize = 65_536;
 /// covers once for its input, in byte order of the paths and then by the inputs' places.
 ///
 /// What all listings showed together decides. `TooMany` has the path of the first file too many in
-/// that order. `NoMemory` is answered for want of memory, and for more than 4,294,967,296 inputs. A
+/// that order. `NoMemory` means out of memory, or more than 4,294,967,296 inputs. A
 /// path is matched once with each glob, however often it is shown.
 pub fn list_files<F: Folder>(
     alloc: Global,

@@ -2,7 +2,7 @@
 //! what is not built.
 //!
 //! A scan lists once for each glob of the settings. What it tells, and what of the settings is
-//! lacking, are definitions of `specs/`. Nothing here opens a file.
+//! unsupported, are definitions of `specs/`. Nothing here opens a file.
 //!
 //! `list_files` tells files by their paths, each with what the listing showed of it.
 #![tactic(auto)]

@@ -18,7 +18,7 @@ pub struct ScanInput {
     pub globs: Vec<Glob>,
 }
 
-/// The inputs in their order. `NoMemory` is answered for want of memory, and for a place above
+/// The inputs in their order. `NoMemory` means out of memory, or a place above
 /// 4,294,967,295.
 pub fn number_inputs(alloc: Global, inputs: &[InputRule]) -> Result<Vec<ScanInput>, NoMemory>
     requires { HaveGlobs inputs.now }

@@ -36,7 +36,7 @@ member_refusal known earlier member =
 abbrev pub refusals : KnownFiles → List Seen → List Refusal
 refusals known seen = flat_map_with_earlier (member_refusal known) [] seen
 
--- the first of them is told; want of memory may come with any
+-- the first of them is told; out of memory may come with any
 abbrev pub IsFirstRefusal : List Refusal → ProspectError → Type 0
 IsFirstRefusal found (TooMany what path) = slice_get found 0 ≡ Some (record { what = what; path = path })
 IsFirstRefusal found NoMemory = Unit {0}

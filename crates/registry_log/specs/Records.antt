@@ -35,7 +35,7 @@ groups (op ∷ ops) = grouped (op ∷ []) ops
 abbrev pub records_bytes : List Op → List ℕ
 records_bytes ops = flat_map record_bytes (groups ops)
 
--- ---- for private clauses: the records that operations make behind a body which still lacks its last bracket
+-- ---- for private clauses: the records that operations make behind a body without its last bracket
 
 abbrev pub records_behind : List ℕ → List Op → List ℕ
 records_behind body [] = record_of (body ++ codes "]")

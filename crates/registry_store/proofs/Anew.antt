@@ -87,7 +87,7 @@ opened_at bytes generation gate rows opened last =
     let At : ℕ → Type 0 = λ n. IsOpened bytes generation rows n in
     subst At at opened
 
--- memory was wanting, or it was not
+-- memory was out, or it was not
 memory : (r : Result ℕ LogError) → IsErrOf r NoMemory ⊎ (r ≢ Err NoMemory)
 memory (Ok gate) = inr (λ same. cc same)
 memory (Err DiskFault) = inr (λ same. cc same)

@@ -1,4 +1,4 @@
--- Passings that were put in order and are told once each.
+-- Skipped paths that were put in order and are told once each.
 use Rattle.std.proofs.Common.{◌≡◌, ℕ, zero, suc, ◌<◌, ◌==◌, Bool, true, cond, List, [], ◌∷◌, length, get_or, map, Contains, refl, sym, ap, ◌∙◌, subst, inl, inr, ◌⊎◌, arith}
 use Rattle.std.proofs.lemmas.Cmp.{eq_by_cmp_equiv, nat_list_cmp_total, on_total, then_total, tied_itself}
 use Rattle.std.proofs.lemmas.List.Elements.{All-contains, All-from_recursion, Contains-get_or}
@@ -44,7 +44,7 @@ named Small = refl
 same_why : (one other : Why) → compare (why_text one) (why_text other) ≡ Equal → one ≡ other
 same_why one other tied = sym (named one) ∙ ap named_by (same_key (why_text one) (why_text other) tied) ∙ named other
 
--- passings that the order ties are the same
+-- skipped paths that the order ties are the same
 same_passing : (one other : Passing) → compare_passings one other ≡ Equal → one ≡ other
 same_passing one other tied = by_paths (compare one.path other.path) refl tied
   where
@@ -150,7 +150,7 @@ below : (first one : Passing) (list : List Passing) → IsStrictlySortedBy compa
 below first one list sorted member =
     All-contains (λ other. compare_passings first other ≡ Less) list one (All-from_recursion _ list (sorted_head compare_passings first list sorted)) member
 
--- nothing comes before itself, and of two passings one at most comes before the other
+-- nothing comes before itself, and of two skipped paths one at most comes before the other
 never_itself : (one other : Passing) → one ≡ other → compare_passings one other ≡ Less → ⊥
 never_itself one other same less =
     let tied : compare_passings one other ≡ Equal = subst (λ p. compare_passings one p ≡ Equal) same (tied_itself passings_total one) in

@@ -1,4 +1,4 @@
--- The paths that the last scan passed over (this project's profile): a set of pairs of a path and a reason, told in byte
+-- The paths that the last scan skipped (this project's profile): a set of pairs of a path and a reason, told in byte
 -- order of the paths and then of the reasons, so that a path is told once for each of its reasons.
 use Rattle.std.specs.Prelude.{ℕ, List, All, Contains, codes}
 use Rattle.std.specs.List.Sorted.{IsStrictlySortedBy}
@@ -20,7 +20,7 @@ why_text Small = codes "small"
 abbrev pub compare_passings : Passing → Passing → Ordering
 compare_passings one other = ordering_then (compare one.path other.path) (compare (why_text one.why) (why_text other.why))
 
--- the passings of `passed`, each once and in order
+-- the skipped paths of `passed`, each once and in order
 pub record ArePassings (passed ordered : List Passing) : Type 0 where
   pub in_order : IsStrictlySortedBy compare_passings ordered
   pub each : All (Contains passed) ordered

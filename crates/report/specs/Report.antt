@@ -1,5 +1,5 @@
 -- What a run prints (this project's profile): the report, with a line for each row of the registry, for each path and
--- reason for which it was passed over, for the counts and for the status; or the status line alone. Keys and paths of
+-- reason for which it was skipped, for the counts and for the status; or the status line alone. Keys and paths of
 -- files are JSON texts.
 use Rattle.std.specs.Prelude.{◌≡◌, ℕ, List, [], ◌++◌, codes, decimal}
 use Rattle.std.specs.List.{flat_map}
@@ -69,7 +69,7 @@ lack_text Generate = codes "generate"
 abbrev pub unbuilt_line : List ℕ → List ℕ
 unbuilt_line text = codes "status 13 unbuilt " ++ (text ++ codes "\n")
 
--- the last line of each end; of a sink that failed nothing is promised
+-- the status line of each end; of a sink that failed nothing is promised
 abbrev pub status_bytes : Status → List ℕ
 status_bytes Done = codes "status 0 done\n"
 status_bytes Stopped = codes "status 1 stopped\n"
@@ -89,12 +89,12 @@ status_bytes (NoNative path) = codes "status 11 no native numbers " ++ (quoted p
 status_bytes NoMemory = codes "status 12 no memory\n"
 status_bytes (Unbuilt what) = unbuilt_line (lack_text what)
 
--- the lines of the rows, of the passings, of the counts and of the status, in this order
+-- the lines of the rows, of the skipped paths, of the counts and of the status, in this order
 abbrev pub report_bytes : List Row → List Passing → ℕ → ℕ → Status → List ℕ
 report_bytes rows ordered shipped dropped status =
     flat_map file_line rows ++ (flat_map passed_line ordered ++ (counts_line shipped dropped ++ status_bytes status))
 
--- the text is the report, in which the passings are a set and told in their order
+-- the text is the report, in which the skipped paths are a set and told in their order
 pub record IsReport (rows : List Row) (passed : List Passing) (shipped dropped : ℕ) (status : Status) (text : List ℕ) : Type 0 where
   pub ordered : List Passing
   pub passings : ArePassings passed ordered

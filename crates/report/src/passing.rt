@@ -4,7 +4,7 @@ ghost use Rattle.report.specs.Passings.{compare_passings, why_text};
 use std::cmp::Ordering;
 use wire_base::Text;
 
-/// Why a path was passed over.
+/// Why a path was skipped.
 #[derive(Clone, Copy, Debug, PartialEq, Eq)]
 pub enum Why {
     /// An earlier path led to the same file.
@@ -33,7 +33,7 @@ impl Why {
     }
 }
 
-/// A path that was passed over in the last scan.
+/// A path that was skipped in the last scan.
 #[derive(Debug, Drop, PartialEq, Eq)]
 pub struct Passing {
     pub path: Text,

@@ -24,7 +24,7 @@ pub enum Status {
     Done,
     /// The bell rang.
     Stopped,
-    /// The words are not the command's.
+    /// The arguments are not the command's.
     Usage,
     /// The settings are refused.
     Settings(SettingsError),

@@ -40,7 +40,7 @@ pub fn report_text(
     }
 }
 
-/// The passings in the order of their lines, each once.
+/// The skipped paths in the order of their lines, each once.
 fn in_order<'a>(alloc: Global, passed: &'a [Passing]) -> Result<Vec<&'a Passing>, NoMemory>
     ensures { IfOk result (λ ordered.
         ArePassings passed.now (map (λ passing. passing.now) ordered.items)) }

@@ -85,7 +85,7 @@ pub record RefusesFirst (rows : List Row) (seen : List Seen) (first : ℕ) (what
   pub in_order : InPathOrder seen order
   pub first_refusal : slice_get (refusals rows first (members_at seen order)) 0 ≡ Some (record { what = what; path = path })
 
--- want of memory may come with any
+-- out of memory may come with any
 abbrev pub IsRefused : List Row → List Seen → ℕ → JoinError → Type 0
 IsRefused rows seen first (TooMany what path) = RefusesFirst rows seen first what path
 IsRefused rows seen first NoMemory = Unit {0}

@@ -63,7 +63,7 @@ pub record CanMeet {T W L D : Type 0} (queue desk : TableId) (crew : Crewing T W
   pub have : HaveAllPasses queue desk (lanings crew.lanes.items) crew.carriers.items
   pub pass : crew.storing.keeper.now.pass.desk ≡ desk
 
--- how many notes were posted in all; the count stands still at 2^64 - 1
+-- how many notes were posted in all; the count saturates at 2^64 - 1
 abbrev pub posted_in : {T W L : Type 0} → Crew T W L → ℕ
 posted_in crew = min (posts_of (senders (lanes_passes (lanings crew.lanes.items)) ++ senders (carriers_passes crew.carriers.items))) (2 ^ 64 - 1)
 

@@ -9,7 +9,7 @@ use Rattle.rounds.specs.Books.{held_notes, owed_notes}
 use Rattle.rounds.specs.Crewed.{lanings}
 use Rattle.rounds.specs.declared.crew.Crew.{Crew}
 
--- as many notes were collected as had been posted as the passes met last, by counts that do not stand still
+-- as many notes were collected as had been posted as the passes met last, by counts that are not saturated
 pub record AreCollected (posted : ℕ) (keeper : Keeping) : Type 0 where
   pub below : posted < 2 ^ 64 - 1
   pub collected : posted ≡ keeper.collected
@@ -26,7 +26,7 @@ abbrev pub spans_told : {T : Type 0} → List (Laning T) → ℕ
 spans_told [] = 0
 spans_told (lane ∷ lanes) = lane.spans + spans_told lanes
 
--- each span that was told is shipped or dropped, by counts that do not stand still
+-- each span that was told is shipped or dropped, by counts that are not saturated
 pub record IsEachSettled {T : Type 0} (lanes : List (Laning T)) (keeper : Keeping) : Type 0 where
   pub below : spans_told lanes < 2 ^ 64 - 1
   pub settled : keeper.shipped + keeper.dropped ≡ spans_told lanes

@@ -18,11 +18,11 @@ pub struct Round {
     pub memory: bool,
     /// A disk failed.
     pub disk: bool,
-    /// How many turns met a read fault. The count stands still at 2^64 - 1.
+    /// How many turns met a read fault. The count saturates at 2^64 - 1.
     pub tail_faults: u64,
     /// The first file whose last epoch was over.
     pub epochs: Option<Slot>,
-    /// How many workers failed. The count stands still at 2^32 - 1.
+    /// How many workers failed. The count saturates at 2^32 - 1.
     pub failures: u32,
 }
 

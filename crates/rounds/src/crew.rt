@@ -15,7 +15,7 @@ pub struct Pace {
     /// How many notes the box can hold, and how many it held as the last round ended.
     pub(crate) room: u32,
     pub(crate) boxed: u64,
-    /// How many notes had been posted in all as the last round ended. The count stands still at 2^64 - 1.
+    /// How many notes had been posted in all as the last round ended. The count saturates at 2^64 - 1.
     pub(crate) posted: u64,
     /// For how many rounds the keeper has gone without turns.
     pub(crate) without: u32,

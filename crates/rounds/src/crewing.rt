@@ -19,7 +19,7 @@ use settle_box::PostPass;
 use std::alloc::Global;
 use wire_base::NoMemory;
 
-/// So many lanes without harvesters, among which these passes are parted. `Err` is want of memory.
+/// So many lanes without harvesters, among which these passes are parted. `Err` means out of memory.
 pub fn lanes_of<T: Tail>(
     alloc: Global,
     outlets: Outlets<'_>,
@@ -90,8 +90,8 @@ fn part_lane<T: Tail>(
     add_lane(alloc, its_put, its_post, lanes);
 }
 
-/// A worker for each of the first wires, as many as the rule tells, among which these passes are parted. `Err` is want of
-/// memory; then all wires are back in their order.
+/// A worker for each of the first wires, as many as the rule tells, among which these passes are parted. `Err` means out
+/// of memory; then all wires are back in their order.
 pub fn carriers_of<L: Link, W: Wire<Link = L>>(
     alloc: Global,
     outlets: Outlets<'_>,

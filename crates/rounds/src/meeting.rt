@@ -12,7 +12,7 @@ use lanes::{Lane, Outlets};
 use outside::{Link, Tail, Wire};
 
 /// Joins all passes, compares what they know with what the queue and the box hold, and parts them again. How many notes were
-/// posted in all; the count stands still at 2^64 - 1. Takes no memory.
+/// posted in all; the count saturates at 2^64 - 1. Takes no memory.
 pub(crate) fn meet<T: Tail, L: Link, W: Wire<Link = L>>(
     outlets: Outlets<'_>,
     lanes: &mut [Lane<T>],

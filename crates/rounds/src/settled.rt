@@ -84,7 +84,7 @@ fn are_done<T: Tail>(lanes: &[Lane<T>]) -> bool
     }
 }
 
-/// How many spans were told in these lanes. The count stands still at 2^64 - 1.
+/// How many spans were told in these lanes. The count saturates at 2^64 - 1.
 fn spans_told<T: Tail>(lanes: &[Lane<T>]) -> u64
     ensures { result ≡ min (spans_told (lanings lanes.now)) (2 ^ 64 - 1) }
 {

@@ -1,4 +1,4 @@
--- A file that is opened keeps what stands of a run, whether it is followed, passed over or given up.
+-- A file that is opened keeps what stands of a run, whether it is followed, skipped or given up.
 use Rattle.std.proofs.Common.{◌≡◌, ◌≢◌, ◌⊎◌, inl, inr, ℕ, suc, ◌+◌, ◌<◌, ◌≤◌, List, [], ◌∷◌, ◌++◌, Contains, map, append-nil, Option, IsSome, refl, sym, ap, subst, ◌∙◌, arith}
 use Rattle.std.proofs.lemmas.List.{map-append}
 use Rattle.std.specs.List.{AllByRecursion, flat_map}

@@ -1,4 +1,4 @@
--- What a run did with the folder once a file was begun, passed over or given up.
+-- What a run did with the folder once a file was begun, skipped or given up.
 use Rattle.std.proofs.Common.{◌≡◌, ⊎_elim, ℕ, List, [], ◌∷◌, ◌++◌, Contains, length, append-nil, append_assoc, Option, Some, None, Ok, Err, sym, ap, subst, ◌∙◌}
 use Rattle.std.proofs.lemmas.List.Elements.{Contains-append_cases}
 use Rattle.std.specs.List.{AllByRecursion}

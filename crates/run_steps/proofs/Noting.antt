@@ -27,7 +27,7 @@ counted_on p n (x ∷ xs) ys = counted_on p (n + cond (p x) 1 0) xs ys
 pub count-append : (p : Note → Bool) (xs ys : List Note) → count_by p (xs ++ ys) ≡ count_by p xs + count_by p ys
 count-append p xs ys = counted_on p 0 xs ys ∙ counted_from p (count_by p xs) ys
 
--- a count that stands still at 2^64 - 1, with more counted
+-- a count that saturates at 2^64 - 1, with more counted
 still_on : (old new all more both : ℕ) → old ≡ min all (2 ^ 64 - 1) → new ≡ added_counts old more → both ≡ all + more → new ≡ min both (2 ^ 64 - 1)
 still_on old new all more both was is sum = omega (arith, was, is, sum)
 

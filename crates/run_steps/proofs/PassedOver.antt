@@ -1,4 +1,4 @@
--- Which paths were passed over as files were begun.
+-- Which paths were skipped as files were begun.
 use Rattle.std.proofs.Common.{ℕ, suc, List, [], ◌∷◌, ◌++◌, IfOk, Result, Ok, Err, Vec, Global, sym, ap, subst, ◌∙◌}
 use Rattle.event_tree.specs.declared.settings.Settings.{Settings}
 use Rattle.prospect.specs.declared.listed.Listed.{Listed}

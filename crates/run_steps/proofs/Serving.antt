@@ -1,4 +1,4 @@
--- Beginning all listed files begins or passes over each; and what is known of it stays known as the run goes on, since the folder's
+-- Beginning all listed files begins or skips each; and what is known of it stays known as the run goes on, since the folder's
 -- list grows, and of notes only those are collected that lanes and workers post.
 use Rattle.std.proofs.Common.{◌≡◌, ◌⊎◌, inl, inr, ⊎_elim, ℕ, zero, suc, ◌+◌, ◌<◌, Bool, true, false, List, [], ◌∷◌, ◌++◌, Contains, length, append_assoc, append-nil, Option, Some, None, IfSome, Ok, refl, sym, ap, subst, ◌∙◌, arith}
 use Rattle.std.proofs.lemmas.List.Elements.{Contains-append_cases, Contains-append_left, Contains-append_right}

@@ -82,7 +82,7 @@ pub record Follows {T W L : Type 0} (tails : TailWords T) (settings : Settings) 
   pub opened : IsOpenedFor tails settings file tail harvester
   pub taken : TakesIn file harvester old new
 
--- for want of memory its tail was closed, and no lane has it; it may be that the keeper was told of it
+-- out of memory, its tail was closed, and no lane has it; it may be that the keeper was told of it
 pub record GivesUp {T W L : Type 0} (tails : TailWords T) (file : ListedFile) (tail : T) (old new : Beginning T W L) : Type 0 where
   pub closes : Closes tails tail old.folder new.folder
   pub lanes : SameLanes old.crew new.crew

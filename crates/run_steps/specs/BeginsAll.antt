@@ -1,5 +1,5 @@
 -- What beginning all listed files does (this project's profile): file by file, in the order of their slots, each is opened and
--- followed, or passed over where none is there; and then the keeper is told when each was changed.
+-- followed, or skipped where none is there; and then the keeper is told when each was changed.
 use Rattle.std.specs.Prelude.{◌≡◌, ◌⊎◌, ℕ, suc, ◌+◌, ◌-◌, ◌^◌, ◌<◌, ◌≤◌, Bool, true, false, List, [], ◌∷◌, ◌++◌, length, take, slice_get, Option, Some, Ok, Err}
 use Rattle.std.specs.List.{AllByRecursion}
 use Rattle.event_tree.specs.declared.input_rule.IdentityRule.TheVariants.{Path}
@@ -25,7 +25,7 @@ use Rattle.run_steps.specs.Telling.{TellMoments, TellSomeMoments}
 use Rattle.run_steps.specs.declared.met.Met.{Met}
 use Rattle.run_steps.specs.declared.met.Met.TheVariants.{DiskFault, Done, Epochs, FolderFault, NoMemory, Stopped, Unreachable}
 
--- the path is passed over where its opening found no file
+-- the path is skipped where its opening found no file
 abbrev pub passed_by : Bool → Listed → List Passing
 passed_by true listed = []
 passed_by false listed = record { path = listed.path; why = Gone } ∷ []
@@ -35,18 +35,18 @@ abbrev pub file_at : List Row → ℕ → Listed → Moment → ListedFile
 file_at rows slot listed now = listed_file (record { 0 = slot }) listed (start_among rows listed) now
 
 module _ {T W L : Type 0} (tails : TailWords T) (settings : Settings) where
-  -- a file was opened and followed, or passed over with this path
+  -- a file was opened and followed, or skipped with this path
   pub record BeginsOrPasses (file : ListedFile) (more : List Passing) (old new : Beginning T W L) : Type 0 where
     pub found : Bool
     pub begins : BeginsOne tails settings file (Ok found) old new
     pub more_is : more ≡ passed_by found file.listed
 
-  -- the call ended in it, or as its path was to be passed over
+  -- the call ended in it, or as its path was to be noted as skipped
   abbrev pub EndsInOne : ListedFile → Met → Beginning T W L → Beginning T W L → Type 0
   EndsInOne file met old new = BeginsOne tails settings file (Err met) old new ⊎ ((met ≡ NoMemory) × BeginsOne tails settings file (Ok false) old new)
 
 module _ {T W L : Type 0} (tails : TailWords T) (settings : Settings) (rows : List Row) (now : Moment) where
-  -- one file was opened or passed over, and then the rest
+  -- one file was opened or skipped, and then the rest
   pub record BeginsFirst (slot : ℕ) (listed : Listed) (Rest : List Passing → Beginning T W L → Type 0) (passed : List Passing) (old : Beginning T W L) : Type 0 where
     pub found : Bool
     pub mid : Beginning T W L
@@ -80,13 +80,13 @@ module _ {T W L : Type 0} (tails : TailWords T) (settings : Settings) (rows : Li
       pub is : slice_get listed count ≡ Some one
       pub ended : BeginsOne tails settings (file_at rows count one now) (Err met) mid new
 
-    -- for want of memory behind the first so many, as the last path was to be passed over
+    -- out of memory behind the first so many, as the last path was to be noted as skipped
     pub record EndsBehindFile (old new : Beginning T W L) : Type 0 where
       pub count : ℕ
       pub passed : List Passing
       pub begins : BeginsFrom 0 (take count listed) passed old new
 
-    -- for want of memory behind all of them, as the keeper was told of some moments
+    -- out of memory behind all of them, as the keeper was told of some moments
     pub record EndsInMoments (old new : Beginning T W L) : Type 0 where
       pub passed : List Passing
       pub mid : Beginning T W L
@@ -112,7 +112,7 @@ pub record IsOfPathInput (settings : Settings) (Tells : Type 0) (listed : Listed
 abbrev pub IsOfInputs : Settings → Listed → Type 0
 IsOfInputs settings listed = listed.input < length settings.inputs
 
--- beginning files ends early for want of memory, or where the folder failed
+-- beginning files ends early where memory is out, or where the folder failed
 abbrev pub EndsBeginning : {T W L : Type 0} → Met → Beginning T W L → Beginning T W L → Type 0
 EndsBeginning NoMemory old new = Unit {0}
 EndsBeginning FolderFault old new = Rose old.folder.faults new.folder.faults

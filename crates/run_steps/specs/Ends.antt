@@ -17,7 +17,7 @@ use Rattle.run_steps.specs.Stands.{Stands}
 use Rattle.run_steps.specs.declared.met.Met.{Met}
 use Rattle.run_steps.specs.declared.met.Met.TheVariants.{Done}
 
--- all that was told is shipped or dropped, by counts that do not stand still
+-- all that was told is shipped or dropped, by counts that are not saturated
 pub record IsAllSettled {T : Type 0} (lanes : List (Laning T)) (keeper : Keeping) : Type 0 where
   pub below : spans_told lanes < 2 ^ 64 - 1
   pub settled : spans_told lanes ≤ keeper.shipped + keeper.dropped

@@ -1,4 +1,4 @@
--- Which paths a run passed over (this project's profile): those of listed files that were not found as they were to be opened, in
+-- Which paths a run skipped (this project's profile): those of listed files that were not found as they were to be opened, in
 -- the order of the list.
 use Rattle.std.specs.Prelude.{◌≡◌, Bool, List, [], ◌∷◌, ◌++◌}
 use Rattle.prospect.specs.declared.listed.Listed.{Listed}

@@ -1,4 +1,4 @@
--- What the last steps of a run meet (this project's profile): want of memory, or a disk's fault.
+-- What the last steps of a run meet (this project's profile): out of memory, or a disk's fault.
 use Rattle.std.specs.Prelude.{◌≡◌, ◌⊎◌, true, false, Option, Some, None}
 use Rattle.outside.specs.Counts.{Rose}
 use Rattle.rounds.specs.Words.{DiskWords}

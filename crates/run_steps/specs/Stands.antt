@@ -61,7 +61,7 @@ pub record HaveGiven (so_far : SoFar) : Type 0 where
   pub parcels : AsOften so_far.told.issued (flat_map parcels_told (files_in so_far))
   pub notes_are : AsOften so_far.told.noted (flat_map notes_told (files_in so_far))
 
--- counts of spans and notes, which stand still at 2^64 - 1
+-- counts of spans and notes, which saturate at 2^64 - 1
 pub record AreCounted {T : Type 0} (lanes : List (Laning T)) (keeper : Keeping) (so_far : SoFar) : Type 0 where
   pub spans : spans_told lanes < 2 ^ 64 - 1 → spans_in (files_in so_far) ≡ spans_told lanes
   pub shipped : keeper.shipped ≡ min (count_by is_shipped (notes keeper.pass.got)) (2 ^ 64 - 1)

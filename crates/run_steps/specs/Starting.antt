@@ -40,7 +40,7 @@ pub record IsFirstTooMany (rows : List Row) (listed : List Listed) (what : Full)
   pub full : full_for (length rows + new_files rows (take place listed)) place one.size (row_of rows one.key) ≡ Some what
   pub room_before : HaveRoomBefore rows listed place
 
--- want of memory may come with any
+-- out of memory may come with any
 abbrev pub RefusesStarts : List Row → List Listed → JoinError → Type 0
 RefusesStarts rows listed (TooMany what path) = IsFirstTooMany rows listed what path
 RefusesStarts rows listed NoMemory = Unit {0}

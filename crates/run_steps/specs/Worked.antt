@@ -34,7 +34,7 @@ abbrev pub phase_worked : Result (Vec Passing Global) Met → Met → Phase
 phase_worked (Ok passed) met = phase_met met
 phase_worked (Err first) met = Leaving
 
--- the paths that were passed over as files were begun
+-- the paths that were skipped as files were begun
 abbrev pub HasPassed : Result (Vec Passing Global) Met → List Passing → Type 0
 HasPassed (Ok passed) after = after ≡ passed.items
 HasPassed (Err met) after = after ≡ []

@@ -114,8 +114,8 @@ fn follow_one<F: Folder, L: Link, W: Wire<Link = L>>(
     }
 }
 
-/// A harvester over the open file. `Err` is want of memory, and gives the tail back; so is a file whose key the listing did not
-/// tell, and a pattern that is too large when it is compiled.
+/// A harvester over the open file. `Err` means out of memory, and gives the tail back; a file whose key the listing did
+/// not tell, and a pattern that is too large when it is compiled, count as that.
 fn harvest<T: Tail>(
     context: Context<'_, '_>,
     opening: Opening<'_>,
@@ -183,7 +183,7 @@ fn take_in<F: Folder, L: Link, W: Wire<Link = L>>(
     }
 }
 
-/// Admits the harvester to the lane of its slot modulo the number of lanes. `Err` is want of memory, and gives it back.
+/// Admits the harvester to the lane of its slot modulo the number of lanes. `Err` means out of memory, and gives it back.
 fn admit<T: Tail, L: Link, W: Wire<Link = L>>(
     slot: Slot,
     harvester: Harvester<T>,

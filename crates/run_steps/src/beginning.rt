@@ -128,7 +128,7 @@ fn begin_files<F: Folder, L: Link, W: Wire<Link = L>>(
     Ok(passed)
 }
 
-/// Opens and follows the file, or adds its path to those that were passed over.
+/// Opens and follows the file, or adds its path to those that were skipped.
 fn begin_or_pass<F: Folder, L: Link, W: Wire<Link = L>>(
     context: Context<'_, '_>,
     opening: Opening<'_>,

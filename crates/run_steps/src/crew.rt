@@ -24,8 +24,8 @@ pub struct Passes {
     pub post: PostPass,
 }
 
-/// Lanes and workers as the settings ask for them, among which these passes are parted. `Err` is want of memory; then all wires are
-/// back in their order.
+/// Lanes and workers as the settings ask for them, among which these passes are parted. `Err` means out of memory; then all wires
+/// are back in their order.
 pub fn crew_of<T: Tail, L: Link, W: Wire<Link = L>>(
     context: Context<'_, '_>,
     passes: Passes,

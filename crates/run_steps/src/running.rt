@@ -33,8 +33,8 @@ use std::sync::Wait;
 use std::thread::Threads;
 use wire_base::NoMemory;
 
-/// Follows the listed files by a crew, and lets all go. `Err` is want of memory for the crew; then nothing was done, and all wires
-/// are back in their order. Takes as long as the files, the peers and the disk do.
+/// Follows the listed files by a crew, and lets all go. `Err` means out of memory for the crew; then nothing was done, and all
+/// wires are back in their order. Takes as long as the files, the peers and the disk do.
 pub fn run_over<
     X: Threads + Wait + Sync,
     F: Folder,

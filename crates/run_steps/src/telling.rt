@@ -14,7 +14,7 @@ use ship_core::Rows;
 use std::alloc::Global;
 use wire_base::{MAX_MOMENT, Moment, NoMemory, Note, Slot};
 
-/// Tells the keeper how the file begins, with 0 for its moment of change. `Err` is want of memory, and leaves the keeper as it
+/// Tells the keeper how the file begins, with 0 for its moment of change. `Err` means out of memory, and leaves the keeper as it
 /// was; so is a file whose key the listing did not tell.
 pub(crate) fn tell_begin(
     alloc: Global,
@@ -57,7 +57,7 @@ fn tell(alloc: Global, note: Note, keeper: &mut Keeper) -> Result<(), NoMemory>
 }
 
 /// Tells the keeper when each file that is followed was changed: as the scan listed it, or as its row has it where that is later; a
-/// moment of 0 is not told. The slots are the places in the list. `Err` is want of memory, behind some of them.
+/// moment of 0 is not told. The slots are the places in the list. `Err` means out of memory, behind some of them.
 pub fn tell_moments(alloc: Global, listed: &[Listed], keeper: &mut Keeper) -> Result<(), NoMemory>
     requires few { length listed.now ≤ 65_536 }
     ensures told { OnOk result

@@ -245,7 +245,7 @@ pub fn follow_begun<
     }
 }
 
-/// The last steps, except where the run met want of memory or a disk's fault. What they meet takes the place of what it met.
+/// The last steps, except where the run was out of memory or met a disk's fault. What they meet takes the place of what it met.
 pub fn settle_after<
     T: Tail + Send,
     L: Link + Send,

@@ -237,7 +237,7 @@ fn failed_acknowledgement_ends_its_link_alone(rt: HostRuntime) -> Result<(), Fai
     Ok(())
 }
 
-/// Words, and whether they are the command's.
+/// Arguments, and whether they are the command's.
 const WORDS: [(&[&str], bool); 13] = [
     (&TWO_LINKS, true),
     (

@@ -27,7 +27,7 @@ impl Model for PostPass {
 
 impl PostPass {
     /// How many notes were posted by this pass and by those that were joined into it. The count
-    /// stands still at 2^64 - 1.
+    /// saturates at 2^64 - 1.
     pub fn count(&self) -> u64
         ensures { result ≡ min (posts_of (senders_of self.now)) (2 ^ 64 - 1) }
     {

@@ -4,7 +4,7 @@ use Rattle.std.specs.Str.{IsUtf8, IsValidUpTo}
 use Rattle.wire_base.specs.declared.text.TextError.{TextError}
 use Rattle.wire_base.specs.declared.text.TextError.TheVariants.{NotUtf8, NoMemory}
 
--- the bytes are not UTF-8, and `at` is the length of their longest front that is; want of memory may come with any
+-- the bytes are not UTF-8, and `at` is the length of their longest front that is; out of memory may come with any
 abbrev pub IsRefusedFor : List ℕ → TextError → Type 0
 IsRefusedFor bytes (NotUtf8 at) = (¬ (IsUtf8 bytes)) × IsValidUpTo bytes at
 IsRefusedFor bytes NoMemory = Unit {0}

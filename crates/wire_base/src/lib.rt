@@ -1,4 +1,4 @@
-//! The plain data that many rooms name: texts and bytes, spans, rows, notes and the pieces of a talk.
+//! The plain data that many crates name: texts and bytes, spans, rows, notes and the pieces of a talk.
 //!
 //! A text and a blob are seen in contracts as the list of their bytes. The ranges that every call
 //! on a row, a note or a parcel has as its condition are definitions of `specs/`. Nothing here

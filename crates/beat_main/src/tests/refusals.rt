@@ -32,7 +32,7 @@ const FOLLOW: &str = "status 13 unbuilt follow\n";
 
 const GENERATE: &str = "status 13 unbuilt generate\n";
 
-/// The words are those of no command, the settings have a fault and ask for what is not built, an
+/// The arguments are those of no command, the settings have a fault and ask for what is not built, an
 /// area has bytes, and it, the source and the folder fail.
 const ALL_FAULTS: Start = Start {
     words: &["-c"],

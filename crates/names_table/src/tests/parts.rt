@@ -10,7 +10,7 @@ pub fn text(alloc: Global, chars: &str) -> Result<Text, TextError>
     Text::from_bytes(alloc, chars.as_bytes())
 }
 
-/// A text of each of the words.
+/// A text of each of the arguments.
 pub fn texts(alloc: Global, words: &[&str]) -> Result<Vec<Text>, Fail> {
     let mut texts = Vec::new(alloc);
     for word in words {

@@ -12,7 +12,7 @@ returns-in-Err-clause-usage_only g c = λ is.
     let same : c.in-Err.status ≡ Usage = cc in
     c.check_words.ensures.usage_only (c.in-Err.is ∙ ap (λ (s : Status). Err s) same)
 
--- the words ask for nothing that is not built
+-- the arguments ask for nothing that is not built
 
 pub returns-in-Err-read_source-clause-unbuilt_refused : goal.returns-in-Err-read_source-clause-unbuilt_refused
 returns-in-Err-read_source-clause-unbuilt_refused g c = λ lack asks. absurd (c.in-Ok.ensures.lack_refused lack asks)

@@ -13,7 +13,7 @@ use Rattle.beat_run.proofs.Endings.{told_never}
 use Rattle.beat_run.proofs.Refusals.{refused_by_areas}
 use Rattle.beat_run.proofs.run.run.Goals as goal
 
--- ---- words or settings were refused
+-- ---- arguments or settings were refused
 
 pub returns-in-Err-clause-usage_only : goal.returns-in-Err-clause-usage_only
 returns-in-Err-clause-usage_only g c = λ is.
@@ -46,7 +46,7 @@ returns-in-Err-clause-at_rest g c = λ some rest followed. absurd (prepare_not_f
 pub returns-in-Err-clause-goes_on : goal.returns-in-Err-clause-goes_on
 returns-in-Err-clause-goes_on g c = record { clock = clock_stays (g.K.Clock.moments c.args.outside.now.clock.now); wires = refl; tails = λ few. refl; a_told = λ told. told; b_told = λ told. told }
 
--- ---- words and settings are good
+-- ---- arguments and settings are good
 
 pub returns-clause-unbuilt_refused : goal.returns-clause-unbuilt_refused
 returns-clause-unbuilt_refused g c = λ lack asks. absurd (c.in-Ok.ensures.unbuilt_refused lack asks)
