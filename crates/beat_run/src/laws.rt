@@ -18,12 +18,11 @@ pub fn unasked_disk_is_only_read<D: Disk>()
 /// Each row that a run opens was told by the run before, whatever that met, or stood as that one opened it. So the rows that
 /// `accounted_runs_adjoin` asks for are there, and its inputs have ids of their own. A law; it computes nothing.
 pub fn next_run_opens_kept_rows<D: Disk>()
-    ensures opening {
-        (earlier later : EndedRun (disk_words D.contents D.images D.moment D.images_since D.faults)) →
+    ensures opening { (earlier later : EndedRun (disk_words D.contents D.images D.moment D.images_since D.faults)) →
         FindsAreasAsLeft (disk_words D.contents D.images D.moment D.images_since D.faults)
-            earlier.objects later.objects →
+        earlier.objects later.objects →
         OpensKeptRows (disk_words D.contents D.images D.moment D.images_since D.faults)
-            earlier later }
+        earlier later }
     ensures own_ids { (settings : Settings) → AreInRange settings → lacks_of settings ≡ [] →
         HaveOwnIds settings.inputs }
 {}
