@@ -60,6 +60,7 @@ pub mod RunEnded
 pub mod RunFiles
 pub mod RunFits
 pub mod RunNotes
+pub mod RunNumbers
 pub mod RunRows
 pub mod RunServed
 pub mod RunTails

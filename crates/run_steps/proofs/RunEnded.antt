@@ -62,7 +62,7 @@ module _ {T W L D : Type 0} (words : Words T W L D) (start : Began D) (ending : 
       after = record { folder = ending.shown; moments = ending.moments; outcomes = map words.wires.outcomes wires; a = ending.a; b = ending.b };
     }
 
-    pub ended_is_accounted_for : OneChoice → GaveRows words.disks start → (met ≡ Done → IsServedAtEnd start.opening start.listed ending.keeper.tracked.notes folder ending.shown) → AccountedOver words.disks start.settings start.opening start.listed ended_objects met
+    pub ended_is_accounted_for : OneChoice → GaveRows words.disks start → (met ≡ Done → IsServedAtEnd start.opening start.listed ending.keeper.tracked.notes folder ending.shown) → AccountedOver words.disks start.settings start.opening start.listed ended_objects met ending.keeper.shipped ending.keeper.dropped
     ended_is_accounted_for one gave served =
         accounted_over words start ending met unused wires ended.ends ended.left whole has_whole do_tell outcomes starts one gave
         (λ is_done. by_served (served is_done))

@@ -182,7 +182,7 @@ module _ {T W L D : Type 0} (words : Words T W L D) (reads : (disk : D) → IfSo
             by_result (Err what) all not = absurd (not is_done)
 
         pub accounted : OneChoice → IfErr result (λ _. met ≢ Done) → Collects new.keeper ending.keeper → new.keeper.held ≡ None → (events : List Event) → ending.shown ≡ with_events events new.folder.told →
-            AccountedOver words.disks settings old.keeper.store.rows listed (ended_objects words start ending met left after has_ended folder has clock_tells wires_tell (map words.wires.outcomes wires) starts) met
+            AccountedOver words.disks settings old.keeper.store.rows listed (ended_objects words start ending met left after has_ended folder has clock_tells wires_tell (map words.wires.outcomes wires) starts) met ending.keeper.shipped ending.keeper.dropped
         accounted one not_done collects none_held events then =
             ended_is_accounted_for words start ending met left after has_ended folder has clock_tells wires_tell (map words.wires.outcomes wires) starts one sets.gave
             (λ is_done. served is_done not_done collects none_held events then)

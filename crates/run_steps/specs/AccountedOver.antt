@@ -1,8 +1,10 @@
 -- A run over listed files that is accounted for (this project's profile), before rows of removed files go: each key that had a row, or was
 -- begun, has one. It began with the rows of its store; its one scan was whole, asked for the keys of the listed files by their entries, and
--- showed the key of each listed file and of each slot.
+-- showed the key of each listed file and of each slot. Where the last steps were made, the numbers of shipped and of dropped events are
+-- those of the account; where it is done, these are all of its events.
 use Rattle.std.specs.Prelude.{◌≡◌, ℕ, List, [], ◌∷◌, Contains, Some, map}
 use Rattle.std.specs.List.{AllByRecursion}
+use Rattle.accounts.specs.Numbers.{AreAllCounted, AreNumbersOf}
 use Rattle.event_tree.specs.declared.settings.Settings.{Settings}
 use Rattle.kept_rows.specs.Account.{key_of}
 use Rattle.kept_rows.specs.Run.{Scan}
@@ -11,10 +13,12 @@ use Rattle.prospect.specs.declared.listed.Listed.{Listed}
 use Rattle.rounds.specs.Words.{DiskWords}
 use Rattle.wire_base.specs.declared.row.Row.{Row}
 use Rattle.run_steps.specs.AccountedFor.{AccountedWith, NoKey, RunObjects}
+use Rattle.run_steps.specs.Met.{AreLeft}
 use Rattle.run_steps.specs.RunOf.{asking_of}
 use Rattle.run_steps.specs.declared.met.Met.{Met}
+use Rattle.run_steps.specs.declared.met.Met.TheVariants.{Done}
 
-pub record AccountedOver {D : Type 0} (disks : DiskWords D) (settings : Settings) (opening : List Row) (listed : List Listed) (objects : RunObjects D) (met : Met) : Type 0 where
+pub record AccountedOver {D : Type 0} (disks : DiskWords D) (settings : Settings) (opening : List Row) (listed : List Listed) (objects : RunObjects D) (met : Met) (shipped dropped : ℕ) : Type 0 where
   pub accounted : AccountedWith NoKey disks settings objects met
   pub opening_is : accounted.run.opening ≡ opening
   pub scan : Scan
@@ -23,3 +27,5 @@ pub record AccountedOver {D : Type 0} (disks : DiskWords D) (settings : Settings
   pub asked : scan.askings ≡ map asking_of listed
   pub lists : (one : Listed) (key : List ℕ) → Contains listed one → one.key ≡ Some key → ShowsKey accounted.run scan key
   pub shown : AllByRecursion (λ one. ShowsKey accounted.run scan (key_of one)) accounted.account
+  pub numbers : AreLeft met → AreNumbersOf accounted.account shipped dropped
+  pub counted : met ≡ Done → AreAllCounted accounted.account

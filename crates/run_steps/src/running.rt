@@ -114,7 +114,8 @@ where
         }) worked.met
         (drop context.entry.settings.now.output.workers around.old.wires.now.items)
         around.new.wires.now.items) }
-    // Where the scan is known, and folder, clock and wires tell, the run is accounted for, and each key keeps its row.
+    // Where the scan is known, and folder, clock and wires tell, the run is accounted for, and each key keeps its row; where
+    // the last steps were made, the keeper counted the events of the account.
     ensures accounted { (earlier : Earlier D) (folder : FolderTold) →
         SetsOut (disk_words D.contents D.images D.moment D.images_since D.faults)
         (began_with (wire_words W.outcomes W.open_links W.faults W.idles) (record {
@@ -168,7 +169,7 @@ where
             a = storing.new.a.now;
             b = storing.new.b.now;
           };
-        }) worked.met) }
+        }) worked.met storing.new.keeper.now.shipped storing.new.keeper.now.dropped) }
     ensures is_open { IfOk result (λ worked.
         AreLeft worked.met → storing.new.keeper.now.store.closed ≡ false) }
     ensures cause { IfOk result (λ worked. IsMetByRun context.entry.settings.now.output.workers
