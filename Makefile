@@ -17,7 +17,7 @@ build:
 install:
 	install -D -m 755 crates/$(PROGRAM)/out/$(PROGRAM) $(DESTDIR)$(PREFIX)/bin/$(PROGRAM)
 
-# the gate: all proofs, all tests, all must-fail edits, and the program tested from outside
+# the merge check: all proofs, all tests, all must-fail edits, and the program tested from outside
 test:
 	.ci/run
 

@@ -2,10 +2,12 @@
 use Rattle.std.proofs.Common.{◌≡◌, ◌≢◌, ◌≤◌, ◌⊎◌, inl, inr, ℕ, true, false, List, [], ◌∷◌, ◌++◌, length, map, All, Option, Some, None, IfSome, IsSome, Result, Ok, Err, IfErr, refl, sym, ap, subst, ◌∙◌}
 use Rattle.std.specs.List.{AllByRecursion}
 use Rattle.batch_worker.specs.Seen.{Seen}
+use Rattle.accounts.specs.Numbers.{AreAllCounted, AreNumbersOf}
 use Rattle.beat_config.specs.InRange.{AreInRange}
 use Rattle.event_tree.specs.declared.input_rule.IdentityRule.TheVariants.{Path}
 use Rattle.event_tree.specs.declared.input_rule.InputRule.{InputRule}
 use Rattle.event_tree.specs.declared.settings.Settings.{Settings as SettingsOf}
+use Rattle.kept_rows.specs.Account.{SlotAccount}
 use Rattle.outside.specs.Folders.{FolderHistory}
 use Rattle.outside.specs.Times.{GivesMoment}
 use Rattle.outside.specs.Wires.{Outcome}
@@ -40,8 +42,10 @@ use Rattle.run_steps.proofs.Members.{some_is}
 use Rattle.run_steps.proofs.RunRows.{OneChoice}
 use Rattle.beat_run.specs.Accounted.{HasNoRoom, IsAccounted, IsAccountedByNamed, IsFullFor, IsMetFor, IsOpenedFrom, LeavesNoRemoved, RunLent, TellRows}
 use Rattle.beat_run.specs.Ended.{IsTelling, StandsForMet, StandsForRegistry}
-use Rattle.beat_run.specs.Ends.{FindsNoRoom, IsPreparingEnd, IsPrintingEnd, IsRunEnd, IsStartEnd, ShowsScanEnd}
+use Rattle.beat_run.specs.Ends.{FindsNoRoom, IsPreparingEnd, IsPrintingEnd, IsReportEnd, IsRunEnd, IsStartEnd, ShowsScanEnd}
+use Rattle.beat_run.specs.Printed.{IsReportOver}
 use Rattle.beat_run.proofs.Causes.{named_so}
+use Rattle.beat_run.proofs.PrintedEnds.{never_reported}
 
 pub each_some : {A : Type 0} (o : Option A) (P Q : A → Type 0) → ((x : A) → P x → Q x) → IfSome o P → IfSome o Q
 each_some None P Q then is = tt
@@ -87,6 +91,9 @@ early_not_telling (TooMany full path) telling = absurd telling
 early_not_telling (NoNative path) telling = absurd telling
 early_not_telling NoMemory telling = absurd telling
 early_not_telling (Unbuilt what) telling = absurd telling
+
+early_not_done : (status : Status) → early_met status ≢ met.Done
+early_not_done status is = early_not_telling status (subst IsTelling (sym is) tt)
 
 -- as it was worked
 met_for : (listed : List Listed) (attempts : ℕ) (what : Met) (status : Status) → IsMetOf (length listed) what → StandsForMet listed attempts what status → IsMetFor status what
@@ -234,9 +241,9 @@ module _ {D : Type 0} (disks : DiskWords D) (one : OneChoice) (settings : Settin
   }
 
   -- it scanned
-  pub early : (told after : Option FolderHistory) (before later : Option (List ℕ)) (moment : ℕ) (status : Status) → IsSome told → IsSome before → GivesMoment before moment later →
+  pub early : {tells : List ℕ → Type 0} (told after : Option FolderHistory) (before later : Option (List ℕ)) (moment : ℕ) (status : Status) → IsSome told → IsSome before → GivesMoment before moment later →
       IfSome told (λ history. ListsSome (globs_of settings.inputs) history after) → IsRunEnd status → IsFullFor disks settings (early_run told after before later) status →
-      IsAccounted disks settings (early_run told after before later) status
+      IsAccounted disks settings (early_run told after before later) status tells
   early None after before later moment status some clock gives lists ends full = absurd (nothing FolderHistory some)
   early (Some history) after before later moment status some clock gives lists ends full =
       let scanned : FolderHistory = record history { events = history.events ++ lists.more } in
@@ -251,6 +258,8 @@ module _ {D : Type 0} (disks : DiskWords D) (one : OneChoice) (settings : Settin
             (record { in_range = in_range; by_path = paths; lists = record { more = lists.more; in_order = lists.in_order; kept = refl } })
             first.since later first.given (later_tells before later moment gives clock) outcomes a b one gave held (early_met status) (early_not_done status));
         cleaned = λ rest telling. absurd (early_not_telling status telling);
+        numbers = λ end. absurd (never_reported status ends end);
+        counted = λ is_done. absurd (early_not_done status is_done);
         full_for = full;
       }
 
@@ -264,7 +273,7 @@ module _ {D : Type 0} (disks : DiskWords D) (one : OneChoice) (settings : Settin
     after = record { folder = told; moments = before; outcomes = outcomes; a = a; b = b };
   }
 
-  pub still : (told : Option FolderHistory) (before : Option (List ℕ)) (status : Status) → IsSome told → IsSome before → IsRunEnd status → IsFullFor disks settings (still_run told before) status → IsAccounted disks settings (still_run told before) status
+  pub still : {tells : List ℕ → Type 0} (told : Option FolderHistory) (before : Option (List ℕ)) (status : Status) → IsSome told → IsSome before → IsRunEnd status → IsFullFor disks settings (still_run told before) status → IsAccounted disks settings (still_run told before) status tells
   still None before status some clock ends full = absurd (nothing FolderHistory some)
   still (Some history) None status some clock ends full = absurd (nothing (List ℕ) clock)
   still (Some history) (Some moments) status some clock ends full = record {
@@ -272,6 +281,8 @@ module _ {D : Type 0} (disks : DiskWords D) (one : OneChoice) (settings : Settin
     met_for = early_met_for status ends;
     accounted = still_is_accounted_for disks settings opening history moments outcomes from_a from_b a b one gave held (early_met status) (early_not_done status);
     cleaned = λ rest telling. absurd (early_not_telling status telling);
+    numbers = λ end. absurd (never_reported status ends end);
+    counted = λ is_done. absurd (early_not_done status is_done);
     full_for = full;
   }
 
@@ -288,56 +299,99 @@ pub wires_tell : {W : Type 0} (outcomes : W → Option (List Outcome)) (wires : 
 wires_tell outcomes [] tell = tt
 wires_tell outcomes (w ∷ wires) tell = (tell.0, wires_tell outcomes wires tell.1)
 
+-- a run that is accounted for, of which no row of a removed file is left, and whose numbers are those of its account
+pub record IsWorked {D : Type 0} (disks : DiskWords D) (settings : SettingsOf) (what : Met) (shipped dropped : ℕ) (objects : RunObjects D) : Type 0 where
+  pub accounted : AccountedFor disks settings objects what
+  pub cleaned : LeavesNoRemoved disks objects what accounted.run
+  pub numbers : IsTelling what → AreNumbersOf accounted.account shipped dropped
+  pub counted : what ≡ met.Done → AreAllCounted accounted.account
+
 -- with what the folder told, where it tells
 module _ {D : Type 0} (disks : DiskWords D) (start : Began D) (in_range : AreInRange start.settings) (paths : All (λ (input : InputRule). input.file_identity ≡ Path) start.settings.inputs)
-    (outcomes : List (Option (List Outcome))) (after : Objects D) (what : Met) where
+    (outcomes : List (Option (List Outcome))) (after : Objects D) (what : Met) (shipped dropped : ℕ) where
   abbrev pub worked_run : Option FolderHistory → RunObjects D
   worked_run told = record { before = record { folder = told; moments = start.moments; outcomes = outcomes; a = start.a; b = start.b }; after = after }
 
-  pub worked : (told : Option FolderHistory) (status : Status) → IsSome told → IfSome told (λ history. ScansFiles start.settings.inputs history start.listed start.shown) → IsMetFor status what → IsFullFor disks start.settings (worked_run told) status →
-      ((folder : FolderTold) → HasScanned start folder → (is : AccountedFor disks start.settings (worked_run (Some folder.earlier)) what) × LeavesNoRemoved disks (worked_run (Some folder.earlier)) what is.run) →
-      IsAccounted disks start.settings (worked_run told) status
-  worked None status some scans is full accounted = absurd (nothing FolderHistory some)
-  worked (Some history) status some scans is full accounted =
+  pub worked : {tells : List ℕ → Type 0} (told : Option FolderHistory) (status : Status) → IsSome told → IfSome told (λ history. ScansFiles start.settings.inputs history start.listed start.shown) → IsMetFor status what → IsFullFor disks start.settings (worked_run told) status →
+      ((account : List SlotAccount) → (IsTelling what → AreNumbersOf account shipped dropped) → IsReportEnd status → (text : List ℕ) → tells text → IsReportOver account status text) →
+      ((folder : FolderTold) → HasScanned start folder → IsWorked disks start.settings what shipped dropped (worked_run (Some folder.earlier))) →
+      IsAccounted disks start.settings (worked_run told) status tells
+  worked None status some scans is full reports accounted = absurd (nothing FolderHistory some)
+  worked (Some history) status some scans is full reports accounted =
       let scanned : FolderHistory = record history { events = history.events ++ map event_of scans.listings } in
       let folder : FolderTold = record { earlier = history; scanned = scanned; ended = scanned } in
-      let both = accounted folder (record { in_range = in_range; by_path = paths; shown = scans.listed_is.kept; scans = scans }) in
-      record { what = what; met_for = is; accounted = both.0; cleaned = both.1; full_for = full }
+      let worked_so = accounted folder (record { in_range = in_range; by_path = paths; shown = scans.listed_is.kept; scans = scans }) in
+      record {
+        what = what;
+        met_for = is;
+        accounted = worked_so.accounted;
+        cleaned = worked_so.cleaned;
+        numbers = reports worked_so.accounted.account worked_so.numbers;
+        counted = worked_so.counted;
+        full_for = full;
+      }
 
 -- ---- once it is printed
 
--- where the sink failed, its status tells nothing of the settings
-pub out_fault : {F W D : Type 0} (disks : DiskWords D) (source : Option (List ℕ)) (lent : RunLent F W D) (objects : RunObjects D) (ended : Status) → IsAccountedByNamed disks source lent objects ended → IsAccountedByNamed disks source lent objects OutFault
-out_fault disks source lent objects ended by = record {
-  settings = by.settings;
-  named = λ behind. absurd behind;
-  named_or_unused = by.named_or_unused;
-  supported = by.supported;
-  is = record { what = by.is.what; met_for = tt; accounted = by.is.accounted; cleaned = by.is.cleaned; full_for = tt };
-}
+module _ {F W D : Type 0} (disks : DiskWords D) (source : Option (List ℕ)) (lent : RunLent F W D) (objects : RunObjects D) (tells now_tells : List ℕ → Type 0) where
+  -- what is told now of a run with this status was to be told
+  retold : (status : Status) → (IsReportEnd status → (text : List ℕ) → now_tells text → tells text) → IsAccountedByNamed disks source lent objects status tells → IsAccountedByNamed disks source lent objects status now_tells
+  retold status was by = record {
+    settings = by.settings;
+    named = by.named;
+    named_or_unused = by.named_or_unused;
+    supported = by.supported;
+    is = record {
+      what = by.is.what;
+      met_for = by.is.met_for;
+      accounted = by.is.accounted;
+      cleaned = by.is.cleaned;
+      numbers = λ end text told. by.is.numbers end text (was end text told);
+      counted = by.is.counted;
+      full_for = by.is.full_for;
+    };
+  }
 
-pub printed : {F W D : Type 0} (disks : DiskWords D) (source : Option (List ℕ)) (lent : RunLent F W D) (objects : RunObjects D) (before now : ℕ) (ended status : Status) → IsPrintingEnd before now ended status →
-    IsAccountedByNamed disks source lent objects ended → IsAccountedByNamed disks source lent objects status
-printed disks source lent objects before now ended status ends is = by_case status ends
-  where
-    same : (s : Status) → s ≡ ended → IsAccountedByNamed disks source lent objects s
-    same s equal = subst (IsAccountedByNamed disks source lent objects) (sym equal) is
+  -- where the sink failed, its status tells nothing of the settings
+  out_fault : (ended : Status) → IsAccountedByNamed disks source lent objects ended tells → IsAccountedByNamed disks source lent objects OutFault now_tells
+  out_fault ended by = record {
+    settings = by.settings;
+    named = λ behind. absurd behind;
+    named_or_unused = by.named_or_unused;
+    supported = by.supported;
+    is = record { what = by.is.what; met_for = tt; accounted = by.is.accounted; cleaned = by.is.cleaned; numbers = λ end. absurd end; counted = by.is.counted; full_for = tt };
+  }
 
-    by_case : (s : Status) → IsPrintingEnd before now ended s → IsAccountedByNamed disks source lent objects s
-    by_case Done ends = same Done ends
-    by_case Stopped ends = same Stopped ends
-    by_case Usage ends = same Usage ends
-    by_case (Settings fault) ends = same (Settings fault) ends
-    by_case (RegistryBad area at) ends = same (RegistryBad area at) ends
-    by_case DiskFault ends = same DiskFault ends
-    by_case FolderFault ends = same FolderFault ends
-    by_case (Unreachable worker failures) ends = same (Unreachable worker failures) ends
-    by_case OutFault ends = out_fault disks source lent objects ended is
-    by_case SourceFault ends = same SourceFault ends
-    by_case (TooMany full path) ends = same (TooMany full path) ends
-    by_case (NoNative path) ends = same (NoNative path) ends
-    by_case NoMemory ends = same NoMemory ends
-    by_case (Unbuilt what) ends = same (Unbuilt what) ends
+  -- a status alone
+  pub status_printed : (ended status : Status) (P : Type 0) → (status ≡ ended) ⊎ ((status ≡ OutFault) × P) → IsRunEnd ended → IsAccountedByNamed disks source lent objects ended tells →
+      IsAccountedByNamed disks source lent objects status now_tells
+  status_printed ended status P (inl same) ends is =
+      subst (λ (s : Status). IsAccountedByNamed disks source lent objects s now_tells) (sym same) (retold ended (λ end. absurd (never_reported ended ends end)) is)
+  status_printed ended status P (inr failed) ends is = subst (λ (s : Status). IsAccountedByNamed disks source lent objects s now_tells) (sym failed.0) (out_fault ended is)
+
+  -- a report
+  pub report_printed : (before now : ℕ) (ended status : Status) → IsPrintingEnd before now ended status → (status ≡ ended → (text : List ℕ) → now_tells text → tells text) →
+      IsAccountedByNamed disks source lent objects ended tells → IsAccountedByNamed disks source lent objects status now_tells
+  report_printed before now ended status ends was is = by_case status ends was
+    where
+      same : (s : Status) → s ≡ ended → (s ≡ ended → (text : List ℕ) → now_tells text → tells text) → IsAccountedByNamed disks source lent objects s now_tells
+      same s equal was = subst (λ (e : Status). IsAccountedByNamed disks source lent objects e now_tells) (sym equal) (retold ended (λ end. was equal) is)
+
+      by_case : (s : Status) → IsPrintingEnd before now ended s → (s ≡ ended → (text : List ℕ) → now_tells text → tells text) → IsAccountedByNamed disks source lent objects s now_tells
+      by_case Done ends = same Done ends
+      by_case Stopped ends = same Stopped ends
+      by_case Usage ends = same Usage ends
+      by_case (Settings fault) ends = same (Settings fault) ends
+      by_case (RegistryBad area at) ends = same (RegistryBad area at) ends
+      by_case DiskFault ends = same DiskFault ends
+      by_case FolderFault ends = same FolderFault ends
+      by_case (Unreachable worker failures) ends = same (Unreachable worker failures) ends
+      by_case OutFault ends = λ was. out_fault ended is
+      by_case SourceFault ends = same SourceFault ends
+      by_case (TooMany full path) ends = same (TooMany full path) ends
+      by_case (NoNative path) ends = same (NoNative path) ends
+      by_case NoMemory ends = same NoMemory ends
+      by_case (Unbuilt what) ends = same (Unbuilt what) ends
 
 -- ---- a run that was refused before its settings were known
 

@@ -49,7 +49,9 @@ use Rattle.wire_base.specs.declared.row.Row.{Row}
 use Rattle.beat_run.specs.Accounted.{IsOfRemovedFile, LeavesNoRemoved}
 use Rattle.beat_run.specs.Cause.{Signs}
 use Rattle.beat_run.specs.Cleaning.{Cleaning, Cleans, HeldOnlyLeft, IsAtRestIn}
+use Rattle.beat_run.proofs.Accounts.{IsWorked}
 use Rattle.beat_run.proofs.Causes.{FailedIn, left_telling}
+use Rattle.beat_run.proofs.GoneNumbers.{counted_with_gone, numbers_with_gone}
 
 -- ---- what is met
 
@@ -177,7 +179,7 @@ with_areas objects a b = record { before = objects.before; after = record object
 module _ {D : Type 0} (disks : DiskWords D) (reads : (disk : D) → IfSome (disks.contents disk) (disks.images disk))
     (counts : (disk : D) (since : ℕ) (image : List ℕ) → since ≤ disks.moment disk → disks.images disk image → disks.images_since disk since image) (one : OneChoice)
     (settings : Settings) (opening : List Row) (ordered : IsInOrder opening) (listed : List Listed) (of_inputs : AllByRecursion (IsOfPathInput settings (Unit {0})) listed)
-    (objects : RunObjects D) (old new : Cleaning D) (over : AccountedOver disks settings opening listed (with_areas objects old.a old.b) old.met)
+    (objects : RunObjects D) (old new : Cleaning D) (shipped dropped : ℕ) (over : AccountedOver disks settings opening listed (with_areas objects old.a old.b) old.met shipped dropped)
     (cleans : Cleans disks settings.inputs listed old new) (later_a : WereAtRest disks objects → disks.moment objects.before.a ≤ disks.moment old.a)
     (later_b : WereAtRest disks objects → disks.moment objects.before.b ≤ disks.moment old.b)
     (at_rest : AreLeft old.met → WereAtRest disks objects → IsAtRestIn disks old) where
@@ -370,13 +372,16 @@ module _ {D : Type 0} (disks : DiskWords D) (reads : (disk : D) → IfSome (disk
 
   -- ---- together
 
+  was_done_before : new.met ≡ Done → old.met ≡ Done
+  was_done_before is_done = ⊎_elim (λ same. sym same ∙ is_done) (λ by. absurd (subst (IsMetByStoring disks (record { a = old.a; b = old.b; new_a = new.a; new_b = new.b })) is_done by)) cleaned.met
+
   drained : WereAtRest disks objects → new.met ≡ Done → Premises run (followings_in account) → (first second : List ℕ) (rows : List Row) → disks.contents new.a ≡ Some first → disks.contents new.b ≡ Some second →
       GivesRows first second rows → IsDrained run behind rows
   drained were is_done premises first second rows a_is b_is gives =
       let still : AreLeft new.met = subst AreLeft (sym is_done) tt in
       let are_left = left_before still in
       let rest = at_rest are_left were in
-      let was_done : old.met ≡ Done = ⊎_elim (λ same. sym same ∙ is_done) (λ by. absurd (subst (IsMetByStoring disks (record { a = old.a; b = old.b; new_a = new.a; new_b = new.b })) is_done by)) cleaned.met in
+      let was_done = was_done_before is_done in
       subst (IsDrained run behind) (rows_of_store one disks new.a new.b new.store first second rows (cleaned.at_rest still rest) a_is b_is gives)
       (drained_left old.store.rows new.store.rows (cleaned.rows still)
       ((over.accounted.supposing premises).drained were was_done rest.first rest.second old.store.rows rest.a_holds rest.b_holds (store_gives were rest)))
@@ -433,5 +438,10 @@ module _ {D : Type 0} (disks : DiskWords D) (reads : (disk : D) → IfSome (disk
       subst (AllByRecursion (λ (row : Row). ¬ (IsOfRemovedFile run row))) (rows_of_store one disks new.a new.b new.store first second rows (cleaned.at_rest still rest) a_is b_is gives)
       (each_there (λ (row : Row). ¬ (IsOfRemovedFile run row)) new.store.rows (λ row there of. none_left old.store.rows new.store.rows (cleaned.rows still) row there (is_removed row of)))
 
-  pub accounted_and_cleaned : (is : AccountedFor disks settings (with_areas objects new.a new.b) new.met) × LeavesNoRemoved disks (with_areas objects new.a new.b) new.met is.run
-  accounted_and_cleaned = (cleaned_is_accounted_for, none_of_removed_files)
+  pub accounted_and_cleaned : IsWorked disks settings new.met shipped dropped (with_areas objects new.a new.b)
+  accounted_and_cleaned = record {
+    accounted = cleaned_is_accounted_for;
+    cleaned = none_of_removed_files;
+    numbers = λ telling. numbers_with_gone account went shipped dropped (over.numbers (left_before (left_telling new.met telling)));
+    counted = λ is_done. counted_with_gone account went (over.counted (was_done_before is_done));
+  }

@@ -3,6 +3,7 @@ pub mod Causes
 pub mod Cleaned
 pub mod Endings
 pub mod FirstLacks
+pub mod GoneNumbers
 pub mod PrintedEnds
 pub mod Printings
 pub mod Refusals

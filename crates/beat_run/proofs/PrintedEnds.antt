@@ -1,5 +1,6 @@
 -- What is so of a run once its report or its status was printed.
-use Rattle.std.proofs.Common.{◌≡◌, ◌⊎◌, inl, inr, ℕ, List, Ok, Option, Some, None, IfSome, refl, sym, subst}
+use Rattle.std.proofs.Common.{◌≡◌, ◌⊎◌, inl, inr, ℕ, List, Ok, Option, Some, None, IfSome, ◌++◌, ◌∙◌, ap, refl, sym, subst}
+use Rattle.std.proofs.lemmas.List.{append_cancel_left}
 use Rattle.outside.specs.Counts.{Rose}
 use Rattle.report.specs.Writing.{WritesAll}
 use Rattle.report.specs.declared.status.Status.{Status}
@@ -7,7 +8,8 @@ use Rattle.report.specs.declared.status.Status.TheVariants.{Done, Stopped, Usage
 use Rattle.rounds.specs.Words.{DiskWords}
 use Rattle.beat_run.specs.Cause.{AllSigns, Cause, Signs, without_sink}
 use Rattle.beat_run.specs.Ends.{IsBehindOpening, IsPrintingEnd, IsReportEnd, IsRunEnd}
-use Rattle.beat_run.specs.Printed.{Prints, ReportsStored}
+use Rattle.beat_run.specs.Printed.{Prints, ReportsStored, StandsBehind}
+use Rattle.run_steps.proofs.Members.{some_is}
 use Rattle.beat_run.proofs.Causes.{caused_with_sink}
 
 -- a status that is no fault of the sink is the one that was to be printed
@@ -59,6 +61,16 @@ report_stored disks a b before now ended status report written after ends report
     by_sink : (old : Option (List ℕ)) → WritesAll old report (Ok tt) after → IfSome old (λ bytes. Prints (ReportsStored disks a b status) bytes after)
     by_sink None all = tt
     by_sink (Some bytes) all = record { text = report; is = subst (λ (s : Status). ReportsStored disks a b s report) (sym same) stored; held = all }
+
+-- what stands behind what the sink held is the report
+pub printed_behind : (report : List ℕ) (written after : Option (List ℕ)) → WritesAll written report (Ok tt) after → (text : List ℕ) → StandsBehind written after text → report ≡ text
+printed_behind report None after writes text stands = absurd (let q : None ≡ Some stands.front = stands.held_before in cc)
+printed_behind report (Some bytes) after writes text stands =
+    let q : Some bytes ≡ Some stands.front = stands.held_before in
+    let same : bytes ≡ stands.front = cc in
+    let held : Some (bytes ++ report) ≡ Some (stands.front ++ text) = sym writes ∙ stands.held in
+    let texts : bytes ++ report ≡ stands.front ++ text = some_is (bytes ++ report) (stands.front ++ text) held in
+    append_cancel_left bytes report text (texts ∙ ap (λ (l : List ℕ). l ++ text) (sym same))
 
 -- ---- its cause
 

@@ -1,6 +1,8 @@
 -- What is so of a run by what it met, whether it tells a report or its status alone.
-use Rattle.std.proofs.Common.{◌≡◌, ◌⊎◌, inr, ℕ, ◌≤◌, List, length, Option, IfErr, IfOk, IfSome, IsSome, Result, Ok, Err}
+use Rattle.std.proofs.Common.{◌≡◌, ◌⊎◌, inr, ℕ, ◌≤◌, List, length, Option, IfErr, IfOk, IfSome, IsSome, Result, Ok, Err, subst}
+use Rattle.accounts.specs.Numbers.{AreNumbersOf}
 use Rattle.event_tree.specs.declared.settings.Settings.{Settings as SettingsOf}
+use Rattle.kept_rows.specs.Account.{SlotAccount}
 use Rattle.outside.specs.Folders.{FolderHistory}
 use Rattle.prospect.specs.ListedFiles.{ScansFiles}
 use Rattle.prospect.specs.declared.listed.Listed.{Listed}
@@ -19,8 +21,8 @@ use Rattle.wire_base.specs.declared.row.Row.{Row}
 use Rattle.beat_run.specs.Accounted.{IsFullFor, IsMetFor}
 use Rattle.beat_run.specs.Cause.{CauseBy, Signs}
 use Rattle.beat_run.specs.Ended.{IsTelling, StandsForMet, ended}
-use Rattle.beat_run.specs.Ends.{IsBehindOpening, IsRunEnd, IsScannedEnd}
-use Rattle.beat_run.specs.Printed.{IsReportOf, ReportsStored}
+use Rattle.beat_run.specs.Ends.{IsBehindOpening, IsReportEnd, IsRunEnd, IsScannedEnd}
+use Rattle.beat_run.specs.Printed.{IsReportOf, IsReportOver, IsToBePrinted, ReportsStored}
 use Rattle.beat_run.specs.declared.ending.Ending.{Ending}
 use Rattle.beat_run.proofs.Accounts.{full_for_met, met_for_end}
 use Rattle.beat_run.proofs.Causes.{FailedIn, GoesFurther, caused_at_end, gives_its_rows, left_by, left_telling, scanned_end}
@@ -69,3 +71,17 @@ pub report_of : (rows : List Row) (passed : List Passing) (shipped dropped : ℕ
     IfOk result (λ ending. IsReportOf ending.status ending.report)
 report_of rows passed shipped dropped (Ok ending) report = record { rows = rows; passed = passed; shipped = shipped; dropped = dropped; report = report }
 report_of rows passed shipped dropped (Err status) report = tt
+
+-- its numbers are those of the account
+pub report_over : (rows : List Row) (passed : List Passing) (shipped dropped : ℕ) (what : Met) (result : Result Ending Status) → IfOk result (λ _. IsTelling what) →
+    IfOk result (λ ending. IsReport rows passed shipped dropped ending.status ending.report) → (account : List SlotAccount) → (IsTelling what → AreNumbersOf account shipped dropped) →
+    IsReportEnd (ended result) → (text : List ℕ) → IsToBePrinted result text → IsReportOver account (ended result) text
+report_over rows passed shipped dropped what (Ok ending) telling report account numbers end text same = record {
+  rows = rows;
+  passed = passed;
+  shipped = shipped;
+  dropped = dropped;
+  report = subst (IsReport rows passed shipped dropped ending.status) same report;
+  numbers = numbers telling;
+}
+report_over rows passed shipped dropped what (Err status) telling report account numbers end text same = absurd same

@@ -1,6 +1,7 @@
 -- A run that is accounted for, by the status that it ends with (this project's profile).
 use Rattle.std.specs.Prelude.{◌≡◌, ◌⊎◌, ℕ, true, [], slice_get, IfSome, IsSome, List, Option, Some}
 use Rattle.std.specs.List.{AllByRecursion}
+use Rattle.accounts.specs.Numbers.{AreAllCounted}
 use Rattle.event_tree.specs.declared.input_rule.InputRule.{InputRule}
 use Rattle.event_tree.specs.declared.settings.Settings.{Settings}
 use Rattle.kept_rows.specs.Followed.{IsKeyOf}
@@ -22,8 +23,9 @@ use Rattle.run_steps.specs.Met.{AreLeft}
 use Rattle.run_steps.specs.declared.met.Met.{Met}
 use Rattle.run_steps.specs.declared.met.Met.TheVariants as met
 use Rattle.beat_run.specs.Ended.{IsTelling}
-use Rattle.beat_run.specs.Ends.{FindsNoRoom, IsBehindSettings}
+use Rattle.beat_run.specs.Ends.{FindsNoRoom, IsBehindSettings, IsReportEnd}
 use Rattle.beat_run.specs.Named.{IsNamed}
+use Rattle.beat_run.specs.Printed.{IsReportOver}
 
 -- what a run with this status may have met; where it was refused, found no memory, or a disk or the sink failed, anything
 abbrev pub IsMetFor : Status → Met → Type 0
@@ -59,11 +61,14 @@ abbrev pub LeavesNoRemoved : {D : Type 0} → DiskWords D → RunObjects D → M
 LeavesNoRemoved disks objects what run =
     WereAtRest disks objects → IsTelling what → AreRowsBy disks objects.after (λ rows. AllByRecursion (λ row. ¬ (IsOfRemovedFile run row)) rows)
 
-pub record IsAccounted {D : Type 0} (disks : DiskWords D) (settings : Settings) (objects : RunObjects D) (status : Status) : Type 0 where
+-- the numbers of the report that it tells are those of the account; where it is done, these are all of its events
+pub record IsAccounted {D : Type 0} (disks : DiskWords D) (settings : Settings) (objects : RunObjects D) (status : Status) (tells : List ℕ → Type 0) : Type 0 where
   pub what : Met
   pub met_for : IsMetFor status what
   pub accounted : AccountedFor disks settings objects what
   pub cleaned : LeavesNoRemoved disks objects what accounted.run
+  pub numbers : IsReportEnd status → (text : List ℕ) → tells text → IsReportOver accounted.account status text
+  pub counted : what ≡ met.Done → AreAllCounted accounted.account
   pub full_for : IsFullFor disks settings objects status
 
 -- folder and clock tell before it, and each wire behind it
@@ -100,15 +105,15 @@ pub record RunLent (F W D : Type 0) : Type 0 where
 
 -- by the settings that the source spells, where the status tells that they were known, and else so where the run used what it was lent;
 -- and by none that the program does not support
-pub record IsAccountedByNamed {F W D : Type 0} (disks : DiskWords D) (source : Option (List ℕ)) (lent : RunLent F W D) (objects : RunObjects D) (status : Status) : Type 0 where
+pub record IsAccountedByNamed {F W D : Type 0} (disks : DiskWords D) (source : Option (List ℕ)) (lent : RunLent F W D) (objects : RunObjects D) (status : Status) (tells : List ℕ → Type 0) : Type 0 where
   pub settings : Settings
   pub named : IsBehindSettings status → IsNamed source settings
   pub named_or_unused : IsNamed source settings ⊎ (lent.after ≡ lent.before)
   pub supported : lacks_of settings ≡ []
-  pub is : IsAccounted disks settings objects status
+  pub is : IsAccounted disks settings objects status tells
 
-abbrev pub IsAccountedWhereTold : {F W D : Type 0} → DiskWords D → Option (List ℕ) → RunLent F W D → RunObjects D → Status → Type 0
-IsAccountedWhereTold disks source lent objects status = AllTell disks objects → IsAccountedByNamed disks source lent objects status
+abbrev pub IsAccountedWhereTold : {F W D : Type 0} → DiskWords D → Option (List ℕ) → RunLent F W D → RunObjects D → Status → (List ℕ → Type 0) → Type 0
+IsAccountedWhereTold disks source lent objects status tells = AllTell disks objects → IsAccountedByNamed disks source lent objects status tells
 
 -- ---- within a run
 

@@ -1,5 +1,7 @@
 -- What a run prints (this project's profile): where it is done or stopped, the report; else the status line alone.
-use Rattle.std.specs.Prelude.{◌≡◌, ◌⊎◌, ℕ, List, ◌++◌, take, Option, Some}
+use Rattle.std.specs.Prelude.{◌≡◌, ◌⊎◌, ℕ, List, ◌++◌, take, MatchResult, Option, Result, Some}
+use Rattle.accounts.specs.Numbers.{AreNumbersOf}
+use Rattle.kept_rows.specs.Account.{SlotAccount}
 use Rattle.report.specs.Report.{IsReport, status_bytes}
 use Rattle.report.specs.declared.passing.Passing.{Passing}
 use Rattle.report.specs.declared.status.Status.{Status}
@@ -8,6 +10,7 @@ use Rattle.registry_store.specs.Choice.{GivesRows}
 use Rattle.rounds.specs.Words.{DiskWords}
 use Rattle.wire_base.specs.declared.row.Row.{Row}
 use Rattle.beat_run.specs.Ends.{IsReportEnd, IsRunEnd}
+use Rattle.beat_run.specs.declared.ending.Ending.{Ending}
 
 -- the text is the report of a run that ended so
 pub record IsReportOf (status : Status) (text : List ℕ) : Type 0 where
@@ -17,10 +20,29 @@ pub record IsReportOf (status : Status) (text : List ℕ) : Type 0 where
   pub dropped : ℕ
   pub report : IsReport rows passed shipped dropped status text
 
+-- and its numbers are those of the account
+pub record IsReportOver (account : List SlotAccount) (status : Status) (text : List ℕ) : Type 0 where
+  pub rows : List Row
+  pub passed : List Passing
+  pub shipped : ℕ
+  pub dropped : ℕ
+  pub report : IsReport rows passed shipped dropped status text
+  pub numbers : AreNumbersOf account shipped dropped
+
 -- its rows are those that both areas give
 pub record ReportsStored {D : Type 0} (disks : DiskWords D) (a b : D) (status : Status) (text : List ℕ) : Type 0 where
   pub is : IsReportOf status text
   pub stored : (first second : List ℕ) → disks.contents a ≡ Some first → disks.contents b ≡ Some second → GivesRows first second is.rows
+
+-- the run that ended so has this report to print
+abbrev pub IsToBePrinted : Result Ending Status → List ℕ → Type 0
+IsToBePrinted result text = MatchResult result (λ ending. ending.report ≡ text) (λ _. ⊥)
+
+-- this text stands behind what the sink held
+pub record StandsBehind (written after : Option (List ℕ)) (text : List ℕ) : Type 0 where
+  pub front : List ℕ
+  pub held_before : written ≡ Some front
+  pub held : after ≡ Some (front ++ text)
 
 -- a text of this kind stands behind what the sink held
 pub record Prints (Kind : List ℕ → Type 0) (written : List ℕ) (after : Option (List ℕ)) : Type 0 where

@@ -18,7 +18,7 @@ ghost use Rattle.beat_run.specs.Cleaning.{Finishes};
 ghost use Rattle.beat_run.specs.Ended.{ended};
 ghost use Rattle.beat_run.specs.Ends.{IsBehindOpening, IsRefusal, IsReportEnd, IsRunEnd, IsScannedEnd, IsSettledEnd, IsUnprepared, RefusesArea, RefusesKey, RefusesLack, RefusesSettings, RefusesWords};
 ghost use Rattle.beat_run.specs.Handed.{CausedIn, GoesOn, lent_of, objects_of, outside_words, signs_of};
-ghost use Rattle.beat_run.specs.Printed.{IsReportOf, ReportsStored};
+ghost use Rattle.beat_run.specs.Printed.{IsReportOf, IsToBePrinted, ReportsStored};
 ghost use Rattle.beat_run.specs.Untouched.{IsRefused};
 ghost use Rattle.beat_run.specs.declared.settings.TheConstants.{LIMIT};
 
@@ -140,7 +140,7 @@ where
               (wire_words W.outcomes W.open_links W.faults W.idles)
               (disk_words D.contents D.images D.moment D.images_since D.faults)
               K.moments B.rings) outside.new;
-        }) (ended result) }
+        }) (ended result) (IsToBePrinted result) }
     ensures at_rest { IsSome (F.told outside.old.folder.now) →
         AreAtRest D.contents D.images outside.old.a.now outside.old.b.now → IsBehindOpening (ended result) →
         AreAtRest D.contents D.images outside.new.a.now outside.new.b.now }
@@ -257,7 +257,7 @@ where
               (wire_words W.outcomes W.open_links W.faults W.idles)
               (disk_words D.contents D.images D.moment D.images_since D.faults)
               K.moments B.rings) outside.new;
-        }) (ended result) }
+        }) (ended result) (IsToBePrinted result) }
     ensures at_rest { IsSome (F.told outside.old.folder.now) →
         AreAtRest D.contents D.images outside.old.a.now outside.old.b.now → IsBehindOpening (ended result) →
         AreAtRest D.contents D.images outside.new.a.now outside.new.b.now }
@@ -340,7 +340,7 @@ where
               (wire_words W.outcomes W.open_links W.faults W.idles)
               (disk_words D.contents D.images D.moment D.images_since D.faults)
               K.moments B.rings) outside.new;
-        }) (ended result) }
+        }) (ended result) (IsToBePrinted result) }
     ensures at_rest { (from : Areas D) → IsOpenedFrom
         (disk_words D.contents D.images D.moment D.images_since D.faults)
         from store outside.old.a.now outside.old.b.now →

@@ -15,7 +15,7 @@ ghost use Rattle.beat_run.specs.Accounted.{IsAccountedWhereTold};
 ghost use Rattle.beat_run.specs.Asked.{AskFor, AskForOnce, IsAsked};
 ghost use Rattle.beat_run.specs.Cause.{Cause};
 ghost use Rattle.beat_run.specs.Ends.{IsBehindOpening, IsPrintingEnd, IsRefusal, IsReportEnd, IsRunEnd, IsUnprepared, RefusesArea, RefusesKey, RefusesLack, RefusesSettings, RefusesWords};
-ghost use Rattle.beat_run.specs.Printed.{IsPrinted, IsReportOf, Prints, ReportsStored};
+ghost use Rattle.beat_run.specs.Printed.{IsPrinted, IsReportOf, Prints, ReportsStored, StandsBehind};
 ghost use Rattle.beat_run.specs.Untouched.{IsRefused};
 ghost use Rattle.beat_run.specs.declared.settings.TheConstants.{LIMIT};
 
@@ -153,7 +153,7 @@ where
             a = area_a.new;
             b = area_b.new;
           };
-        }) result }
+        }) result (StandsBehind (S.written out.old) (S.written out.new)) }
     ensures reported_rows_are_stored { IsSome (F.told folder.old) →
         AreAtRest D.contents D.images area_a.old area_b.old →
         IsReportEnd result → IfSome (S.written out.old) (λ written. Prints (ReportsStored

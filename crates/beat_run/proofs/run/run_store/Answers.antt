@@ -17,7 +17,7 @@ use Rattle.beat_run.specs.Cause.{Signs}
 use Rattle.beat_run.specs.Ended.{ended}
 use Rattle.beat_run.proofs.Causes.{at_rest, ends_without_report, is_met_of, scan_caused, scan_ended, shown_goes_further}
 use Rattle.beat_run.proofs.Cleaned.{accounted_and_cleaned, failed_after_cleaning, keyed_where_told, left_before_cleaning, met_after_cleaning, of_these_after_cleaning}
-use Rattle.beat_run.proofs.ReportEnds.{caused_ending, full_for_ending, left_by_ending, met_for_ending, report_of, reports_stored, scanned_ending}
+use Rattle.beat_run.proofs.ReportEnds.{caused_ending, full_for_ending, left_by_ending, met_for_ending, report_of, report_over, reports_stored, scanned_ending}
 use Rattle.beat_run.proofs.SettingOut.{earlier, outset, set_out}
 use Rattle.beat_run.proofs.WiresFailed.{failed_by}
 use Rattle.beat_run.proofs.run.run_store.Goals as goal
@@ -142,9 +142,11 @@ returns-clause-accounted g c = λ from opened tells.
     let ends = c.in_ok-worked.ensures.ends before sets in
     let keeper = c.in_ok-parts.ensures.keeper in
     let keeper_is : c.keeper-2-1.given.0 ≡ c.run_over.new.storing.keeper.now = c.keeper-2-1.given.1 (sym c.run_over.ensures.same_keeper) in
-    (worked disks start c.requires.in_range (inputs_are_by_path_where_nothing_lacks c.args.settings.now c.requires.nothing_lacks) (map g.W.Wire.outcomes c.args.outside.now.wires.now.items) _ fin.0 (g.F.Folder.told c.args.outside.now.folder.now) (ended c.finish.result) tells.folder
+    (worked disks start c.requires.in_range (inputs_are_by_path_where_nothing_lacks c.args.settings.now c.requires.nothing_lacks) (map g.W.Wire.outcomes c.args.outside.now.wires.now.items) _ fin.0 c.keeper-2-1.given.0.shipped c.keeper-2-1.given.0.dropped
+    (g.F.Folder.told c.args.outside.now.folder.now) (ended c.finish.result) tells.folder
     (rw inputs at c.in_ok-scanned.ensures.scanned) (met_for_ending c.in_ok-scanned.scanned.listed.items c.args.settings.now.output.attempts fin.0 c.finish.result of (rw files at fin.2.stands) (rw files at fin.2.refused))
     (full_for_ending disks c.args.settings.now _ c.in_ok-scanned.scanned.listed.items c.args.settings.now.output.attempts fin.0 c.finish.result of (rw files at fin.2.stands) (rw files at fin.2.refused))
+    (report_over fin.1.rows c.in_ok-worked.worked.passed.items c.keeper-2-1.given.0.shipped c.keeper-2-1.given.0.dropped fin.0 c.finish.result fin.2.telling fin.2.report)
     (λ folder has.
     accounted_and_cleaned disks c.disk_images_are_counted.ensures.reads c.disk_images_are_counted.ensures.counts c.one_choice.ensures c.args.settings.now c.in_ok-parts.parts.keeper.store.rows
     (subst (λ (k : Keeping). IsInOrder k.store.rows) (sym keeper.is) keeper.in_order) c.in_ok-scanned.scanned.listed.items
@@ -159,7 +161,7 @@ returns-clause-accounted g c = λ from opened tells.
         b = c.finish.new.b;
       };
     })
-    _ _ (c.in_ok-worked.ensures.accounted before folder sets has tells.moments (wires_tell g.W.Wire.outcomes c.run_over.new.around.wires.now.items tells.wires)) cleans
+    _ _ _ _ (rw (← keeper_is) at c.in_ok-worked.ensures.accounted before folder sets has tells.moments (wires_tell g.W.Wire.outcomes c.run_over.new.around.wires.now.items tells.wires)) cleans
     (λ were. (ends.1.ends.stands.areas were).of_a.later) (λ were. (ends.1.ends.stands.areas were).of_b.later) (λ left were. rw (← keeper_is) at (ends.1.left.at_rest left were).settled)))
 
 pub returns-clause-at_rest : goal.returns-clause-at_rest

@@ -5,11 +5,10 @@ use Rattle.report.specs.declared.status.Status.{Status}
 use Rattle.report.specs.declared.status.Status.TheVariants.{RegistryBad, Usage}
 use Rattle.beat_run.specs.Ends.{IsReportEnd, RefusesArea, RefusesKey, RefusesLack, RefusesSettings}
 use Rattle.beat_run.specs.declared.settings.TheConstants.{LIMIT}
-use Rattle.beat_run.specs.Accounted.{IsAccountedByNamed}
 use Rattle.rounds.specs.Words.{disk_words}
-use Rattle.beat_run.proofs.Accounts.{out_fault, printed}
+use Rattle.beat_run.proofs.Accounts.{report_printed, status_printed}
 use Rattle.beat_run.proofs.Endings.{followed_still, printed_so, told_never, told_printed, two_never, two_printed, was_met}
-use Rattle.beat_run.proofs.PrintedEnds.{followed_before, line_caused, never_reported, report_caused, report_stored}
+use Rattle.beat_run.proofs.PrintedEnds.{followed_before, line_caused, never_reported, printed_behind, report_caused, report_stored}
 use Rattle.beat_run.proofs.shipping.ship.Goals as goal
 
 -- ---- a run with a report was not refused
@@ -35,7 +34,8 @@ returns-in-Ok-clause-accounted_for_where_all_tell g c =
     let a_is : c.area_a-1.given.0 ≡ c.run.new.outside.a.now = c.area_a-1.given.1 (sym c.run.ensures.same_a) in
     let b_is : c.area_b-1.given.0 ≡ c.run.new.outside.b.now = c.area_b-1.given.1 (sym c.run.ensures.same_b) in
     rw (folder_is, clock_is, wires_is, a_is, b_is)
-    (λ all. printed (disk_words g.D.Disk.contents g.D.Disk.images g.D.Disk.moment g.D.Disk.images_since g.D.Disk.faults) (g.R.Source.left c.args.settings.now) _ _ (g.S.Sink.faults c.args.out.now) (g.S.Sink.faults c.print_report.new.out) c.in-Ok.ending.status c.print_report.result c.print_report.ensures.ends (rw c.in-Ok.is at c.run.ensures.accounted all))
+    (λ all. report_printed (disk_words g.D.Disk.contents g.D.Disk.images g.D.Disk.moment g.D.Disk.images_since g.D.Disk.faults) (g.R.Source.left c.args.settings.now) _ _ _ _ (g.S.Sink.faults c.args.out.now) (g.S.Sink.faults c.print_report.new.out) c.in-Ok.ending.status c.print_report.result c.print_report.ensures.ends
+    (λ same. printed_behind c.in-Ok.ending.report (g.S.Sink.written c.args.out.now) (g.S.Sink.written c.print_report.new.out) (c.print_report.ensures.printed same)) (rw c.in-Ok.is at c.run.ensures.accounted all))
 
 pub returns-in-Ok-clause-reported_rows_are_stored : goal.returns-in-Ok-clause-reported_rows_are_stored
 returns-in-Ok-clause-reported_rows_are_stored g c = λ some rest ends.
@@ -98,8 +98,7 @@ returns-in-Err-clause-accounted_for_where_all_tell g c =
     let a_is : c.area_a-1.given.0 ≡ c.run.new.outside.a.now = c.area_a-1.given.1 (sym c.run.ensures.same_a) in
     let b_is : c.area_b-1.given.0 ≡ c.run.new.outside.b.now = c.area_b-1.given.1 (sym c.run.ensures.same_b) in
     rw (folder_is, clock_is, wires_is, a_is, b_is)
-    (λ all. let is = rw c.in-Err.is at c.run.ensures.accounted all in
-    printed_so _ c.in-Err.status c.print_status.result (IsAccountedByNamed disks (g.R.Source.left c.args.settings.now) _ _) c.print_status.ensures.printed is (out_fault disks (g.R.Source.left c.args.settings.now) _ _ c.in-Err.status is))
+    (λ all. status_printed disks (g.R.Source.left c.args.settings.now) _ _ _ _ c.in-Err.status c.print_status.result _ c.print_status.ensures.printed (rw c.in-Err.is at c.run.ensures.ends) (rw c.in-Err.is at c.run.ensures.accounted all))
 
 pub returns-in-Err-clause-reported_rows_are_stored : goal.returns-in-Err-clause-reported_rows_are_stored
 returns-in-Err-clause-reported_rows_are_stored g c = λ some rest ends.
