@@ -30,6 +30,7 @@ pub mod Often
 pub mod Onward
 pub mod Ordered
 pub mod Orderly
+pub mod Placed
 pub mod Places
 pub mod Placing
 pub mod Same

@@ -4,7 +4,8 @@ use Rattle.kept_rows.proofs.Worked as worked
 use Rattle.kept_rows.specs.Account.{AccountedEvent, EpochAccount, Place, SlotAccount}
 use Rattle.told_events.proofs.Worked.{a_log}
 use Rattle.told_events.specs.Fate.{DroppedBy, Fate, ShippedAs}
-use Rattle.accounts.specs.Numbers.{AreAllCounted, AreNumbersOf, all_events}
+use Rattle.kept_rows.specs.Trace.{WireTold}
+use Rattle.accounts.specs.Numbers.{AreAllCounted, AreNumbersOf, IsPlacedAs, all_events}
 
 -- of one byte
 abbrev event : ℕ → Fate → Option Place → AccountedEvent
@@ -38,3 +39,13 @@ one_is_not_counted all = absurd (omega (arith, all.together))
 
 pub two_are_all : AreAllCounted (account (acknowledged ∷ []) (dropped ∷ []))
 two_are_all = record { each = (inl refl, (inr refl, tt)); together = refl }
+
+-- ---- places that are refused
+
+-- where no talk was told
+untold_place_is_refused : (payload : List ℕ) (place : Place) → IsPlacedAs [] (ShippedAs payload) (Some place) → ⊥
+untold_place_is_refused payload place is = absurd (let q : None ≡ Some is.wire = is.wire_is in cc)
+
+-- of a dropped event
+place_of_dropped_is_refused : (wires : List WireTold) (rule : ℕ) (place : Place) → IsPlacedAs wires (DroppedBy rule) (Some place) → ⊥
+place_of_dropped_is_refused wires rule place is = absurd (let q : Some place ≡ None = is in cc)

@@ -1,8 +1,11 @@
 -- The numbers that a run reports (this project's profile): how many events of its account a peer acknowledged, and how many a rule
--- dropped. Each number stands still at 2^64 - 1.
-use Rattle.std.specs.Prelude.{◌≡◌, ◌⊎◌, ℕ, ◌+◌, ◌-◌, ◌^◌, min, Bool, true, false, IsTrue, List, count_by, is_some, length}
+-- dropped. Each number stands still at 2^64 - 1. A place counts where the payload of its event is acknowledged there, and once.
+use Rattle.std.specs.Prelude.{◌≡◌, ◌⊎◌, ℕ, ◌+◌, ◌-◌, ◌^◌, min, Bool, true, false, IsTrue, List, None, Option, Some, count_by, is_some, length}
 use Rattle.std.specs.List.{AllByRecursion, flat_map}
-use Rattle.kept_rows.specs.Account.{AccountedEvent, EpochAccount, SlotAccount}
+use Rattle.kept_rows.specs.Account.{AccountedEvent, EpochAccount, Place, SlotAccount, places_in}
+use Rattle.kept_rows.specs.Acknowledged.{IsAcknowledgedAt}
+use Rattle.kept_rows.specs.Scans.{AreDistinct}
+use Rattle.kept_rows.specs.Trace.{WireTold}
 use Rattle.told_events.specs.Fate.{DroppedBy, Fate, ShippedAs}
 
 -- ---- the events
@@ -35,6 +38,19 @@ acknowledged_count account = count_by is_acknowledged (all_events account)
 
 abbrev pub dropped_count : List SlotAccount → ℕ
 dropped_count account = count_by is_dropped (all_events account)
+
+-- ---- the places
+
+-- a dropped event has none; at that of a shipped one its payload is acknowledged
+abbrev pub IsPlacedAs : List WireTold → Fate → Option Place → Type 0
+IsPlacedAs wires (DroppedBy rule) place = place ≡ None
+IsPlacedAs wires (ShippedAs payload) None = Unit {0}
+IsPlacedAs wires (ShippedAs payload) (Some place) = IsAcknowledgedAt wires payload place
+
+-- and no two events have one: so no more of them are acknowledged than payloads were
+pub record ArePlacedIn (account : List SlotAccount) (wires : List WireTold) : Type 0 where
+  pub each : AllByRecursion (λ one. IsPlacedAs wires one.event.fate one.place) (all_events account)
+  pub apart : AreDistinct (places_in account)
 
 -- ---- the numbers
 

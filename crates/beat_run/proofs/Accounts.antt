@@ -2,12 +2,13 @@
 use Rattle.std.proofs.Common.{◌≡◌, ◌≢◌, ◌≤◌, ◌⊎◌, inl, inr, ℕ, true, false, List, [], ◌∷◌, ◌++◌, length, map, All, Option, Some, None, IfSome, IsSome, Result, Ok, Err, IfErr, refl, sym, ap, subst, ◌∙◌}
 use Rattle.std.specs.List.{AllByRecursion}
 use Rattle.batch_worker.specs.Seen.{Seen}
-use Rattle.accounts.specs.Numbers.{AreAllCounted, AreNumbersOf}
+use Rattle.accounts.specs.Numbers.{AreAllCounted, AreNumbersOf, ArePlacedIn}
 use Rattle.beat_config.specs.InRange.{AreInRange}
 use Rattle.event_tree.specs.declared.input_rule.IdentityRule.TheVariants.{Path}
 use Rattle.event_tree.specs.declared.input_rule.InputRule.{InputRule}
 use Rattle.event_tree.specs.declared.settings.Settings.{Settings as SettingsOf}
 use Rattle.kept_rows.specs.Account.{SlotAccount}
+use Rattle.kept_rows.specs.Trace.{WireTold}
 use Rattle.outside.specs.Folders.{FolderHistory}
 use Rattle.outside.specs.Times.{GivesMoment}
 use Rattle.outside.specs.Wires.{Outcome}
@@ -303,6 +304,7 @@ wires_tell outcomes (w ∷ wires) tell = (tell.0, wires_tell outcomes wires tell
 pub record IsWorked {D : Type 0} (disks : DiskWords D) (settings : SettingsOf) (what : Met) (shipped dropped : ℕ) (objects : RunObjects D) : Type 0 where
   pub accounted : AccountedFor disks settings objects what
   pub cleaned : LeavesNoRemoved disks objects what accounted.run
+  pub placed : ArePlacedIn accounted.account accounted.run.trace.wires
   pub numbers : IsTelling what → AreNumbersOf accounted.account shipped dropped
   pub counted : what ≡ met.Done → AreAllCounted accounted.account
 
@@ -313,7 +315,7 @@ module _ {D : Type 0} (disks : DiskWords D) (start : Began D) (in_range : AreInR
   worked_run told = record { before = record { folder = told; moments = start.moments; outcomes = outcomes; a = start.a; b = start.b }; after = after }
 
   pub worked : {tells : List ℕ → Type 0} (told : Option FolderHistory) (status : Status) → IsSome told → IfSome told (λ history. ScansFiles start.settings.inputs history start.listed start.shown) → IsMetFor status what → IsFullFor disks start.settings (worked_run told) status →
-      ((account : List SlotAccount) → (IsTelling what → AreNumbersOf account shipped dropped) → IsReportEnd status → (text : List ℕ) → tells text → IsReportOver account status text) →
+      ((account : List SlotAccount) (wires : List WireTold) → ArePlacedIn account wires → (IsTelling what → AreNumbersOf account shipped dropped) → IsReportEnd status → (text : List ℕ) → tells text → IsReportOver account wires status text) →
       ((folder : FolderTold) → HasScanned start folder → IsWorked disks start.settings what shipped dropped (worked_run (Some folder.earlier))) →
       IsAccounted disks start.settings (worked_run told) status tells
   worked None status some scans is full reports accounted = absurd (nothing FolderHistory some)
@@ -326,7 +328,7 @@ module _ {D : Type 0} (disks : DiskWords D) (start : Began D) (in_range : AreInR
         met_for = is;
         accounted = worked_so.accounted;
         cleaned = worked_so.cleaned;
-        numbers = reports worked_so.accounted.account worked_so.numbers;
+        numbers = reports worked_so.accounted.account worked_so.accounted.run.trace.wires worked_so.placed worked_so.numbers;
         counted = worked_so.counted;
         full_for = full;
       }
@@ -341,6 +343,7 @@ module _ {F W D : Type 0} (disks : DiskWords D) (source : Option (List ℕ)) (le
     named = by.named;
     named_or_unused = by.named_or_unused;
     supported = by.supported;
+    in_range = by.in_range;
     is = record {
       what = by.is.what;
       met_for = by.is.met_for;
@@ -359,6 +362,7 @@ module _ {F W D : Type 0} (disks : DiskWords D) (source : Option (List ℕ)) (le
     named = λ behind. absurd behind;
     named_or_unused = by.named_or_unused;
     supported = by.supported;
+    in_range = by.in_range;
     is = record { what = by.is.what; met_for = tt; accounted = by.is.accounted; cleaned = by.is.cleaned; numbers = λ end. absurd end; counted = by.is.counted; full_for = tt };
   }
 

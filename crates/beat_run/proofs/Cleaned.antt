@@ -51,7 +51,7 @@ use Rattle.beat_run.specs.Cause.{Signs}
 use Rattle.beat_run.specs.Cleaning.{Cleaning, Cleans, HeldOnlyLeft, IsAtRestIn}
 use Rattle.beat_run.proofs.Accounts.{IsWorked}
 use Rattle.beat_run.proofs.Causes.{FailedIn, left_telling}
-use Rattle.beat_run.proofs.GoneNumbers.{counted_with_gone, numbers_with_gone}
+use Rattle.beat_run.proofs.GoneNumbers.{counted_with_gone, numbers_with_gone, placed_with_gone}
 
 -- ---- what is met
 
@@ -442,6 +442,7 @@ module _ {D : Type 0} (disks : DiskWords D) (reads : (disk : D) → IfSome (disk
   accounted_and_cleaned = record {
     accounted = cleaned_is_accounted_for;
     cleaned = none_of_removed_files;
+    placed = placed_with_gone account went run.trace.wires over.placed;
     numbers = λ telling. numbers_with_gone account went shipped dropped (over.numbers (left_before (left_telling new.met telling)));
     counted = λ is_done. counted_with_gone account went (over.counted (was_done_before is_done));
   }

@@ -1,8 +1,9 @@
 -- What is so of a run by what it met, whether it tells a report or its status alone.
 use Rattle.std.proofs.Common.{◌≡◌, ◌⊎◌, inr, ℕ, ◌≤◌, List, length, Option, IfErr, IfOk, IfSome, IsSome, Result, Ok, Err, subst}
-use Rattle.accounts.specs.Numbers.{AreNumbersOf}
+use Rattle.accounts.specs.Numbers.{AreNumbersOf, ArePlacedIn}
 use Rattle.event_tree.specs.declared.settings.Settings.{Settings as SettingsOf}
 use Rattle.kept_rows.specs.Account.{SlotAccount}
+use Rattle.kept_rows.specs.Trace.{WireTold}
 use Rattle.outside.specs.Folders.{FolderHistory}
 use Rattle.prospect.specs.ListedFiles.{ScansFiles}
 use Rattle.prospect.specs.declared.listed.Listed.{Listed}
@@ -74,14 +75,15 @@ report_of rows passed shipped dropped (Err status) report = tt
 
 -- its numbers are those of the account
 pub report_over : (rows : List Row) (passed : List Passing) (shipped dropped : ℕ) (what : Met) (result : Result Ending Status) → IfOk result (λ _. IsTelling what) →
-    IfOk result (λ ending. IsReport rows passed shipped dropped ending.status ending.report) → (account : List SlotAccount) → (IsTelling what → AreNumbersOf account shipped dropped) →
-    IsReportEnd (ended result) → (text : List ℕ) → IsToBePrinted result text → IsReportOver account (ended result) text
-report_over rows passed shipped dropped what (Ok ending) telling report account numbers end text same = record {
+    IfOk result (λ ending. IsReport rows passed shipped dropped ending.status ending.report) → (account : List SlotAccount) (wires : List WireTold) → ArePlacedIn account wires →
+    (IsTelling what → AreNumbersOf account shipped dropped) → IsReportEnd (ended result) → (text : List ℕ) → IsToBePrinted result text → IsReportOver account wires (ended result) text
+report_over rows passed shipped dropped what (Ok ending) telling report account wires placed numbers end text same = record {
   rows = rows;
   passed = passed;
   shipped = shipped;
   dropped = dropped;
   report = subst (IsReport rows passed shipped dropped ending.status) same report;
+  placed = placed;
   numbers = numbers telling;
 }
-report_over rows passed shipped dropped what (Err status) telling report account numbers end text same = absurd same
+report_over rows passed shipped dropped what (Err status) telling report account wires placed numbers end text same = absurd same

@@ -2,6 +2,7 @@
 use Rattle.std.specs.Prelude.{◌≡◌, ◌⊎◌, ℕ, true, [], slice_get, IfSome, IsSome, List, Option, Some}
 use Rattle.std.specs.List.{AllByRecursion}
 use Rattle.accounts.specs.Numbers.{AreAllCounted}
+use Rattle.beat_config.specs.InRange.{AreInRange}
 use Rattle.event_tree.specs.declared.input_rule.InputRule.{InputRule}
 use Rattle.event_tree.specs.declared.settings.Settings.{Settings}
 use Rattle.kept_rows.specs.Followed.{IsKeyOf}
@@ -67,7 +68,7 @@ pub record IsAccounted {D : Type 0} (disks : DiskWords D) (settings : Settings) 
   pub met_for : IsMetFor status what
   pub accounted : AccountedFor disks settings objects what
   pub cleaned : LeavesNoRemoved disks objects what accounted.run
-  pub numbers : IsReportEnd status → (text : List ℕ) → tells text → IsReportOver accounted.account status text
+  pub numbers : IsReportEnd status → (text : List ℕ) → tells text → IsReportOver accounted.account accounted.run.trace.wires status text
   pub counted : what ≡ met.Done → AreAllCounted accounted.account
   pub full_for : IsFullFor disks settings objects status
 
@@ -104,12 +105,13 @@ pub record RunLent (F W D : Type 0) : Type 0 where
   pub after : Lent F W D
 
 -- by the settings that the source spells, where the status tells that they were known, and else so where the run used what it was lent;
--- and by none that the program does not support
+-- by none that the program does not support, and by such as are in their ranges
 pub record IsAccountedByNamed {F W D : Type 0} (disks : DiskWords D) (source : Option (List ℕ)) (lent : RunLent F W D) (objects : RunObjects D) (status : Status) (tells : List ℕ → Type 0) : Type 0 where
   pub settings : Settings
   pub named : IsBehindSettings status → IsNamed source settings
   pub named_or_unused : IsNamed source settings ⊎ (lent.after ≡ lent.before)
   pub supported : lacks_of settings ≡ []
+  pub in_range : AreInRange settings ⊎ (lent.after ≡ lent.before)
   pub is : IsAccounted disks settings objects status tells
 
 abbrev pub IsAccountedWhereTold : {F W D : Type 0} → DiskWords D → Option (List ℕ) → RunLent F W D → RunObjects D → Status → (List ℕ → Type 0) → Type 0

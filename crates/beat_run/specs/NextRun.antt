@@ -1,11 +1,13 @@
 -- A run behind another one (this project's profile), both accounted for: it found both areas as the other left them, and each row that it
--- opened was told by the other, whatever that met, or stood as the other opened it.
+-- opened was told by the other, whatever that met, or stood as the other opened it; where the other made its last steps, only a row of a
+-- key that it did not begin stood so.
 use Rattle.std.specs.Prelude.{◌≡◌, ℕ, List, Some}
 use Rattle.std.specs.List.{AllByRecursion}
 use Rattle.event_tree.specs.declared.settings.Settings.{Settings}
-use Rattle.kept_rows.specs.Kept.{IsKeptInImage}
+use Rattle.kept_rows.specs.Kept.{IsKept, IsKeptInImage}
 use Rattle.rounds.specs.Words.{DiskWords}
 use Rattle.run_steps.specs.AccountedFor.{AccountedFor, RunObjects, WereAtRest}
+use Rattle.run_steps.specs.Met.{AreLeft}
 use Rattle.run_steps.specs.declared.met.Met.{Met}
 
 module _ {D : Type 0} (disks : DiskWords D) where
@@ -27,3 +29,7 @@ module _ {D : Type 0} (disks : DiskWords D) where
   abbrev pub OpensKeptRows : EndedRun → EndedRun → Type 0
   OpensKeptRows earlier later =
       AllByRecursion (IsKeptInImage earlier.accounted.account earlier.accounted.run.opening earlier.accounted.run.trace.wires) later.accounted.run.opening
+
+  abbrev pub OpensLastRows : EndedRun → EndedRun → Type 0
+  OpensLastRows earlier later =
+      AreLeft earlier.met → AllByRecursion (IsKept earlier.accounted.account earlier.accounted.run.opening earlier.accounted.run.trace.wires) later.accounted.run.opening

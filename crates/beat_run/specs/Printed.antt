@@ -1,7 +1,8 @@
 -- What a run prints (this project's profile): where it is done or stopped, the report; else the status line alone.
 use Rattle.std.specs.Prelude.{◌≡◌, ◌⊎◌, ℕ, List, ◌++◌, take, MatchResult, Option, Result, Some}
-use Rattle.accounts.specs.Numbers.{AreNumbersOf}
+use Rattle.accounts.specs.Numbers.{AreNumbersOf, ArePlacedIn}
 use Rattle.kept_rows.specs.Account.{SlotAccount}
+use Rattle.kept_rows.specs.Trace.{WireTold}
 use Rattle.report.specs.Report.{IsReport, status_bytes}
 use Rattle.report.specs.declared.passing.Passing.{Passing}
 use Rattle.report.specs.declared.status.Status.{Status}
@@ -20,13 +21,14 @@ pub record IsReportOf (status : Status) (text : List ℕ) : Type 0 where
   pub dropped : ℕ
   pub report : IsReport rows passed shipped dropped status text
 
--- and its numbers are those of the account
-pub record IsReportOver (account : List SlotAccount) (status : Status) (text : List ℕ) : Type 0 where
+-- and its numbers are those of the account, whose events are placed as the wires acknowledge their payloads
+pub record IsReportOver (account : List SlotAccount) (wires : List WireTold) (status : Status) (text : List ℕ) : Type 0 where
   pub rows : List Row
   pub passed : List Passing
   pub shipped : ℕ
   pub dropped : ℕ
   pub report : IsReport rows passed shipped dropped status text
+  pub placed : ArePlacedIn account wires
   pub numbers : AreNumbersOf account shipped dropped
 
 -- its rows are those that both areas give

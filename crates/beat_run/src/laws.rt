@@ -1,7 +1,7 @@
 ghost use Rattle.std.specs.Prelude.{◌≡◌, []};
 ghost use Rattle.accounts.specs.RunsInARow.{HaveOwnIds};
 ghost use Rattle.beat_config.specs.InRange.{AreInRange};
-ghost use Rattle.beat_run.specs.NextRun.{EndedRun, FindsAreasAsLeft, OpensKeptRows};
+ghost use Rattle.beat_run.specs.NextRun.{EndedRun, FindsAreasAsLeft, OpensKeptRows, OpensLastRows};
 ghost use Rattle.event_tree.specs.declared.settings.Settings.{Settings};
 ghost use Rattle.prospect.specs.Lacks.{lacks_of};
 ghost use Rattle.registry_log.specs.OnlyRead.{IsOnlyRead};
@@ -22,6 +22,11 @@ pub fn next_run_opens_kept_rows<D: Disk>()
         FindsAreasAsLeft (disk_words D.contents D.images D.moment D.images_since D.faults)
         earlier.objects later.objects →
         OpensKeptRows (disk_words D.contents D.images D.moment D.images_since D.faults)
+        earlier later }
+    ensures opening_behind_last_steps { (earlier later : EndedRun (disk_words D.contents D.images D.moment D.images_since D.faults)) →
+        FindsAreasAsLeft (disk_words D.contents D.images D.moment D.images_since D.faults)
+        earlier.objects later.objects →
+        OpensLastRows (disk_words D.contents D.images D.moment D.images_since D.faults)
         earlier later }
     ensures own_ids { (settings : Settings) → AreInRange settings → lacks_of settings ≡ [] →
         HaveOwnIds settings.inputs }

@@ -45,7 +45,7 @@ use Rattle.run_steps.proofs.HeldRows.{rows_in_order, some_of}
 use Rattle.run_steps.proofs.RowsStay.{rows_stay}
 use Rattle.run_steps.proofs.RunDoneOf.{run_done}
 use Rattle.run_steps.proofs.RunFits.{moments_since}
-use Rattle.run_steps.proofs.RunNumbers.{all_are_counted, numbers_are}
+use Rattle.run_steps.proofs.RunNumbers.{all_are_counted, numbers_are, placed_so}
 use Rattle.run_steps.proofs.RunRows.{OneChoice, given_over_fronts, opened_over_fronts, rows_of_store}
 use Rattle.run_steps.proofs.RunToldOf.{keys_are_shown, run, run_files, run_told, scan, the_full_scan, workers}
 
@@ -189,6 +189,7 @@ module _ {T W L D : Type 0} (words : Words T W L D) (start : Began D) (ending : 
         asked = refl;
         lists = keys_are_shown words start ending met unused wires ends left folder has tell;
         shown = keys_shown the_files the_run_told.followed.each;
+        placed = placed_so words start ending met unused wires ends left folder has tell accounted.placed accounted.places;
         numbers = λ are_left. numbers_are words start ending met unused wires ends left folder has tell are_left accounted.placed accounted.places;
         counted = λ is_done. all_are_counted words start ending met unused wires ends left folder has tell (subst AreLeft (sym is_done) tt) accounted.placed accounted.places
             (run_done words start ending met unused wires ends left folder has tell is_done (served is_done));

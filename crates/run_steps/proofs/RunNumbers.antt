@@ -6,7 +6,8 @@ use Rattle.accounts.proofs.Accounts.{are_filed, told_once}
 use Rattle.accounts.proofs.Joining.{AreJoined, told_as_often}
 use Rattle.accounts.proofs.Numbers.{AreAllNoted, acknowledged_are, acknowledges, acknowledges_by, all_counted, all_noted, count_weighs, dropped_are, drops, drops_by, noted_over}
 use Rattle.accounts.specs.Filed.{Filed, IsFiled, accounts_of, turned_of}
-use Rattle.accounts.specs.Numbers.{AreAllCounted, AreNumbersOf, acknowledged_count, dropped_count}
+use Rattle.accounts.proofs.Placed.{are_placed}
+use Rattle.accounts.specs.Numbers.{AreAllCounted, AreNumbersOf, ArePlacedIn, acknowledged_count, dropped_count}
 use Rattle.accounts.specs.Once.{AreOnce, one_where}
 use Rattle.accounts.specs.Places.{ArePlaces}
 use Rattle.accounts.specs.RunDone.{RunDone}
@@ -92,6 +93,9 @@ module _ {T W L D : Type 0} (words : Words T W L D) (start : Began D) (ending : 
 
   once : AreOnce same_parcel (flat_map parcels_told (turned_of the_files))
   once = told_once the_run the_scan the_files the_run_told.followed
+
+  pub placed_so : (placed : Parcel → Option Place) → ArePlaces placed the_workers the_run.trace.wires → ArePlacedIn (accounts_of placed the_files) the_run.trace.wires
+  placed_so placed places = are_placed placed the_workers the_run.trace.wires places the_files filed once
 
   module _ (are_left : AreLeft met) where
     settled : AreSettledIn ends.crew ending.keeper

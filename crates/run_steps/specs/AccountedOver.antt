@@ -1,10 +1,11 @@
--- A run over listed files that is accounted for (this project's profile), before rows of removed files go: each key that had a row, or was
--- begun, has one. It began with the rows of its store; its one scan was whole, asked for the keys of the listed files by their entries, and
--- showed the key of each listed file and of each slot. Where the last steps were made, the numbers of shipped and of dropped events are
--- those of the account; where it is done, these are all of its events.
+-- A run over listed files that is accounted for (this project's profile), before rows of removed files go: each key that had a row, or
+-- was begun where the last steps were made, has one. It began with the rows of its store; its one scan was whole, asked for the keys of
+-- the listed files by their entries, and showed the key of each listed file and of each slot. Its events are placed as its wires
+-- acknowledge their payloads. Where the last steps were made, the numbers of shipped and of dropped events are those of the account;
+-- where it is done, these are all of its events.
 use Rattle.std.specs.Prelude.{◌≡◌, ℕ, List, [], ◌∷◌, Contains, Some, map}
 use Rattle.std.specs.List.{AllByRecursion}
-use Rattle.accounts.specs.Numbers.{AreAllCounted, AreNumbersOf}
+use Rattle.accounts.specs.Numbers.{AreAllCounted, AreNumbersOf, ArePlacedIn}
 use Rattle.event_tree.specs.declared.settings.Settings.{Settings}
 use Rattle.kept_rows.specs.Account.{key_of}
 use Rattle.kept_rows.specs.Run.{Scan}
@@ -27,5 +28,6 @@ pub record AccountedOver {D : Type 0} (disks : DiskWords D) (settings : Settings
   pub asked : scan.askings ≡ map asking_of listed
   pub lists : (one : Listed) (key : List ℕ) → Contains listed one → one.key ≡ Some key → ShowsKey accounted.run scan key
   pub shown : AllByRecursion (λ one. ShowsKey accounted.run scan (key_of one)) accounted.account
+  pub placed : ArePlacedIn accounted.account accounted.run.trace.wires
   pub numbers : AreLeft met → AreNumbersOf accounted.account shipped dropped
   pub counted : met ≡ Done → AreAllCounted accounted.account

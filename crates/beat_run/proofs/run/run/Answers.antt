@@ -33,6 +33,7 @@ returns-in-Err-clause-accounted g c = λ all.
       named = λ behind. absurd (prepare_not_named _ _ c.in-Err.status c.in-Err.ensures.ends behind);
       named_or_unused = inr refl;
       supported = refl;
+      in_range = inr refl;
       is = still disks c.one_choice.ensures no_settings all.areas.rows a b a b (rows_given disks a b all.areas)
           (λ rest. rows_held_as_read disks a b rest all.areas.first all.areas.second all.areas.rows all.areas.a_is all.areas.b_is all.areas.gives a b
           (c.unasked_disk_is_only_read.ensures a) (c.unasked_disk_is_only_read.ensures b)) (map g.W.Wire.outcomes c.args.outside.now.wires.now.items)
@@ -55,7 +56,7 @@ pub returns-clause-fault_refused : goal.returns-clause-fault_refused
 returns-clause-fault_refused g c = λ fault. told_never (g.R.Source.left c.args.source.now) (λ bytes. IsFirstFault (take LIMIT bytes) fault) _ (c.in-Ok.ensures.fault_refused fault)
 
 pub returns-clause-accounted : goal.returns-clause-accounted
-returns-clause-accounted g c = λ all. record { settings = c.in-Ok.settings; named = λ behind. c.in-Ok.ensures.settings; named_or_unused = inl c.in-Ok.ensures.settings; supported = c.in-Ok.ensures.nothing_lacks; is = c.run_settings.ensures.accounted all }
+returns-clause-accounted g c = λ all. record { settings = c.in-Ok.settings; named = λ behind. c.in-Ok.ensures.settings; named_or_unused = inl c.in-Ok.ensures.settings; supported = c.in-Ok.ensures.nothing_lacks; in_range = inl c.in-Ok.ensures.in_range; is = c.run_settings.ensures.accounted all }
 
 pub returns-clause-cause : goal.returns-clause-cause
 returns-clause-cause g c = caused_by_named _ c.in-Ok.settings _ _ _ _ (ended c.run_settings.result) c.in-Ok.ensures.settings c.run_settings.ensures.cause

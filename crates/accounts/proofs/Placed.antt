@@ -1,0 +1,65 @@
+-- Each event of an account is placed where its payload is acknowledged, and no two at one place.
+use Rattle.std.proofs.Common.{◌≡◌, ℕ, ◌+◌, List, [], ◌∷◌, map, Option, Some, None, refl, sym, subst, ◌∙◌}
+use Rattle.std.specs.List.{AllByRecursion, flat_map}
+use Rattle.file_looks.specs.Segment.{Segment, segments_of}
+use Rattle.harvester.specs.History.{Telling}
+use Rattle.kept_rows.proofs.Showing.{both}
+use Rattle.kept_rows.specs.Account.{AccountedEvent, Place}
+use Rattle.kept_rows.specs.Acknowledged.{IsAcknowledgedAt}
+use Rattle.kept_rows.specs.Trace.{WireTold}
+use Rattle.told_events.specs.Fate.{DroppedBy, Fate, ShippedAs}
+use Rattle.told_events.specs.Told.{ToldEvent}
+use Rattle.wire_base.specs.Extent.{Extent}
+use Rattle.wire_base.specs.declared.numbers.Slot.{Slot}
+use Rattle.wire_base.specs.declared.parcel.Parcel.{Parcel}
+use Rattle.accounts.specs.Accounted.{accounted, epoch_accounts, place_by, untold_epochs}
+use Rattle.accounts.specs.Filed.{Filed, IsFiled, account_of, accounts_of, turned_of}
+use Rattle.accounts.specs.Numbers.{ArePlacedIn, IsPlacedAs, all_events, told_in_epoch, told_in_slot}
+use Rattle.accounts.specs.Once.{AreOnce}
+use Rattle.accounts.specs.Opened.{Opened}
+use Rattle.accounts.specs.Places.{ArePlaces}
+use Rattle.accounts.specs.Same.{same_parcel}
+use Rattle.accounts.specs.Taken.{Taken}
+use Rattle.accounts.specs.Turned.{parcels_told, tellings_in}
+use Rattle.accounts.proofs.Placing.{places_apart}
+
+module _ (placed : Parcel → Option Place) (workers : List Taken) (wires : List WireTold) (places : ArePlaces placed workers wires) where
+  abbrev IsPlaced : AccountedEvent → Type 0
+  IsPlaced one = IsPlacedAs wires one.event.fate one.place
+
+  parcel_is_placed : (parcel : Parcel) (o : Option Place) → placed parcel ≡ o → IsPlacedAs wires (ShippedAs parcel.payload) o
+  parcel_is_placed parcel None is = tt
+  parcel_is_placed parcel (Some place) is =
+      let well = places.well parcel (places.no_other parcel place is) in
+      let q : Some well.place ≡ Some place = sym well.is ∙ is in
+      let same : well.place ≡ place = cc in
+      subst (IsAcknowledgedAt wires parcel.payload) same well.stands
+
+  fate_is_placed : (slot : Slot) (epoch : ℕ) (span : Extent) (fate : Fate) → IsPlacedAs wires fate (place_by placed slot epoch span fate)
+  fate_is_placed slot epoch span (DroppedBy rule) = refl
+  fate_is_placed slot epoch span (ShippedAs payload) =
+      parcel_is_placed (record { slot = slot; epoch = record { 0 = epoch }; span = span; payload = payload }) (placed (record { slot = slot; epoch = record { 0 = epoch }; span = span; payload = payload })) refl
+
+  events_are_placed : (slot : Slot) (epoch : ℕ) (told : List ToldEvent) → AllByRecursion IsPlaced (map (accounted placed slot epoch) told)
+  events_are_placed slot epoch [] = tt
+  events_are_placed slot epoch (one ∷ told) = (fate_is_placed slot epoch one.span one.fate, events_are_placed slot epoch told)
+
+  untold_are_placed : (opened : Opened) (number : ℕ) (segments : List Segment) → AllByRecursion IsPlaced (flat_map told_in_epoch (untold_epochs opened number segments))
+  untold_are_placed opened number [] = tt
+  untold_are_placed opened number (segment ∷ segments) = untold_are_placed opened (number + 1) segments
+
+  epochs_are_placed : (opened : Opened) (number : ℕ) (tellings : List Telling) (segments : List Segment) → AllByRecursion IsPlaced (flat_map told_in_epoch (epoch_accounts opened placed number tellings segments))
+  epochs_are_placed opened number [] segments = untold_are_placed opened number segments
+  epochs_are_placed opened number (telling ∷ tellings) [] = tt
+  epochs_are_placed opened number (telling ∷ tellings) (segment ∷ segments) =
+      both IsPlaced (map (accounted placed opened.begin.slot telling.epoch) telling.told) (flat_map told_in_epoch (epoch_accounts opened placed telling.epoch tellings segments))
+      (events_are_placed opened.begin.slot telling.epoch telling.told) (epochs_are_placed opened telling.epoch tellings segments)
+
+  each_placed : (files : List Filed) → AllByRecursion IsPlaced (all_events (accounts_of placed files))
+  each_placed [] = tt
+  each_placed (file ∷ files) =
+      both IsPlaced (told_in_slot (account_of placed file)) (all_events (accounts_of placed files))
+      (epochs_are_placed file.opened file.opened.begin.epoch.0 (tellings_in file.turned.history) (segments_of file.opened.begin.base file.looks)) (each_placed files)
+
+  pub are_placed : (files : List Filed) → AllByRecursion IsFiled files → AreOnce same_parcel (flat_map parcels_told (turned_of files)) → ArePlacedIn (accounts_of placed files) wires
+  are_placed files filed once = record { each = each_placed files; apart = places_apart placed places.one_each files filed once }
