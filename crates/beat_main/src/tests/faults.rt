@@ -1,8 +1,9 @@
 //! Objects that fail, and peers that break the protocol, close or fall silent.
 
-use crate::tests::wanted::{Case, Sent, Wanted, check_each};
-use crate::tests::world::{Object, PLAIN, Peer, Start, run};
+use crate::tests::wanted::{Case, Sent, Wanted, check_each, check_number, check_text};
+use crate::tests::world::{Object, PLAIN, Peer, Ran, Start, run};
 use registry_store::Store;
+use std::alloc::Global;
 use std::process::Abort;
 use std::sync::Wait;
 use std::test::Fail;
@@ -168,44 +169,60 @@ fn is_front(rows: &str) -> bool {
     rows.is_empty() || rows == ROW_AT_0 || rows == ROW_AT_2 || rows == ROW_AT_4
 }
 
-/// Makes a run in which a call fails. It ends with the status of that call's object, or, where it
-/// needs no such call or has a further attempt, with 0. True where the fault ended it.
+/// What a run with a fault leaves.
+#[derive(Drop)]
+struct Left {
+    code: u64,
+    rows: String,
+    printed: Text,
+}
+
+/// Makes a run in which a call fails.
+fn left_by<X: Threads + Wait + Sync + AllocGlobal>(rt: &X, start: Start) -> Result<Left, Fail> {
+    let alloc = rt.alloc();
+    let mut ran = run(rt, start)?;
+    use_up(alloc, &mut ran);
+    Ok(Left {
+        code: ran.code(),
+        rows: ran.stored(alloc)?,
+        printed: ran.printed(alloc)?,
+    })
+}
+
+/// A call of an area that the run did not come to fails in one of these.
+fn use_up(alloc: Global, ran: &mut Ran) {
+    for _i in 0..CALLS {
+        let _ = Store::open(alloc, &mut ran.objects.area, &mut ran.objects.other_area);
+    }
+}
+
+/// The run ended with the status of the call's object, or, where it needs no such call or has a further
+/// attempt, with 0. True where the fault ended it.
+fn is_ended(rt: &impl Abort, left: &Left, status: u8, line: &str) -> bool {
+    let (rows, printed) = (left.rows.as_str(), left.printed.as_str());
+    if left.code == 8 {
+        assert!(rt; DONE.starts_with(printed), "printed: {printed}");
+        return true;
+    }
+    if left.code == status as u64 {
+        check_text(rt, "printed", line, printed, line);
+        assert!(rt; is_front(rows), "rows behind {line}: {rows}");
+        return true;
+    }
+    check_number(rt, "exit status in place of the line", line, left.code, 0);
+    check_text(rt, "rows in place of the line", line, rows, ROW_AT_4);
+    check_text(rt, "printed in place of the line", line, printed, DONE);
+    false
+}
+
+/// Makes a run in which a call fails, and says whether the fault ended it.
 fn ends<X: Threads + Wait + Sync + AllocGlobal + Abort>(
     rt: &X,
     start: Start,
     status: u8,
     line: &str,
 ) -> Result<bool, Fail> {
-    let alloc = rt.alloc();
-    let mut ran = run(rt, start)?;
-    // A call that the run did not come to fails in one of these.
-    for _i in 0..CALLS {
-        let _ = Store::open(alloc, &mut ran.objects.area, &mut ran.objects.other_area);
-    }
-    let code = ran.status.code();
-    let rows = ran.stored(alloc)?;
-    let printed = Text::from_bytes(alloc, ran.objects.printed.bytes())?;
-    if code == 8 {
-        assert!(rt;
-            DONE.starts_with(printed.as_str()),
-            "printed: {}",
-            printed.as_str()
-        );
-        return Ok(true);
-    }
-    if code == status {
-        assert_eq!(rt; printed.as_str(), line);
-        assert!(rt;
-            is_front(rows.as_str()),
-            "rows behind {line}: {}",
-            rows.as_str()
-        );
-        return Ok(true);
-    }
-    assert_eq!(rt; code, 0, "in place of {line}");
-    assert_eq!(rt; rows.as_str(), ROW_AT_4, "rows in place of {line}");
-    assert_eq!(rt; printed.as_str(), DONE, "in place of {line}");
-    Ok(false)
+    Ok(is_ended(rt, &left_by(rt, start)?, status, line))
 }
 
 /// How many calls of this object end the run where they fail: the first ones, each in a run of its

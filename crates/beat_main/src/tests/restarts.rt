@@ -1,8 +1,11 @@
 //! Worked runs over what an earlier run left, by their names.
 
-use crate::tests::wanted::{Sent, Wanted, check_left};
-use crate::tests::world::{Object, PLAIN, Peer, Start, run, run_over};
+use crate::tests::wanted::{Sent, Wanted, check_left, check_number, check_text};
+use crate::tests::world::{Object, PLAIN, Peer, Ran, Start, run, run_over};
+use std::process::Abort;
+use std::sync::Wait;
 use std::test::Fail;
+use std::thread::Threads;
 
 /// A run over the areas of an earlier one, and what it has to leave.
 #[derive(Clone, Copy)]
@@ -166,11 +169,20 @@ const RESTARTS: &[Restart] = &[
     PARTLY_ACKNOWLEDGED_BEFORE,
 ];
 
+/// Makes a run, and one over the areas that it leaves.
+fn run_again<X: Threads + Wait + Sync + AllocGlobal>(
+    rt: &X,
+    first: Start,
+    second: Start,
+) -> Result<Ran, Fail> {
+    let objects = run(rt, first)?.objects;
+    run_over(rt, second, objects.area, objects.other_area)
+}
+
 #[test]
 fn rows_are_taken_up(rt: HostRuntime) -> Result<(), Fail> {
     for restart in RESTARTS {
-        let objects = run(&rt, restart.first)?.objects;
-        let second = run_over(&rt, restart.second, objects.area, objects.other_area)?;
+        let second = run_again(&rt, restart.first, restart.second)?;
         check_left(&rt, restart.name, second, "", restart.wanted)?;
     }
     Ok(())
@@ -179,34 +191,63 @@ fn rows_are_taken_up(rt: HostRuntime) -> Result<(), Fail> {
 /// How many calls of a disk a run over two plain lines makes at the most.
 const MOST_CALLS: u64 = 24;
 
-/// Wherever the disk stops, and whatever a crash leaves there, a run over it ends with the same row, and each line was sent by
-/// one of the two.
+/// How many images of a stopped disk are taken up, of those that a crash may leave.
+const PICKS: u64 = 4;
+
+/// The row of the whole file.
+const LAST_ROW: &str = "file \"filestream::w::path::/w/a.log\" 0 4 \"/w/a.log\"\n";
+
+/// Makes a run whose disk stops behind so many calls, and one over what a crash leaves there.
+fn crash<X: Threads + Wait + Sync + AllocGlobal>(
+    rt: &X,
+    calls: u64,
+    pick: u64,
+) -> Result<(Ran, Ran), Fail> {
+    let start = Start {
+        stop_after: Some(calls),
+        ..PLAIN
+    };
+    let first = run(rt, start)?;
+    let area = first.objects.area.image(pick)?;
+    let other_area = first.objects.other_area.image(pick)?;
+    let second = run_over(rt, PLAIN, area, other_area)?;
+    Ok((first, second))
+}
+
+/// The second run ends with the row of the whole file, and each line was sent by one of the two.
+fn check_taken_up<X: AllocGlobal + Abort>(
+    rt: &X,
+    case: &str,
+    first: &Ran,
+    second: &mut Ran,
+) -> Result<(), Fail> {
+    let alloc = rt.alloc();
+    check_number(rt, "exit status", case, second.code(), 0);
+    let sent = first.payloads(alloc)?.len() + second.payloads(alloc)?.len();
+    assert!(rt; sent >= 2, "events: {case}");
+    check_text(rt, "rows", case, second.stored(alloc)?.as_str(), LAST_ROW);
+    Ok(())
+}
+
+/// Makes both runs for each image that a crash may leave.
+fn check_crash<X: Threads + Wait + Sync + AllocGlobal + Abort>(
+    rt: &X,
+    calls: u64,
+) -> Result<(), Fail> {
+    for pick in 0..PICKS {
+        let case = format!(in rt.alloc(); "behind {calls} calls, pick {pick}")?;
+        let (first, mut second) = crash(rt, calls, pick)?;
+        check_taken_up(rt, case.as_str(), &first, &mut second)?;
+    }
+    Ok(())
+}
+
+/// Wherever the disk stops, and whatever a crash leaves there, a run over it ends with the same row, and
+/// each line was sent by one of the two.
 #[test]
 fn each_crash_is_taken_up(rt: HostRuntime) -> Result<(), Fail> {
-    let alloc = rt.alloc();
     for calls in 0..MOST_CALLS {
-        for pick in 0..4 {
-            let first = run(
-                &rt,
-                Start {
-                    stop_after: Some(calls),
-                    ..PLAIN
-                },
-            )?;
-            let area = first.objects.area.image(pick)?;
-            let other_area = first.objects.other_area.image(pick)?;
-            let mut second = run_over(&rt, PLAIN, area, other_area)?;
-            assert_eq!(rt;
-                second.status.code(),
-                0,
-                "behind {calls} calls, pick {pick}"
-            );
-            let sent = first.payloads(alloc)?.len() + second.payloads(alloc)?.len();
-            assert_eq!(rt; sent >= 2, true, "behind {calls} calls, pick {pick}");
-            let stored = second.stored(alloc)?;
-            let row = "file \"filestream::w::path::/w/a.log\" 0 4 \"/w/a.log\"\n";
-            assert_eq!(rt; stored.as_str(), row, "behind {calls} calls, pick {pick}");
-        }
+        check_crash(&rt, calls)?;
     }
     Ok(())
 }

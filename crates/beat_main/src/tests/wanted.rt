@@ -10,7 +10,7 @@ use std::process::Abort;
 use std::sync::Wait;
 use std::test::Fail;
 use std::thread::Threads;
-use wire_base::{Moment, NoMemory, Piece, Text};
+use wire_base::{NoMemory, Piece, Text};
 
 /// What is sent over the last link of each wire.
 #[derive(Clone, Copy)]
@@ -67,6 +67,21 @@ pub fn check<X: Threads + Wait + Sync + AllocGlobal + Abort>(
     check_left(rt, case, run(rt, start)?, start.area, wanted)
 }
 
+/// Two texts are the same.
+pub fn check_text(rt: &impl Abort, what: &str, case: &str, text: &str, wanted: &str) {
+    assert_eq!(rt; text, wanted, "{what}: {case}");
+}
+
+/// Two numbers are the same.
+pub fn check_number(rt: &impl Abort, what: &str, case: &str, number: u64, wanted: u64) {
+    assert_eq!(rt; number, wanted, "{what}: {case}");
+}
+
+/// Two lists of bytes are the same.
+fn check_bytes(rt: &impl Abort, what: &str, case: &str, bytes: &[u8], wanted: &[u8]) {
+    assert_eq!(rt; bytes, wanted, "{what}: {case}");
+}
+
 /// Compares all that a run leaves with what is wanted; `area` is what the first area held before it.
 pub fn check_left<X: AllocGlobal + Abort>(
     rt: &X,
@@ -76,29 +91,35 @@ pub fn check_left<X: AllocGlobal + Abort>(
     wanted: Wanted,
 ) -> Result<(), Fail> {
     let alloc = rt.alloc();
-    let printed = Text::from_bytes(alloc, ran.objects.printed.bytes())?;
     let reported = reported(alloc, wanted)?;
-    assert_eq!(rt; printed.as_str(), reported.as_str(), "printed: {case}");
-    assert_eq!(rt; ran.status.code(), wanted.status, "exit status: {case}");
-    if let Some(moment) = wanted.moment {
-        assert_eq!(rt; ran.objects.clock.now(), Moment(moment), "clock: {case}");
-    }
+    check_text(
+        rt,
+        "printed",
+        case,
+        ran.printed(alloc)?.as_str(),
+        reported.as_str(),
+    );
+    check_end(rt, case, &mut ran, wanted);
     check_sent(rt, case, &ran, wanted.sent)?;
     match wanted.rows {
-        Some(rows) => {
-            let stored = ran.stored(alloc)?;
-            assert_eq!(rt; stored.as_str(), rows, "rows: {case}");
-        }
-        None => {
-            assert_eq!(rt; ran.objects.area.bytes(), area.as_bytes(), "area: {case}");
-            assert_eq!(rt;
-                ran.objects.other_area.bytes().len(),
-                0,
-                "other area: {case}"
-            );
-        }
+        Some(rows) => check_text(rt, "rows", case, ran.stored(alloc)?.as_str(), rows),
+        None => check_areas(rt, case, &ran, area),
     }
     Ok(())
+}
+
+/// The exit status, and the clock's moment.
+fn check_end(rt: &impl Abort, case: &str, ran: &mut Ran, wanted: Wanted) {
+    check_number(rt, "exit status", case, ran.code(), wanted.status as u64);
+    if let Some(moment) = wanted.moment {
+        check_number(rt, "clock", case, ran.objects.clock.now().0, moment);
+    }
+}
+
+/// The first area holds this, and the other one nothing.
+fn check_areas(rt: &impl Abort, case: &str, ran: &Ran, area: &str) {
+    check_bytes(rt, "area", case, ran.objects.area.bytes(), area.as_bytes());
+    check_bytes(rt, "other area", case, ran.objects.other_area.bytes(), b"");
 }
 
 /// All that is printed.
@@ -111,37 +132,67 @@ fn reported(alloc: Global, wanted: Wanted) -> Result<String, Fail> {
     Ok(text)
 }
 
+/// What was sent over the last link of each wire.
 fn check_sent<X: AllocGlobal + Abort>(
     rt: &X,
     case: &str,
     ran: &Ran,
     wanted: Sent,
 ) -> Result<(), Fail> {
-    let alloc = rt.alloc();
-    let mut spelled = Vec::new(alloc);
-    match wanted {
-        Sent::Open => return Ok(()),
-        Sent::Events(count) => {
-            assert_eq!(rt; ran.payloads(alloc)?.len(), count, "events: {case}");
-            return Ok(());
-        }
-        Sent::Lines(lines) => {
-            for (place, message) in lines {
-                spelled.push(payload_of(alloc, *place, message)?)?;
-            }
-        }
-        Sent::Payloads(payloads) => {
-            for payload in payloads {
-                spelled.push(String::from_str(alloc, payload)?)?;
-            }
-        }
+    if let Sent::Open = wanted {
+        return Ok(());
     }
-    let payloads = ran.payloads(alloc)?;
-    assert_eq!(rt; payloads.len(), spelled.len(), "events: {case}");
-    for (payload, wanted) in payloads.iter().zip(&spelled) {
-        assert_eq!(rt; payload.as_str(), wanted.as_str(), "sent: {case}");
+    check_payloads(rt, case, &ran.payloads(rt.alloc())?, wanted)
+}
+
+/// How many events there are, and each of them, as far as it is said.
+fn check_payloads<X: AllocGlobal + Abort>(
+    rt: &X,
+    case: &str,
+    payloads: &[Text],
+    wanted: Sent,
+) -> Result<(), Fail> {
+    let count = payloads.len() as u64;
+    check_number(rt, "events", case, count, count_of(wanted).unwrap_or(count));
+    match wanted {
+        Sent::Lines(lines) => check_lines(rt, case, payloads, lines),
+        Sent::Payloads(texts) => {
+            check_texts(rt, case, payloads, texts);
+            Ok(())
+        }
+        Sent::Open | Sent::Events(_) => Ok(()),
+    }
+}
+
+/// How many events are sent, where that is said.
+fn count_of(wanted: Sent) -> Option<u64> {
+    match wanted {
+        Sent::Open => None,
+        Sent::Events(count) => Some(count as u64),
+        Sent::Lines(lines) => Some(lines.len() as u64),
+        Sent::Payloads(texts) => Some(texts.len() as u64),
+    }
+}
+
+/// The payloads are those of these lines of `/w/a.log`.
+fn check_lines<X: AllocGlobal + Abort>(
+    rt: &X,
+    case: &str,
+    payloads: &[Text],
+    lines: &[(u64, &str)],
+) -> Result<(), Fail> {
+    for (payload, (place, message)) in payloads.iter().zip(lines) {
+        let wanted = payload_of(rt.alloc(), *place, message)?;
+        check_text(rt, "sent", case, payload.as_str(), wanted.as_str());
     }
     Ok(())
+}
+
+/// The payloads are these.
+fn check_texts(rt: &impl Abort, case: &str, payloads: &[Text], texts: &[&str]) {
+    for (payload, text) in payloads.iter().zip(texts) {
+        check_text(rt, "sent", case, payload.as_str(), text);
+    }
 }
 
 fn payload_of(alloc: Global, place: u64, message: &str) -> Result<String, Fail> {
@@ -152,6 +203,16 @@ fn payload_of(alloc: Global, place: u64, message: &str) -> Result<String, Fail> 
 }
 
 impl Ran {
+    /// The exit status.
+    pub fn code(&self) -> u64 {
+        self.status.code() as u64
+    }
+
+    /// All that was printed.
+    pub fn printed(&self, alloc: Global) -> Result<Text, Fail> {
+        Ok(Text::from_bytes(alloc, self.objects.printed.bytes())?)
+    }
+
     /// The rows that are stored, as a report has them.
     pub fn stored(&mut self, alloc: Global) -> Result<String, Fail> {
         let store = Store::open(alloc, &mut self.objects.area, &mut self.objects.other_area)?;

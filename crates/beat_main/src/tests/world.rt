@@ -173,13 +173,7 @@ pub fn run_over<X: Threads + Wait + Sync + AllocGlobal>(
 ) -> Result<Ran, Fail> {
     let alloc = rt.alloc();
     let words = words_of(alloc, start.words)?;
-    let mut objects = Objects::new(alloc, start, area, other_area)?;
-    for (object, call) in start.failing {
-        objects.fail_at(alloc, *object, *call)?;
-    }
-    if let Some(calls) = start.stop_after {
-        objects.area.stop_after(calls);
-    }
+    let mut objects = objects_of(alloc, start, area, other_area)?;
     let status = ship(
         rt,
         alloc,
@@ -194,6 +188,25 @@ pub fn run_over<X: Threads + Wait + Sync + AllocGlobal>(
         &mut objects.printed,
     );
     Ok(Ran { status, objects })
+}
+
+/// What the run is given, with the calls that fail.
+fn objects_of(
+    alloc: Global,
+    start: Start,
+    area: MemDisk,
+    other_area: MemDisk,
+) -> Result<Objects, Fail>
+    ensures { IfOk result (λ objects. vec_len objects.wires ≡ WIRES) }
+{
+    let mut objects = Objects::new(alloc, start, area, other_area)?;
+    for (object, call) in start.failing {
+        objects.fail_at(alloc, *object, *call)?;
+    }
+    if let Some(calls) = start.stop_after {
+        objects.area.stop_after(calls);
+    }
+    Ok(objects)
 }
 
 fn words_of(alloc: Global, words: &[&str]) -> Result<Vec<Text>, Fail> {
@@ -255,22 +268,32 @@ fn step_of(alloc: Global, change: Later) -> Result<MemStep, NoMemory> {
     Ok(MemStep { due, change })
 }
 
+/// The first wires are those of the peer; the others have no talk.
 fn wires_of(alloc: Global, peer: Peer) -> Result<Vec<MemWire>, NoMemory>
     ensures { IfOk result (λ wires. vec_len wires ≡ WIRES) }
 {
-    let (first, second) = talks_of(alloc, peer)?;
+    let mut talks = last_first(alloc, talks_of(alloc, peer)?)?;
     let mut wires = Vec::new(alloc);
-    wires.push(wire_of(alloc, first)?)?;
-    wires.push(wire_of(alloc, second)?)?;
-    for _ in 2..WIRES {
-        wires.push(MemWire::new(alloc, Vec::new(alloc))?)?;
+    for _ in 0..WIRES {
+        wires.push(wire_of(alloc, talks.pop())?)?;
     }
     Ok(wires)
 }
 
-fn wire_of(alloc: Global, talk: MemTalk) -> Result<MemWire, NoMemory> {
+/// The talks in the order in which they are taken from the end.
+fn last_first(alloc: Global, talks: (MemTalk, MemTalk)) -> Result<Vec<MemTalk>, NoMemory> {
+    let mut turned = Vec::new(alloc);
+    turned.push(talks.1)?;
+    turned.push(talks.0)?;
+    Ok(turned)
+}
+
+/// A wire whose first link has this talk, where there is one.
+fn wire_of(alloc: Global, talk: Option<MemTalk>) -> Result<MemWire, NoMemory> {
     let mut talks = Vec::new(alloc);
-    talks.push(talk)?;
+    if let Some(talk) = talk {
+        talks.push(talk)?;
+    }
     MemWire::new(alloc, talks)
 }
 
