@@ -89,7 +89,7 @@ pub fn end_all(
     let mut sent = Vec::new(alloc);
     let mut whole = true;
     'carriers: while let Some(carrier) = carriers.pop() {
-        whole = end_one(outlets, carrier, &mut sent) && whole;
+        whole &= end_one(outlets, carrier, &mut sent);
     }
     carriers.destroy_empty();
     if whole { Ok(sent) } else { Err(NoMemory) }

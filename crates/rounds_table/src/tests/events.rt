@@ -1,3 +1,7 @@
+ghost use Rattle.std.specs.Prelude.{◌≡◌, ◌<◌};
+ghost use Rattle.pass_sums.specs.Share.{IsWhole};
+ghost use Rattle.rounds.specs.Running.{IsStoringReady};
+
 use crate::tests::crews::{Passes, Sizes, Way, crew, keeper};
 use crate::tests::files::{FILES, LINES, tails};
 use crate::tests::outcome::{Outcome, finish, work};
@@ -66,6 +70,43 @@ fn check(rt: &impl Abort, alloc: Global, outcome: &Outcome) -> Result<(), Fail> 
     Ok(())
 }
 
+/// What a crew is made of beside its files.
+#[derive(Drop)]
+struct Means {
+    passes: Passes,
+    wires: Vec<MemWire>,
+}
+
+/// What a crew of these sizes comes to, which is made of this and works beside this keeper.
+fn run_crew<R: Threads + Wait + Sync>(
+    rt: &R,
+    alloc: Global,
+    outlets: Outlets<'_>,
+    means: Means,
+    sizes: Sizes,
+    storing: &mut Storing<'_, MemDisk>,
+) -> Result<Outcome, Fail>
+    requires some { 0 < sizes.lanes }
+    requires puts { means.passes.put.queue ≡ outlets.queue.now.id }
+    requires takes { means.passes.take.queue ≡ outlets.queue.now.id }
+    requires posts { means.passes.post.desk ≡ outlets.desk.now.id }
+    requires all_puts { IsWhole means.passes.put.share }
+    requires all_takes { IsWhole means.passes.take.share }
+    requires all_posts { IsWhole means.passes.post.share }
+    requires storing { IsStoringReady outlets.desk.now.id storing.old }
+{
+    let Means { passes, wires } = means;
+    let mut crew = crew(alloc, outlets, passes, sizes, tails(alloc)?, wires)?;
+    let went = work(rt, alloc, outlets, &mut crew, storing, sizes.way);
+    let disks = (&mut *storing.a, &mut *storing.b);
+    let outcome = finish(alloc, outlets, crew, storing.keeper, disks)?;
+    if went {
+        Ok(outcome)
+    } else {
+        Err(Fail::new("the crew came to something else"))
+    }
+}
+
 /// What a crew of these sizes over these wires comes to.
 fn run<R: Threads + Wait + Sync>(
     rt: &R,
@@ -76,29 +117,23 @@ fn run<R: Threads + Wait + Sync>(
     if sizes.lanes == 0 || sizes.places == 0 {
         return Err(Fail::new("no lane or no place"));
     }
+    let (mut a, mut b) = (MemDisk::new(alloc, b"")?, MemDisk::new(alloc, b"")?);
     let (queue, put, take) = EventQueue::new(alloc, sizes.places)?;
     let (desk, post, collect) = SettleBox::new(alloc, sizes.places)?;
     let outlets = Outlets {
         queue: &queue,
         desk: &desk,
     };
-    let (mut a, mut b) = (MemDisk::new(alloc, b"")?, MemDisk::new(alloc, b"")?);
-    let mut keeper = keeper(alloc, collect, &mut a, &mut b)?;
     let passes = Passes { put, take, post };
-    let mut crew = crew(alloc, outlets, passes, sizes, tails(alloc)?, wires)?;
+    let mut keeper = keeper(alloc, collect, &mut a, &mut b)?;
     let mut storing = Storing {
         keeper: &mut keeper,
         a: &mut a,
         b: &mut b,
         stored: Stored::begun(),
     };
-    let went = work(rt, alloc, outlets, &mut crew, &mut storing, sizes.way);
-    let outcome = finish(alloc, outlets, crew, &keeper, (&mut a, &mut b))?;
-    if went {
-        Ok(outcome)
-    } else {
-        Err(Fail::new("the crew came to something else"))
-    }
+    let means = Means { passes, wires };
+    run_crew(rt, alloc, outlets, means, sizes, &mut storing)
 }
 
 #[test]
