@@ -1,18 +1,23 @@
--- Which of the entries the inputs cover, entry by entry and input by input.
-use Rattle.std.proofs.Common.{◌≡◌, inl, inr, ℕ, ◌+◌, ◌<◌, List, [], ◌∷◌, ◌++◌, length, map, take, drop, get_or, Option, Some, refl, sym, ◌∙◌, ap, subst, append-nil, append_assoc}
+-- Which of the entries the inputs cover, path by path, input by input and entry by entry.
+use Rattle.std.proofs.Common.{◌≡◌, inl, inr, ℕ, ◌+◌, ◌<◌, ◌≤◌, List, [], ◌∷◌, ◌++◌, length, map, take, drop, get_or, Option, Some, refl, sym, ◌∙◌, ap, subst, append-nil, append_assoc}
+use Rattle.std.specs.Prelude.{flat_map}
 use Rattle.std.specs.Iterator.{Yields}
 use Rattle.std.specs.Map.Iter.{TakesFirst}
 use Rattle.std.proofs.lemmas.List.{map-append, take_more, take-append-drop}
 use Rattle.std.proofs.lemmas.List.Concat.{flat_map-append}
 use Rattle.std.proofs.lemmas.Map.Iter.{rest_more, rest_so_far}
+use Rattle.event_tree.specs.declared.input_rule.IdentityRule.{IdentityRule}
+use Rattle.event_tree.specs.declared.input_rule.IdentityRule.TheVariants.{Fingerprint, Native, Path}
 use Rattle.outside.specs.declared.entry.Entry.{Entry}
 use Rattle.prospect.specs.declared.listed.Listed.{Listed}
 use Rattle.prospect.specs.declared.scan_error.ScanError.{ScanError}
-use Rattle.prospect.specs.declared.scan_error.ScanError.TheVariants.{Failed, NoMemory, TooMany}
+use Rattle.prospect.specs.declared.scan_error.ScanError.TheVariants.{Failed, NoMemory, NoNative, TooMany}
 use Rattle.prospect.specs.declared.scan_input.ScanInput.{ScanInput}
 use Rattle.prospect.specs.declared.files.TheConstants.{MAX_FILES}
-use Rattle.prospect.specs.Covered.{AddsCovered, AreCovered, CoversEntry, IsFileOf, IsOneMore, Pair, StopsAt, file_of, pair_of, pairs_of, pairs_with}
+use Rattle.prospect.specs.Covered.{AddsCovered, AreCovered, CoversEntry, IsFileOf, IsKeyless, IsOneMore, IsUntold, Pair, Stop, StopsAt, file_of, pair_of, pairs_for, pairs_of, pairs_with}
+use Rattle.prospect.specs.declared.showing.Showing.{Showing}
 use Rattle.prospect.specs.Readings.{Reading, reading_of}
+use Rattle.prospect.specs.Showings.{entries_for, entries_of}
 
 pub covered_append : (pairs others : List Pair) (files more : List Listed) → AreCovered pairs files → AreCovered others more → AreCovered (pairs ++ others) (files ++ more)
 covered_append [] others files more first second = subst (λ (l : List Listed). AreCovered others (l ++ more)) (sym first) second
@@ -44,31 +49,63 @@ adds_uncovered pair files uncovered = record {
   added = sym (append-nil files);
 }
 
+-- ---- where adding stops
+
+abbrev stop_here : (pair : Pair) → Stop (pair ∷ [])
+stop_here pair = record { before = []; pair = pair; behind = []; pairs_are = refl; more = []; covered_before = refl }
+
+abbrev stop_later : (pairs others behind : List Pair) (more : List Listed) → AreCovered pairs more → Stop others → Stop (pairs ++ (others ++ behind))
+stop_later pairs others behind more covered stop = record {
+  before = pairs ++ stop.before;
+  pair = stop.pair;
+  behind = stop.behind ++ behind;
+  pairs_are = ap (λ (l : List Pair). pairs ++ (l ++ behind)) stop.pairs_are
+      ∙ ap (λ (l : List Pair). pairs ++ l) (append_assoc stop.before (stop.pair ∷ stop.behind) behind)
+      ∙ sym (append_assoc pairs stop.before (stop.pair ∷ stop.behind ++ behind));
+  more = more ++ stop.more;
+  covered_before = covered_append pairs stop.before more stop.more covered stop.covered_before;
+}
+
+-- as many stand before it
+as_many : (pairs : List Pair) (old between more : List Listed) (added : AddsCovered pairs old between) → length (old ++ (added.more ++ more)) ≡ length (between ++ more)
+as_many pairs old between more added =
+    ap (λ (l : List Listed). length l) (sym (append_assoc old added.more more) ∙ ap (λ (l : List Listed). l ++ more) (sym added.added))
+
 -- the pair is one more at once
 pub stops_here : (pair : Pair) (old : List Listed) (path : List ℕ) → IsFileOf pair → length old ≡ MAX_FILES → path ≡ pair.entry.path → IsOneMore (pair ∷ []) old path
 stops_here pair old path is full path_is = record {
-  before = [];
-  pair = pair;
-  behind = [];
-  pairs_are = refl;
-  more = [];
-  covered_before = refl;
+  stop = stop_here pair;
   full = ap (λ (l : List Listed). length l) (append-nil old) ∙ full;
   file = is;
   path_is = sym path_is;
 }
 
+-- no key is told for the pair
+pub keyless_here : (pair : Pair) (old : List Listed) (error : ScanError) → length old ≤ MAX_FILES → CoversEntry pair → IsKeyless pair error → StopsAt (pair ∷ []) old error
+keyless_here pair old Failed few covers keyless = keyless
+keyless_here pair old NoMemory few covers keyless = tt
+keyless_here pair old (NoNative path) few covers keyless = record {
+  stop = stop_here pair;
+  few = subst (λ (l : List Listed). length l ≤ MAX_FILES) (sym (append-nil old)) few;
+  covers = covers;
+  lacks = keyless.0;
+  path_is = keyless.1;
+}
+keyless_here pair old (TooMany path) few covers keyless = absurd keyless
+
+untold_later : (pairs others behind : List Pair) (old between : List Listed) (path : List ℕ) → AddsCovered pairs old between → IsUntold others between path → IsUntold (pairs ++ (others ++ behind)) old path
+untold_later pairs others behind old between path added untold = record {
+  stop = stop_later pairs others behind added.more added.covered untold.stop;
+  few = subst (λ (n : ℕ). n ≤ MAX_FILES) (sym (as_many pairs old between untold.stop.more added)) untold.few;
+  covers = untold.covers;
+  lacks = untold.lacks;
+  path_is = untold.path_is;
+}
+
 one_more_later : (pairs others behind : List Pair) (old between : List Listed) (path : List ℕ) → AddsCovered pairs old between → IsOneMore others between path → IsOneMore (pairs ++ (others ++ behind)) old path
 one_more_later pairs others behind old between path added one = record {
-  before = pairs ++ one.before;
-  pair = one.pair;
-  behind = one.behind ++ behind;
-  pairs_are = ap (λ (l : List Pair). pairs ++ (l ++ behind)) one.pairs_are
-      ∙ ap (λ (l : List Pair). pairs ++ l) (append_assoc one.before (one.pair ∷ one.behind) behind)
-      ∙ sym (append_assoc pairs one.before (one.pair ∷ one.behind ++ behind));
-  more = added.more ++ one.more;
-  covered_before = covered_append pairs one.before added.more one.more added.covered one.covered_before;
-  full = ap (λ (l : List Listed). length l) (sym (append_assoc old added.more one.more) ∙ ap (λ (l : List Listed). l ++ one.more) (sym added.added)) ∙ one.full;
+  stop = stop_later pairs others behind added.more added.covered one.stop;
+  full = as_many pairs old between one.stop.more added ∙ one.full;
   file = one.file;
   path_is = one.path_is;
 }
@@ -76,81 +113,152 @@ one_more_later pairs others behind old between path added one = record {
 pub stops_later : (pairs others behind all : List Pair) (old between : List Listed) (error : ScanError) → pairs ++ (others ++ behind) ≡ all → AddsCovered pairs old between → StopsAt others between error → StopsAt all old error
 stops_later pairs others behind all old between Failed are added stops = stops
 stops_later pairs others behind all old between NoMemory are added stops = tt
+stops_later pairs others behind all old between (NoNative path) are added stops =
+    subst (λ (l : List Pair). IsUntold l old path) are (untold_later pairs others behind old between path added stops)
 stops_later pairs others behind all old between (TooMany path) are added stops =
     subst (λ (l : List Pair). IsOneMore l old path) are (one_more_later pairs others behind old between path added stops)
 
+-- ---- the entries of a path, for one input
+
+abbrev with_reading : Reading → Entry → Pair
+with_reading reading entry = pair_of entry reading
+
+-- to an input that does not go by native numbers they are one file
+pub adds_first : (rule : IdentityRule) (showing : Showing) (reading : Reading) (old new : List Listed) → reading.identity ≡ rule → (rule ≡ Native → ⊥) →
+    AddsCovered (pair_of showing.first reading ∷ []) old new → AddsCovered (pairs_for showing reading) old new
+adds_first rule showing reading old new is other adds =
+    subst (λ (r : IdentityRule). AddsCovered (map (with_reading reading) (entries_for r showing)) old new) (sym is) (by_rule rule other)
+  where
+    by_rule : (rule : IdentityRule) → (rule ≡ Native → ⊥) → AddsCovered (map (with_reading reading) (entries_for rule showing)) old new
+    by_rule (Fingerprint offset count) other = adds
+    by_rule Native other = absurd (other refl)
+    by_rule Path other = adds
+
+pub adds_others : (showing : Showing) (reading : Reading) (old between new : List Listed) → reading.identity ≡ Native →
+    AddsCovered (pair_of showing.first reading ∷ []) old between → AddsCovered (map (with_reading reading) showing.others.items) between new → AddsCovered (pairs_for showing reading) old new
+adds_others showing reading old between new is first others =
+    subst (λ (r : IdentityRule). AddsCovered (map (with_reading reading) (entries_for r showing)) old new) (sym is)
+    (adds_further (pair_of showing.first reading ∷ []) (map (with_reading reading) showing.others.items) old between new first others)
+
+pub stops_at_first : (showing : Showing) (reading : Reading) (old : List Listed) (error : ScanError) → StopsAt (pair_of showing.first reading ∷ []) old error → StopsAt (pairs_for showing reading) old error
+stops_at_first showing reading old error stops = by_rule reading.identity
+  where
+    by_rule : (rule : IdentityRule) → StopsAt (map (with_reading reading) (entries_for rule showing)) old error
+    by_rule (Fingerprint offset count) = stops
+    by_rule Native = stops_later [] (pair_of showing.first reading ∷ []) (map (with_reading reading) showing.others.items) (map (with_reading reading) (entries_of showing)) old old error refl (adds_no_file old) stops
+    by_rule Path = stops
+
+pub stops_at_others : (showing : Showing) (reading : Reading) (old between : List Listed) (error : ScanError) → reading.identity ≡ Native →
+    AddsCovered (pair_of showing.first reading ∷ []) old between → StopsAt (map (with_reading reading) showing.others.items) between error → StopsAt (pairs_for showing reading) old error
+stops_at_others showing reading old between error is first stops =
+    subst (λ (r : IdentityRule). StopsAt (map (with_reading reading) (entries_for r showing)) old error) (sym is)
+    (stops_later (pair_of showing.first reading ∷ []) (map (with_reading reading) showing.others.items) [] (map (with_reading reading) (entries_of showing)) old between error
+    (ap (λ (l : List Pair). pair_of showing.first reading ∷ l) (append-nil (map (with_reading reading) showing.others.items))) first stops)
+
+-- ---- the next entry of a path
+
+with_one_entry : (reading : Reading) (entries : List Entry) (i : ℕ) (entry : Entry) → i < length entries → entry ≡ get_or entries i entry →
+    map (with_reading reading) (take i entries) ++ pair_of entry reading ∷ [] ≡ map (with_reading reading) (take (i + 1) entries)
+with_one_entry reading entries i entry within is =
+    sym (map-append (with_reading reading) (take i entries) (entry ∷ []))
+    ∙ ap (λ (x : Entry). map (with_reading reading) (take i entries ++ x ∷ [])) is
+    ∙ ap (λ (l : List Entry). map (with_reading reading) l) (sym (take_more entries i entry within))
+
+pub adds_next_other : (reading : Reading) (entries : List Entry) (i : ℕ) (entry : Entry) (old between new : List Listed) → i < length entries → entry ≡ get_or entries i entry →
+    AddsCovered (map (with_reading reading) (take i entries)) old between → AddsCovered (pair_of entry reading ∷ []) between new →
+    AddsCovered (map (with_reading reading) (take (i + 1) entries)) old new
+adds_next_other reading entries i entry old between new within is before here =
+    subst (λ (l : List Pair). AddsCovered l old new) (with_one_entry reading entries i entry within is)
+    (adds_further (map (with_reading reading) (take i entries)) (pair_of entry reading ∷ []) old between new before here)
+
+pub stops_at_other : (reading : Reading) (entries : List Entry) (i : ℕ) (entry : Entry) (old between : List Listed) (error : ScanError) → i < length entries → entry ≡ get_or entries i entry →
+    AddsCovered (map (with_reading reading) (take i entries)) old between → StopsAt (pair_of entry reading ∷ []) between error →
+    StopsAt (map (with_reading reading) entries) old error
+stops_at_other reading entries i entry old between error within is before stops =
+    stops_later (pairs (take i entries)) (pair_of entry reading ∷ []) (pairs (drop (i + 1) entries)) (pairs entries) old between error all before stops
+  where
+    pairs : List Entry → List Pair
+    pairs some = map (with_reading reading) some
+
+    all : pairs (take i entries) ++ ((pair_of entry reading ∷ []) ++ pairs (drop (i + 1) entries)) ≡ pairs entries
+    all = sym (append_assoc (pairs (take i entries)) (pair_of entry reading ∷ []) (pairs (drop (i + 1) entries)))
+        ∙ ap (λ (l : List Pair). l ++ pairs (drop (i + 1) entries)) (with_one_entry reading entries i entry within is)
+        ∙ sym (map-append (with_reading reading) (take (i + 1) entries) (drop (i + 1) entries))
+        ∙ ap (λ (l : List Entry). map (with_reading reading) l) (take-append-drop (i + 1) entries)
+
 -- ---- the next input
 
-with_one : (entry : Entry) (inputs : List ScanInput) (i : ℕ) (input : ScanInput) → i < length inputs → input ≡ get_or inputs i input →
-    pairs_with (map reading_of (take i inputs)) entry ++ pair_of entry (reading_of input) ∷ [] ≡ pairs_with (map reading_of (take (i + 1) inputs)) entry
-with_one entry inputs i input within is =
-    sym (map-append (pair_of entry) (map reading_of (take i inputs)) (reading_of input ∷ []))
-    ∙ ap (λ (l : List Reading). map (pair_of entry) l) (sym (map-append reading_of (take i inputs) (input ∷ [])))
-    ∙ ap (λ (x : ScanInput). map (pair_of entry) (map reading_of (take i inputs ++ x ∷ []))) is
-    ∙ ap (λ (l : List ScanInput). map (pair_of entry) (map reading_of l)) (sym (take_more inputs i input within))
+with_one : (showing : Showing) (inputs : List ScanInput) (i : ℕ) (input : ScanInput) → i < length inputs → input ≡ get_or inputs i input →
+    pairs_with (map reading_of (take i inputs)) showing ++ pairs_for showing (reading_of input) ≡ pairs_with (map reading_of (take (i + 1) inputs)) showing
+with_one showing inputs i input within is =
+    ap (λ (l : List Pair). pairs_with (map reading_of (take i inputs)) showing ++ l) (sym (append-nil (pairs_for showing (reading_of input))))
+    ∙ sym (flat_map-append (pairs_for showing) (map reading_of (take i inputs)) (reading_of input ∷ []))
+    ∙ ap (λ (l : List Reading). flat_map (pairs_for showing) l) (sym (map-append reading_of (take i inputs) (input ∷ [])))
+    ∙ ap (λ (x : ScanInput). flat_map (pairs_for showing) (map reading_of (take i inputs ++ x ∷ []))) is
+    ∙ ap (λ (l : List ScanInput). flat_map (pairs_for showing) (map reading_of l)) (sym (take_more inputs i input within))
 
-pub adds_next_input : (entry : Entry) (inputs : List ScanInput) (i : ℕ) (input : ScanInput) (old between new : List Listed) → i < length inputs → input ≡ get_or inputs i input →
-    AddsCovered (pairs_with (map reading_of (take i inputs)) entry) old between → AddsCovered (pair_of entry (reading_of input) ∷ []) between new →
-    AddsCovered (pairs_with (map reading_of (take (i + 1) inputs)) entry) old new
-adds_next_input entry inputs i input old between new within is before here =
-    subst (λ (l : List Pair). AddsCovered l old new) (with_one entry inputs i input within is)
-    (adds_further (pairs_with (map reading_of (take i inputs)) entry) (pair_of entry (reading_of input) ∷ []) old between new before here)
+pub adds_next_input : (showing : Showing) (inputs : List ScanInput) (i : ℕ) (input : ScanInput) (old between new : List Listed) → i < length inputs → input ≡ get_or inputs i input →
+    AddsCovered (pairs_with (map reading_of (take i inputs)) showing) old between → AddsCovered (pairs_for showing (reading_of input)) between new →
+    AddsCovered (pairs_with (map reading_of (take (i + 1) inputs)) showing) old new
+adds_next_input showing inputs i input old between new within is before here =
+    subst (λ (l : List Pair). AddsCovered l old new) (with_one showing inputs i input within is)
+    (adds_further (pairs_with (map reading_of (take i inputs)) showing) (pairs_for showing (reading_of input)) old between new before here)
 
-pub stops_at_input : (entry : Entry) (inputs : List ScanInput) (i : ℕ) (input : ScanInput) (old between : List Listed) (error : ScanError) → i < length inputs → input ≡ get_or inputs i input →
-    AddsCovered (pairs_with (map reading_of (take i inputs)) entry) old between → StopsAt (pair_of entry (reading_of input) ∷ []) between error →
-    StopsAt (pairs_with (map reading_of inputs) entry) old error
-stops_at_input entry inputs i input old between error within is before stops =
-    stops_later (pairs (take i inputs)) (pair_of entry (reading_of input) ∷ []) (pairs (drop (i + 1) inputs)) (pairs inputs) old between error all before stops
+pub stops_at_input : (showing : Showing) (inputs : List ScanInput) (i : ℕ) (input : ScanInput) (old between : List Listed) (error : ScanError) → i < length inputs → input ≡ get_or inputs i input →
+    AddsCovered (pairs_with (map reading_of (take i inputs)) showing) old between → StopsAt (pairs_for showing (reading_of input)) between error →
+    StopsAt (pairs_with (map reading_of inputs) showing) old error
+stops_at_input showing inputs i input old between error within is before stops =
+    stops_later (pairs (take i inputs)) (pairs_for showing (reading_of input)) (pairs (drop (i + 1) inputs)) (pairs inputs) old between error all before stops
   where
     pairs : List ScanInput → List Pair
-    pairs some = pairs_with (map reading_of some) entry
+    pairs some = pairs_with (map reading_of some) showing
 
-    all : pairs (take i inputs) ++ ((pair_of entry (reading_of input) ∷ []) ++ pairs (drop (i + 1) inputs)) ≡ pairs inputs
-    all = sym (append_assoc (pairs (take i inputs)) (pair_of entry (reading_of input) ∷ []) (pairs (drop (i + 1) inputs)))
-        ∙ ap (λ (l : List Pair). l ++ pairs (drop (i + 1) inputs)) (with_one entry inputs i input within is)
-        ∙ sym (map-append (pair_of entry) (map reading_of (take (i + 1) inputs)) (map reading_of (drop (i + 1) inputs)))
-        ∙ ap (λ (l : List Reading). map (pair_of entry) l) (sym (map-append reading_of (take (i + 1) inputs) (drop (i + 1) inputs)))
-        ∙ ap (λ (l : List ScanInput). map (pair_of entry) (map reading_of l)) (take-append-drop (i + 1) inputs)
+    all : pairs (take i inputs) ++ (pairs_for showing (reading_of input) ++ pairs (drop (i + 1) inputs)) ≡ pairs inputs
+    all = sym (append_assoc (pairs (take i inputs)) (pairs_for showing (reading_of input)) (pairs (drop (i + 1) inputs)))
+        ∙ ap (λ (l : List Pair). l ++ pairs (drop (i + 1) inputs)) (with_one showing inputs i input within is)
+        ∙ sym (flat_map-append (pairs_for showing) (map reading_of (take (i + 1) inputs)) (map reading_of (drop (i + 1) inputs)))
+        ∙ ap (λ (l : List Reading). flat_map (pairs_for showing) l) (sym (map-append reading_of (take (i + 1) inputs) (drop (i + 1) inputs)))
+        ∙ ap (λ (l : List ScanInput). flat_map (pairs_for showing) (map reading_of l)) (take-append-drop (i + 1) inputs)
 
--- ---- the next entry
+-- ---- the next path
 
-abbrev pub entry_by : List ℕ × Entry → Entry
-entry_by one = one.1
+abbrev pub showing_by : List ℕ × Showing → Showing
+showing_by one = one.1
 
-pub adds_next_entry : (readings : List Reading) (yielded : List (List ℕ × Entry)) (one : List ℕ × Entry) (between new : List Listed) →
-    AreCovered (pairs_of readings (map entry_by yielded)) between → AddsCovered (pairs_with readings one.1) between new →
-    AreCovered (pairs_of readings (map entry_by (yielded ++ one ∷ []))) new
-adds_next_entry readings yielded one between new before here =
-    subst (λ (l : List Listed). AreCovered (pairs_of readings (map entry_by (yielded ++ one ∷ []))) l) (sym here.added)
+pub adds_next_path : (readings : List Reading) (yielded : List (List ℕ × Showing)) (one : List ℕ × Showing) (between new : List Listed) →
+    AreCovered (pairs_of readings (map showing_by yielded)) between → AddsCovered (pairs_with readings one.1) between new →
+    AreCovered (pairs_of readings (map showing_by (yielded ++ one ∷ []))) new
+adds_next_path readings yielded one between new before here =
+    subst (λ (l : List Listed). AreCovered (pairs_of readings (map showing_by (yielded ++ one ∷ []))) l) (sym here.added)
     (subst (λ (l : List Pair). AreCovered l (between ++ here.more)) all
-    (covered_append (pairs_of readings (map entry_by yielded)) (pairs_with readings one.1) between here.more before here.covered))
+    (covered_append (pairs_of readings (map showing_by yielded)) (pairs_with readings one.1) between here.more before here.covered))
   where
-    all : pairs_of readings (map entry_by yielded) ++ pairs_with readings one.1 ≡ pairs_of readings (map entry_by (yielded ++ one ∷ []))
-    all = ap (λ (l : List Pair). pairs_of readings (map entry_by yielded) ++ l) (sym (append-nil (pairs_with readings one.1)))
-        ∙ sym (flat_map-append (pairs_with readings) (map entry_by yielded) (one.1 ∷ []))
-        ∙ ap (λ (l : List Entry). pairs_of readings l) (sym (map-append entry_by yielded (one ∷ [])))
+    all : pairs_of readings (map showing_by yielded) ++ pairs_with readings one.1 ≡ pairs_of readings (map showing_by (yielded ++ one ∷ []))
+    all = ap (λ (l : List Pair). pairs_of readings (map showing_by yielded) ++ l) (sym (append-nil (pairs_with readings one.1)))
+        ∙ sym (flat_map-append (pairs_with readings) (map showing_by yielded) (one.1 ∷ []))
+        ∙ ap (λ (l : List Showing). pairs_of readings l) (sym (map-append showing_by yielded (one ∷ [])))
 
-pub stops_at_entry : (readings : List Reading) (yielded left entries : List (List ℕ × Entry)) (one : List ℕ × Entry) (between : List Listed) (error : ScanError) →
-    entries ≡ yielded ++ one ∷ left → AreCovered (pairs_of readings (map entry_by yielded)) between → StopsAt (pairs_with readings one.1) between error →
-    StopsAt (pairs_of readings (map entry_by entries)) [] error
-stops_at_entry readings yielded left entries one between error are before stops =
-    stops_later (pairs_of readings (map entry_by yielded)) (pairs_with readings one.1) (pairs_of readings (map entry_by left)) (pairs_of readings (map entry_by entries)) [] between error all
+pub stops_at_path : (readings : List Reading) (yielded left entries : List (List ℕ × Showing)) (one : List ℕ × Showing) (between : List Listed) (error : ScanError) →
+    entries ≡ yielded ++ one ∷ left → AreCovered (pairs_of readings (map showing_by yielded)) between → StopsAt (pairs_with readings one.1) between error →
+    StopsAt (pairs_of readings (map showing_by entries)) [] error
+stops_at_path readings yielded left entries one between error are before stops =
+    stops_later (pairs_of readings (map showing_by yielded)) (pairs_with readings one.1) (pairs_of readings (map showing_by left)) (pairs_of readings (map showing_by entries)) [] between error all
     (record { more = between; covered = before; added = refl }) stops
   where
-    all : pairs_of readings (map entry_by yielded) ++ (pairs_with readings one.1 ++ pairs_of readings (map entry_by left)) ≡ pairs_of readings (map entry_by entries)
-    all = sym (flat_map-append (pairs_with readings) (map entry_by yielded) (map entry_by (one ∷ left)))
-        ∙ ap (λ (l : List Entry). pairs_of readings l) (sym (map-append entry_by yielded (one ∷ left)))
-        ∙ ap (λ (l : List (List ℕ × Entry)). pairs_of readings (map entry_by l)) (sym are)
+    all : pairs_of readings (map showing_by yielded) ++ (pairs_with readings one.1 ++ pairs_of readings (map showing_by left)) ≡ pairs_of readings (map showing_by entries)
+    all = sym (flat_map-append (pairs_with readings) (map showing_by yielded) (map showing_by (one ∷ left)))
+        ∙ ap (λ (l : List Showing). pairs_of readings l) (sym (map-append showing_by yielded (one ∷ left)))
+        ∙ ap (λ (l : List (List ℕ × Showing)). pairs_of readings (map showing_by l)) (sym are)
 
-same_items : (entries : List (List ℕ × Entry)) → map (λ one. one) entries ≡ entries
+same_items : (entries : List (List ℕ × Showing)) → map (λ one. one) entries ≡ entries
 same_items [] = refl
-same_items (one ∷ entries) = ap (λ (l : List (List ℕ × Entry)). one ∷ l) (same_items entries)
+same_items (one ∷ entries) = ap (λ (l : List (List ℕ × Showing)). one ∷ l) (same_items entries)
 
 -- what a loop over the entries has yielded, the next one, and what is left
-pub left_behind : (all yielded start at left : List (List ℕ × Entry)) (answer : Option (List ℕ × Entry)) (one : List ℕ × Entry) →
+pub left_behind : (all yielded start at left : List (List ℕ × Showing)) (answer : Option (List ℕ × Showing)) (one : List ℕ × Showing) →
     start ≡ all → Yields (TakesFirst (λ x. x)) start yielded at → answer ≡ Some one → TakesFirst (λ x. x) at answer left → all ≡ yielded ++ one ∷ left
 left_behind all yielded start at left answer one start_is yields is step =
     sym start_is
     ∙ rest_so_far (λ x. x) yielded start at yields
-    ∙ ap (λ (l : List (List ℕ × Entry)). l ++ at) (same_items yielded)
-    ∙ ap (λ (l : List (List ℕ × Entry)). yielded ++ l) (rest_more (λ x. x) at left answer one is step)
+    ∙ ap (λ (l : List (List ℕ × Showing)). l ++ at) (same_items yielded)
+    ∙ ap (λ (l : List (List ℕ × Showing)). yielded ++ l) (rest_more (λ x. x) at left answer one is step)

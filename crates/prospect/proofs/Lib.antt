@@ -1,8 +1,14 @@
+pub mod Adding
 pub mod Covering
+pub mod Doubled
 pub mod Lacking
 pub mod LacksNone
+pub mod Lists
+pub mod NativeKeys
 pub mod Numbering
-pub mod Showing
+mod Parting
 pub mod Telling
 pub mod Unfinished
 mod Worked
+mod WorkedDoubles
+mod WorkedNumbers

@@ -1,5 +1,5 @@
 -- What a scan tells of what it has found.
-use Rattle.std.proofs.Common.{◌≡◌, ◌⊎◌, inl, inr, ⊎_elim, ℕ, zero, suc, ◌+◌, ◌<◌, ◌≤◌, List, [], ◌∷◌, ◌++◌, length, map, All, Any, Contains, Option, Some, None, IfSome, IsSome, slice_get, refl, sym, ◌∙◌, ap, subst, arith, append_assoc, length-append}
+use Rattle.std.proofs.Common.{◌≡◌, ◌≢◌, ◌⊎◌, inl, inr, ⊎_elim, ℕ, zero, suc, ◌+◌, ◌<◌, ◌≤◌, false, true, List, [], ◌∷◌, ◌++◌, length, map, All, Any, Contains, Option, Some, None, IfSome, slice_get, refl, sym, ◌∙◌, ap, subst, arith, append_assoc, length-append}
 use Rattle.std.specs.Prelude.{◌^◌, flat_map, option_map}
 use Rattle.std.specs.BTreeMap.{get, is_at, IsOrdered}
 use Rattle.std.specs.Cmp.{IsTotalOrder, on_total, then_total, nat_cmp_is, nat_cmp_total}
@@ -9,7 +9,6 @@ use Rattle.std.specs.Map.{keys_of, lookup}
 use Rattle.std.specs.Ordering.{nat_cmp, ordering_reverse, ordering_then}
 use Rattle.std.specs.declared.cmp.Ordering.{Ordering}
 use Rattle.std.specs.declared.cmp.Ordering.TheVariants.{Less, Greater}
-use Rattle.std.proofs.lemmas.Bool.{false≢true}
 use Rattle.std.proofs.lemmas.Cmp.{nat_list_cmp_total}
 use Rattle.std.proofs.lemmas.Fmt.{length-decimal-le}
 use Rattle.std.proofs.lemmas.List.Elements.{All-contains, All-from_recursion, All-weaker, recursion_from_All}
@@ -20,7 +19,7 @@ use Rattle.std.proofs.lemmas.Option.{get_or_from_slice_get, none-some, slice_get
 use Rattle.event_tree.specs.declared.input_rule.IdentityRule.{IdentityRule}
 use Rattle.event_tree.specs.declared.input_rule.IdentityRule.TheVariants.{Fingerprint, Native, Path}
 use Rattle.event_tree.specs.declared.input_rule.InputRule.{InputRule}
-use Rattle.file_identity.specs.Key.{listed_key, native_key, path_key}
+use Rattle.file_identity.specs.Key.{listed_key, named_key, native_key, path_key}
 use Rattle.outside.specs.declared.entry.Entry.{Entry}
 use Rattle.outside.specs.declared.history.Shown.{Shown}
 use Rattle.outside.specs.Folders.{FolderHistory, IsListable}
@@ -29,99 +28,47 @@ use Rattle.wire_base.specs.Ranges.{IsKey, IsPath}
 use Rattle.wire_base.proofs.ByteOrder.{compare_same}
 use Rattle.prospect.specs.declared.listed.Listed.{Listed}
 use Rattle.prospect.specs.declared.scan_error.ScanError.{ScanError}
-use Rattle.prospect.specs.declared.scan_error.ScanError.TheVariants.{Failed, NoMemory, TooMany}
+use Rattle.prospect.specs.declared.scan_error.ScanError.TheVariants.{Failed, NoMemory, NoNative, TooMany}
 use Rattle.prospect.specs.declared.scan_input.ScanInput.{ScanInput}
-use Rattle.prospect.specs.Covered.{AreCovered, AreNumbers, CoversEntry, IsFileOf, IsOneMore, Pair, StopsAt, file_of, pair_of, pairs_of, pairs_with}
-use Rattle.prospect.specs.Entries.{ByPath, IsOne, Lists, ShowEntries}
-use Rattle.prospect.specs.ListedFiles.{AreOfShown, EndsAs, FindsOneMore, HasFile, IsCoveredBy, IsListedBy, IsListedInRange, Place, ScansFiles, place_at, place_of, place_order, shown_in}
+use Rattle.prospect.specs.declared.showing.Showing.{Showing}
+use Rattle.prospect.specs.Covered.{AreCovered, AreNumbers, CoversEntry, IsFileOf, IsOneMore, IsUntold, Pair, Stop, StopsAt, file_of, pair_of, pairs_for, pairs_of, pairs_with}
+use Rattle.prospect.specs.Entries.{ByPath, IsOne, Lists, ShowEntries, entries_at, entries_in}
+use Rattle.prospect.specs.ListedFiles.{AreApart, AreInOrder, AreOfShown, EndsAs, FindsNoNumbers, FindsOneMore, HasFile, IsCoveredBy, IsKeyed, IsListedBy, IsListedInRange, KeyIsTold, Name, Place, ScansFiles, name_at, name_of, place_at, place_of, place_order, shown_in}
 use Rattle.prospect.specs.Members.{globs_of, HaveShortIds, IsCovered}
 use Rattle.prospect.specs.Readings.{Reading, globs_read, reading, reading_of, readings_from}
 use Rattle.prospect.specs.Scan.{AreListed, TellsPath}
+use Rattle.prospect.specs.Showings.{DifferInNumbers, HasNumbers, entries_for, entries_of}
 use Rattle.prospect.specs.Unfinished.{ListsSome}
-use Rattle.prospect.proofs.Covering.{covered_append, entry_by}
-use Rattle.prospect.proofs.Showing.{contains_none}
+use Rattle.prospect.proofs.Covering.{covered_append, showing_by}
+use Rattle.prospect.proofs.Lists.{IsIn, all_append, all_both, all_flat, all_from_in, all_front, all_in, all_map, all_weaker, any_in, contains_in, contains_none, in_contained, in_flat, in_map, in_right, none_at_all, one_of_any}
+use Rattle.prospect.proofs.NativeKeys.{same_numbers}
 use Rattle.prospect.proofs.Unfinished.{all_listed}
-
--- ---- lists, one element after the other
-
-contains_later : {X : Type 0} (first x : X) (more : List X) → Contains more x → Contains (first ∷ more) x
-contains_later first x more (k, within, is) = (suc k, omega arith, is)
-
-any_later : {X : Type 0} (P : X → Type 0) (first : X) (more : List X) → Any P more → Any P (first ∷ more)
-any_later P first more (k, x, within, is, holds) = (suc k, x, omega arith, is, holds)
-
-abbrev IsIn : {X : Type 0} → List X → X → Type 0
-IsIn [] x = ⊥
-IsIn (y ∷ ys) x = (y ≡ x) ⊎ IsIn ys x
-
-in_contained : {X : Type 0} (xs : List X) (x : X) → Contains xs x → IsIn xs x
-in_contained [] x among = absurd (contains_none x among)
-in_contained (y ∷ ys) x (zero, within, is) = inl is
-in_contained (y ∷ ys) x (suc k, within, is) = inr (in_contained ys x (k, omega arith, is))
-
-contains_in : {X : Type 0} (xs : List X) (x : X) → IsIn xs x → Contains xs x
-contains_in [] x none = absurd none
-contains_in (y ∷ ys) x (inl same) = (0, omega arith, same)
-contains_in (y ∷ ys) x (inr later) = contains_later y x ys (contains_in ys x later)
-
-any_in : {X : Type 0} (P : X → Type 0) (xs : List X) (x : X) → IsIn xs x → P x → Any P xs
-any_in P [] x none holds = absurd none
-any_in P (y ∷ ys) x (inl same) holds = (0, y, omega arith, refl, subst P (sym same) holds)
-any_in P (y ∷ ys) x (inr later) holds = any_later P y ys (any_in P ys x later holds)
-
-in_left : {X : Type 0} (xs ys : List X) (x : X) → IsIn xs x → IsIn (xs ++ ys) x
-in_left [] ys x none = absurd none
-in_left (first ∷ xs) ys x (inl same) = inl same
-in_left (first ∷ xs) ys x (inr later) = inr (in_left xs ys x later)
-
-in_right : {X : Type 0} (xs ys : List X) (x : X) → IsIn ys x → IsIn (xs ++ ys) x
-in_right [] ys x is = is
-in_right (first ∷ xs) ys x is = inr (in_right xs ys x is)
-
-in_map : {X Y : Type 0} (f : X → Y) (xs : List X) (x : X) → IsIn xs x → IsIn (map f xs) (f x)
-in_map f [] x none = absurd none
-in_map f (first ∷ xs) x (inl same) = inl (ap f same)
-in_map f (first ∷ xs) x (inr later) = inr (in_map f xs x later)
-
-all_append : {X : Type 0} (P : X → Type 0) (xs ys : List X) → AllByRecursion P xs → AllByRecursion P ys → AllByRecursion P (xs ++ ys)
-all_append P [] ys first second = second
-all_append P (x ∷ xs) ys first second = (first.0, all_append P xs ys first.1 second)
-
-all_front : {X : Type 0} (P : X → Type 0) (xs ys : List X) → AllByRecursion P (xs ++ ys) → AllByRecursion P xs
-all_front P [] ys all = tt
-all_front P (x ∷ xs) ys all = (all.0, all_front P xs ys all.1)
-
-all_weaker : {X : Type 0} (P Q : X → Type 0) → ((x : X) → P x → Q x) → (xs : List X) → AllByRecursion P xs → AllByRecursion Q xs
-all_weaker P Q step [] all = tt
-all_weaker P Q step (x ∷ xs) all = (step x all.0, all_weaker P Q step xs all.1)
-
-all_in : {X : Type 0} (P : X → Type 0) (xs : List X) (x : X) → AllByRecursion P xs → IsIn xs x → P x
-all_in P [] x all none = absurd none
-all_in P (y ∷ ys) x all (inl same) = subst P same all.0
-all_in P (y ∷ ys) x all (inr later) = all_in P ys x all.1 later
 
 -- ---- the pairs
 
-has_pair : (readings : List Reading) (entries : List Entry) (read : Reading) (entry : Entry) → IsIn readings read → IsIn entries entry → IsIn (pairs_of readings entries) (pair_of entry read)
-has_pair readings [] read entry known none = absurd none
-has_pair readings (one ∷ entries) read entry known (inl same) =
-    in_left (pairs_with readings one) (pairs_of readings entries) (pair_of entry read)
-    (subst (λ (e : Entry). IsIn (pairs_with readings one) (pair_of e read)) same (in_map (pair_of one) readings read known))
-has_pair readings (one ∷ entries) read entry known (inr later) =
-    in_right (pairs_with readings one) (pairs_of readings entries) (pair_of entry read) (has_pair readings entries read entry known later)
+has_pair : (readings : List Reading) (showings : List Showing) (read : Reading) (showing : Showing) (entry : Entry) → IsIn readings read → IsIn showings showing → IsIn (entries_for read.identity showing) entry →
+    IsIn (pairs_of readings showings) (pair_of entry read)
+has_pair readings showings read showing entry known shown among =
+    in_flat (pairs_with readings) showings showing (pair_of entry read) shown
+    (in_flat (pairs_for showing) readings read (pair_of entry read) known
+    (in_map (λ (e : Entry). pair_of e read) (entries_for read.identity showing) entry among))
 
-all_with : (P : Pair → Type 0) (Q : Reading → Type 0) (entry : Entry) → ((read : Reading) → Q read → P (pair_of entry read)) →
-    (readings : List Reading) → AllByRecursion Q readings → AllByRecursion P (pairs_with readings entry)
-all_with P Q entry step [] all = tt
-all_with P Q entry step (read ∷ readings) all = (step read all.0, all_with P Q entry step readings all.1)
+all_for : (R : Entry → Type 0) (rule : IdentityRule) (showing : Showing) → AllByRecursion R (entries_of showing) → AllByRecursion R (entries_for rule showing)
+all_for R (Fingerprint offset count) showing all = (all.0, tt)
+all_for R Native showing all = all
+all_for R Path showing all = (all.0, tt)
+
+all_with : (P : Pair → Type 0) (Q : Reading → Type 0) (R : Entry → Type 0) → ((read : Reading) (entry : Entry) → Q read → R entry → P (pair_of entry read)) →
+    (readings : List Reading) → AllByRecursion Q readings → (showing : Showing) → AllByRecursion R (entries_of showing) → AllByRecursion P (pairs_with readings showing)
+all_with P Q R step readings reads showing all =
+    all_flat P Q (pairs_for showing)
+    (λ read holds. all_map P R (λ (e : Entry). pair_of e read) (λ entry has. step read entry holds has) (entries_for read.identity showing) (all_for R read.identity showing all))
+    readings reads
 
 all_pairs : (P : Pair → Type 0) (Q : Reading → Type 0) (R : Entry → Type 0) → ((read : Reading) (entry : Entry) → Q read → R entry → P (pair_of entry read)) →
-    (readings : List Reading) → AllByRecursion Q readings → (entries : List Entry) → AllByRecursion R entries → AllByRecursion P (pairs_of readings entries)
-all_pairs P Q R step readings reads [] all = tt
-all_pairs P Q R step readings reads (entry ∷ entries) all =
-    all_append P (pairs_with readings entry) (pairs_of readings entries)
-    (all_with P Q entry (λ read holds. step read entry holds all.0) readings reads)
-    (all_pairs P Q R step readings reads entries all.1)
+    (readings : List Reading) → AllByRecursion Q readings → (showings : List Showing) → AllByRecursion (λ showing. AllByRecursion R (entries_of showing)) showings → AllByRecursion P (pairs_of readings showings)
+all_pairs P Q R step readings reads showings all =
+    all_flat P (λ (showing : Showing). AllByRecursion R (entries_of showing)) (pairs_with readings) (λ showing has. all_with P Q R step readings reads showing has) showings all
 
 -- ---- the files of the pairs
 
@@ -146,12 +93,20 @@ covered_has (first ∷ pairs) files pair (inr there) (inr later) covers = covere
 abbrev pair_place : Pair → Place
 pair_place pair = place_of (file_of pair)
 
-abbrev IsBehind : Place → Pair → Type 0
-IsBehind place pair = place_order place (pair_place pair) ≡ Less
+-- the inputs of both go by native numbers, and theirs differ
+record DifferAtPlace (one other : Pair) : Type 0 where
+  place_is : pair_place one ≡ pair_place other
+  reading_is : one.reading ≡ other.reading
+  by_numbers : one.reading.identity ≡ Native
+  differ : one.entry.native ≢ other.entry.native
+
+-- of this place or behind it, and told apart
+abbrev IsBehind : Pair → Pair → Type 0
+IsBehind one other = (place_order (pair_place one) (pair_place other) ≡ Less) ⊎ DifferAtPlace one other
 
 abbrev AreSorted : List Pair → Type 0
 AreSorted [] = Unit {0}
-AreSorted (pair ∷ pairs) = AllByRecursion (IsBehind (pair_place pair)) pairs × AreSorted pairs
+AreSorted (pair ∷ pairs) = AllByRecursion (IsBehind pair) pairs × AreSorted pairs
 
 place_total : IsTotalOrder place_order
 place_total = then_total (on_total (λ (place : Place). place.path) nat_list_cmp_total) (on_total (λ (place : Place). place.input) nat_cmp_total)
@@ -159,36 +114,76 @@ place_total = then_total (on_total (λ (place : Place). place.path) nat_list_cmp
 never_both : (one other : Place) → place_order one other ≡ Less → place_order other one ≡ Less → ⊥
 never_both one other before after = let wrong : Less ≡ Greater = sym after ∙ place_total.antisymm other one ∙ ap ordering_reverse before in cc
 
-files_behind : (place : Place) (pairs : List Pair) (files : List Listed) → AreCovered pairs files → AllByRecursion (IsBehind place) pairs → AllByRecursion (λ other. place_order place other ≡ Less) (map place_of files)
-files_behind place [] files covered all = subst (λ (l : List Listed). AllByRecursion (λ other. place_order place other ≡ Less) (map place_of l)) (sym covered) tt
-files_behind place (pair ∷ pairs) files (inl here) all =
-    subst (λ (l : List Listed). AllByRecursion (λ other. place_order place other ≡ Less) (map place_of l)) (sym here.2) (all.0, files_behind place pairs here.1 here.3 all.1)
-files_behind place (pair ∷ pairs) files (inr there) all = files_behind place pairs files there.1 all.1
+pub never_itself : (one other : Place) → one ≡ other → place_order one other ≡ Less → ⊥
+never_itself one other same less =
+    let here : place_order one one ≡ Less = subst (λ (p : Place). place_order one p ≡ Less) (sym same) less in
+    never_both one one here here
 
-files_in_order : (pairs : List Pair) (files : List Listed) → AreCovered pairs files → AreSorted pairs → IsStrictlySortedBy place_order (map place_of files)
-unfolding IsStrictlySortedBy
-files_in_order [] files covered sorted = subst (λ (l : List Listed). IsStrictlySortedBy place_order (map place_of l)) (sym covered) tt
-files_in_order (pair ∷ pairs) files (inl here) sorted =
-    subst (λ (l : List Listed). IsStrictlySortedBy place_order (map place_of l)) (sym here.2)
-    (files_behind (pair_place pair) pairs here.1 here.3 sorted.0, files_in_order pairs here.1 here.3 sorted.1)
-files_in_order (pair ∷ pairs) files (inr there) sorted = files_in_order pairs files there.1 sorted.1
+never_before : (one other : Pair) → IsBehind one other → place_order (pair_place other) (pair_place one) ≡ Less → ⊥
+never_before one other (inl less) back = never_both (pair_place one) (pair_place other) less back
+never_before one other (inr differ) back = never_itself (pair_place other) (pair_place one) (sym differ.place_is) back
 
-sorted_append : (pairs others : List Pair) → AreSorted pairs → AreSorted others → AllByRecursion (λ pair. AllByRecursion (IsBehind (pair_place pair)) others) pairs → AreSorted (pairs ++ others)
+-- a file that stands behind one
+record IsFileBehind (one other : Listed) : Type 0 where
+  order : place_order (place_of other) (place_of one) ≢ Less
+  apart : name_of other ≢ name_of one
+
+same_entry_numbers : (reading : Reading) (one other : Entry) → reading.identity ≡ Native → AreNumbers one.native → AreNumbers other.native →
+    listed_key reading.id reading.identity other ≡ listed_key reading.id reading.identity one → one.native ≡ other.native
+same_entry_numbers reading one other is fits fit same =
+    let keys : listed_key reading.id Native other ≡ listed_key reading.id Native one = subst (λ (r : IdentityRule). listed_key reading.id r other ≡ listed_key reading.id r one) is same in
+    sym (same_numbers reading.id other.native one.native fit fits keys)
+
+file_behind : (one other : Pair) → IsFileOf one → IsBehind one other → IsFileOf other → IsFileBehind (file_of one) (file_of other)
+file_behind one other file (inl less) another = record {
+  order = never_both (pair_place one) (pair_place other) less;
+  apart = λ same. never_itself (pair_place one) (pair_place other) (sym (ap (λ (n : Name). n.place) same)) less;
+}
+file_behind one other file (inr differ) another = record {
+  order = never_itself (pair_place other) (pair_place one) (sym differ.place_is);
+  apart = λ same. differ.differ
+      (same_entry_numbers one.reading one.entry other.entry differ.by_numbers file.numbers another.numbers
+      (ap (λ (r : Reading). listed_key r.id r.identity other.entry) differ.reading_is ∙ ap (λ (n : Name). n.key) same));
+}
+
+abbrev AreFilesSorted : List Listed → Type 0
+AreFilesSorted files = AreInOrder files × AreApart files
+
+one_more_sorted : (file : Listed) (files : List Listed) → AllByRecursion (IsFileBehind file) files → AreFilesSorted files → AreFilesSorted (file ∷ files)
+one_more_sorted file files behind sorted = (
+  (all_weaker (IsFileBehind file) (λ (later : Listed). place_order (place_of later) (place_of file) ≢ Less) (λ later is. is.order) files behind, sorted.0),
+  (
+    λ has.
+        let one = one_of_any (λ (later : Listed). name_of later ≡ name_of file) files has in
+        (all_in (IsFileBehind file) files one.0 behind (in_contained files one.0 one.1)).apart one.2,
+    sorted.1,
+  ),
+)
+
+files_sorted : (pairs : List Pair) (files : List Listed) → AreCovered pairs files → AreSorted pairs → AreFilesSorted files
+files_sorted [] files covered sorted = subst AreFilesSorted (sym covered) (tt, tt)
+files_sorted (pair ∷ pairs) files (inl here) sorted =
+    subst AreFilesSorted (sym here.2)
+    (one_more_sorted (file_of pair) here.1
+    (covered_all (IsFileBehind (file_of pair)) (IsBehind pair) (λ other behind file. file_behind pair other here.0 behind file) pairs here.1 here.3 sorted.0)
+    (files_sorted pairs here.1 here.3 sorted.1))
+files_sorted (pair ∷ pairs) files (inr there) sorted = files_sorted pairs files there.1 sorted.1
+
+sorted_append : (pairs others : List Pair) → AreSorted pairs → AreSorted others → AllByRecursion (λ pair. AllByRecursion (IsBehind pair) others) pairs → AreSorted (pairs ++ others)
 sorted_append [] others first second across = second
 sorted_append (pair ∷ pairs) others first second across =
-    (all_append (IsBehind (pair_place pair)) pairs others first.0 across.0, sorted_append pairs others first.1 second across.1)
+    (all_append (IsBehind pair) pairs others first.0 across.0, sorted_append pairs others first.1 second across.1)
 
 sorted_front : (pairs others : List Pair) → AreSorted (pairs ++ others) → AreSorted pairs
 sorted_front [] others sorted = tt
-sorted_front (pair ∷ pairs) others sorted = (all_front (IsBehind (pair_place pair)) pairs others sorted.0, sorted_front pairs others sorted.1)
+sorted_front (pair ∷ pairs) others sorted = (all_front (IsBehind pair) pairs others sorted.0, sorted_front pairs others sorted.1)
 
 -- a pair that comes before this one stands before it
 in_before : (before : List Pair) (pair : Pair) (behind : List Pair) (other : Pair) → AreSorted (before ++ pair ∷ behind) → IsIn (before ++ pair ∷ behind) other →
     place_order (pair_place other) (pair_place pair) ≡ Less → IsIn before other
-in_before [] pair behind other sorted (inl same) less =
-    absurd (let here : place_order (pair_place pair) (pair_place pair) ≡ Less = subst (λ (p : Pair). place_order (pair_place p) (pair_place pair) ≡ Less) (sym same) less in never_both (pair_place pair) (pair_place pair) here here)
+in_before [] pair behind other sorted (inl same) less = absurd (never_itself (pair_place other) (pair_place pair) (ap pair_place (sym same)) less)
 in_before [] pair behind other sorted (inr later) less =
-    absurd (never_both (pair_place other) (pair_place pair) less (all_in (IsBehind (pair_place pair)) behind other sorted.0 later))
+    absurd (never_before pair other (all_in (IsBehind pair) behind other sorted.0 later) less)
 in_before (first ∷ before) pair behind other sorted (inl same) less = inl same
 in_before (first ∷ before) pair behind other sorted (inr later) less = inr (in_before before pair behind other sorted.1 later less)
 
@@ -199,55 +194,94 @@ numbers_above least number (input ∷ inputs) less = (less, numbers_above least 
 is_less : (least number : ℕ) → least < number → nat_cmp least number ≡ Less
 is_less least number less = sym (nat_cmp_is least number Less less)
 
--- with the same path the inputs decide
-same_path : (path : List ℕ) (order : Ordering) → ordering_then (compare path path) order ≡ order
-same_path path order = ap (λ (o : Ordering). ordering_then o order) (compare_same path path refl)
+abbrev HasPath : List ℕ → Entry → Type 0
+HasPath path entry = entry.path ≡ path
 
-entry_sorted : (entry : Entry) (number : ℕ) (inputs : List InputRule) → AreSorted (pairs_with (readings_from number inputs) entry)
-entry_sorted entry number [] = tt
-entry_sorted entry number (input ∷ inputs) = (
-  all_with (IsBehind (record { path = entry.path; input = number })) (λ read. number < read.number) entry
-      (λ read less. same_path entry.path (nat_cmp number read.number) ∙ is_less number read.number less)
-      (readings_from (suc number) inputs) (numbers_above number (suc number) inputs (omega arith)),
-  entry_sorted entry (suc number) inputs,
+-- with the same path the inputs decide
+same_path : (path : List ℕ) (one other : Entry) (number later : ℕ) → HasPath path one → HasPath path other → number < later →
+    ordering_then (compare one.path other.path) (nat_cmp number later) ≡ Less
+same_path path one other number later here there less =
+    ap (λ (o : Ordering). ordering_then o (nat_cmp number later)) (compare_same one.path other.path (here ∙ sym there)) ∙ is_less number later less
+
+-- for an input that goes by native numbers
+by_numbers_sorted : (reading : Reading) (path : List ℕ) (entries : List Entry) → reading.identity ≡ Native → AllByRecursion (HasPath path) entries → DifferInNumbers entries →
+    AreSorted (map (λ entry. pair_of entry reading) entries)
+by_numbers_sorted reading path [] is paths differ = tt
+by_numbers_sorted reading path (entry ∷ entries) is paths differ = (
+  all_map (IsBehind (pair_of entry reading)) (λ (e : Entry). HasPath path e × (e.native ≡ entry.native → ⊥)) (λ (e : Entry). pair_of e reading)
+      (λ e both. inr (record {
+        place_is = ap (λ (p : List ℕ). record { path = p; input = reading.number }) (paths.0 ∙ sym both.0);
+        reading_is = refl;
+        by_numbers = is;
+        differ = λ same. both.1 (sym same);
+      }))
+      entries (all_both (HasPath path) (λ (e : Entry). e.native ≡ entry.native → ⊥) entries paths.1 (none_at_all (λ (e : Entry). e.native ≡ entry.native) entries differ.0)),
+  by_numbers_sorted reading path entries is paths.1 differ.1,
 )
+
+for_sorted : (rule : IdentityRule) (reading : Reading) (path : List ℕ) (showing : Showing) → reading.identity ≡ rule → AllByRecursion (HasPath path) (entries_of showing) → DifferInNumbers (entries_of showing) →
+    AreSorted (map (λ entry. pair_of entry reading) (entries_for rule showing))
+for_sorted (Fingerprint offset count) reading path showing is paths differ = (tt, tt)
+for_sorted Native reading path showing is paths differ = by_numbers_sorted reading path (entries_of showing) is paths differ
+for_sorted Path reading path showing is paths differ = (tt, tt)
+
+showing_sorted : (path : List ℕ) (showing : Showing) (number : ℕ) (inputs : List InputRule) → AllByRecursion (HasPath path) (entries_of showing) → DifferInNumbers (entries_of showing) →
+    AreSorted (pairs_with (readings_from number inputs) showing)
+showing_sorted path showing number [] paths differ = tt
+showing_sorted path showing number (input ∷ inputs) paths differ =
+    let here : Reading = reading number input in
+    let later : List Reading = readings_from (suc number) inputs in
+    sorted_append (pairs_for showing here) (pairs_with later showing)
+    (for_sorted input.file_identity here path showing refl paths differ)
+    (showing_sorted path showing (suc number) inputs paths differ)
+    (all_map (λ (pair : Pair). AllByRecursion (IsBehind pair) (pairs_with later showing)) (HasPath path) (λ (e : Entry). pair_of e here)
+    (λ one has. all_with (IsBehind (pair_of one here)) (λ read. number < read.number) (HasPath path)
+    (λ read other less its. inl (same_path path one other number read.number has its less))
+    later (numbers_above number (suc number) inputs (omega arith)) showing paths)
+    (entries_for input.file_identity showing) (all_for (HasPath path) input.file_identity showing paths))
 
 all_true : (readings : List Reading) → AllByRecursion (λ read. Unit {0}) readings
 all_true [] = tt
 all_true (read ∷ readings) = (tt, all_true readings)
 
--- with a lesser path it comes before all pairs of these entries
-before_entries : (place : Place) (readings : List Reading) (entries : List Entry) → AllByRecursion (λ entry. compare place.path entry.path ≡ Less) entries → AllByRecursion (IsBehind place) (pairs_of readings entries)
-before_entries place readings entries all =
-    all_pairs (IsBehind place) (λ read. Unit {0}) (λ entry. compare place.path entry.path ≡ Less)
-    (λ read entry true less. ap (λ (o : Ordering). ordering_then o (nat_cmp place.input read.number)) less)
-    readings (all_true readings) entries all
+abbrev IsAfter : List ℕ → Entry → Type 0
+IsAfter path entry = compare path entry.path ≡ Less
 
-across_entries : (entry : Entry) (readings some : List Reading) (entries : List Entry) → AllByRecursion (λ other. compare entry.path other.path ≡ Less) entries →
-    AllByRecursion (λ pair. AllByRecursion (IsBehind (pair_place pair)) (pairs_of readings entries)) (pairs_with some entry)
-across_entries entry readings [] entries all = tt
-across_entries entry readings (read ∷ some) entries all =
-    (before_entries (pair_place (pair_of entry read)) readings entries all, across_entries entry readings some entries all)
+-- with a lesser path it comes before all pairs of these
+before_paths : (pair : Pair) (readings : List Reading) (showings : List Showing) → AllByRecursion (λ showing. AllByRecursion (IsAfter pair.entry.path) (entries_of showing)) showings →
+    AllByRecursion (IsBehind pair) (pairs_of readings showings)
+before_paths pair readings showings all =
+    all_pairs (IsBehind pair) (λ read. Unit {0}) (IsAfter pair.entry.path)
+    (λ read entry true less. inl (ap (λ (o : Ordering). ordering_then o (nat_cmp pair.reading.number read.number)) less))
+    readings (all_true readings) showings all
 
-abbrev HasItsPath : List ℕ × Entry → Type 0
-HasItsPath one = one.1.path ≡ one.0
+record IsShownAt (path : List ℕ) (showing : Showing) : Type 0 where
+  paths : AllByRecursion (HasPath path) (entries_of showing)
+  differ : DifferInNumbers (entries_of showing)
 
-paths_behind : (path key : List ℕ) (entries : List (List ℕ × Entry)) → path ≡ key → AllByRecursion (λ other. compare key other ≡ Less) (keys_of entries) → AllByRecursion HasItsPath entries →
-    AllByRecursion (λ other. compare path other.path ≡ Less) (map entry_by entries)
+abbrev IsShown : List ℕ × Showing → Type 0
+IsShown one = IsShownAt one.0 one.1
+
+paths_behind : (path key : List ℕ) (found : List (List ℕ × Showing)) → path ≡ key → AllByRecursion (λ other. compare key other ≡ Less) (keys_of found) → AllByRecursion IsShown found →
+    AllByRecursion (λ showing. AllByRecursion (IsAfter path) (entries_of showing)) (map showing_by found)
 paths_behind path key [] is behind all = tt
-paths_behind path key (one ∷ entries) is behind all = (
-  ap (λ (p : List ℕ). compare p one.1.path) is ∙ ap (λ (p : List ℕ). compare key p) all.0 ∙ behind.0,
-  paths_behind path key entries is behind.1 all.1,
+paths_behind path key (one ∷ found) is behind all = (
+  all_weaker (HasPath one.0) (IsAfter path)
+      (λ entry has. ap (λ (p : List ℕ). compare p entry.path) is ∙ ap (λ (p : List ℕ). compare key p) has ∙ behind.0)
+      (entries_of one.1) all.0.paths,
+  paths_behind path key found is behind.1 all.1,
 )
 
-pairs_sorted : (inputs : List InputRule) (entries : List (List ℕ × Entry)) → IsStrictlySortedBy compare (keys_of entries) → AllByRecursion HasItsPath entries → AreSorted (pairs_of (readings_from 0 inputs) (map entry_by entries))
+pairs_sorted : (inputs : List InputRule) (found : List (List ℕ × Showing)) → IsStrictlySortedBy compare (keys_of found) → AllByRecursion IsShown found → AreSorted (pairs_of (readings_from 0 inputs) (map showing_by found))
 unfolding IsStrictlySortedBy
 pairs_sorted inputs [] ordered all = tt
-pairs_sorted inputs (one ∷ entries) ordered all =
+pairs_sorted inputs (one ∷ found) ordered all =
     let readings : List Reading = readings_from 0 inputs in
-    sorted_append (pairs_with readings one.1) (pairs_of readings (map entry_by entries))
-    (entry_sorted one.1 0 inputs) (pairs_sorted inputs entries ordered.1 all.1)
-    (across_entries one.1 readings readings (map entry_by entries) (paths_behind one.1.path one.0 entries all.0 ordered.0 all.1))
+    sorted_append (pairs_with readings one.1) (pairs_of readings (map showing_by found))
+    (showing_sorted one.0 one.1 0 inputs all.0.paths all.0.differ) (pairs_sorted inputs found ordered.1 all.1)
+    (all_with (λ (pair : Pair). AllByRecursion (IsBehind pair) (pairs_of readings (map showing_by found))) (λ read. Unit {0}) (HasPath one.0)
+    (λ read entry true has. before_paths (pair_of entry read) readings (map showing_by found) (paths_behind entry.path one.0 found has ordered.0 all.1))
+    readings (all_true readings) one.1 all.0.paths)
 
 -- ---- the readings
 
@@ -333,46 +367,79 @@ record IsKnown (inputs : List InputRule) (entries : List Entry) (pair : Pair) : 
   reads : ReadsInput 0 inputs pair.reading
   among : Contains entries pair.entry
 
--- a pair whose input covers what was shown, at its place
-record IsPairAt (pairs : List Pair) (place : Place) : Type 0 where
+-- a pair whose input covers what was shown, with its name
+record IsPairOf (pairs : List Pair) (name : Name) : Type 0 where
   pair : Pair
   among : IsIn pairs pair
   covers : CoversEntry pair
-  place_is : pair_place pair ≡ place
+  name_is : name_of (file_of pair) ≡ name
 
-file_at : (files : List Listed) (place : Place) (pair : Pair) → IsIn files (file_of pair) → pair_place pair ≡ place → HasFile files place
-file_at files place pair among is =
-    any_in (λ (one : Listed). (one.path ≡ place.path) × (one.input ≡ place.input)) files (file_of pair) among
-    (ap (λ (p : Place). p.path) is, ap (λ (p : Place). p.input) is)
+file_named : (files : List Listed) (name : Name) (pair : Pair) → IsIn files (file_of pair) → name_of (file_of pair) ≡ name → HasFile files name
+file_named files name pair among is = any_in (λ (one : Listed). name_of one ≡ name) files (file_of pair) among is
+
+-- the entries of a path that an input tells apart have the key of each
+keyed_as : (rule : IdentityRule) (id path : List ℕ) (showing : Showing) (numbers : Option (ℕ × ℕ)) → AllByRecursion (HasPath path) (entries_of showing) → HasNumbers (entries_of showing) numbers →
+    (entry : Entry) × IsIn (entries_for rule showing) entry × (entry.path ≡ path) × (listed_key id rule entry ≡ named_key id rule path numbers)
+keyed_as (Fingerprint offset count) id path showing numbers paths has = (showing.first, inl refl, paths.0, refl)
+keyed_as Native id path showing numbers paths has =
+    let one = one_of_any (λ (e : Entry). e.native ≡ numbers) (entries_of showing) has in
+    let among = in_contained (entries_of showing) one.0 one.1 in
+    (one.0, among, all_in (HasPath path) (entries_of showing) one.0 paths among, ap (λ (n : Option (ℕ × ℕ)). option_map (native_key id) n) one.2)
+keyed_as Path id path showing numbers paths has = (showing.first, inl refl, paths.0, ap (λ (p : List ℕ). Some (path_key id p)) paths.0)
+
+-- without its numbers an entry has no key of them
+no_key : (rule : IdentityRule) (id path : List ℕ) (numbers : Option (ℕ × ℕ)) → rule ≡ Native → numbers ≡ None → KeyIsTold rule (named_key id rule path numbers) → ⊥
+no_key rule id path numbers by_numbers none told =
+    let native : KeyIsTold Native (named_key id Native path numbers) = subst (λ (r : IdentityRule). KeyIsTold r (named_key id r path numbers)) by_numbers told in
+    let wrong : false ≡ true = subst (λ (n : Option (ℕ × ℕ)). KeyIsTold Native (named_key id Native path n)) none native in
+    cc
 
 module _ (inputs : List InputRule) (reads : List ScanInput) (told after : Option FolderHistory) (none found : ByPath) (numbered : map reading_of reads ≡ readings_from 0 inputs)
     (empty : none.entries ≡ []) (ordered : IsOrdered compare found) (lists : Lists (globs_read reads) told none found after) where
   abbrev pairs : List Pair
-  pairs = pairs_of (readings_from 0 inputs) (map entry_by found.entries)
+  pairs = pairs_of (readings_from 0 inputs) (map showing_by found.entries)
 
-  nothing : (path : List ℕ) (entry : Entry) → get compare none path ≡ Some entry → ⊥
-  nothing path entry is = none-some entry (sym (ap (λ (entries : List (List ℕ × Entry)). lookup (is_at (compare path)) entries) empty) ∙ is)
+  nothing : (path : List ℕ) → entries_at none path ≡ []
+  nothing path = ap (λ (entries : List (List ℕ × Showing)). entries_in (lookup (is_at (compare path)) entries)) empty
 
-  one_of : (path : List ℕ) (entry : Entry) → get compare found path ≡ Some entry → IsOne lists.entries path entry
-  one_of path entry is = ⊎_elim (λ before. absurd (nothing path entry before)) (λ one. one) (lists.added.only path entry is)
+  one_of : (path : List ℕ) (entry : Entry) → Contains (entries_at found path) entry → IsOne lists.entries path entry
+  one_of path entry among = ⊎_elim
+      (λ before. absurd (contains_none entry (subst (λ (l : List Entry). Contains l entry) (nothing path) before)))
+      (λ one. one)
+      (lists.added.only path entry among)
 
-  each_one : AllByRecursion (λ e. IsOne lists.entries e.0 e.1) found.entries
-  each_one = recursion_from_All (λ (e : List ℕ × Entry). IsOne lists.entries e.0 e.1) found.entries
-      (All-weaker (λ (e : List ℕ × Entry). get compare found e.0 ≡ Some e.1) (λ (e : List ℕ × Entry). IsOne lists.entries e.0 e.1) (λ e is. one_of e.0 e.1 is) found.entries (All-found nat_list_cmp_total found ordered))
+  -- what is known of each path
+  record IsFound (one : List ℕ × Showing) : Type 0 where
+    ones : AllByRecursion (IsOne lists.entries one.0) (entries_of one.1)
+    differ : DifferInNumbers (entries_of one.1)
+
+  is_found : (one : List ℕ × Showing) → get compare found one.0 ≡ Some one.1 → IsFound one
+  is_found one is = record {
+    ones = all_from_in (IsOne lists.entries one.0) (entries_of one.1)
+        (λ entry among. one_of one.0 entry (subst (λ (l : List Entry). Contains l entry) (sym (ap entries_in is)) (contains_in (entries_of one.1) entry among)));
+    differ = subst DifferInNumbers (ap entries_in is) (lists.added.apart one.0 (subst DifferInNumbers (sym (nothing one.0)) tt));
+  }
+
+  each_found : AllByRecursion IsFound found.entries
+  each_found = recursion_from_All IsFound found.entries
+      (All-weaker (λ (e : List ℕ × Showing). get compare found e.0 ≡ Some e.1) IsFound is_found found.entries (All-found nat_list_cmp_total found ordered))
+
+  paths_of : (one : List ℕ × Showing) → IsFound one → AllByRecursion (HasPath one.0) (entries_of one.1)
+  paths_of one is = all_weaker (IsOne lists.entries one.0) (HasPath one.0) (λ entry one. one.path_is) (entries_of one.1) is.ones
 
   sorted : AreSorted pairs
-  sorted = pairs_sorted inputs found.entries ordered (all_weaker (λ (e : List ℕ × Entry). IsOne lists.entries e.0 e.1) HasItsPath (λ e one. one.path_is) found.entries each_one)
-
-  among_all : (some : List (List ℕ × Entry)) → AllByRecursion (λ e. IsOne lists.entries e.0 e.1) some → AllByRecursion (Contains lists.entries) (map entry_by some)
-  among_all [] all = tt
-  among_all (one ∷ some) all = (all.0.among, among_all some all.1)
+  sorted = pairs_sorted inputs found.entries ordered
+      (all_weaker IsFound IsShown (λ one is. record { paths = paths_of one is; differ = is.differ }) found.entries each_found)
 
   known : AllByRecursion (IsKnown inputs lists.entries) pairs
   known = all_pairs (IsKnown inputs lists.entries) (ReadsInput 0 inputs) (Contains lists.entries) (λ read entry reads among. record { reads = reads; among = among })
-      (readings_from 0 inputs) (reads_inputs 0 inputs) (map entry_by found.entries) (among_all found.entries each_one)
+      (readings_from 0 inputs) (reads_inputs 0 inputs) (map showing_by found.entries)
+      (all_map (λ (showing : Showing). AllByRecursion (Contains lists.entries) (entries_of showing)) IsFound showing_by
+      (λ one is. all_weaker (IsOne lists.entries one.0) (Contains lists.entries) (λ entry one. one.among) (entries_of one.1) is.ones)
+      found.entries each_found)
 
-  covered_pairs : (files : List Listed) → AreCovered (pairs_of (map reading_of reads) (map entry_by found.entries)) files → AreCovered pairs files
-  covered_pairs files covered = subst (λ (l : List Reading). AreCovered (pairs_of l (map entry_by found.entries)) files) numbered covered
+  covered_pairs : (files : List Listed) → AreCovered (pairs_of (map reading_of reads) (map showing_by found.entries)) files → AreCovered pairs files
+  covered_pairs files covered = subst (λ (l : List Reading). AreCovered (pairs_of l (map showing_by found.entries)) files) numbered covered
 
   -- ---- ranges
 
@@ -388,38 +455,68 @@ module _ (inputs : List InputRule) (reads : List ScanInput) (told after : Option
         size = listable.size;
       }
 
-  pub in_range : (files : List Listed) → AreCovered (pairs_of (map reading_of reads) (map entry_by found.entries)) files → HaveShortIds inputs → All IsListedInRange files
+  pub in_range : (files : List Listed) → AreCovered (pairs_of (map reading_of reads) (map showing_by found.entries)) files → HaveShortIds inputs → All IsListedInRange files
   in_range files covered short =
       All-from_recursion IsListedInRange files
       (covered_all IsListedInRange (IsKnown inputs lists.entries) (λ pair is file. range_of short pair is file) pairs files (covered_pairs files covered) known)
 
-  pub in_order : (files : List Listed) → AreCovered (pairs_of (map reading_of reads) (map entry_by found.entries)) files → IsStrictlySortedBy place_order (map place_of files)
-  in_order files covered = files_in_order pairs files (covered_pairs files covered) sorted
+  pub in_order : (files : List Listed) → AreCovered (pairs_of (map reading_of reads) (map showing_by found.entries)) files → AreInOrder files
+  in_order files covered = (files_sorted pairs files (covered_pairs files covered) sorted).0
+
+  pub apart : (files : List Listed) → AreCovered (pairs_of (map reading_of reads) (map showing_by found.entries)) files → AreApart files
+  apart files covered = (files_sorted pairs files (covered_pairs files covered) sorted).1
+
+  key_of : (pair : Pair) → IsKnown inputs lists.entries pair → IsFileOf pair → IsKeyed inputs (file_of pair)
+  key_of pair is file rule rule_is =
+      let own : pair.reading ≡ reading is.reads.place is.reads.rule = own_reading inputs pair.reading is.reads in
+      let there : slice_get inputs is.reads.place ≡ Some rule = ap (λ (r : Reading). slice_get inputs r.number) (sym own) ∙ rule_is in
+      let some : Some is.reads.rule ≡ Some rule = sym is.reads.rule_is ∙ there in
+      let same : is.reads.rule ≡ rule = cc in
+      let identity : pair.reading.identity ≡ rule.file_identity = ap (λ (r : Reading). r.identity) own ∙ ap (λ (r : InputRule). r.file_identity) same in
+      subst (λ (r : IdentityRule). KeyIsTold r (file_of pair).key) identity file.told
+
+  pub keyed : (files : List Listed) → AreCovered (pairs_of (map reading_of reads) (map showing_by found.entries)) files → All (IsKeyed inputs) files
+  keyed files covered =
+      All-from_recursion (IsKeyed inputs) files
+      (covered_all (IsKeyed inputs) (IsKnown inputs lists.entries) key_of pairs files (covered_pairs files covered) known)
 
   input_of : (pair : Pair) → IsKnown inputs lists.entries pair → IsFileOf pair → (file_of pair).input < length inputs
   input_of pair is file =
       subst (λ (r : Reading). r.number < length inputs) (sym (own_reading inputs pair.reading is.reads))
       (slice_get_within inputs is.reads.place is.reads.rule is.reads.rule_is)
 
-  pub of_inputs : (files : List Listed) → AreCovered (pairs_of (map reading_of reads) (map entry_by found.entries)) files → All (λ one. one.input < length inputs) files
+  pub of_inputs : (files : List Listed) → AreCovered (pairs_of (map reading_of reads) (map showing_by found.entries)) files → All (λ one. one.input < length inputs) files
   of_inputs files covered =
       All-from_recursion (λ (one : Listed). one.input < length inputs) files
       (covered_all (λ (one : Listed). one.input < length inputs) (IsKnown inputs lists.entries) (λ pair is file. input_of pair is file) pairs files (covered_pairs files covered) known)
 
-  more_in_pairs : (path : List ℕ) → IsOneMore (pairs_of (map reading_of reads) (map entry_by found.entries)) [] path → IsOneMore pairs [] path
-  more_in_pairs path one = subst (λ (l : List Reading). IsOneMore (pairs_of l (map entry_by found.entries)) [] path) numbered one
+  more_in_pairs : (path : List ℕ) → IsOneMore (pairs_of (map reading_of reads) (map showing_by found.entries)) [] path → IsOneMore pairs [] path
+  more_in_pairs path one = subst (λ (l : List Reading). IsOneMore (pairs_of l (map showing_by found.entries)) [] path) numbered one
 
-  pair_known : (path : List ℕ) (one : IsOneMore pairs [] path) → IsKnown inputs lists.entries one.pair
-  pair_known path one = all_in (IsKnown inputs lists.entries) pairs one.pair known
-      (subst (λ (l : List Pair). IsIn l one.pair) (sym one.pairs_are) (in_right one.before (one.pair ∷ one.behind) one.pair (inl refl)))
+  untold_in_pairs : (path : List ℕ) → IsUntold (pairs_of (map reading_of reads) (map showing_by found.entries)) [] path → IsUntold pairs [] path
+  untold_in_pairs path untold = subst (λ (l : List Reading). IsUntold (pairs_of l (map showing_by found.entries)) [] path) numbered untold
 
-  pub tells_path : (error : ScanError) → StopsAt (pairs_of (map reading_of reads) (map entry_by found.entries)) [] error → TellsPath error
+  stop_known : (stop : Stop pairs) → IsKnown inputs lists.entries stop.pair
+  stop_known stop = all_in (IsKnown inputs lists.entries) pairs stop.pair known
+      (subst (λ (l : List Pair). IsIn l stop.pair) (sym stop.pairs_are) (in_right stop.before (stop.pair ∷ stop.behind) stop.pair (inl refl)))
+
+  keyed_before : (stop : Stop pairs) → AllByRecursion (IsKeyed inputs) stop.more
+  keyed_before stop =
+      covered_all (IsKeyed inputs) (IsKnown inputs lists.entries) key_of stop.before stop.more stop.covered_before
+      (all_front (IsKnown inputs lists.entries) stop.before (stop.pair ∷ stop.behind) (subst (λ (l : List Pair). AllByRecursion (IsKnown inputs lists.entries) l) stop.pairs_are known))
+
+  path_listable : (pair : Pair) → IsKnown inputs lists.entries pair → IsPath pair.entry.path
+  path_listable pair is = (All-contains IsListable lists.entries pair.entry lists.in_range is.among).path
+
+  pub tells_path : (error : ScanError) → StopsAt (pairs_of (map reading_of reads) (map showing_by found.entries)) [] error → TellsPath error
   tells_path Failed stops = tt
   tells_path NoMemory stops = tt
+  tells_path (NoNative path) stops =
+      let untold : IsUntold pairs [] path = untold_in_pairs path stops in
+      subst (λ (p : List ℕ). IsPath p) untold.path_is (path_listable untold.stop.pair (stop_known untold.stop))
   tells_path (TooMany path) stops =
       let one : IsOneMore pairs [] path = more_in_pairs path stops in
-      let listable : IsListable one.pair.entry = All-contains IsListable lists.entries one.pair.entry lists.in_range (pair_known path one).among in
-      subst (λ (p : List ℕ). IsPath p) one.path_is listable.path
+      subst (λ (p : List ℕ). IsPath p) one.path_is (path_listable one.stop.pair (stop_known one.stop))
 
   -- ---- where the folder tells
 
@@ -427,45 +524,117 @@ module _ (inputs : List InputRule) (reads : List ScanInput) (told after : Option
     listed_is : AreListed (globs_of inputs) history shows.listings after
     listed_is = subst (λ (globs : List (List ℕ)). AreListed globs history shows.listings after) (globs_are inputs reads numbered) shows.listed
 
-    of_shown : (pair : Pair) → IsKnown inputs lists.entries pair → IsFileOf pair → Any (λ one. IsListedBy inputs (file_of pair) one) (shown_in shows.listings)
-    of_shown pair is file =
+    -- what was shown of a pair
+    record IsShownPair (pair : Pair) (is : IsKnown inputs lists.entries pair) : Type 0 where
+      shown : Shown
+      among : IsIn (shown_in shows.listings) shown
+      entry_is : shown.entry ≡ pair.entry
+      covered : IsCovered is.reads.rule.paths shown.entry.path
+
+    shown_pair : (pair : Pair) (is : IsKnown inputs lists.entries pair) → CoversEntry pair → IsShownPair pair is
+    shown_pair pair is covers =
         let entries : Contains (map (λ one. one.entry) (shown_in shows.listings)) pair.entry = subst (λ (l : List Entry). Contains l pair.entry) shows.entries_are is.among in
         let one = shown_of (shown_in shows.listings) pair.entry (in_contained (map (λ one. one.entry) (shown_in shows.listings)) pair.entry entries) in
-        let covered : IsCovered is.reads.rule.paths pair.entry.path = subst (λ (r : Reading). IsCovered r.globs pair.entry.path) (own_reading inputs pair.reading is.reads) file.covers in
-        let at_entry : IsCovered is.reads.rule.paths one.0.entry.path = subst (λ (e : Entry). IsCovered is.reads.rule.paths e.path) (sym one.2) covered in
-        let by : IsListedBy inputs (file_of (pair_of one.0.entry (reading is.reads.place is.reads.rule))) one.0 = listed_by inputs one.0 is.reads.place is.reads.rule is.reads.rule_is at_entry in
-        let by_reading : IsListedBy inputs (file_of (pair_of one.0.entry pair.reading)) one.0 = subst (λ (r : Reading). IsListedBy inputs (file_of (pair_of one.0.entry r)) one.0) (sym (own_reading inputs pair.reading is.reads)) by in
-        any_in (λ s. IsListedBy inputs (file_of pair) s) (shown_in shows.listings) one.0 one.1
-        (subst (λ (e : Entry). IsListedBy inputs (file_of (pair_of e pair.reading)) one.0) one.2 by_reading)
+        let covered : IsCovered is.reads.rule.paths pair.entry.path = subst (λ (r : Reading). IsCovered r.globs pair.entry.path) (own_reading inputs pair.reading is.reads) covers in
+        record {
+          shown = one.0;
+          among = one.1;
+          entry_is = one.2;
+          covered = subst (λ (e : Entry). IsCovered is.reads.rule.paths e.path) (sym one.2) covered;
+        }
+
+    of_shown : (pair : Pair) → IsKnown inputs lists.entries pair → IsFileOf pair → Any (λ one. IsListedBy inputs (file_of pair) one) (shown_in shows.listings)
+    of_shown pair is file =
+        let one : IsShownPair pair is = shown_pair pair is file.covers in
+        let by : IsListedBy inputs (file_of (pair_of one.shown.entry (reading is.reads.place is.reads.rule))) one.shown = listed_by inputs one.shown is.reads.place is.reads.rule is.reads.rule_is one.covered in
+        let by_reading : IsListedBy inputs (file_of (pair_of one.shown.entry pair.reading)) one.shown = subst (λ (r : Reading). IsListedBy inputs (file_of (pair_of one.shown.entry r)) one.shown) (sym (own_reading inputs pair.reading is.reads)) by in
+        any_in (λ s. IsListedBy inputs (file_of pair) s) (shown_in shows.listings) one.shown one.among
+        (subst (λ (e : Entry). IsListedBy inputs (file_of (pair_of e pair.reading)) one.shown) one.entry_is by_reading)
 
     all_shown : (some : List Pair) (files : List Listed) → AreCovered some files → AllByRecursion (IsKnown inputs lists.entries) some → AreOfShown inputs shows.listings files
     all_shown some files covered all =
         All-from_recursion (λ one. Any (λ s. IsListedBy inputs one s) (shown_in shows.listings)) files
         (covered_all (λ one. Any (λ s. IsListedBy inputs one s) (shown_in shows.listings)) (IsKnown inputs lists.entries) of_shown some files covered all)
 
-    entry_at : (one : Shown) → IsIn (shown_in shows.listings) one → (entry : Entry) × IsIn (map entry_by found.entries) entry × (entry.path ≡ one.entry.path)
-    entry_at one among =
+    showing_at : (one : Shown) → IsIn (shown_in shows.listings) one →
+        (showing : Showing) × IsIn (map showing_by found.entries) showing × AllByRecursion (HasPath one.entry.path) (entries_of showing) × HasNumbers (entries_of showing) one.entry.native
+    showing_at one among =
         let entries : Contains lists.entries one.entry = subst (λ (l : List Entry). Contains l one.entry) (sym shows.entries_are)
         (contains_in (map (λ one. one.entry) (shown_in shows.listings)) one.entry (in_map (λ (s : Shown). s.entry) (shown_in shows.listings) one among)) in
         by_value (get compare found one.entry.path) refl (lists.added.every one.entry entries)
       where
-        by_value : (value : Option Entry) → get compare found one.entry.path ≡ value → IsSome value → (entry : Entry) × IsIn (map entry_by found.entries) entry × (entry.path ≡ one.entry.path)
-        by_value None is some = absurd (false≢true some)
-        by_value (Some entry) is some = (
-          entry,
-          in_map entry_by found.entries (one.entry.path, entry) (in_contained found.entries (one.entry.path, entry) (Contains-from_lookup (tells_apart exact_bytes) one.entry.path entry found.entries is)),
-          (one_of one.entry.path entry is).path_is,
+        by_value : (value : Option Showing) → get compare found one.entry.path ≡ value → HasNumbers (entries_in value) one.entry.native →
+            (showing : Showing) × IsIn (map showing_by found.entries) showing × AllByRecursion (HasPath one.entry.path) (entries_of showing) × HasNumbers (entries_of showing) one.entry.native
+        by_value None is has = absurd (let none = one_of_any (λ (e : Entry). e.native ≡ one.entry.native) [] has in contains_none none.0 none.1)
+        by_value (Some showing) is has = (
+          showing,
+          in_map showing_by found.entries (one.entry.path, showing) (in_contained found.entries (one.entry.path, showing) (Contains-from_lookup (tells_apart exact_bytes) one.entry.path showing found.entries is)),
+          paths_of (one.entry.path, showing) (is_found (one.entry.path, showing) is),
+          has,
         )
 
-    pair_at : (one : Shown) (input : ℕ) → IsCoveredBy inputs shows.listings one input → IsPairAt pairs (place_at one input)
+    pair_at : (one : Shown) (input : ℕ) (is : IsCoveredBy inputs shows.listings one input) → IsPairOf pairs (name_at is.rule one input)
     pair_at one input is =
-        let at = entry_at one (in_contained (shown_in shows.listings) one is.among) in
+        let (showing, among, paths, has) = showing_at one (in_contained (shown_in shows.listings) one is.among) in
+        let (entry, told_apart, path_is, key_is) = keyed_as is.rule.file_identity is.rule.id one.entry.path showing one.entry.native paths has in
         let read : Reading = reading (0 + input) is.rule in
         record {
-          pair = pair_of at.0 read;
-          among = has_pair (readings_from 0 inputs) (map entry_by found.entries) read at.0 (has_reading 0 inputs input is.rule is.rule_is) at.1;
-          covers = subst (λ (path : List ℕ). IsCovered is.rule.paths path) (sym at.2) is.covered;
-          place_is = ap (λ (path : List ℕ). record { path = path; input = 0 + input }) at.2 ∙ ap (λ (n : ℕ). record { path = one.entry.path; input = n }) (omega arith);
+          pair = pair_of entry read;
+          among = has_pair (readings_from 0 inputs) (map showing_by found.entries) read showing entry (has_reading 0 inputs input is.rule is.rule_is) among told_apart;
+          covers = subst (λ (path : List ℕ). IsCovered is.rule.paths path) (sym path_is) is.covered;
+          name_is = ap (λ (path : List ℕ). record { place = record { path = path; input = 0 + input }; key = listed_key is.rule.id is.rule.file_identity entry }) path_is
+              ∙ ap (λ (n : ℕ). record { place = record { path = one.entry.path; input = n }; key = listed_key is.rule.id is.rule.file_identity entry }) (omega arith)
+              ∙ ap (λ (key : Option (List ℕ)). record { place = place_at one input; key = key }) key_is;
+        }
+
+    has_before : (stop : Stop pairs) (s : Shown) (input : ℕ) (of : IsCoveredBy inputs shows.listings s input) → place_order (place_at s input) (pair_place stop.pair) ≡ Less →
+        HasFile stop.more (name_at of.rule s input)
+    has_before stop s input of less =
+        let at = pair_at s input of in
+        let stands : IsIn stop.before at.pair = in_before stop.before stop.pair stop.behind at.pair (subst AreSorted stop.pairs_are sorted)
+        (subst (λ (l : List Pair). IsIn l at.pair) stop.pairs_are at.among)
+        (subst (λ (n : Name). place_order n.place (pair_place stop.pair) ≡ Less) (sym at.name_is) less) in
+        file_named stop.more (name_at of.rule s input) at.pair (covered_has stop.before stop.more at.pair stop.covered_before stands at.covers) at.name_is
+
+    never_untold_before : (stop : Stop pairs) (s : Shown) (input : ℕ) (of : IsCoveredBy inputs shows.listings s input) → of.rule.file_identity ≡ Native → s.entry.native ≡ None →
+        place_order (place_at s input) (pair_place stop.pair) ≡ Less → ⊥
+    never_untold_before stop s input of by_numbers none less =
+        let name : Name = name_at of.rule s input in
+        let one = one_of_any (λ (f : Listed). name_of f ≡ name) stop.more (has_before stop s input of less) in
+        let is : name_of one.0 ≡ name = one.2 in
+        let rule_is : slice_get inputs one.0.input ≡ Some of.rule = ap (λ (n : Name). slice_get inputs n.place.input) is ∙ of.rule_is in
+        let told : KeyIsTold of.rule.file_identity one.0.key = all_in (IsKeyed inputs) stop.more one.0 (keyed_before stop) (in_contained stop.more one.0 one.1) of.rule rule_is in
+        no_key of.rule.file_identity of.rule.id s.entry.path s.entry.native by_numbers none
+        (subst (λ (n : Name). KeyIsTold of.rule.file_identity n.key) is told)
+
+    finds_none : (path : List ℕ) → IsUntold pairs [] path → FindsNoNumbers inputs history path after
+    finds_none path untold =
+        let stop : Stop pairs = untold.stop in
+        let is : IsKnown inputs lists.entries stop.pair = stop_known stop in
+        let one : IsShownPair stop.pair is = shown_pair stop.pair is untold.covers in
+        let own : stop.pair.reading ≡ reading is.reads.place is.reads.rule = own_reading inputs stop.pair.reading is.reads in
+        let place_is : place_at one.shown is.reads.place ≡ pair_place stop.pair =
+        ap (λ (e : Entry). record { path = e.path; input = is.reads.place }) one.entry_is
+        ∙ ap (λ (r : Reading). record { path = stop.pair.entry.path; input = r.number }) (sym own) in
+        record {
+          listings = shows.listings;
+          listed_is = listed_is;
+          shown = one.shown;
+          input = is.reads.place;
+          covered = record {
+            among = contains_in (shown_in shows.listings) one.shown one.among;
+            rule = is.reads.rule;
+            rule_is = is.reads.rule_is;
+            covered = one.covered;
+          };
+          by_numbers = ap (λ (r : Reading). r.identity) (sym own) ∙ untold.lacks.0;
+          path_is = ap (λ (e : Entry). e.path) one.entry_is ∙ untold.path_is;
+          none = ap (λ (e : Entry). e.native) one.entry_is ∙ untold.lacks.1;
+          first = λ other at of by_numbers none less.
+              never_untold_before stop other at of by_numbers none (subst (λ (place : Place). place_order (place_at other at) place ≡ Less) place_is less);
+          before = stop.more;
+          few = untold.few;
+          every_before = λ other at of less. has_before stop other at of (subst (λ (place : Place). place_order (place_at other at) place ≡ Less) place_is less);
         }
 
     scans : (files : List Listed) → AreCovered pairs files → ScansFiles inputs history files after
@@ -473,47 +642,51 @@ module _ (inputs : List InputRule) (reads : List ScanInput) (told after : Option
       listings = shows.listings;
       listed_is = listed_is;
       only = all_shown pairs files covered known;
-      every = λ one input is. let at = pair_at one input is in file_at files (place_at one input) at.pair (covered_has pairs files at.pair covered at.among at.covers) at.place_is;
-      in_order = files_in_order pairs files covered sorted;
+      every = λ one input is. let at = pair_at one input is in file_named files (name_at is.rule one input) at.pair (covered_has pairs files at.pair covered at.among at.covers) at.name_is;
+      in_order = (files_sorted pairs files covered sorted).0;
+      apart = (files_sorted pairs files covered sorted).1;
     }
 
     finds_more : (path : List ℕ) → IsOneMore pairs [] path → FindsOneMore inputs history path after
     finds_more path one =
-        let front : List Pair = one.before ++ one.pair ∷ [] in
-        let files : List Listed = one.more ++ file_of one.pair ∷ [] in
-        let all : pairs ≡ front ++ one.behind = one.pairs_are ∙ sym (append_assoc one.before (one.pair ∷ []) one.behind) in
-        let covered : AreCovered front files = covered_append one.before (one.pair ∷ []) one.more (file_of one.pair ∷ []) one.covered_before (inl (one.file, [], refl, refl)) in
-        let in_front : AreSorted front = sorted_front front one.behind (subst AreSorted all sorted) in
-        let known_front : AllByRecursion (IsKnown inputs lists.entries) front = all_front (IsKnown inputs lists.entries) front one.behind (subst (λ (l : List Pair). AllByRecursion (IsKnown inputs lists.entries) l) all known) in
+        let stop : Stop pairs = one.stop in
+        let front : List Pair = stop.before ++ stop.pair ∷ [] in
+        let files : List Listed = stop.more ++ file_of stop.pair ∷ [] in
+        let all : pairs ≡ front ++ stop.behind = stop.pairs_are ∙ sym (append_assoc stop.before (stop.pair ∷ []) stop.behind) in
+        let covered : AreCovered front files = covered_append stop.before (stop.pair ∷ []) stop.more (file_of stop.pair ∷ []) stop.covered_before (inl (one.file, [], refl, refl)) in
+        let in_front : AreSorted front = sorted_front front stop.behind (subst AreSorted all sorted) in
+        let known_front : AllByRecursion (IsKnown inputs lists.entries) front = all_front (IsKnown inputs lists.entries) front stop.behind (subst (λ (l : List Pair). AllByRecursion (IsKnown inputs lists.entries) l) all known) in
         record {
           listings = shows.listings;
           listed_is = listed_is;
-          before = one.more;
+          before = stop.more;
           full = one.full;
-          next = file_of one.pair;
+          next = file_of stop.pair;
           path_is = one.path_is;
           only = all_shown front files covered known_front;
-          every_before = λ s input is less.
-              let at = pair_at s input is in
-              let stands : IsIn one.before at.pair = in_before one.before one.pair one.behind at.pair (subst AreSorted one.pairs_are sorted)
-              (subst (λ (l : List Pair). IsIn l at.pair) one.pairs_are at.among)
-              (subst (λ (p : Place). place_order p (pair_place one.pair) ≡ Less) (sym at.place_is) less) in
-              file_at one.more (place_at s input) at.pair (covered_has one.before one.more at.pair one.covered_before stands at.covers) at.place_is;
-          in_order = files_in_order front files covered in_front;
+          every_before = has_before stop;
+          keyed = All-from_recursion (IsKeyed inputs) files (covered_all (IsKeyed inputs) (IsKnown inputs lists.entries) key_of front files covered known_front);
+          in_order = (files_sorted front files covered in_front).0;
+          apart = (files_sorted front files covered in_front).1;
         }
 
-  pub scanned : (files : List Listed) → AreCovered (pairs_of (map reading_of reads) (map entry_by found.entries)) files → IfSome told (λ history. ScansFiles inputs history files after)
+  pub scanned : (files : List Listed) → AreCovered (pairs_of (map reading_of reads) (map showing_by found.entries)) files → IfSome told (λ history. ScansFiles inputs history files after)
   scanned files covered = by_told told lists.shown
     where
       by_told : (o : Option FolderHistory) → IfSome o (λ history. ShowEntries (globs_read reads) lists.entries history after) → IfSome o (λ history. ScansFiles inputs history files after)
       by_told None shows = tt
       by_told (Some history) shows = scans history shows files (covered_pairs files covered)
 
-  pub refused : (error : ScanError) → StopsAt (pairs_of (map reading_of reads) (map entry_by found.entries)) [] error → IfSome told (λ history. EndsAs inputs history error after)
+  pub refused : (error : ScanError) → StopsAt (pairs_of (map reading_of reads) (map showing_by found.entries)) [] error → IfSome told (λ history. EndsAs inputs history error after)
   refused Failed stops = absurd stops
   refused NoMemory stops =
       subst (λ (globs : List (List ℕ)). IfSome told (λ history. ListsSome globs history after)) (globs_are inputs reads numbered)
       (all_listed (globs_read reads) told after none found lists)
+  refused (NoNative path) stops = by_told told lists.shown
+    where
+      by_told : (o : Option FolderHistory) → IfSome o (λ history. ShowEntries (globs_read reads) lists.entries history after) → IfSome o (λ history. EndsAs inputs history (NoNative path) after)
+      by_told None shows = tt
+      by_told (Some history) shows = finds_none history shows path (untold_in_pairs path stops)
   refused (TooMany path) stops = by_told told lists.shown
     where
       by_told : (o : Option FolderHistory) → IfSome o (λ history. ShowEntries (globs_read reads) lists.entries history after) → IfSome o (λ history. EndsAs inputs history (TooMany path) after)

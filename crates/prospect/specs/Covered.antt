@@ -1,13 +1,17 @@
--- Which of the entries the inputs cover, entry by entry and then input by input (this project's profile).
-use Rattle.std.specs.Prelude.{◌≡◌, ◌⊎◌, ℕ, ◌<◌, ◌^◌, List, [], ◌∷◌, ◌++◌, flat_map, length, map, Option, IfSome}
+-- Which of the entries the inputs cover, path by path, then input by input, then entry by entry (this project's profile).
+use Rattle.std.specs.Prelude.{◌≡◌, ◌⊎◌, ℕ, ◌<◌, ◌≤◌, ◌^◌, List, [], ◌∷◌, ◌++◌, flat_map, length, map, Option, IfSome}
+use Rattle.file_identity.specs.Answers.{LacksNumbers}
 use Rattle.file_identity.specs.Key.{listed_key}
 use Rattle.outside.specs.declared.entry.Entry.{Entry}
 use Rattle.prospect.specs.declared.listed.Listed.{Listed}
 use Rattle.prospect.specs.declared.files.TheConstants.{MAX_FILES}
 use Rattle.prospect.specs.declared.scan_error.ScanError.{ScanError}
-use Rattle.prospect.specs.declared.scan_error.ScanError.TheVariants.{Failed, NoMemory, TooMany}
+use Rattle.prospect.specs.declared.scan_error.ScanError.TheVariants.{Failed, NoMemory, NoNative, TooMany}
+use Rattle.prospect.specs.declared.showing.Showing.{Showing}
+use Rattle.prospect.specs.ListedFiles.{KeyIsTold}
 use Rattle.prospect.specs.Members.{IsCovered}
 use Rattle.prospect.specs.Readings.{Reading}
+use Rattle.prospect.specs.Showings.{entries_for}
 
 -- an entry, and an input that may cover it
 pub record Pair : Type 0 where
@@ -17,12 +21,17 @@ pub record Pair : Type 0 where
 abbrev pub pair_of : Entry → Reading → Pair
 pair_of entry reading = record { entry = entry; reading = reading }
 
-abbrev pub pairs_with : List Reading → Entry → List Pair
-pairs_with readings entry = map (pair_of entry) readings
+-- the entries of a path with an input, as far as it tells them apart
+abbrev pub pairs_for : Showing → Reading → List Pair
+pairs_for showing reading = map (λ entry. pair_of entry reading) (entries_for reading.identity showing)
 
--- each entry with each input
-abbrev pub pairs_of : List Reading → List Entry → List Pair
-pairs_of readings entries = flat_map (pairs_with readings) entries
+-- with each input
+abbrev pub pairs_with : List Reading → Showing → List Pair
+pairs_with readings showing = flat_map (pairs_for showing) readings
+
+-- path by path
+abbrev pub pairs_of : List Reading → List Showing → List Pair
+pairs_of readings showings = flat_map (pairs_with readings) showings
 
 abbrev pub CoversEntry : Pair → Type 0
 CoversEntry pair = IsCovered pair.reading.globs pair.entry.path
@@ -35,6 +44,7 @@ AreNumbers numbers = IfSome numbers (λ both. (both.0 < 2 ^ 64) × (both.1 < 2 ^
 pub record IsFileOf (pair : Pair) : Type 0 where
   pub covers : CoversEntry pair
   pub numbers : AreNumbers pair.entry.native
+  pub told : KeyIsTold pair.reading.identity (listed_key pair.reading.id pair.reading.identity pair.entry)
 
 -- the entry as a file of the input
 abbrev pub file_of : Pair → Listed
@@ -59,20 +69,40 @@ pub record AddsCovered (pairs : List Pair) (old new : List Listed) : Type 0 wher
   pub covered : AreCovered pairs more
   pub added : new ≡ old ++ more
 
--- with those before it there were as many as a scan tells, and the entry of this pair was one more
-pub record IsOneMore (pairs : List Pair) (old : List Listed) (path : List ℕ) : Type 0 where
+-- the pair at which adding stopped, and the files that were added before it
+pub record Stop (pairs : List Pair) : Type 0 where
   pub before : List Pair
   pub pair : Pair
   pub behind : List Pair
   pub pairs_are : pairs ≡ before ++ pair ∷ behind
   pub more : List Listed
   pub covered_before : AreCovered before more
-  pub full : length (old ++ more) ≡ MAX_FILES
-  pub file : IsFileOf pair
-  pub path_is : pair.entry.path ≡ path
+
+-- with those before it there were as many as a scan tells, and the entry of this pair was one more
+pub record IsOneMore (pairs : List Pair) (old : List Listed) (path : List ℕ) : Type 0 where
+  pub stop : Stop pairs
+  pub full : length (old ++ stop.more) ≡ MAX_FILES
+  pub file : IsFileOf stop.pair
+  pub path_is : stop.pair.entry.path ≡ path
+
+-- the input of this pair asks for the numbers of an entry that it covers, and none were told
+pub record IsUntold (pairs : List Pair) (old : List Listed) (path : List ℕ) : Type 0 where
+  pub stop : Stop pairs
+  pub few : length (old ++ stop.more) ≤ MAX_FILES
+  pub covers : CoversEntry stop.pair
+  pub lacks : LacksNumbers stop.pair.reading.identity stop.pair.entry.native
+  pub path_is : stop.pair.entry.path ≡ path
+
+-- why an entry is no file; out of memory may come with any
+abbrev pub IsKeyless : Pair → ScanError → Type 0
+IsKeyless pair Failed = ⊥
+IsKeyless pair NoMemory = Unit {0}
+IsKeyless pair (NoNative path) = LacksNumbers pair.reading.identity pair.entry.native × (pair.entry.path ≡ path)
+IsKeyless pair (TooMany path) = ⊥
 
 -- why no more were added; out of memory may come with any
 abbrev pub StopsAt : List Pair → List Listed → ScanError → Type 0
 StopsAt pairs old Failed = ⊥
 StopsAt pairs old NoMemory = Unit {0}
+StopsAt pairs old (NoNative path) = IsUntold pairs old path
 StopsAt pairs old (TooMany path) = IsOneMore pairs old path

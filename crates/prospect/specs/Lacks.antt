@@ -7,10 +7,10 @@ use Rattle.event_tree.specs.declared.input_rule.InputRule.{InputRule}
 use Rattle.event_tree.specs.declared.settings.Settings.{Settings}
 use Rattle.wire_base.specs.KeyOrder.{compare}
 
-abbrev pub is_path : IdentityRule → Bool
-is_path (Fingerprint offset length) = false
-is_path Native = false
-is_path Path = true
+abbrev pub is_no_fingerprint : IdentityRule → Bool
+is_no_fingerprint (Fingerprint offset length) = false
+is_no_fingerprint Native = true
+is_no_fingerprint Path = true
 
 -- the key, where what it asks for is not built
 abbrev pub unless_built : Bool → List ℕ → List (List ℕ)
@@ -23,7 +23,7 @@ input_key number name = codes "inputs." ++ decimal number ++ codes "." ++ name
 
 abbrev pub lacks_of_input : ℕ → InputRule → List (List ℕ)
 lacks_of_input number input =
-    unless_built (is_path input.file_identity) (input_key number (codes "file_identity"))
+    unless_built (is_no_fingerprint input.file_identity) (input_key number (codes "file_identity"))
     ++ unless_built (input.ignore_older == 0) (input_key number (codes "ignore_older"))
     ++ unless_built (input.clean_inactive == 0) (input_key number (codes "clean_inactive"))
 

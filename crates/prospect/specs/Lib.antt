@@ -1,8 +1,11 @@
 pub mod Covered
+pub mod Doubled
 pub mod Entries
 pub mod Lacks
 pub mod ListedFiles
 pub mod Members
+pub mod Parting
 pub mod Readings
 pub mod Scan
+pub mod Showings
 pub mod Unfinished

@@ -1,11 +1,14 @@
 -- The files of one scan (Filebeat reference, filestream paths and file identity; this project's profile): each path that
 -- its listings showed is a file once for each input that has a glob which covers it, in byte order of the paths and then
--- by the inputs' places in the settings.
-use Rattle.std.specs.Prelude.{◌≡◌, ℕ, List, [], ◌∷◌, ◌++◌, flat_map, length, map, slice_get, All, Any, Contains, Option, Some, IfSome}
-use Rattle.std.specs.List.Sorted.{IsStrictlySortedBy}
+-- by the inputs' places in the settings. Where two listings showed one path with other native numbers, as of a file that took
+-- another's name meanwhile, it is a file of each of them to an input that knows files by these.
+use Rattle.std.specs.Prelude.{◌≡◌, ◌≢◌, ℕ, ◌≤◌, List, [], ◌∷◌, ◌++◌, flat_map, length, slice_get, All, Any, Contains, Option, None, Some, IfSome, IsSome}
+use Rattle.std.specs.List.{AllByRecursion}
 use Rattle.std.specs.Ordering.{nat_cmp, ordering_then}
 use Rattle.std.specs.declared.cmp.Ordering.{Ordering}
 use Rattle.std.specs.declared.cmp.Ordering.TheVariants.{Less}
+use Rattle.event_tree.specs.declared.input_rule.IdentityRule.{IdentityRule}
+use Rattle.event_tree.specs.declared.input_rule.IdentityRule.TheVariants.{Fingerprint, Native, Path}
 use Rattle.event_tree.specs.declared.input_rule.InputRule.{InputRule}
 use Rattle.file_identity.specs.Key.{named_key}
 use Rattle.outside.specs.declared.history.Shown.{Shown}
@@ -15,7 +18,7 @@ use Rattle.wire_base.specs.Ranges.{IsKey, IsPath, IsPlace}
 use Rattle.prospect.specs.declared.listed.Listed.{Listed}
 use Rattle.prospect.specs.declared.files.TheConstants.{MAX_FILES}
 use Rattle.prospect.specs.declared.scan_error.ScanError.{ScanError}
-use Rattle.prospect.specs.declared.scan_error.ScanError.TheVariants.{Failed, NoMemory, TooMany}
+use Rattle.prospect.specs.declared.scan_error.ScanError.TheVariants.{Failed, NoMemory, NoNative, TooMany}
 use Rattle.prospect.specs.Members.{IsCovered, globs_of}
 use Rattle.prospect.specs.Scan.{AreListed, Listing}
 use Rattle.prospect.specs.Unfinished.{ListsSome}
@@ -50,9 +53,37 @@ place_of listed = record { path = listed.path; input = listed.input }
 abbrev pub place_order : Place → Place → Ordering
 place_order one other = ordering_then (compare one.path other.path) (nat_cmp one.input other.input)
 
--- a file stands there
-abbrev pub HasFile : List Listed → Place → Type 0
-HasFile listed place = Any (λ one. (one.path ≡ place.path) × (one.input ≡ place.input)) listed
+-- what tells files of one place apart is the key that the entry gave
+pub record Name : Type 0 where
+  pub place : Place
+  pub key : Option (List ℕ)
+
+abbrev pub name_of : Listed → Name
+name_of listed = record { place = place_of listed; key = listed.key }
+
+-- a file has the name
+abbrev pub HasFile : List Listed → Name → Type 0
+HasFile listed name = Any (λ one. name_of one ≡ name) listed
+
+-- no two files have one name
+abbrev pub AreApart : List Listed → Type 0
+AreApart [] = Unit {0}
+AreApart (one ∷ others) = (¬ (HasFile others (name_of one))) × AreApart others
+
+-- none stands before one that is ahead of it in the order
+abbrev pub AreInOrder : List Listed → Type 0
+AreInOrder [] = Unit {0}
+AreInOrder (one ∷ others) = AllByRecursion (λ later. place_order (place_of later) (place_of one) ≢ Less) others × AreInOrder others
+
+abbrev pub place_at : Shown → ℕ → Place
+place_at shown input = record { path = shown.entry.path; input = input }
+
+-- the name of the entry's file, for the input of this number and rule
+abbrev pub name_at : InputRule → Shown → ℕ → Name
+name_at rule shown input = record {
+  place = place_at shown input;
+  key = named_key rule.id rule.file_identity shown.entry.path shown.entry.native;
+}
 
 -- the input of this place has a glob that covers what was shown
 pub record IsCoveredBy (inputs : List InputRule) (listings : List Listing) (shown : Shown) (input : ℕ) : Type 0 where
@@ -61,18 +92,50 @@ pub record IsCoveredBy (inputs : List InputRule) (listings : List Listing) (show
   pub rule_is : slice_get inputs input ≡ Some rule
   pub covered : IsCovered rule.paths shown.entry.path
 
-abbrev pub place_at : Shown → ℕ → Place
-place_at shown input = record { path = shown.entry.path; input = input }
-
--- the files are those that the inputs cover of what the listings showed, each place once
+-- the files are those that the inputs cover of what the listings showed, each once
 pub record ScansFiles (inputs : List InputRule) (told : FolderHistory) (listed : List Listed) (after : Option FolderHistory) : Type 0 where
   pub listings : List Listing
   pub listed_is : AreListed (globs_of inputs) told listings after
   pub only : AreOfShown inputs listings listed
-  pub every : (shown : Shown) (input : ℕ) → IsCoveredBy inputs listings shown input → HasFile listed (place_at shown input)
-  pub in_order : IsStrictlySortedBy place_order (map place_of listed)
+  pub every : (shown : Shown) (input : ℕ) (of : IsCoveredBy inputs listings shown input) → HasFile listed (name_at of.rule shown input)
+  pub in_order : AreInOrder listed
+  pub apart : AreApart listed
 
--- there is a file more than a scan tells, and this is its path: as many as a scan tells stand before it, all that do
+-- the key is told where the identity does not read the file
+abbrev pub KeyIsTold : IdentityRule → Option (List ℕ) → Type 0
+KeyIsTold (Fingerprint offset count) key = Unit {0}
+KeyIsTold Native key = IsSome key
+KeyIsTold Path key = IsSome key
+
+-- an input that does not read its files has the key of each
+abbrev pub IsKeyed : List InputRule → Listed → Type 0
+IsKeyed inputs listed = (rule : InputRule) → slice_get inputs listed.input ≡ Some rule → KeyIsTold rule.file_identity listed.key
+
+-- the files have each that stands before the place
+abbrev pub HaveEachBefore : List InputRule → List Listing → List Listed → Place → Type 0
+HaveEachBefore inputs listings files place =
+    (shown : Shown) (input : ℕ) (of : IsCoveredBy inputs listings shown input) →
+    place_order (place_at shown input) place ≡ Less → HasFile files (name_at of.rule shown input)
+
+-- a path for which an input asks for native numbers was shown without them, the first such in the order; not more stand
+-- before it than a scan tells
+pub record FindsNoNumbers (inputs : List InputRule) (told : FolderHistory) (path : List ℕ) (after : Option FolderHistory) : Type 0 where
+  pub listings : List Listing
+  pub listed_is : AreListed (globs_of inputs) told listings after
+  pub shown : Shown
+  pub input : ℕ
+  pub covered : IsCoveredBy inputs listings shown input
+  pub by_numbers : covered.rule.file_identity ≡ Native
+  pub path_is : shown.entry.path ≡ path
+  pub none : shown.entry.native ≡ None
+  pub first : (other : Shown) (at : ℕ) (of : IsCoveredBy inputs listings other at) →
+      of.rule.file_identity ≡ Native → other.entry.native ≡ None → place_order (place_at other at) (place_at shown input) ≢ Less
+  pub before : List Listed
+  pub few : length before ≤ MAX_FILES
+  pub every_before : HaveEachBefore inputs listings before (place_at shown input)
+
+-- there is a file more than a scan tells, and this is its path: as many as a scan tells stand before it, all that do, and
+-- none of them lacks its numbers
 pub record FindsOneMore (inputs : List InputRule) (told : FolderHistory) (path : List ℕ) (after : Option FolderHistory) : Type 0 where
   pub listings : List Listing
   pub listed_is : AreListed (globs_of inputs) told listings after
@@ -81,14 +144,16 @@ pub record FindsOneMore (inputs : List InputRule) (told : FolderHistory) (path :
   pub next : Listed
   pub path_is : next.path ≡ path
   pub only : AreOfShown inputs listings (before ++ next ∷ [])
-  pub every_before : (shown : Shown) (input : ℕ) → IsCoveredBy inputs listings shown input →
-      place_order (place_at shown input) (place_of next) ≡ Less → HasFile before (place_at shown input)
-  pub in_order : IsStrictlySortedBy place_order (map place_of (before ++ next ∷ []))
+  pub every_before : HaveEachBefore inputs listings before (place_of next)
+  pub keyed : All (IsKeyed inputs) (before ++ next ∷ [])
+  pub in_order : AreInOrder (before ++ next ∷ [])
+  pub apart : AreApart (before ++ next ∷ [])
 
 -- what was done where a scan tells no file
 abbrev pub EndsAs : List InputRule → FolderHistory → ScanError → Option FolderHistory → Type 0
 EndsAs inputs told Failed after = ListsSome (globs_of inputs) told after
 EndsAs inputs told NoMemory after = ListsSome (globs_of inputs) told after
+EndsAs inputs told (NoNative path) after = FindsNoNumbers inputs told path after
 EndsAs inputs told (TooMany path) after = FindsOneMore inputs told path after
 
 -- a file within the ranges of a begin

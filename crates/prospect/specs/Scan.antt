@@ -8,7 +8,7 @@ use Rattle.outside.specs.declared.history.Shown.{Shown}
 use Rattle.outside.specs.Folders.{FolderHistory, Event, Listed}
 use Rattle.wire_base.specs.Ranges.{IsPath}
 use Rattle.prospect.specs.declared.scan_error.ScanError.{ScanError}
-use Rattle.prospect.specs.declared.scan_error.ScanError.TheVariants.{Failed as ScanFailed, NoMemory as ScanNoMemory, TooMany}
+use Rattle.prospect.specs.declared.scan_error.ScanError.TheVariants.{Failed as ScanFailed, NoMemory as ScanNoMemory, NoNative, TooMany}
 
 -- a listing of the root of a glob with its depth, and what it showed
 pub record Listing : Type 0 where
@@ -27,10 +27,11 @@ pub record AreListed (globs : List (List ℕ)) (told : FolderHistory) (listings 
   pub one_for_each_glob : map (λ listing. listing.glob) listings ≡ globs
   pub kept : after ≡ Some (with_events told (map event_of listings))
 
--- the path of the first file too many has the length of a path
+-- a path that is told has the length of one
 abbrev pub TellsPath : ScanError → Type 0
 TellsPath ScanFailed = Unit {0}
 TellsPath ScanNoMemory = Unit {0}
+TellsPath (NoNative path) = IsPath path
 TellsPath (TooMany path) = IsPath path
 
 -- what a scan answers where a listing answers so

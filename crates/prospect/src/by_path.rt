@@ -1,18 +1,21 @@
 ghost use Rattle.std.specs.Prelude.{◌≡◌, ◌<◌, ◌≤◌, ◌^◌, ◌∷◌, [], length, map, IfOk, IfErr, OnOk};
 ghost use Rattle.std.specs.BTreeMap.{IsOrdered, values};
-ghost use Rattle.prospect.specs.Covered.{AddsCovered, AreCovered, AreNumbers, StopsAt, file_of, pair_of, pairs_of, pairs_with};
+ghost use Rattle.prospect.specs.Covered.{AddsCovered, AreCovered, AreNumbers, CoversEntry, IsFileOf, IsKeyless, StopsAt, file_of, pair_of, pairs_for, pairs_of, pairs_with};
 ghost use Rattle.file_identity.specs.Key.{listed_key};
+ghost use Rattle.prospect.specs.ListedFiles.{KeyIsTold};
 ghost use Rattle.prospect.specs.Readings.{reading_of};
 ghost use Rattle.wire_base.specs.KeyOrder.{compare};
 
 use crate::entries::Entries;
 use crate::files::MAX_FILES;
 use crate::scan_input::ScanInput;
+use crate::showing::Showing;
 use crate::{Listed, ScanError};
+use event_tree::IdentityRule;
 use file_identity::{IdentityError, listed_key};
 use outside::Entry;
 use std::alloc::Global;
-use wire_base::{NoMemory, Text};
+use wire_base::Text;
 
 /// What the inputs cover of the entries, by path and then by input.
 pub fn list_entries(
@@ -29,35 +32,79 @@ pub fn list_entries(
     ensures ordered { IsOrdered compare entries }
 {
     let mut listed = Vec::new(alloc);
-    for (_path, entry) in entries {
-        list_entry(alloc, inputs, &entry, &mut listed)?;
+    for (_path, showing) in entries {
+        list_showing(alloc, inputs, &showing, &mut listed)?;
     }
     Ok(listed)
 }
 
-/// Tells an entry for each input that covers it.
-fn list_entry(
+/// Tells what was shown of a path for each input that covers it.
+fn list_showing(
     alloc: Global,
     inputs: &[ScanInput],
-    entry: &Entry,
+    showing: &Showing,
     listed: &mut Vec<Listed>,
 ) -> Result<(), ScanError>
     requires { length listed.old.items ≤ MAX_FILES }
     ensures covered { OnOk result
-        (AddsCovered (pairs_with (map reading_of inputs.now) entry.now)
+        (AddsCovered (pairs_with (map reading_of inputs.now) showing.now)
         listed.old.items listed.new.items) }
     ensures few { OnOk result (length listed.new.items ≤ MAX_FILES) }
     ensures stops { IfErr result
-        (StopsAt (pairs_with (map reading_of inputs.now) entry.now) listed.old.items) }
+        (StopsAt (pairs_with (map reading_of inputs.now) showing.now) listed.old.items) }
 {
     for input in inputs {
-        list_for(alloc, input, entry, listed)?;
+        list_for(alloc, input, showing, listed)?;
+    }
+    Ok(())
+}
+
+/// Tells what was shown of a path for an input, if it covers the path. Only native numbers tell
+/// files of one path apart.
+fn list_for(
+    alloc: Global,
+    input: &ScanInput,
+    showing: &Showing,
+    listed: &mut Vec<Listed>,
+) -> Result<(), ScanError>
+    requires { length listed.old.items ≤ MAX_FILES }
+    ensures covered { OnOk result
+        (AddsCovered (pairs_for showing.now (reading_of input.now))
+        listed.old.items listed.new.items) }
+    ensures few { OnOk result (length listed.new.items ≤ MAX_FILES) }
+    ensures stops { IfErr result
+        (StopsAt (pairs_for showing.now (reading_of input.now)) listed.old.items) }
+{
+    list_entry(alloc, input, &showing.first, listed)?;
+    match input.identity {
+        IdentityRule::Native => list_others(alloc, input, &showing.others, listed),
+        _ => Ok(()),
+    }
+}
+
+fn list_others(
+    alloc: Global,
+    input: &ScanInput,
+    others: &[Entry],
+    listed: &mut Vec<Listed>,
+) -> Result<(), ScanError>
+    requires { length listed.old.items ≤ MAX_FILES }
+    ensures covered { OnOk result
+        (AddsCovered (map (λ entry. pair_of entry (reading_of input.now)) others.now)
+        listed.old.items listed.new.items) }
+    ensures few { OnOk result (length listed.new.items ≤ MAX_FILES) }
+    ensures stops { IfErr result
+        (StopsAt (map (λ entry. pair_of entry (reading_of input.now)) others.now)
+        listed.old.items) }
+{
+    for entry in others {
+        list_entry(alloc, input, entry, listed)?;
     }
     Ok(())
 }
 
 /// Tells an entry for an input, if it covers it.
-fn list_for(
+fn list_entry(
     alloc: Global,
     input: &ScanInput,
     entry: &Entry,
@@ -82,9 +129,11 @@ fn list_for(
     Ok(())
 }
 
-fn file_of(alloc: Global, input: &ScanInput, entry: &Entry) -> Result<Listed, NoMemory>
+fn file_of(alloc: Global, input: &ScanInput, entry: &Entry) -> Result<Listed, ScanError>
+    requires { CoversEntry (pair_of entry.now (reading_of input.now)) }
     ensures file { IfOk result (λ file. file ≡ file_of (pair_of entry.now (reading_of input.now))) }
-    ensures numbers { AreNumbers entry.now.native }
+    ensures is_one { IfOk result (λ file. IsFileOf (pair_of entry.now (reading_of input.now))) }
+    ensures untold { IfErr result (IsKeyless (pair_of entry.now (reading_of input.now))) }
 {
     numbers_fit(entry.native);
     Ok(Listed {
@@ -97,13 +146,17 @@ fn file_of(alloc: Global, input: &ScanInput, entry: &Entry) -> Result<Listed, No
 }
 
 /// The key, as far as the entry tells it.
-fn entry_key(alloc: Global, input: &ScanInput, entry: &Entry) -> Result<Option<Text>, NoMemory>
-    ensures { IfOk result (λ key. key ≡ listed_key input.now.id input.now.identity entry.now) }
+fn entry_key(alloc: Global, input: &ScanInput, entry: &Entry) -> Result<Option<Text>, ScanError>
+    ensures key { IfOk result (λ key. key ≡ listed_key input.now.id input.now.identity entry.now) }
+    ensures told { IfOk result (KeyIsTold input.now.identity) }
+    ensures untold { IfErr result (IsKeyless (pair_of entry.now (reading_of input.now))) }
 {
     match listed_key(alloc, &input.id, &input.identity, entry) {
         Ok(key) => Ok(key),
-        Err(IdentityError::NoNative) => Ok(None),
-        Err(_) => Err(NoMemory),
+        Err(IdentityError::NoNative) => Err(ScanError::NoNative {
+            path: entry.path.copy(alloc)?,
+        }),
+        Err(_) => Err(ScanError::NoMemory),
     }
 }
 

@@ -1,8 +1,7 @@
-ghost use Rattle.std.specs.Prelude.{◌≡◌, ◌<◌, ◌≤◌, ◌∷◌, [], length, map, All, IfOk, IfErr, IfSome, IsErrOf, OnOk, OnErr};
-ghost use Rattle.std.specs.List.Sorted.{IsStrictlySortedBy};
+ghost use Rattle.std.specs.Prelude.{◌≡◌, ◌<◌, ◌≤◌, ◌∷◌, [], length, All, IfOk, IfErr, IfSome, IsErrOf, OnOk, OnErr};
 ghost use Rattle.outside.specs.Counts.{Rose};
 ghost use Rattle.prospect.specs.Entries.{Lists};
-ghost use Rattle.prospect.specs.ListedFiles.{EndsAs, IsListedInRange, ScansFiles, place_of, place_order};
+ghost use Rattle.prospect.specs.ListedFiles.{AreApart, AreInOrder, EndsAs, IsKeyed, IsListedInRange, ScansFiles};
 ghost use Rattle.prospect.specs.Members.{HaveGlobs, HaveShortIds};
 ghost use Rattle.prospect.specs.Readings.{globs_read};
 ghost use Rattle.prospect.specs.Scan.{TellsPath};
@@ -21,11 +20,14 @@ use std::alloc::Global;
 pub const MAX_FILES: usize = 65_536;
 
 /// Lists the root of each glob once, in the order of the settings, and tells each path that a glob
-/// covers once for its input, in byte order of the paths and then by the inputs' places.
+/// covers once for its input, in byte order of the paths and then by the inputs' places. A path
+/// that two listings showed with other native numbers is told once for each of them to an input
+/// that knows its files by these.
 ///
-/// What all listings showed together decides. `TooMany` has the path of the first file too many in
-/// that order. `NoMemory` means out of memory, or more than 4,294,967,296 inputs. A
-/// path is matched once with each glob, however often it is shown.
+/// What all listings showed together decides. `NoNative` has the first path in that order whose
+/// input asks for native numbers that were not told, and `TooMany` that of the first file too many.
+/// `NoMemory` means out of memory, or more than 4,294,967,296 inputs. A path is matched once with
+/// each glob, however often it is shown with the same native numbers.
 pub fn list_files<F: Folder>(
     alloc: Global,
     folder: &mut F,
@@ -37,8 +39,9 @@ pub fn list_files<F: Folder>(
     ensures refused { IfErr result (λ error. IfSome (F.told folder.old)
         (λ told. EndsAs inputs.now told error (F.told folder.new))) }
     ensures few { IfOk result (λ listed. length listed.items ≤ MAX_FILES) }
-    ensures in_order { IfOk result
-        (λ listed. IsStrictlySortedBy place_order (map place_of listed.items)) }
+    ensures in_order { IfOk result (λ listed. AreInOrder listed.items) }
+    ensures apart { IfOk result (λ listed. AreApart listed.items) }
+    ensures keyed { IfOk result (λ listed. All (IsKeyed inputs.now) listed.items) }
     ensures of_inputs { IfOk result
         (λ listed. All (λ one. one.input < length inputs.now) listed.items) }
     ensures in_range { IfOk result

@@ -1,5 +1,5 @@
 ghost use Rattle.std.specs.Prelude.{◌≡◌, ◌++◌, [], IfOk, MatchOption, OnOk};
-ghost use Rattle.prospect.specs.Lacks.{IsFirstLack, input_key, is_path, lacks_of, lacks_of_input, lacks_of_inputs, unless_built};
+ghost use Rattle.prospect.specs.Lacks.{IsFirstLack, input_key, is_no_fingerprint, lacks_of, lacks_of_input, lacks_of_inputs, unless_built};
 
 use event_tree::{IdentityRule, InputRule, Settings};
 use std::alloc::Global;
@@ -40,8 +40,8 @@ fn add_input(
 ) -> Result<(), NoMemory>
     ensures { OnOk result (lacks.new.items ≡ lacks.old.items ++ lacks_of_input number input.now) }
 {
-    let by_path = is_path(input.file_identity);
-    add_of(alloc, lacks, number, by_path, "file_identity")?;
+    let reads_no_file = is_no_fingerprint(input.file_identity);
+    add_of(alloc, lacks, number, reads_no_file, "file_identity")?;
     let takes_old = input.ignore_older == 0;
     add_of(alloc, lacks, number, takes_old, "ignore_older")?;
     let keeps_inactive = input.clean_inactive == 0;
@@ -49,10 +49,10 @@ fn add_input(
     Ok(())
 }
 
-fn is_path(rule: IdentityRule) -> bool
-    ensures { result ≡ is_path rule }
+fn is_no_fingerprint(rule: IdentityRule) -> bool
+    ensures { result ≡ is_no_fingerprint rule }
 {
-    matches!(rule, IdentityRule::Path)
+    !matches!(rule, IdentityRule::Fingerprint { .. })
 }
 
 /// Adds the key of a setting of an input, unless what it asks for is built.

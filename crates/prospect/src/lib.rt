@@ -4,7 +4,8 @@
 //! A scan lists once for each glob of the settings. What it tells, and what of the settings is
 //! unsupported, are definitions of `specs/`. Nothing here opens a file.
 //!
-//! `list_files` tells files by their paths, each with what the listing showed of it.
+//! `list_files` tells files by their paths, each with what the listing showed of it. To an input
+//! that knows files by native numbers, two numbers that one path had are two files.
 #![tactic(auto)]
 
 mod by_path;
@@ -12,10 +13,13 @@ mod entries;
 mod files;
 mod lack;
 mod listed;
+mod parted;
 mod scan_error;
 mod scan_input;
+mod showing;
 
 pub use files::{MAX_FILES, list_files};
 pub use lack::first_lack;
 pub use listed::Listed;
+pub use parted::{Parted, part_doubled};
 pub use scan_error::ScanError;

@@ -6,7 +6,7 @@ pub struct Listed {
     /// The input's place in the settings, from 0.
     pub input: u32,
     /// The key, as far as the entry alone tells it (Filebeat reference, file identity): none for a
-    /// fingerprint, which is asked of the open file, and none where native numbers were not told.
+    /// fingerprint alone, which is asked of the open file.
     pub key: Option<Text>,
     pub path: Text,
     /// The size at the moment of the listing, in bytes.

@@ -10,6 +10,8 @@ pub enum ScanError {
     /// A listing failed; the folder's count of faults rose in it.
     Failed,
     NoMemory,
+    /// An input knows its files by native numbers, and the listing told none for this path.
+    NoNative { path: Text },
     /// There are more than `MAX_FILES` files; the path is that of the first one too many, in byte
     /// order of the paths and then by the inputs' places.
     TooMany { path: Text },
@@ -20,6 +22,7 @@ impl fmt::Display for ScanError {
         f.write_str(match self {
             ScanError::Failed => "a listing failed",
             ScanError::NoMemory => "out of memory",
+            ScanError::NoNative { .. } => "a file has no inode and device",
             ScanError::TooMany { .. } => "there are too many files",
         })
     }

@@ -1,17 +1,20 @@
-use Rattle.std.proofs.Common.{ap, ◌∙◌, ◌++◌, ◌∷◌, [], arith, rules}
-use Rattle.prospect.specs.declared.listed.Listed.{Listed}
-use Rattle.prospect.proofs.Covering.{adds_covered, adds_uncovered, stops_here}
+use Rattle.std.proofs.lemmas.Result.{IfErr-weaker, on_ok_weaker, err_from_is_err_and}
+use Rattle.prospect.proofs.Covering.{adds_others, stops_at_first, stops_at_others}
 use Rattle.prospect.proofs.by_path.list_for.Goals as goal
 
-pub returns-then-not-covers-clause-covered : goal.returns-then-not-covers-clause-covered
-returns-then-not-covers-clause-covered c = adds_uncovered _ _ (search rules)
+pub returns-in_err-list_entry-clause-stops : goal.returns-in_err-list_entry-clause-stops
+returns-in_err-list_entry-clause-stops c =
+    let p = err_from_is_err_and c.from_residual.result c.from_residual.ensures.1 in
+    rw (p.1, p.2) (stops_at_first _ _ _ _ c.in_err-list_entry.ensures.stops)
 
-pub returns-clause-covered : goal.returns-clause-covered
-returns-clause-covered c =
-    adds_covered _ _ _ (record { covers = c.covers.ensures.0 c.if-not-covers.false; numbers = c.in_ok-file.ensures.numbers })
-    (c.in_ok-push.ensures.items ∙ ap (λ (one : Listed). c.args.listed.now.items ++ one ∷ []) c.in_ok-file.ensures.file)
+pub returns-in-Native-clause-covered : goal.returns-in-Native-clause-covered
+returns-in-Native-clause-covered c =
+    on_ok_weaker c.list_others.result
+    (adds_others _ _ _ _ _ c.in-Native.is c.in_ok-list_entry.ensures.covered)
+    (rw c.deref.ensures.value at c.list_others.ensures.covered)
 
-pub returns-then-len-ge-MAX_FILES-clause-stops : goal.returns-then-len-ge-MAX_FILES-clause-stops
-returns-then-len-ge-MAX_FILES-clause-stops c =
-    stops_here _ _ _ (record { covers = c.covers.ensures.0 c.if-not-covers.false; numbers = c.in_ok-file.ensures.numbers })
-    (omega (arith, c.requires, c.if-len-ge-MAX_FILES.true, c.len.ensures)) (ap (λ (one : Listed). one.path) c.in_ok-file.ensures.file)
+pub returns-in-Native-clause-stops : goal.returns-in-Native-clause-stops
+returns-in-Native-clause-stops c =
+    IfErr-weaker c.list_others.result _ _
+    (λ error stops. stops_at_others _ _ _ _ error c.in-Native.is c.in_ok-list_entry.ensures.covered stops)
+    (rw c.deref.ensures.value at c.list_others.ensures.stops)

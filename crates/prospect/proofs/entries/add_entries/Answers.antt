@@ -1,4 +1,4 @@
-use Rattle.prospect.proofs.Showing.{adds_more, adds_nothing}
+use Rattle.prospect.proofs.Adding.{adds_more, adds_nothing}
 use Rattle.prospect.proofs.entries.add_entries.Goals as goal
 
 pub loop-entry-init : goal.loop-entry-init

@@ -1,5 +1,5 @@
 use Rattle.std.proofs.lemmas.Result.{IfErr-weaker, IfOk-weaker}
-use Rattle.prospect.proofs.Telling.{globs_are, in_order, in_range, of_inputs, refused, scanned, tells_path}
+use Rattle.prospect.proofs.Telling.{apart, globs_are, in_order, in_range, keyed, of_inputs, refused, scanned, tells_path}
 use Rattle.prospect.proofs.Unfinished.{ends_by_listing}
 use Rattle.prospect.proofs.files.list_files.Goals as goal
 
@@ -13,6 +13,18 @@ pub returns-in-Ok-list_inputs-clause-in_order : goal.returns-in-Ok-list_inputs-c
 returns-in-Ok-list_inputs-clause-in_order g c =
     IfOk-weaker c.list_entries.result _ _
     (λ listed covered. in_order _ _ _ _ _ _ c.in-Ok.ensures c.new-entries.ensures.empty c.list_entries.ensures.ordered (rw c.deref.ensures.value at c.in-Ok-list_inputs.ensures.listed) listed.items (rw c.deref-in-Ok-list_inputs.ensures.value at covered))
+    c.list_entries.ensures.covered
+
+pub returns-in-Ok-list_inputs-clause-apart : goal.returns-in-Ok-list_inputs-clause-apart
+returns-in-Ok-list_inputs-clause-apart g c =
+    IfOk-weaker c.list_entries.result _ _
+    (λ listed covered. apart _ _ _ _ _ _ c.in-Ok.ensures c.new-entries.ensures.empty c.list_entries.ensures.ordered (rw c.deref.ensures.value at c.in-Ok-list_inputs.ensures.listed) listed.items (rw c.deref-in-Ok-list_inputs.ensures.value at covered))
+    c.list_entries.ensures.covered
+
+pub returns-in-Ok-list_inputs-clause-keyed : goal.returns-in-Ok-list_inputs-clause-keyed
+returns-in-Ok-list_inputs-clause-keyed g c =
+    IfOk-weaker c.list_entries.result _ _
+    (λ listed covered. keyed _ _ _ _ _ _ c.in-Ok.ensures c.new-entries.ensures.empty c.list_entries.ensures.ordered (rw c.deref.ensures.value at c.in-Ok-list_inputs.ensures.listed) listed.items (rw c.deref-in-Ok-list_inputs.ensures.value at covered))
     c.list_entries.ensures.covered
 
 pub returns-in-Ok-list_inputs-clause-of_inputs : goal.returns-in-Ok-list_inputs-clause-of_inputs

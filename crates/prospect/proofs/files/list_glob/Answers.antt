@@ -1,4 +1,4 @@
-use Rattle.prospect.proofs.Showing.{lists_one}
+use Rattle.prospect.proofs.Adding.{lists_one}
 use Rattle.prospect.proofs.files.list_glob.Goals as goal
 
 pub returns-in-Ok-add_entries-clause-listed : goal.returns-in-Ok-add_entries-clause-listed

@@ -1,5 +1,5 @@
 use Rattle.std.proofs.Common.{refl, ◌∙◌, arith}
-use Rattle.prospect.proofs.Showing.{lists_next, lists_nothing}
+use Rattle.prospect.proofs.Adding.{lists_next, lists_nothing}
 use Rattle.prospect.proofs.Unfinished.{ends_at_glob, on_err}
 use Rattle.prospect.proofs.files.list_globs.Goals as goal
 

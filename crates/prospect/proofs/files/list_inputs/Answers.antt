@@ -1,5 +1,5 @@
 use Rattle.std.proofs.Common.{refl, ◌∙◌, arith}
-use Rattle.prospect.proofs.Showing.{lists_next_input, lists_nothing}
+use Rattle.prospect.proofs.Adding.{lists_next_input, lists_nothing}
 use Rattle.prospect.proofs.Unfinished.{ends_at_input, on_err}
 use Rattle.prospect.proofs.files.list_inputs.Goals as goal
 

@@ -2,10 +2,10 @@ use Rattle.std.proofs.Common.{◌≤◌, length, map, take}
 use Rattle.prospect.specs.declared.files.TheConstants.{MAX_FILES}
 use Rattle.prospect.specs.Covered.{AddsCovered, pairs_with}
 use Rattle.prospect.specs.Readings.{reading_of}
-use Rattle.prospect.proofs.by_path.list_entry.Given as goal
+use Rattle.prospect.proofs.by_path.list_showing.Given as goal
 
 abbrev pub invariant-loop-input : goal.invariant-loop-input
 invariant-loop-input l = record {
-  covered : AddsCovered (pairs_with (map reading_of (take l.input-index l.inputs)) l.entry) l.initial.listed.items l.listed.items;
+  covered : AddsCovered (pairs_with (map reading_of (take l.input-index l.inputs)) l.showing) l.initial.listed.items l.listed.items;
   few : length l.listed.items ≤ MAX_FILES;
 }
