@@ -1,5 +1,5 @@
 -- A drained folder stays drained, and what made a row go rightly stays, as the run goes on.
-use Rattle.std.proofs.Common.{◌≡◌, inl, inr, ℕ, zero, suc, ◌+◌, ◌-◌, ◌<◌, ◌≤◌, List, [], ◌∷◌, ◌++◌, length, max, drop, Option, Some, None, IfSome, refl, sym, ap, ◌∙◌, subst, arith, append_assoc}
+use Rattle.std.proofs.Common.{◌≡◌, inl, inr, ⊎_elim, ℕ, zero, suc, ◌+◌, ◌-◌, ◌<◌, ◌≤◌, List, [], ◌∷◌, ◌++◌, length, max, drop, Option, Some, None, IfSome, refl, sym, ap, ◌∙◌, subst, arith, append_assoc}
 use Rattle.std.specs.List.{AllByRecursion, Contains, slice_get}
 use Rattle.std.proofs.lemmas.Option.{slice_get_within}
 use Rattle.event_tree.specs.declared.input_rule.InputRule.{InputRule}
@@ -124,18 +124,19 @@ passed_over_stays before now rule scan shown input on whole rule_is (inr (inr (i
   number = moved.number;
   shows = shows_to_stays before now scan input moved.key moved.number shown on whole moved.shows;
   other = moved.other;
-  opened = opened_with_stays before now rule input shown.entry.path moved.other on moved.opened;
+  opened = opened_with_stays before now rule input shown.entry.path (Some moved.other) on moved.opened;
   other_key = moved.other_key;
 }))))
-passed_over_stays before now rule scan shown input on whole rule_is (inr (inr (inr (inr (inl none))))) = inr (inr (inr (inr (inl (record {
-  asking = none.asking;
-  asks = asks_stays before now scan shown input none.asking on whole none.asks;
-  number = none.number;
-  gave = gave_stays before.trace now.trace rule shown none.asking.opening None none.number on.trace
-      (asked_well before scan shown input none.asking rule whole none.asks rule_is) none.gave;
-})))))
-passed_over_stays before now rule scan shown input on whole rule_is (inr (inr (inr (inr (inr opened))))) =
-    inr (inr (inr (inr (inr (opened_with_stays before now rule input shown.entry.path None on opened)))))
+passed_over_stays before now rule scan shown input on whole rule_is (inr (inr (inr (inr small)))) = inr (inr (inr (inr (record {
+  by_bytes = small.by_bytes;
+  gave_none = ⊎_elim (λ none. inl (record {
+    asking = none.asking;
+    asks = asks_stays before now scan shown input none.asking on whole none.asks;
+    number = none.number;
+    gave = gave_stays before.trace now.trace rule shown none.asking.opening None none.number on.trace
+        (asked_well before scan shown input none.asking rule whole none.asks rule_is) none.gave;
+  })) (λ opened. inr (opened_with_stays before now rule input shown.entry.path None on opened)) small.gave_none;
+}))))
 
 other_key_stays : (rule : InputRule) (key path : List ℕ) (file : File) (looks more : List Look) → HasOtherKey rule key path file looks → HasOtherKey rule key path file (looks ++ more)
 other_key_stays rule key path file looks more has = record {

@@ -84,15 +84,9 @@ passed_over_no (inl doubled) =
 passed_over_no (inr (inl old)) = absurd (omega (arith, old.asked))
 passed_over_no (inr (inr (inl gone))) = none_gone gone.opening gone.was.not_there
 passed_over_no (inr (inr (inr (inl moved)))) =
-    moved.other_key (opened_with_key moved.other moved.opened ∙ ap Some (listed_key_is moved.key moved.number moved.shows))
-passed_over_no (inr (inr (inr (inr (inl none))))) =
-    let asking = only_one (record { input = 0; path = a_log; opening = None }) none.asking none.asks.of_scan in
-    let by_entry = subst (λ (a : Asking). Gave trace input shown a.opening None none.number) (sym asking) none.gave in
-    let q : None ≡ Some key = by_entry.gave in
-    absurd cc
-passed_over_no (inr (inr (inr (inr (inr opened))))) =
-    let q : None ≡ Some key = opened_with_key None opened in
-    absurd cc
+    let q : Some moved.other ≡ Some moved.key = opened_with_key (Some moved.other) moved.opened ∙ ap Some (listed_key_is moved.key moved.number moved.shows) in
+    moved.other_key cc
+passed_over_no (inr (inr (inr (inr small)))) = absurd small.by_bytes
 
 changed_no : IsChanged run input (slot_account ∷ []) scan shown 0 → ⊥
 changed_no changed =

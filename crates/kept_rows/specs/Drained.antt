@@ -15,6 +15,7 @@ use Rattle.wire_base.specs.KeyOrder.{compare}
 use Rattle.wire_base.specs.declared.row.Row.{Row}
 use Rattle.kept_rows.specs.Account.{EpochAccount, FollowedTail, Reading, SlotAccount, epoch_at, key_of, slot_at}
 use Rattle.file_identity.specs.AskedAgain.{HasOtherKey}
+use Rattle.file_identity.specs.Answers.{IsFingerprint}
 use Rattle.kept_rows.specs.Run.{Asking, Run, Scan}
 use Rattle.kept_rows.specs.Scans.{AsksFor, Gave, IsCovered, IsOld, IsWhole, ShowsEntry, ShowsFile, ShowsFileTo, moment_in}
 use Rattle.kept_rows.specs.Telling.{opening_moment}
@@ -58,24 +59,26 @@ pub record WasOpenedWith (run : Run) (rule : InputRule) (input : ℕ) (path : Li
   pub asking : IsAsking rule.file_identity asked
   pub gave : key ≡ given_key rule.id rule.file_identity path file asked
 
--- the file that was opened by the path did not give the key that was listed
+-- the file that was opened by the path gave another key than the one that was listed
 pub record IsMoved (run : Run) (rule : InputRule) (scan : Scan) (shown : Shown) (input : ℕ) : Type 0 where
   pub key : List ℕ
   pub number : ℕ
   pub shows : ShowsFileTo run scan input key number shown
-  pub other : Option (List ℕ)
-  pub opened : WasOpenedWith run rule input shown.entry.path other
-  pub other_key : other ≢ Some key
+  pub other : List ℕ
+  pub opened : WasOpenedWith run rule input shown.entry.path (Some other)
+  pub other_key : other ≢ key
 
--- not all bytes of the fingerprint were there as the scan asked, or as the file was opened
+-- the asking of the scan told no key
 pub record GaveNoKey (run : Run) (rule : InputRule) (scan : Scan) (shown : Shown) (input : ℕ) : Type 0 where
   pub asking : Asking
   pub asks : AsksFor run scan shown input asking
   pub number : ℕ
   pub gave : Gave run.trace rule shown asking.opening None number
 
-abbrev pub IsSmall : Run → InputRule → Scan → Shown → ℕ → Type 0
-IsSmall run rule scan shown input = GaveNoKey run rule scan shown input ⊎ WasOpenedWith run rule input shown.entry.path None
+-- not all bytes of the fingerprint were there as the scan asked, or as the file was opened
+pub record IsSmall (run : Run) (rule : InputRule) (scan : Scan) (shown : Shown) (input : ℕ) : Type 0 where
+  pub by_bytes : IsFingerprint rule.file_identity
+  pub gave_none : GaveNoKey run rule scan shown input ⊎ WasOpenedWith run rule input shown.entry.path None
 
 -- ---- or else
 
