@@ -24,10 +24,10 @@ use Rattle.accounts.specs.Same.{same_parcel}
 use Rattle.accounts.specs.Turned.{parcels_told}
 use Rattle.accounts.proofs.Apart.{IsInEpochs, parcels_are_once}
 use Rattle.accounts.proofs.Ends.{is_filed, is_in_epochs}
-use Rattle.accounts.proofs.Following.{are_followed, by_path, first_path, followings_of, has_key, shows_file}
+use Rattle.accounts.proofs.Following.{are_followed, followings_of, is_named}
 use Rattle.accounts.proofs.Ordered.{turned_apart}
 use Rattle.accounts.proofs.Placing.{places_apart}
-use Rattle.accounts.proofs.Slots.{is_slot_account, listed_is_opened, still_has_path}
+use Rattle.accounts.proofs.Slots.{is_slot_account, listed_is_opened, still_has_name}
 
 -- ---- numbers
 
@@ -86,7 +86,7 @@ module _ (run : Run) (scan : Scan) where
         number = is.listed.number;
         shown = is.shown;
         shows = (file.opened.begin.input, is.listed.shows);
-        first = subst (IsFirstPath run scan file.opened.begin.key is.listed.number) (sym is.listed.path_is) (first_path run scan by file is);
+        first = subst (IsFirstPath run scan file.opened.begin.key is.listed.number) (sym is.listed.path_is) is.listed.first;
         size =
             let base : file.opened.begin.base ≡ (start_by (find file.opened.begin.key run.opening) is.shown.entry.size).base = ap (λ (s : Start). s.base) is.listed.starts in
             let within = begins_within (find file.opened.begin.key run.opening) is.shown.entry.size in
@@ -97,8 +97,8 @@ module _ (run : Run) (scan : Scan) where
       same_number : KeepsIdentity run following → is.listed.number ≡ file.opened.number
       same_number keeps =
           listed_is_opened run file.opened file.looks placed file.changed file.turned.history scan is.listed.number file.opened.begin.path is.rule_is is.file_is is.tail
-          (still_has_path file.opened.rule file.opened.begin.key file.opened.begin.path file.opened.file file.looks (by_path run scan by file is).identity (has_key run scan by file is))
-          by.only (shows_file run scan by file is) keeps
+          (still_has_name file.opened.rule file.opened.begin.key file.opened.begin.path file.opened.file file.looks (is_named run scan by file is).identity is.key_is)
+          by.only is.listed.first.shows keeps
 
       is_file_of : KeepsIdentity run following → IsFileOf run file.opened file.looks
       is_file_of keeps = record {
@@ -107,7 +107,7 @@ module _ (run : Run) (scan : Scan) where
         tail = is.tail;
         scan = scan;
         only = by.only;
-        first = subst (λ (n : ℕ). IsFirstPath run scan file.opened.begin.key n file.opened.begin.path) (same_number keeps) (first_path run scan by file is);
+        first = subst (λ (n : ℕ). IsFirstPath run scan file.opened.begin.key n file.opened.begin.path) (same_number keeps) is.listed.first;
         listed = was_listed;
       }
 
@@ -138,7 +138,7 @@ module _ (run : Run) (scan : Scan) where
       slot_is_account : KeepsIdentity run following → SeesTruncationsOf following → IsSlotAccount run (account_of placed file)
       slot_is_account keeps sees =
           is_slot_account run file.opened file.turned (tail_of file) placed file.changed sees.last_read is.told (is_file_of keeps) by.once is.in_range
-          (by_path run scan by file is).identity (has_key run scan by file is)
+          (is_named run scan by file is).identity is.key_is
           (subst (SeesTruncations sees.last_read) (append-nil (segments_of file.opened.begin.base file.looks)) sees.seen) is_noted_moment
 
     slots_are_accounts : (files : List Filed) → AllByRecursion (IsFollowedFile run scan) files → AllByRecursion (KeepsIdentity run) (followings_of placed files) →

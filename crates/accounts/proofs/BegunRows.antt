@@ -1,5 +1,5 @@
 -- The key of each file that was begun has a row among rows over all notes of a run: the one that stands over its slot's notes.
-use Rattle.std.proofs.Common.{◌≡◌, ℕ, cond, List, [], ◌∷◌, ◌++◌, Contains, map, Option, None, Some, refl, subst}
+use Rattle.std.proofs.Common.{◌≡◌, ℕ, cond, List, [], ◌∷◌, ◌++◌, Contains, Option, None, Some, refl, subst}
 use Rattle.std.specs.List.{AllByRecursion}
 use Rattle.std.specs.Ordering.{is_eq}
 use Rattle.std.specs.declared.cmp.Ordering.{Ordering}
@@ -7,7 +7,6 @@ use Rattle.std.specs.declared.cmp.Ordering.TheVariants.{Equal, Greater, Less}
 use Rattle.kept_rows.proofs.Begun.{begun_key_has_its_row}
 use Rattle.kept_rows.specs.Account.{Place}
 use Rattle.kept_rows.specs.Run.{Run, Scan}
-use Rattle.kept_rows.specs.Scans.{AreDistinct}
 use Rattle.ship_core.proofs.Members.{first_there, later_there}
 use Rattle.ship_core.specs.Orderly.{AreOrderly}
 use Rattle.ship_core.specs.RowOver.{Start, notes_of, standing_row}
@@ -19,17 +18,14 @@ use Rattle.wire_base.specs.declared.parcel.Parcel.{Parcel}
 use Rattle.wire_base.specs.declared.row.Row.{Row}
 use Rattle.accounts.specs.AccountedFor.{HasItsRow}
 use Rattle.accounts.specs.Filed.{Filed, IsNoted, accounts_of, slot_in, turned_of}
-use Rattle.accounts.specs.FollowedFile.{IsFollowedFile, Named, name_in}
+use Rattle.accounts.specs.FollowedFile.{key_in}
 use Rattle.accounts.specs.Ground.{HasGround}
-use Rattle.accounts.specs.OneScan.{IsByOneScan}
 use Rattle.accounts.specs.RunTold.{RunTold}
 use Rattle.accounts.specs.Taken.{Taken, acknowledged_in}
 use Rattle.accounts.proofs.Accounts.{are_in_epochs, have_slots}
 use Rattle.accounts.proofs.Backed.{are_noted}
-use Rattle.accounts.proofs.Backing.{mapped_there}
-use Rattle.accounts.proofs.Following.{same_name}
-use Rattle.accounts.proofs.Grounded.{each_has_ground, of_map}
-use Rattle.accounts.proofs.LastNotes.{is_started, key_in, none_forgotten, one_slot}
+use Rattle.accounts.proofs.Grounded.{each_has_ground}
+use Rattle.accounts.proofs.LastNotes.{is_started, none_forgotten, one_slot}
 use Rattle.accounts.proofs.Ordered.{are_orderly, slots_apart}
 use Rattle.accounts.proofs.Orderly.{member_is}
 
@@ -47,17 +43,6 @@ found_there key (first ∷ rows) row is = by_case (compare key first.key) is (fo
         let q : Some first ≡ Some row = e in
         let same : first ≡ row = cc in
         subst (λ (r : Row). Contains (first ∷ rows) r) same (first_there first rows)
-
--- keys are apart
-keys_apart : (run : Run) (scan : Scan) → IsByOneScan run scan → (files : List Filed) → AllByRecursion (IsFollowedFile run scan) files → AreDistinct (map name_in files) → AreDistinct (map key_in files)
-keys_apart run scan by [] each names = tt
-keys_apart run scan by (file ∷ files) each names = (
-  λ there.
-      let of = of_map key_in files (key_in file) there in
-      names.0 (subst (λ (n : Named). Contains (map name_in files) n) (same_name run scan by of.item file (member_is (IsFollowedFile run scan) files of.item each.1 of.among) each.0 of.is)
-      (mapped_there name_in files of.item of.among)),
-  keys_apart run scan by files each.1 names.1,
-)
 
 -- ---- of a run
 
@@ -90,7 +75,7 @@ module _ (run : Run) (scan : Scan) (files : List Filed) (workers : List Taken) (
       let found = begun_key_has_its_row run.opening notes rows (key_in file) (slot_in file) start over
       (none_forgotten files (acknowledged_in workers) first collected apart told.noted have_ground)
       (one_slot files (acknowledged_in workers) first collected apart told.noted have_ground file among
-      (keys_apart run scan told.by files told.followed.each told.followed.names_apart)) started.is in
+      told.followed.keys_apart) started.is in
       record { start = start; key_is = refl; epoch_is = refl; base_is = refl; of_rows = found_there (key_in file) rows (standing_row (notes_of (slot_in file) notes) start) found }
 
   module _ (placed : Parcel → Option Place) (rows : List Row) (over : AreRowsOver run.opening notes rows) where

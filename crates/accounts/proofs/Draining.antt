@@ -3,17 +3,16 @@
 use Rattle.std.proofs.Common.{◌≡◌, ◌⊎◌, inl, inr, ℕ, List, [], ◌∷◌, ◌++◌, Contains, Option, None, Some, refl, sym, ap, subst, ◌∙◌, append-nil}
 use Rattle.std.specs.Prelude.{slice_get}
 use Rattle.std.specs.List.{AllByRecursion}
-use Rattle.event_tree.specs.declared.input_rule.IdentityRule.{IdentityRule}
 use Rattle.event_tree.specs.declared.input_rule.InputRule.{InputRule}
-use Rattle.file_identity.specs.Key.{named_key, path_key}
+use Rattle.file_identity.specs.Key.{named_key}
 use Rattle.file_looks.specs.Segment.{segments_of}
 use Rattle.file_looks.specs.Truncation.{SeesTruncations}
 use Rattle.harvester.specs.History.{Telling, told_to}
 use Rattle.kept_rows.specs.Account.{Place, SlotAccount}
-use Rattle.kept_rows.specs.Drained.{HasRow, IsDoneWith, IsDrained, IsGone, IsReadToItsEnd}
+use Rattle.kept_rows.specs.Drained.{HasRow, IsDoneWith, IsDrained, IsOfNoOther, IsPassedOver, IsReadToItsEnd}
 use Rattle.kept_rows.specs.Premises.{Premises, SeesTruncationsOf}
 use Rattle.kept_rows.specs.Run.{Asking, Run, Scan}
-use Rattle.kept_rows.specs.Scans.{Gave, IsAskedIn, IsCovered, IsNoFingerprint, IsWhole, MetNoFault, ShowsEntry, ShowsFileTo, WasAskedWell}
+use Rattle.kept_rows.specs.Scans.{Gave, IsAskedIn, IsCovered, IsWhole, MetNoFault, ShowsEntry, ShowsFileTo, WasAskedWell}
 use Rattle.outside.specs.declared.history.Shown.{Shown}
 use Rattle.ship_core.specs.CoveredEnd.{Adjoin}
 use Rattle.ship_core.specs.RowOver.{notes_of, standing_row}
@@ -22,10 +21,10 @@ use Rattle.told_events.specs.Told.{spans_of}
 use Rattle.wire_base.specs.declared.note.Note.{Note}
 use Rattle.wire_base.specs.declared.parcel.Parcel.{Parcel}
 use Rattle.wire_base.specs.declared.row.Row.{Row}
-use Rattle.accounts.specs.RunDone.{IsAmongFiles, IsFullScan, RunDone, IsToldWhole, WasPassed, name_of}
+use Rattle.accounts.specs.RunDone.{IsAmongFiles, IsFullScan, RunDone, IsToldWhole}
 use Rattle.accounts.specs.Filed.{Filed, IsNoted, account_of, accounts_of, slot_in}
-use Rattle.accounts.specs.FollowedFile.{IsFollowedFile, Named, name_in, tail_of}
-use Rattle.accounts.specs.OneScan.{IsAskedByEntry, IsByOneScan, IsByPath}
+use Rattle.accounts.specs.FollowedFile.{IsFollowedFile, key_in, tail_of}
+use Rattle.accounts.specs.OneScan.{IsAskedByEntry, IsByOneScan, IsNamed}
 use Rattle.accounts.specs.RunTold.{RunTold}
 use Rattle.accounts.specs.Taken.{Taken, acknowledged_in}
 use Rattle.accounts.proofs.Accounts.{are_in_epochs, have_slots}
@@ -35,7 +34,7 @@ use Rattle.accounts.proofs.Backing.{mapped_there}
 use Rattle.accounts.proofs.Ends.{is_in_epochs, is_read_to_its_end}
 use Rattle.accounts.proofs.Following.{followings_of, got_each}
 use Rattle.accounts.proofs.LastEpoch.{epoch_is, offset_is}
-use Rattle.accounts.proofs.LastNotes.{key_in, moment_is}
+use Rattle.accounts.proofs.LastNotes.{moment_is}
 use Rattle.accounts.proofs.Lists.{last_of_each}
 use Rattle.accounts.proofs.Ordered.{first_notes_settle_nothing, slots_apart, turned_apart}
 use Rattle.accounts.proofs.Orderly.{member_is}
@@ -45,12 +44,12 @@ use Rattle.accounts.proofs.Orderly.{member_is}
 module _ (run : Run) (scan : Scan) (by : IsByOneScan run scan) where
   asked_well : (asking : Asking) → IsAskedByEntry run.settings.inputs asking → WasAskedWell run scan asking
   asked_well asking is =
-      let path = got_each IsByPath run.settings.inputs asking.input is.rule by.inputs.each is.rule_is in
+      let named = got_each IsNamed run.settings.inputs asking.input is.rule by.inputs.each is.rule_is in
       record {
         asked_in = subst (IsAskedIn run scan) (sym is.no_tail) tt;
         rule = is.rule;
         rule_is = is.rule_is;
-        well = subst (MetNoFault run.trace is.rule.file_identity asking.path) (sym is.no_tail) (subst IsNoFingerprint (sym path.identity) tt);
+        well = subst (MetNoFault run.trace is.rule.file_identity asking.path) (sym is.no_tail) named.identity;
       }
 
   each_asked_well : (askings : List Asking) → AllByRecursion (IsAskedByEntry run.settings.inputs) askings → AllByRecursion (WasAskedWell run scan) askings
@@ -66,20 +65,18 @@ module _ (run : Run) (scan : Scan) (by : IsByOneScan run scan) where
     none_faulty = each_asked_well scan.askings by.askings;
   }
 
-  -- no tail was opened for an input
-  of_no_other : (askings : List Asking) (input opening : ℕ) → AllByRecursion (IsAskedByEntry run.settings.inputs) askings →
-      AllByRecursion (λ (asking : Asking). asking.opening ≡ Some opening → asking.input ≡ input) askings
-  of_no_other [] input opening each = tt
-  of_no_other (asking ∷ askings) input opening each =
-      ((λ is. absurd (let q : None ≡ Some opening = sym each.0.no_tail ∙ is in cc)), of_no_other askings input opening each.1)
+-- no tail was opened to ask for a key
+none_of_others : (inputs : List InputRule) (askings : List Asking) (input opening : ℕ) → AllByRecursion (IsAskedByEntry inputs) askings →
+    AllByRecursion (λ (asking : Asking). asking.opening ≡ Some opening → asking.input ≡ input) askings
+none_of_others inputs [] input opening each = tt
+none_of_others inputs (asking ∷ askings) input opening each =
+    ((λ is. absurd (let q : None ≡ Some opening = sym each.0.no_tail ∙ is in cc)), none_of_others inputs askings input opening each.1)
 
-  is_gone : (shown : Shown) (input : ℕ) → WasPassed run shown → IsGone run shown.entry.path input
-  is_gone shown input passed = record {
-    opening = passed.opening;
-    of_input = subst (AllByRecursion (λ (s : Scan). AllByRecursion (λ (asking : Asking). asking.opening ≡ Some passed.opening → asking.input ≡ input) s.askings)) (sym by.only)
-        (of_no_other scan.askings input passed.opening by.askings, tt);
-    was = passed.was;
-  }
+-- so no opening was made for another input
+pub of_no_other : (run : Run) (scan : Scan) → run.scans ≡ scan ∷ [] → AllByRecursion (IsAskedByEntry run.settings.inputs) scan.askings → (input opening : ℕ) → IsOfNoOther run input opening
+of_no_other run scan only askings input opening =
+    subst (AllByRecursion (λ (s : Scan). AllByRecursion (λ (asking : Asking). asking.opening ≡ Some opening → asking.input ≡ input) s.askings)) (sym only)
+    (none_of_others run.settings.inputs scan.askings input opening askings, tt)
 
 -- ---- its files
 
@@ -157,23 +154,20 @@ module _ (run : Run) (scan : Scan) (files : List Filed) (workers : List Taken) (
 
     -- the entry that an input covers has it
     module _ (shown : Shown) (input : ℕ) (rule : InputRule) (entry : ShowsEntry run.trace scan shown) (rule_is : slice_get run.settings.inputs input ≡ Some rule)
-        (covered : IsCovered rule.paths shown.entry.path) (name_is : name_in file ≡ name_of shown input) where
+        (covered : IsCovered rule.paths shown.entry.path) (input_is : file.opened.begin.input ≡ input) (path_is : file.opened.begin.path ≡ shown.entry.path)
+        (key_is : named_key rule.id rule.file_identity shown.entry.path shown.entry.native ≡ Some (key_in file)) where
       rule_same : file.opened.rule ≡ rule
-      rule_same = same_rule run.settings.inputs file.opened.begin.input input file.opened.rule rule followed.rule_is rule_is (ap (λ (n : Named). n.input) name_is)
-
-      path_same : file.opened.begin.path ≡ shown.entry.path
-      path_same = ap (λ (n : Named). n.path) name_is
+      rule_same = same_rule run.settings.inputs file.opened.begin.input input file.opened.rule rule followed.rule_is rule_is input_is
 
       shows_it : ShowsFileTo run scan input (key_in file) shown.file shown
       shows_it =
           let asked = done.full.each_asked shown input rule entry rule_is covered in
           let by_entry = member_is (IsAskedByEntry run.settings.inputs) scan.askings asked.asking told.by.askings asked.asks.of_scan in
-          let path = got_each IsByPath run.settings.inputs input rule told.by.inputs.each rule_is in
-          let key : key_in file ≡ path_key rule.id shown.entry.path = followed.key_is ∙ (λ k. path_key (rule_same k).id (path_same k)) in
+          let named = got_each IsNamed run.settings.inputs input rule told.by.inputs.each rule_is in
           let gave : Gave run.trace rule shown None (Some (key_in file)) shown.file = record {
-            no_bytes = subst IsNoFingerprint (sym path.identity) tt;
+            no_bytes = named.identity;
             number_is = refl;
-            gave = ap Some key ∙ ap (λ (i : IdentityRule). named_key rule.id i shown.entry.path shown.entry.native) (sym path.identity);
+            gave = sym key_is;
           } in
           record {
             asking = asked.asking;
@@ -197,7 +191,7 @@ module _ (run : Run) (scan : Scan) (files : List Filed) (workers : List Taken) (
             key_is = is.key_is;
             listed = whole.moment.shown;
             lists = whole.moment.entry;
-            same_path = whole.moment.path_is ∙ path_same;
+            same_path = whole.moment.path_is ∙ path_is;
             moment_is = is.moment_so ∙ whole.moment.changed_is;
             read = subst (λ (r : InputRule). IsReadToItsEnd run r (accounts_of placed files) row) rule_same (row_is_read row is);
           }
@@ -213,7 +207,7 @@ module _ (run : Run) (scan : Scan) (files : List Filed) (workers : List Taken) (
   }
     where
       by_case : (shown : Shown) (input : ℕ) (rule : InputRule) → ShowsEntry run.trace scan shown → slice_get run.settings.inputs input ≡ Some rule →
-          IsCovered rule.paths shown.entry.path → IsAmongFiles files shown input ⊎ WasPassed run shown → IsDoneWith run (accounts_of placed files) rows rule scan shown input
-      by_case shown input rule entry rule_is covered (inr passed) = inl (inr (inr (inl (is_gone run scan told.by shown input passed))))
+          IsCovered rule.paths shown.entry.path → IsAmongFiles files rule shown input ⊎ IsPassedOver run rule scan shown input → IsDoneWith run (accounts_of placed files) rows rule scan shown input
+      by_case shown input rule entry rule_is covered (inr passed) = inl passed
       by_case shown input rule entry rule_is covered (inl here) =
-          inr (inr (has_row here.file here.of_files shown input rule entry rule_is covered here.name_is))
+          inr (inr (has_row here.file here.of_files shown input rule entry rule_is covered here.input_is here.path_is here.key_is))

@@ -1,11 +1,11 @@
 -- Runs in a row adjoin, by their accounts.
-use Rattle.std.proofs.Common.{◌≡◌, ◌⊎◌, inl, inr, ℕ, zero, suc, ◌+◌, ◌<◌, Bool, true, false, cond, eqb, List, [], ◌∷◌, ◌++◌, Contains, codes, Option, Some, None, refl, sym, ap, ◌∙◌, subst, arith}
+use Rattle.std.proofs.Common.{◌≡◌, ◌⊎◌, inl, inr, ℕ, zero, suc, ◌+◌, ◌<◌, Bool, true, false, cond, eqb, List, [], ◌∷◌, Contains, map, Option, Some, None, refl, sym, ap, ◌∙◌, subst, arith}
 use Rattle.std.specs.Prelude.{nat_le, slice_get}
 use Rattle.std.specs.List.{AllByRecursion}
 use Rattle.std.proofs.lemmas.Bool.{eqb-true}
-use Rattle.std.proofs.lemmas.List.{append_cancel_left}
 use Rattle.event_tree.specs.declared.input_rule.InputRule.{InputRule}
 use Rattle.event_tree.specs.declared.settings.Settings.{Settings}
+use Rattle.file_identity.specs.Key.{named_key}
 use Rattle.kept_rows.proofs.Backing.{epoch_in, slot_in}
 use Rattle.kept_rows.proofs.Joining.{adjoined}
 use Rattle.kept_rows.proofs.Keys.{HasNoColon}
@@ -14,6 +14,7 @@ use Rattle.kept_rows.specs.Epochs.{AreNumbered, AreNumberedFrom}
 use Rattle.kept_rows.specs.Followed.{HadNoRow, IsBegun, IsFollowing, IsKeyOf, IsNewlyKnown, Start, StartsAt, StartsListed, StartsUnlisted, start_by, start_of, start_unlisted}
 use Rattle.kept_rows.specs.Kept.{ClosesSettled}
 use Rattle.kept_rows.specs.Run.{Run, Scan}
+use Rattle.kept_rows.specs.Scans.{AreDistinct}
 use Rattle.kept_rows.specs.Telling.{IsEpochTold, IsSlotAccount}
 use Rattle.outside.specs.Files.{File, life_of}
 use Rattle.ship_core.specs.Rows.{find}
@@ -21,36 +22,15 @@ use Rattle.told_events.specs.Rules.{Rules, rules_of}
 use Rattle.told_events.specs.Told.{AreTold}
 use Rattle.wire_base.specs.declared.row.Row.{Row}
 use Rattle.accounts.specs.AccountedFor.{followings_in}
-use Rattle.accounts.specs.OneScan.{AreByPath, IsByPath}
+use Rattle.accounts.specs.OneScan.{AreNamed, IsNamed}
 use Rattle.accounts.specs.RunsInARow.{AccountedRun, AdjoinInARow, HaveOwnIds, IsOfLife, IsRowOf, NoneWentBefore, TakesUp, part_of}
 use Rattle.accounts.proofs.Backing.{mapped_there}
 use Rattle.accounts.proofs.Following.{got_each, got_there}
 use Rattle.accounts.proofs.Grounded.{of_map}
+use Rattle.accounts.proofs.NamedKeys.{named_keys_of_one_id, same_id}
 use Rattle.accounts.proofs.Orderly.{member_is, same_item}
 
 -- ---- a key is of one input
-
--- what stands before the first colon
-same_front : (first second behind after : List ℕ) → HasNoColon first → HasNoColon second → first ++ 58 ∷ behind ≡ second ++ 58 ∷ after → first ≡ second
-same_front [] [] behind after none none_there is = refl
-same_front [] (byte ∷ second) behind after none none_there is =
-    let q : 58 ∷ behind ≡ byte ∷ (second ++ 58 ∷ after) = is in
-    let colon : byte ≡ 58 = cc in
-    absurd (none_there.0 colon)
-same_front (byte ∷ first) [] behind after none none_there is =
-    let q : byte ∷ (first ++ 58 ∷ behind) ≡ 58 ∷ after = is in
-    let colon : byte ≡ 58 = cc in
-    absurd (none.0 colon)
-same_front (byte ∷ first) (other ∷ second) behind after none none_there is =
-    let q : byte ∷ (first ++ 58 ∷ behind) ≡ other ∷ (second ++ 58 ∷ after) = is in
-    let same : byte ≡ other = cc in
-    let rest : first ++ 58 ∷ behind ≡ second ++ 58 ∷ after = cc in
-    ap (λ (n : ℕ). n ∷ first) same ∙ ap (λ (l : List ℕ). other ∷ l) (same_front first second behind after none.1 none_there.1 rest)
-
-same_id : (id other key : List ℕ) → HasNoColon id → HasNoColon other → IsKeyOf id key → IsKeyOf other key → id ≡ other
-same_id id other key none none_there of also =
-    same_front id other (codes ":" ++ of.rest) (codes ":" ++ also.rest) none none_there
-    (append_cancel_left (codes "filestream::") (id ++ (codes "::" ++ of.rest)) (other ++ (codes "::" ++ also.rest)) (sym of.spelled ∙ also.spelled))
 
 -- two inputs of the settings that have the key are one
 same_rule : (inputs : List InputRule) (one other : InputRule) (number place : ℕ) (key : List ℕ) → HaveOwnIds inputs → slice_get inputs number ≡ Some one →
@@ -60,11 +40,34 @@ same_rule inputs one other number place key own at there of also =
     (same_id one.id other.id key (got_each (λ (rule : InputRule). HasNoColon rule.id) inputs number one own.no_colon at)
     (got_each (λ (rule : InputRule). HasNoColon rule.id) inputs place other own.no_colon there) of also)
 
--- inputs by path have ids of their own
-pub by_path_have_own_ids : (inputs : List InputRule) → AreByPath inputs → HaveOwnIds inputs
-by_path_have_own_ids inputs by = record { no_colon = no_colon inputs by.each; ids_apart = by.ids_apart }
+-- distinct items have one place
+same_place : {A B : Type 0} (f : A → B) (xs : List A) (k other : ℕ) (x y : A) → AreDistinct (map f xs) → slice_get xs k ≡ Some x → slice_get xs other ≡ Some y → f x ≡ f y → k ≡ other
+same_place f [] k other x y apart at there same = absurd (let q : None ≡ Some x = at in cc)
+same_place f (first ∷ xs) zero zero x y apart at there same = refl
+same_place f (first ∷ xs) zero (suc other) x y apart at there same =
+    let q : Some first ≡ Some x = at in
+    let here : first ≡ x = cc in
+    absurd (apart.0 (subst (λ b. Contains (map f xs) b) (sym same ∙ ap f (sym here)) (mapped_there f xs y (got_there xs other y there))))
+same_place f (first ∷ xs) (suc k) zero x y apart at there same =
+    let q : Some first ≡ Some y = there in
+    let here : first ≡ y = cc in
+    absurd (apart.0 (subst (λ b. Contains (map f xs) b) (same ∙ ap f (sym here)) (mapped_there f xs x (got_there xs k x at))))
+same_place f (first ∷ xs) (suc k) (suc other) x y apart at there same = ap suc (same_place f xs k other x y apart.1 at there same)
+
+-- a key that is told without a look is of one place of the settings
+pub input_of_named_key : (inputs : List InputRule) (input other : ℕ) (rule another : InputRule) (path q : List ℕ) (numbers m : Option (ℕ × ℕ)) (key : List ℕ) → AreNamed inputs →
+    slice_get inputs input ≡ Some rule → slice_get inputs other ≡ Some another → named_key rule.id rule.file_identity path numbers ≡ Some key →
+    named_key another.id another.file_identity q m ≡ Some key → input ≡ other
+input_of_named_key inputs input other rule another path q numbers m key named at there is and =
+    same_place (λ (r : InputRule). r.id) inputs input other rule another named.ids_apart at there
+    (named_keys_of_one_id rule.id another.id rule.file_identity another.file_identity path q numbers m key (got_each IsNamed inputs input rule named.each at).no_colon
+    (got_each IsNamed inputs other another named.each there).no_colon is and)
+
+-- inputs that know their files without reading them have ids of their own
+pub named_have_own_ids : (inputs : List InputRule) → AreNamed inputs → HaveOwnIds inputs
+named_have_own_ids inputs by = record { no_colon = no_colon inputs by.each; ids_apart = by.ids_apart }
   where
-    no_colon : (rules : List InputRule) → AllByRecursion IsByPath rules → AllByRecursion (λ (rule : InputRule). HasNoColon rule.id) rules
+    no_colon : (rules : List InputRule) → AllByRecursion IsNamed rules → AllByRecursion (λ (rule : InputRule). HasNoColon rule.id) rules
     no_colon [] each = tt
     no_colon (rule ∷ rules) each = (each.0.no_colon, no_colon rules each.1)
 

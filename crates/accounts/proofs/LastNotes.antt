@@ -23,6 +23,7 @@ use Rattle.wire_base.specs.declared.numbers.Slot.{Slot}
 use Rattle.wire_base.specs.declared.parcel.Parcel.{Parcel}
 use Rattle.accounts.specs.Filed.{Filed, IsNoted, slot_in, turned_of}
 use Rattle.accounts.specs.FirstNotes.{AreFirstNotes, IsBeginOf, IsMomentOfOne}
+use Rattle.accounts.specs.FollowedFile.{key_in}
 use Rattle.accounts.specs.Ground.{HasGround}
 use Rattle.accounts.specs.ToldFile.{AreEpochsFrom, AreNumberedFrom}
 use Rattle.accounts.specs.Turned.{announced_in, notes_in, settlements_in}
@@ -80,9 +81,6 @@ not_equal key other apart = by_case (compare key other) refl
     by_case Less e = refl
     by_case Greater e = refl
     by_case Equal e = absurd (apart (same_key key other e))
-
-abbrev pub key_in : Filed → List ℕ
-key_in file = file.opened.begin.key
 
 begin_gives : (file : Filed) (note : Note) → IsBeginOf file note → slot_for (key_in file) note ≡ Some (slot_in file)
 begin_gives file note is =

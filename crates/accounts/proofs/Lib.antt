@@ -25,6 +25,7 @@ pub mod LastNotes
 pub mod Licensed
 pub mod Lists
 pub mod Lives
+pub mod NamedKeys
 pub mod Numbers
 pub mod Often
 pub mod Onward
@@ -45,5 +46,6 @@ pub mod Unscanned
 pub mod Within
 pub mod Worked
 pub mod WorkedInARow
+pub mod WorkedNative
 pub mod WorkedNumbers
 pub mod WorkedRun

@@ -3,7 +3,7 @@ use Rattle.std.proofs.Common.{◌≡◌, ℕ, ◌≤◌, true, List, [], ◌∷�
 use Rattle.std.specs.Prelude.{slice_get}
 use Rattle.std.specs.List.{AllByRecursion}
 use Rattle.event_tree.specs.declared.input_rule.IdentityRule.{IdentityRule}
-use Rattle.event_tree.specs.declared.input_rule.IdentityRule.TheVariants.{Path}
+use Rattle.event_tree.specs.declared.input_rule.IdentityRule.TheVariants.{Fingerprint, Native, Path}
 use Rattle.event_tree.specs.declared.input_rule.InputRule.{InputRule}
 use Rattle.file_identity.specs.Answers.{with_numbers}
 use Rattle.file_identity.specs.AskedAgain.{StillHasKey}
@@ -19,7 +19,7 @@ use Rattle.harvester.specs.Looked.{AreReadBy, HasChanged, HasFallen, IsLookedAt,
 use Rattle.kept_rows.specs.Account.{Place}
 use Rattle.kept_rows.specs.Premises.{KeepsIdentity}
 use Rattle.kept_rows.specs.Run.{Run, Scan}
-use Rattle.kept_rows.specs.Scans.{ShowsFile}
+use Rattle.kept_rows.specs.Scans.{IsNoFingerprint, ShowsFile}
 use Rattle.kept_rows.specs.Telling.{IsNotedMoment, IsSlotAccount}
 use Rattle.kept_rows.specs.Trace.{IsTail}
 use Rattle.multiline_core.specs.Rule.{IsGroupRule}
@@ -100,26 +100,33 @@ read_fallen h opened told file_is begin none looked fallen_so =
           (reads_on h opened.file h.past h.present looked.front looked.last more past present (fallen_reads_on fallen_so.fall fallen_so.later fallen_so.only_reads));
     }
 
--- a file that is known by its path has no other key
-no_other_path : (identity : IdentityRule) (id key path : List ℕ) (file : File) (asked : List Look) → identity ≡ Path → named_key id Path path file.numbers ≡ Some key →
-    given_key id identity path file asked ≡ Some key
-no_other_path identity id key path file asked is key_is = ap (λ (i : IdentityRule). given_key id i path file asked) is ∙ key_is
+-- where the identity does not read the file, no look gives its key
+pub given_by_name : (identity : IdentityRule) (id path : List ℕ) (file : File) (looks : List Look) → IsNoFingerprint identity →
+    given_key id identity path file looks ≡ named_key id identity path file.numbers
+given_by_name (Fingerprint offset count) id path file looks named = absurd named
+given_by_name Native id path file looks named = refl
+given_by_name Path id path file looks named = refl
+
+pub asks_nothing : (identity : IdentityRule) → IsNoFingerprint identity → IsAsking identity []
+asks_nothing (Fingerprint offset count) named = absurd named
+asks_nothing Native named = refl
+asks_nothing Path named = refl
 
 -- wherever the file stands
-pub read_by_path : (h : History) (opened : Opened) (told : TailHistory) → told.file ≡ opened.file → h.begin ≡ opened.begin → h.before ≡ [] → h.rule ≡ opened.rule →
-    opened.rule.file_identity ≡ Path → named_key opened.rule.id Path opened.begin.path opened.file.numbers ≡ Some opened.begin.key →
+pub read_by_name : (h : History) (opened : Opened) (told : TailHistory) → told.file ≡ opened.file → h.begin ≡ opened.begin → h.before ≡ [] → h.rule ≡ opened.rule →
+    IsNoFingerprint opened.rule.file_identity → named_key opened.rule.id opened.rule.file_identity opened.begin.path opened.file.numbers ≡ Some opened.begin.key →
     (looked : IsLookedAt opened.file.numbers h told) → IsReadSo h opened told.looks
-read_by_path h opened told file_is begin none rule_is by_path key_is looked = by_stage h.stage looked.stand_behind
+read_by_name h opened told file_is begin none rule_is named key_is looked = by_stage h.stage looked.stand_behind
   where
     no_other : HasChanged h (with_numbers opened.file.numbers told.file) looked.beyond → ⊥
     no_other changed =
-        let identity : h.rule.file_identity ≡ Path = ap (λ (r : InputRule). r.file_identity) rule_is ∙ by_path in
+        let identity : h.rule.file_identity ≡ opened.rule.file_identity = ap (λ (r : InputRule). r.file_identity) rule_is in
         let id : h.rule.id ≡ opened.rule.id = ap (λ (r : InputRule). r.id) rule_is in
         let path : h.begin.path ≡ opened.begin.path = ap (λ (b : Begin). b.path) begin in
         let key : h.begin.key ≡ opened.begin.key = ap (λ (b : Begin). b.key) begin in
-        let same : named_key h.rule.id Path h.begin.path opened.file.numbers ≡ Some h.begin.key =
-        (λ k. named_key (id k) Path (path k) opened.file.numbers) ∙ key_is ∙ ap Some (sym key) in
-        changed.other.other (no_other_path h.rule.file_identity h.rule.id h.begin.key h.begin.path (with_numbers opened.file.numbers told.file) changed.other.asked identity same)
+        let same : named_key h.rule.id h.rule.file_identity h.begin.path opened.file.numbers ≡ Some h.begin.key =
+        (λ k. named_key (id k) (identity k) (path k) opened.file.numbers) ∙ key_is ∙ ap Some (sym key) in
+        changed.other.other (given_by_name h.rule.file_identity h.rule.id h.begin.path (with_numbers opened.file.numbers told.file) changed.other.asked (subst IsNoFingerprint (sym identity) named) ∙ same)
 
     by_stage : (stage : Stage) → StandBehind h (with_numbers opened.file.numbers told.file) stage looked.beyond → IsReadSo h opened told.looks
     by_stage Reads behind = read_whole h opened told file_is begin none looked behind
@@ -156,27 +163,28 @@ slot_by run opened turned told placed changed last is shown once in_range seen n
 
 pub is_slot_account : (run : Run) (opened : Opened) (turned : Turned) (told : TailHistory) (placed : Parcel → Option Place) (changed last : ℕ) →
     IsToldFile run.settings.processors opened run.trace.moments turned (Some told) → IsFileOf run opened told.looks → run.once ≡ true →
-    IsGroupRule opened.rule.multiline → opened.rule.file_identity ≡ Path → named_key opened.rule.id Path opened.begin.path opened.file.numbers ≡ Some opened.begin.key →
+    IsGroupRule opened.rule.multiline → IsNoFingerprint opened.rule.file_identity →
+    named_key opened.rule.id opened.rule.file_identity opened.begin.path opened.file.numbers ≡ Some opened.begin.key →
     SeesTruncations last (segments_of opened.begin.base told.looks) →
     IsNotedMoment run (slot_account opened changed told.looks placed turned.history).following changed →
     IsSlotAccount run (slot_account opened changed told.looks placed turned.history)
-is_slot_account run opened turned told placed changed last is shown once in_range by_path key_is seen noted =
+is_slot_account run opened turned told placed changed last is shown once in_range named key_is seen noted =
     slot_by run opened turned told placed changed last is shown once in_range seen noted
-    (read_by_path turned.history opened told is.tail.file is.history.begin is.history.none_before is.history.rule by_path key_is is.looked)
+    (read_by_name turned.history opened told is.tail.file is.history.begin is.history.none_before is.history.rule named key_is is.looked)
 
 -- ---- the file that was listed
 
-has_path_key : (identity : IdentityRule) (id key path : List ℕ) (file : File) → identity ≡ Path → named_key id Path path file.numbers ≡ Some key →
-    IsAsking identity [] × (given_key id identity path file [] ≡ Some key)
-has_path_key identity id key path file is key_is =
-    subst (λ (i : IdentityRule). IsAsking i [] × (given_key id i path file [] ≡ Some key)) (sym is) (refl, key_is)
-
--- a file that is known by its path still has its key
-pub still_has_path : (rule : InputRule) (key path : List ℕ) (file : File) (looks : List Look) → rule.file_identity ≡ Path → named_key rule.id Path path file.numbers ≡ Some key →
-    StillHasKey rule key path file looks
-still_has_path rule key path file looks is key_is =
-    let gives = has_path_key rule.file_identity rule.id key path file is key_is in
-    record { before = []; asked = []; behind = looks; looks_are = refl; only_reads = tt; gives = record { asking = gives.0; gave = gives.1 } }
+-- a file that is known without being read still has its key
+pub still_has_name : (rule : InputRule) (key path : List ℕ) (file : File) (looks : List Look) → IsNoFingerprint rule.file_identity →
+    named_key rule.id rule.file_identity path file.numbers ≡ Some key → StillHasKey rule key path file looks
+still_has_name rule key path file looks named key_is = record {
+  before = [];
+  asked = [];
+  behind = looks;
+  looks_are = refl;
+  only_reads = tt;
+  gives = record { asking = asks_nothing rule.file_identity named; gave = given_by_name rule.file_identity rule.id path file [] named ∙ key_is };
+}
 
 -- it is the one that was opened, where identities are kept
 pub listed_is_opened : (run : Run) (opened : Opened) (looks : List Look) (placed : Parcel → Option Place) (changed : ℕ) (h : History) (scan : Scan) (listed : ℕ) (path : List ℕ) →

@@ -1,13 +1,17 @@
 -- All that is asked of a run that is done holds of one at once: two plain lines that were read to their end, acknowledged in one talk.
-use Rattle.std.proofs.Common.{◌≡◌, ◌≢◌, ◌⊎◌, inl, ℕ, zero, suc, List, [], ◌∷◌, ◌++◌, length, Some, None, refl, sym, ap, subst, append-nil, arith, lit≤, codes, length-append}
+use Rattle.std.proofs.Common.{◌≡◌, ◌≢◌, ◌⊎◌, inl, ℕ, zero, suc, List, [], ◌∷◌, ◌++◌, length, Option, Some, None, refl, sym, ap, subst, append-nil, arith, lit≤, codes, length-append}
 use Rattle.std.specs.Prelude.{slice_get}
 use Rattle.batch_worker.specs.Ending.{HasTalks}
 use Rattle.event_tree.specs.declared.group_rule.GroupRule.TheVariants.{Single}
+use Rattle.event_tree.specs.declared.input_rule.IdentityRule.{IdentityRule}
+use Rattle.event_tree.specs.declared.input_rule.IdentityRule.TheVariants.{Path}
 use Rattle.event_tree.specs.declared.input_rule.InputRule.{InputRule}
+use Rattle.file_identity.specs.Key.{named_key}
 use Rattle.file_looks.specs.Looks.{IsAnswered, IsLook}
 use Rattle.harvester.specs.History.{IsTelling, rules_in}
 use Rattle.harvester.specs.Looked.{IsLookedAt}
 use Rattle.kept_rows.proofs.Worked as worked
+use Rattle.kept_rows.specs.Drained.{IsPassedOver}
 use Rattle.kept_rows.specs.Scans.{IsCovered, ShowsEntry}
 use Rattle.line_cutter.specs.declared.line.Line.{Line}
 use Rattle.lumber_frame.proofs.Settling.{none_in_nothing}
@@ -27,22 +31,15 @@ use Rattle.wire_base.specs.declared.note.Cause.TheVariants.{Acked}
 use Rattle.wire_base.specs.declared.note.Note.{Note}
 use Rattle.wire_base.specs.declared.note.Note.TheVariants.{Begin, Settle}
 use Rattle.wire_base.specs.declared.parcel.Parcel.{Parcel}
-use Rattle.accounts.specs.RunDone.{IsAmongFiles, RunDone, WasPassed}
+use Rattle.accounts.specs.RunDone.{IsAmongFiles, RunDone}
 use Rattle.accounts.specs.Filed.{Filed}
 use Rattle.accounts.specs.FollowedFile.{IsFollowedFile, tail_of}
 use Rattle.accounts.specs.RunTold.{RunTold}
 use Rattle.accounts.specs.Taken.{Taken}
 use Rattle.accounts.specs.ToldFile.{IsToldFile}
-use Rattle.accounts.specs.Turned.{Turned}
-use Rattle.accounts.proofs.Worked.{history, opened, telling}
+use Rattle.accounts.proofs.Worked.{begin, history, opened, telling}
 
--- ---- its file
-
-abbrev turned : Turned
-turned = record { slot = record { 0 = 0 }; history = history }
-
-abbrev file : Filed
-file = record { opened = opened; turned = turned; looks = worked.looks; changed = 0 }
+-- ---- what was told of its file
 
 -- of a life that goes on with the two lines
 module _ (more : List ℕ) where
@@ -70,70 +67,88 @@ module _ (more : List ℕ) where
     );
   }
 
-is_telling : IsTelling (rules_in history) telling
-is_telling of has = subst (λ (l : List ℕ). AreTold plain [] l 0 both_events) (sym has.behind) (two_lines_are_told has.more)
+-- with any globs and any identity, the numbers of its file and its key
+module _ (globs : List (List ℕ)) (identity : IdentityRule) (numbers : Option (ℕ × ℕ)) (key : List ℕ) where
+  abbrev rule_by : InputRule
+  rule_by = record worked.input { paths = globs; file_identity = identity }
 
-is_look : (look : Look) → look.sight ≡ worked.sight → IsAnswered look.question worked.sight → IsLook worked.file worked.sight look
-is_look look is answered =
-    subst (λ s. IsLook worked.file worked.sight (record look { sight = s })) (sym is) (record {
-      of_file = record { known = lit≤ tt; within = lit≤ tt; in_range = lit≤ tt };
-      no_earlier = record { life = omega arith; length = λ same. omega arith };
-      answered = answered;
-    })
+  abbrev pub file_by : Filed
+  file_by = record {
+    opened = record opened { begin = record begin { key = key }; rule = rule_by; file = record worked.file { numbers = numbers } };
+    turned = record { slot = record { 0 = 0 }; history = record history { rule = rule_by; begin = record begin { key = key } } };
+    looks = worked.looks;
+    changed = 0;
+  }
 
-looked : IsLookedAt worked.file.numbers history (tail_of file)
-looked = record {
-  since = worked.looks;
-  beyond = [];
-  looks_are = refl;
-  front = [];
-  last = worked.segment;
-  segments = refl;
-  past = tt;
-  present = record {
-    place = refl;
-    to = refl;
-    bytes = refl;
-    on = ((λ e. tt, (λ e. refl, (λ e. tt, (λ e. refl, tt)))));
-    kept_key = inl refl;
-    licensed = tt;
-  };
-  stand_behind = refl;
-  end_look = λ ended. worked.end_look;
-}
+  is_telling : IsTelling (rules_in file_by.turned.history) telling
+  is_telling of has = subst (λ (l : List ℕ). AreTold plain [] l 0 both_events) (sym has.behind) (two_lines_are_told has.more)
 
-told_file : IsToldFile [] opened (0 ∷ []) turned (Some (tail_of file))
-told_file = record {
-  slot = refl;
-  history = record {
-    rule = refl;
-    processors_are = refl;
-    begin = refl;
-    none_before = refl;
-    path = refl;
-    not_ending = refl;
-    not_forgotten = refl;
-    epochs = (refl, refl, tt);
-    at = ([], [], refl, tt);
-    told = (
-      (record { path_is = refl; given = (0, omega arith, refl) }, (record { path_is = refl; given = (0, omega arith, refl) }, tt)),
-      tt,
-    );
-  };
-  epochs = (is_telling, tt);
-  looked = looked;
-  tail = record { opening = refl; number = refl; begun = refl; file = refl };
-  tells = (
-    is_look (record { question = Length; sight = worked.sight }) refl tt,
-    (
-      is_look (record { question = ReadAt 0 4; sight = worked.sight }) refl (λ some. lit≤ tt, λ none. cc),
+  is_look : (look : Look) → look.sight ≡ worked.sight → IsAnswered look.question worked.sight → IsLook file_by.opened.file worked.sight look
+  is_look look is answered =
+      subst (λ s. IsLook file_by.opened.file worked.sight (record look { sight = s })) (sym is) (record {
+        of_file = record { known = lit≤ tt; within = lit≤ tt; in_range = lit≤ tt };
+        no_earlier = record { life = omega arith; length = λ same. omega arith };
+        answered = answered;
+      })
+
+  looked : IsLookedAt numbers file_by.turned.history (tail_of file_by)
+  looked = record {
+    since = worked.looks;
+    beyond = [];
+    looks_are = refl;
+    front = [];
+    last = worked.segment;
+    segments = refl;
+    past = tt;
+    present = record {
+      place = refl;
+      to = refl;
+      bytes = refl;
+      on = ((λ e. tt, (λ e. refl, (λ e. tt, (λ e. refl, tt)))));
+      kept_key = inl refl;
+      licensed = tt;
+    };
+    stand_behind = refl;
+    end_look = λ ended. worked.end_look;
+  }
+
+  pub told_file : IsToldFile [] file_by.opened (0 ∷ []) file_by.turned (Some (tail_of file_by))
+  told_file = record {
+    slot = refl;
+    history = record {
+      rule = refl;
+      processors_are = refl;
+      begin = refl;
+      none_before = refl;
+      path = refl;
+      not_ending = refl;
+      not_forgotten = refl;
+      epochs = (refl, refl, tt);
+      at = ([], [], refl, tt);
+      told = (
+        (record { path_is = refl; given = (0, omega arith, refl) }, (record { path_is = refl; given = (0, omega arith, refl) }, tt)),
+        tt,
+      );
+    };
+    epochs = (is_telling, tt);
+    looked = looked;
+    tail = record { opening = refl; number = refl; begun = refl; file = refl };
+    tells = (
+      is_look (record { question = Length; sight = worked.sight }) refl tt,
       (
-        is_look (record { question = Length; sight = worked.sight }) refl tt,
-        (is_look (record { question = ReadAt 4 0; sight = worked.sight }) refl (λ some. lit≤ tt, λ none. lit≤ tt), tt),
+        is_look (record { question = ReadAt 0 4; sight = worked.sight }) refl (λ some. lit≤ tt, λ none. cc),
+        (
+          is_look (record { question = Length; sight = worked.sight }) refl tt,
+          (is_look (record { question = ReadAt 4 0; sight = worked.sight }) refl (λ some. lit≤ tt, λ none. lit≤ tt), tt),
+        ),
       ),
-    ),
-  );
-}
+    );
+  }
+
+-- ---- its file, known by its path
+
+abbrev file : Filed
+file = file_by worked.input.paths Path None worked.key
 
 followed_file : IsFollowedFile worked.run worked.scan file
 followed_file = record {
@@ -142,9 +157,9 @@ followed_file = record {
   in_range = (lit≤ tt, lit≤ tt);
   file_is = refl;
   tail = record { in_this_run = lit≤ tt; begun = worked.sight; opened = refl; tells = refl };
-  told = told_file;
+  told = told_file worked.input.paths Path None worked.key;
   shown = worked.shown;
-  listed = record { number = 0; shows = worked.shows_to; path_is = refl; before = (lit≤ tt, tt); starts = refl };
+  listed = record { number = 0; shows = worked.shows_to; path_is = refl; first = worked.first_path; before = (lit≤ tt, tt); starts = refl };
   moment = inl refl;
 }
 
@@ -205,12 +220,12 @@ has_told = record {
     only = refl;
     scans = worked.is_account.followed.scans;
     askings = (record { no_tail = refl; rule = worked.input; rule_is = refl }, tt);
-    inputs = record { each = (record { identity = refl; no_colon = (λ e. cc, tt) }, tt); ids_apart = (none_there worked.input.id, tt) };
+    inputs = record { each = (record { identity = tt; no_colon = (λ e. cc, tt) }, tt); ids_apart = (none_there worked.input.id, tt) };
   };
   followed = record {
     each = (followed_file, tt);
     slots = (omega arith, tt);
-    names_apart = (none_there (record { path = a_log; input = 0 }), tt);
+    keys_apart = (none_there worked.key, tt);
     openings_apart = (none_there 2, tt);
     openings_serve = worked.is_account.followed.openings_serve;
   };
@@ -258,7 +273,16 @@ is_done = record {
 }
   where
     served : (other : Shown) (input : ℕ) (rule : InputRule) → ShowsEntry worked.run.trace worked.scan other → slice_get worked.run.settings.inputs input ≡ Some rule →
-        IsCovered rule.paths other.entry.path → IsAmongFiles (file ∷ []) other input ⊎ WasPassed worked.run other
+        IsCovered rule.paths other.entry.path → IsAmongFiles (file ∷ []) rule other input ⊎ IsPassedOver worked.run rule worked.scan other input
     served other zero rule shows is covered =
-        inl (record { file = file; of_files = (0, omega arith, refl); name_is = ap (λ (s : Shown). record { path = s.entry.path; input = 0 }) (worked.only_entry other shows) })
+        let q : Some worked.input ≡ Some rule = is in
+        let same_rule : worked.input ≡ rule = cc in
+        let same_entry = worked.only_entry other shows in
+        inl (record {
+          file = file;
+          of_files = (0, omega arith, refl);
+          input_is = refl;
+          path_is = ap (λ (s : Shown). s.entry.path) same_entry;
+          key_is = sym (λ k. named_key (same_rule k).id (same_rule k).file_identity (same_entry k).entry.path (same_entry k).entry.native);
+        })
     served other (suc input) rule shows is covered = absurd (let q : None ≡ Some rule = is in cc)

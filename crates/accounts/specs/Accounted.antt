@@ -1,6 +1,6 @@
--- The account of a file that was told in a run that reads files once, by a path that stays (this project's profile): one tail
--- followed it, and each of its epochs was read through one segment of that tail's looks. Behind its last epoch may stand one of
--- which nothing was told, where the length fell at last.
+-- The account of a file that was told in a run that reads files once, and knows them by what listings tell (this project's profile):
+-- one tail followed it, and each of its epochs was read through one segment of that tail's looks. Behind its last epoch may stand one
+-- of which nothing was told, where the length fell at last.
 use Rattle.std.specs.Prelude.{◌≡◌, ℕ, ◌+◌, ◌≤◌, List, [], ◌∷◌, map, slice_get, Option, None, Some}
 use Rattle.std.specs.Option.{option_map_or}
 use Rattle.event_tree.specs.declared.group_rule.GroupRule.{GroupRule}

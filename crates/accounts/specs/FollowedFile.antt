@@ -1,11 +1,11 @@
 -- The files that a run follows, each by one tail (this project's profile): the one scan listed them, the folder opened them by
--- their paths, and what their tails told stands in the folder's list.
+-- their paths and found their keys, and what their tails told stands in the folder's list.
 use Rattle.std.specs.Prelude.{◌≡◌, ◌⊎◌, ℕ, ◌+◌, ◌≤◌, max, List, [], ◌∷◌, Contains, map, slice_get, Some}
 use Rattle.std.specs.List.{AllByRecursion}
-use Rattle.file_identity.specs.Key.{path_key}
+use Rattle.file_identity.specs.Key.{named_key}
 use Rattle.kept_rows.specs.Followed.{OnlyReads, Start, start_by}
 use Rattle.kept_rows.specs.Run.{Run, Scan}
-use Rattle.kept_rows.specs.Scans.{AreDistinct, IsBefore, ShowsFileTo, moment_in}
+use Rattle.kept_rows.specs.Scans.{AreDistinct, IsBefore, IsFirstPath, ShowsFileTo, moment_in}
 use Rattle.kept_rows.specs.Telling.{opening_moment}
 use Rattle.kept_rows.specs.Trace.{IsTail}
 use Rattle.multiline_core.specs.Rule.{IsGroupRule}
@@ -31,24 +31,20 @@ tail_of file = record {
 abbrev pub opening_in : Filed → ℕ
 opening_in file = file.opened.opening
 
--- a path, for an input
-pub record Named : Type 0 where
-  pub path : List ℕ
-  pub input : ℕ
-
-abbrev pub name_in : Filed → Named
-name_in file = record { path = file.opened.begin.path; input = file.opened.begin.input }
+abbrev pub key_in : Filed → List ℕ
+key_in file = file.opened.begin.key
 
 -- its epoch and place, as it was begun
 abbrev pub start_in : Opened → Start
 start_in opened = record { epoch = opened.begin.epoch.0; base = opened.begin.base }
 
--- the scan shows this entry by its path, for its input, before it was opened; by the registry's row and the entry's size it began.
--- The entry is the one from which the listed file was made
+-- the scan shows this entry by its path, for its input, before it was opened, and its key by no earlier path; by the registry's row and the
+-- entry's size it began. The entry is the one from which the listed file was made
 pub record IsListedAs (run : Run) (scan : Scan) (opened : Opened) (shown : Shown) : Type 0 where
   pub number : ℕ
   pub shows : ShowsFileTo run scan opened.begin.input opened.begin.key number shown
   pub path_is : shown.entry.path ≡ opened.begin.path
+  pub first : IsFirstPath run scan opened.begin.key number opened.begin.path
   pub before : IsBefore opened.opening scan
   pub starts : start_in opened ≡ start_by (find opened.begin.key run.opening) shown.entry.size
 
@@ -63,7 +59,7 @@ IsMomentOf run file shown = (file.changed ≡ opening_moment run.opening file.op
 -- `told` is what outlives its harvester; the others stand in the settings, the scan and the folder's list
 pub record IsFollowedFile (run : Run) (scan : Scan) (file : Filed) : Type 0 where
   pub rule_is : slice_get run.settings.inputs file.opened.begin.input ≡ Some file.opened.rule
-  pub key_is : file.opened.begin.key ≡ path_key file.opened.rule.id file.opened.begin.path
+  pub key_is : named_key file.opened.rule.id file.opened.rule.file_identity file.opened.begin.path file.opened.file.numbers ≡ Some file.opened.begin.key
   pub in_range : IsGroupRule file.opened.rule.multiline
   pub file_is : slice_get run.trace.files file.opened.number ≡ Some file.opened.file
   pub tail : IsTail run.trace file.opened.opening file.opened.begin.path file.opened.number file.looks
@@ -83,10 +79,10 @@ EachOpeningIsOne run files = (opening : ℕ) (path : List ℕ) (number : ℕ) (b
     slice_get run.trace.events opening ≡ Some (OpenedAs path number begun) →
     Contains (map opening_in files) opening ⊎ OnlyReads run.trace opening
 
--- in the order of their slots, which is that of the listed files; each path is there once for an input, and each opening once
+-- in the order of their slots, which is that of the listed files; each key is there once, and each opening
 pub record AreFollowedFiles (run : Run) (scan : Scan) (files : List Filed) : Type 0 where
   pub each : AllByRecursion (IsFollowedFile run scan) files
   pub slots : AreInSlots 0 files
-  pub names_apart : AreDistinct (map name_in files)
+  pub keys_apart : AreDistinct (map key_in files)
   pub openings_apart : AreDistinct (map opening_in files)
   pub openings_serve : EachOpeningIsOne run files

@@ -1,18 +1,19 @@
 -- What is known besides of a run that ends as done (this project's profile): its scan was whole, each covered entry was followed or
--- nothing was there any more, each file is told to its end, and all that was told is settled and collected.
+-- skipped for its reason, each file is told to its end, and all that was told is settled and collected.
 use Rattle.std.specs.Prelude.{◌≡◌, ◌⊎◌, ℕ, List, ◌++◌, Contains, length, slice_get, Some}
 use Rattle.std.specs.List.{AllByRecursion, flat_map}
 use Rattle.batch_worker.specs.Held.{notes_of}
 use Rattle.event_tree.specs.declared.input_rule.InputRule.{InputRule}
+use Rattle.file_identity.specs.Key.{named_key}
+use Rattle.kept_rows.specs.Drained.{IsPassedOver}
 use Rattle.kept_rows.specs.Run.{Run, Scan}
 use Rattle.kept_rows.specs.Scans.{AreAsked, IsCovered, IsGoodListing, ShowsEntry, globs_in}
-use Rattle.kept_rows.specs.Trace.{WasGone}
 use Rattle.outside.specs.declared.history.Shown.{Shown}
 use Rattle.pass_sums.specs.Weight.{AsOften}
 use Rattle.ship_core.specs.RowOver.{moment_of, slot_of}
 use Rattle.wire_base.specs.declared.note.Note.{Note}
 use Rattle.accounts.specs.Filed.{Filed, slot_in, turned_of}
-use Rattle.accounts.specs.FollowedFile.{Named, moment_by, name_in}
+use Rattle.accounts.specs.FollowedFile.{key_in, moment_by}
 use Rattle.accounts.specs.Taken.{Taken, acknowledged_in}
 use Rattle.accounts.specs.ToldFile.{IsToldToItsEnd}
 use Rattle.accounts.specs.Turned.{Turned, notes_told, parcels_told}
@@ -25,24 +26,19 @@ pub record IsFullScan (run : Run) (scan : Scan) : Type 0 where
   pub none_failed : AllByRecursion (IsGoodListing run.trace) scan.listings
   pub each_asked : AreAsked run scan
 
-abbrev pub name_of : Shown → ℕ → Named
-name_of shown input = record { path = shown.entry.path; input = input }
-
--- one of the files has the entry's path and the input
-pub record IsAmongFiles (files : List Filed) (shown : Shown) (input : ℕ) : Type 0 where
+-- one of the files has the entry's path, its key and the input
+pub record IsAmongFiles (files : List Filed) (rule : InputRule) (shown : Shown) (input : ℕ) : Type 0 where
   pub file : Filed
   pub of_files : Contains files file
-  pub name_is : name_in file ≡ name_of shown input
-
--- nothing was there by the entry's path as it was to be opened
-pub record WasPassed (run : Run) (shown : Shown) : Type 0 where
-  pub opening : ℕ
-  pub was : WasGone run.trace opening shown.entry.path
+  pub input_is : file.opened.begin.input ≡ input
+  pub path_is : file.opened.begin.path ≡ shown.entry.path
+  pub key_is : named_key rule.id rule.file_identity shown.entry.path shown.entry.native ≡ Some (key_in file)
 
 -- each entry that an input covers was listed, and each listed one was begun or skipped
 abbrev pub EachEntryIsServed : Run → Scan → List Filed → Type 0
 EachEntryIsServed run scan files = (shown : Shown) (input : ℕ) (rule : InputRule) → ShowsEntry run.trace scan shown →
-    slice_get run.settings.inputs input ≡ Some rule → IsCovered rule.paths shown.entry.path → IsAmongFiles files shown input ⊎ WasPassed run shown
+    slice_get run.settings.inputs input ≡ Some rule → IsCovered rule.paths shown.entry.path →
+    IsAmongFiles files rule shown input ⊎ IsPassedOver run rule scan shown input
 
 -- ---- its files
 

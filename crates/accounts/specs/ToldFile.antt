@@ -1,6 +1,6 @@
--- What was told of a file in a run that reads files once, by paths that stay (this project's profile): its history goes on from
--- how it was opened, at moments that the clock gave; its epochs are told; and its looks are those of its tail. This outlives the
--- harvester.
+-- What was told of a file in a run that reads files once, and knows them by what listings tell (this project's profile): its history
+-- goes on from how it was opened, at moments that the clock gave; its epochs are told by the path by which it was opened; and its
+-- looks are those of its tail. This outlives the harvester.
 use Rattle.std.specs.Prelude.{◌≡◌, ℕ, ◌+◌, false, List, [], ◌∷◌, Contains, Option, IfSome}
 use Rattle.std.specs.List.{AllByRecursion}
 use Rattle.event_tree.specs.declared.processor_rule.ProcessorRule.{ProcessorRule}

@@ -1,5 +1,5 @@
-//! What harvesters told in a run that reads files once, by paths that stay: from what their lanes gave to the account of
-//! the run.
+//! What harvesters told in a run that reads files once, and knows them by their paths or native numbers: from what their
+//! lanes gave to the account of the run.
 //!
 //! The history of each file gives a parcel for each event that is shipped, a settlement for each that a rule dropped, and
 //! an announcement for each epoch but the first. A turn of a harvester gives its lane just what its history then has more;
