@@ -1,26 +1,29 @@
 -- Each file that is opened keeps what stands of a run: as its steps say what they changed.
-use Rattle.std.proofs.Common.{◌≡◌, ◌≢◌, ◌⊎◌, inl, inr, ℕ, suc, ◌≤◌, Bool, true, false, List, [], ◌∷◌, ◌++◌, Option, Some, None, IsSome, IfSome, Ok, Err, length, ◌<◌, ◌%◌, arith, refl, sym, ap, subst, ◌∙◌}
+use Rattle.std.proofs.Common.{◌≡◌, ◌≢◌, ◌⊎◌, inl, inr, ℕ, suc, ◌≤◌, true, false, List, [], ◌∷◌, ◌++◌, Option, Some, None, IsSome, IfSome, Ok, Err, length, ◌<◌, ◌%◌, arith, refl, sym, ap, subst, ◌∙◌}
 use Rattle.std.proofs.lemmas.List.Elements.{Contains-append_right}
 use Rattle.std.specs.Prelude.{slice_get}
 use Rattle.accounts.specs.Opened.{IsTailOf, Opened}
 use Rattle.accounts.specs.Turning.{IsTurnedSo}
 use Rattle.accounts.proofs.Lists.{each_then}
 use Rattle.accounts.proofs.Onward.{stands_opened}
-use Rattle.event_tree.specs.declared.input_rule.IdentityRule.TheVariants.{Path}
 use Rattle.event_tree.specs.declared.input_rule.InputRule.{InputRule}
 use Rattle.file_looks.specs.Looks.{TellsLooks}
-use Rattle.file_identity.specs.Key.{named_key, path_key}
+use Rattle.file_identity.specs.Key.{named_key}
 use Rattle.harvester.specs.HasTold.{HasTold}
 use Rattle.harvester.specs.History as history
 use Rattle.harvester.specs.Standing.{stage_of}
 use Rattle.harvester.specs.declared.harvester.Harvester.{Harvester}
 use Rattle.harvester.specs.declared.stage.Stage.TheVariants as stage
 use Rattle.keeper.specs.Keeping.{Keeping}
+use Rattle.kept_rows.specs.Scans.{IsNoFingerprint}
 use Rattle.multiline_core.specs.Rule.{IsGroupRule}
 use Rattle.outside.specs.Folders.{FolderHistory, TellsOpening}
 use Rattle.outside.specs.declared.failed.FolderError.TheVariants.{Failed, NoMemory as WithoutMemory}
+use Rattle.outside.specs.Tails.{TailHistory}
 use Rattle.outside.specs.declared.history.Look.{Look}
 use Rattle.prospect.specs.declared.listed.Listed.{Listed}
+use Rattle.report.specs.declared.passing.Why.{Why}
+use Rattle.report.specs.declared.passing.Why.TheVariants as why
 use Rattle.rounds.specs.Crewed.{lanings}
 use Rattle.rounds.specs.Words.{Words}
 use Rattle.rounds.specs.declared.crew.Crew.{Crew}
@@ -29,7 +32,7 @@ use Rattle.wire_base.specs.declared.note.Begin.{Begin}
 use Rattle.wire_base.specs.declared.numbers.Moment.{Moment}
 use Rattle.run_steps.specs.Began.{Began}
 use Rattle.run_steps.specs.BeginFor.{begin_for, start_among}
-use Rattle.run_steps.specs.Beginning.{AdmitsAt, Beginning, BeginsFile, BeginsOne, GivesFileUp, IsOpenedFor, OpensNone, SameLanes}
+use Rattle.run_steps.specs.Beginning.{AdmitsAt, Beginning, BeginsFile, BeginsOne, ClosesFile, GivesFileUp, HasListedKey, IsOpenedFor, OpensNone, SameLanes}
 use Rattle.run_steps.specs.BeginsAll.{file_at}
 use Rattle.run_steps.specs.Begun.{noted_begin}
 use Rattle.run_steps.specs.FolderSeen.{FolderSeen}
@@ -42,21 +45,19 @@ use Rattle.run_steps.specs.declared.met.Met.{Met}
 use Rattle.run_steps.specs.declared.met.Met.TheVariants as met
 use Rattle.run_steps.proofs.BegunFolder.{error_shown, none_shown, unread_shown}
 use Rattle.run_steps.proofs.BeginningOne.{Begins, IsBegunSo, at_phase, stands_at, stands_same}
-use Rattle.run_steps.proofs.BeginningSteps.{begins_next, left_after, stands_left}
+use Rattle.run_steps.proofs.BeginningSteps.{begins_next, left_after, shown_tells, stands_left}
 use Rattle.run_steps.proofs.TailOpened.{HasTail, IsShown, has_tail, opened_now}
 
 module _ {T W L D : Type 0} (words : Words T W L D) (reads : (disk : D) → IfSome (words.disks.contents disk) (words.disks.images disk))
     (counts : (disk : D) (at : ℕ) (image : List ℕ) → at ≤ words.disks.moment disk → words.disks.images disk image → words.disks.images_since disk at image)
     (start : Began D) (moments : Option (List ℕ)) (a b : D) (now : Moment) where
-  -- a listed file of an input that tells files by their paths
+  -- a listed file of an input that knows its files without reading them
   pub record IsToBegin (slot : ℕ) (listed : Listed) : Type 0 where
     pub there : slice_get start.listed slot ≡ Some listed
     pub rule : InputRule
     pub rule_is : slice_get start.settings.inputs listed.input ≡ Some rule
-    pub by_path : rule.file_identity ≡ Path
+    pub named : IsNoFingerprint rule.file_identity
     pub in_range : IsGroupRule rule.multiline
-    -- where the folder tells
-    pub keyed : IsSome start.shown → (numbers : Option (ℕ × ℕ)) × (listed.key ≡ named_key rule.id Path listed.path numbers)
 
   -- all that stands of a run in this state, with its files begun below the slot
   abbrev pub BeginsBelow : ℕ → Beginning T W L → Type 0
@@ -117,24 +118,25 @@ module _ {T W L D : Type 0} (words : Words T W L D) (reads : (disk : D) → IfSo
     -- ---- one was opened
 
     -- by the rule of its input
-    begun_so : (key : List ℕ) → listed.key ≡ Some key → (one : Opened) → one.begin ≡ begin_for (record { 0 = slot }) listed key (start_among start.opening listed) → one.rule ≡ to.rule → IsBegunSo words start moments a b slot one
-    begun_so key key_is one begin_is rule_is = record {
+    begun_so : (key : List ℕ) → listed.key ≡ Some key → (one : Opened) → one.begin ≡ begin_for (record { 0 = slot }) listed key (start_among start.opening listed) → one.rule ≡ to.rule →
+        (IsSome start.shown → named_key to.rule.id to.rule.file_identity listed.path one.file.numbers ≡ Some key) → IsBegunSo words start moments a b slot one
+    begun_so key key_is one begin_is rule_is found = record {
       as_listed = record {
         one = listed;
         listed_there = ap (λ (g : Begin). slice_get start.listed g.slot.0) begin_is ∙ to.there;
         keyed = key_is ∙ ap (λ (g : Begin). Some g.key) (sym begin_is);
         begin_is = begin_is ∙ ap (λ (g : Begin). begin_for g.slot listed g.key (start_among start.opening listed)) (sym begin_is);
         rule_is = to.rule_is ∙ ap Some (sym rule_is);
-        by_path = ap (λ (r : InputRule). r.file_identity) rule_is ∙ to.by_path;
+        named = subst (λ (r : InputRule). IsNoFingerprint r.file_identity) (sym rule_is) to.named;
         in_range = subst (λ (r : InputRule). IsGroupRule r.multiline) (sym rule_is) to.in_range;
       };
-      keyed = λ some. ap (λ (r : InputRule). Some (path_key r.id one.begin.path)) rule_is ∙ ap (λ (g : Begin). Some (path_key to.rule.id g.path)) begin_is
-          ∙ sym (to.keyed some).1 ∙ key_is ∙ ap (λ (g : Begin). Some g.key) (sym begin_is);
+      keyed = λ some. ap (λ (r : InputRule). named_key r.id r.file_identity one.begin.path one.file.numbers) rule_is
+          ∙ ap (λ (g : Begin). named_key to.rule.id to.rule.file_identity g.path one.file.numbers) begin_is ∙ found some ∙ ap (λ (g : Begin). Some g.key) (sym begin_is);
       slot_is = ap (λ (g : Begin). g.slot.0) begin_is;
     }
 
     module _ (mid : Option FolderHistory) (tail : T) (opens : TellsOpening words.tails.told words.tails.numbers old.folder.told old.folder.states old.folder.present listed.path (Ok (Some tail)) mid)
-        (key : List ℕ) (key_is : listed.key ≡ Some key) where
+        (found : HasListedKey words.tails start.settings (file_at start.opening slot listed now) tail) (key : List ℕ) (key_is : listed.key ≡ Some key) where
       begin : Begin
       begin = begin_for (record { 0 = slot }) listed key (start_among start.opening listed)
 
@@ -142,7 +144,22 @@ module _ {T W L D : Type 0} (words : Words T W L D) (reads : (disk : D) → IfSo
       has = has_tail words.tails (begin_for (record { 0 = slot }) listed key (start_among start.opening listed)) to.rule old.folder.states old.folder.present tail old.folder.told mid opens
 
       so : IsBegunSo words start moments a b slot has.one
-      so = begun_so key key_is has.one has.begin_is has.rule_is
+      so = begun_so key key_is has.one has.begin_is has.rule_is found_key
+        where
+          of_told : (o : Option TailHistory) → IsSome o → IfSome o (λ told. words.tails.numbers tail ≡ has.one.file.numbers) → words.tails.numbers tail ≡ has.one.file.numbers
+          of_told None some same = absurd (let q : false ≡ true = some in cc)
+          of_told (Some told) some same = same
+
+          same_rule : (x y : InputRule) → Some x ≡ Some y → x ≡ y
+          same_rule x y e = cc
+
+          -- the tail tells the numbers of its file
+          found_key : IsSome start.shown → named_key to.rule.id to.rule.file_identity listed.path has.one.file.numbers ≡ Some key
+          found_key some =
+              let tells = shown_tells begins.so_far has.one (words.tails.told tail) start.shown old.folder.told mid begins.stands.shown has.shown some in
+              ap (named_key to.rule.id to.rule.file_identity listed.path) (sym (of_told (words.tails.told tail) tells has.numbers_are))
+              ∙ ap (λ (r : InputRule). named_key r.id r.file_identity listed.path (words.tails.numbers tail)) (same_rule to.rule found.rule (sym to.rule_is ∙ found.rule_is))
+              ∙ found.key_is ∙ key_is
 
       tells_it : (keeper new : Keeping) → TellsNotes (noted_begin (begin_for (record { 0 = slot }) listed key (start_among start.opening listed)) ∷ []) keeper new → TellsNotes (noted_begin has.one.begin ∷ []) keeper new
       tells_it keeper new tells = subst (λ (g : Begin). TellsNotes (noted_begin g ∷ []) keeper new) (sym has.begin_is) tells
@@ -186,21 +203,33 @@ module _ {T W L D : Type 0} (words : Words T W L D) (reads : (disk : D) → IfSo
         let key = taken.tells.key in
         let key_is = taken.tells.key_is in
         let opens = is.opened.opens.told in
-        let of = has is.mid.folder.told is.tail opens key key_is in
+        let of = has is.mid.folder.told is.tail opens is.keyed key key_is in
         let harvester = is.follows.harvester in
         let kept = is.follows.opened.tail_kept in
-        let tells = tells_it is.mid.folder.told is.tail opens key key_is is.mid.keeper new.keeper taken.tells.tells in
+        let tells = tells_it is.mid.folder.told is.tail opens is.keyed key key_is is.mid.keeper new.keeper taken.tells.tells in
         subst (λ (f : FolderSeen). Begins words start moments a b now f.told new.crew new.keeper (suc slot)) (sym taken.folder)
-        (begins_next words reads counts start moments a b now old.folder.told old.crew old.keeper slot begins of.one (so is.mid.folder.told is.tail opens key key_is) new.keeper
+        (begins_next words reads counts start moments a b now old.folder.told old.crew old.keeper slot begins of.one (so is.mid.folder.told is.tail opens is.keyed key key_is) new.keeper
         (subst (λ (k : Keeping). TellsNotes (noted_begin of.one.begin ∷ []) k new.keeper) is.opened.keeper tells) harvester
-        (turns is.mid.folder.told is.tail opens key key_is harvester is.follows.opened) (not_over is.mid.folder.told is.tail opens key key_is harvester is.follows.opened)
+        (turns is.mid.folder.told is.tail opens is.keyed key key_is harvester is.follows.opened) (not_over is.mid.folder.told is.tail opens is.keyed key key_is harvester is.follows.opened)
         (slot % length old.crew.lanes.items) new.crew
         (subst (λ (c : Crew T W L). AdmitsAt (slot % length c.lanes.items) harvester (lanings c.lanes.items) (lanings new.crew.lanes.items)) is.opened.crew taken.admits)
         (subst (λ (c : Crew T W L). new.crew ≡ record c { lanes = new.crew.lanes }) is.opened.crew taken.others) is.mid.folder.told
         (subst (λ (t : T). IsShown old.folder.told of.one (words.tails.told t) is.mid.folder.told) (sym kept) of.shown))
 
+    -- whatever its key
+    opened_some : (mid : Option FolderHistory) (tail : T) → TellsOpening words.tails.told words.tails.numbers old.folder.told old.folder.states old.folder.present listed.path (Ok (Some tail)) mid →
+        HasTail words.tails (begin_for (record { 0 = slot }) listed [] (start_among start.opening listed)) to.rule old.folder.told tail mid
+    opened_some mid tail opens = has_tail words.tails (begin_for (record { 0 = slot }) listed [] (start_among start.opening listed)) to.rule old.folder.states old.folder.present tail old.folder.told mid opens
+
+    -- it was closed again, and the keeper was told nothing
+    pub closed_again : (Why : T → Type 0) (new : Beginning T W L) → ClosesFile words.tails (file_at start.opening slot listed now) Why old new → BeginsBelow slot new
+    closed_again Why new is =
+        let of = opened_some is.mid.folder.told is.tail is.opened.opens.told in
+        moved new slot (is.closed.crew ∙ is.opened.crew) (is.closed.keeper ∙ is.opened.keeper) (with_shown new.folder.told
+        (unread_shown begins.so_far of.one (words.tails.told is.tail) (words.tails.faults is.tail) start.shown old.folder.told is.mid.folder.told new.folder.told begins.stands.shown of.shown is.closed.closes.told))
+
     -- its tail was closed again
-    pub given_up : (new : Beginning T W L) → GivesFileUp words.tails (file_at start.opening slot listed now) old new → Leaves new
+    pub given_up : (new : Beginning T W L) → GivesFileUp words.tails start.settings (file_at start.opening slot listed now) old new → Leaves new
     given_up new is = by_case is.gives_up.keeper
       where
         lanes_so : SameLanes old.crew new.crew
@@ -220,32 +249,33 @@ module _ {T W L D : Type 0} (words : Words T W L D) (reads : (disk : D) → IfSo
             (stands_at words start moments a b old.folder.told new.folder.told old.crew old.keeper Leaving begins.so_far (λ e. let no : Leaving ≡ Finished = e in cc)
             (unread_shown begins.so_far of.one (words.tails.told is.tail) (words.tails.faults is.tail) start.shown old.folder.told is.mid.folder.told new.folder.told begins.stands.shown of.shown is.gives_up.closes.told)
             begins.stands)
-          where
-            -- whatever its key
-            opened_some : (mid : Option FolderHistory) (tail : T) → TellsOpening words.tails.told words.tails.numbers old.folder.told old.folder.states old.folder.present listed.path (Ok (Some tail)) mid →
-                HasTail words.tails (begin_for (record { 0 = slot }) listed [] (start_among start.opening listed)) to.rule old.folder.told tail mid
-            opened_some mid tail opens = has_tail words.tails (begin_for (record { 0 = slot }) listed [] (start_among start.opening listed)) to.rule old.folder.states old.folder.present tail old.folder.told mid opens
         by_case (inr told) =
             let opens = is.opened.opens.told in
-            let of = has is.mid.folder.told is.tail opens told.key told.key_is in
-            let tells = tells_it is.mid.folder.told is.tail opens told.key told.key_is is.mid.keeper new.keeper told.tells in
-            at_end new.keeper (left_after words reads counts start moments a b now old.folder.told old.crew old.keeper slot begins of.one (so is.mid.folder.told is.tail opens told.key told.key_is) new.keeper
+            let of = has is.mid.folder.told is.tail opens is.keyed told.key told.key_is in
+            let tells = tells_it is.mid.folder.told is.tail opens is.keyed told.key told.key_is is.mid.keeper new.keeper told.tells in
+            at_end new.keeper (left_after words reads counts start moments a b now old.folder.told old.crew old.keeper slot begins of.one (so is.mid.folder.told is.tail opens is.keyed told.key told.key_is) new.keeper
             (subst (λ (k : Keeping). TellsNotes (noted_begin of.one.begin ∷ []) k new.keeper) is.opened.keeper tells)
             (words.tails.told is.tail) of.no_looks of.tail_is of.tells (words.tails.faults is.tail) is.mid.folder.told new.folder.told of.shown is.gives_up.closes.told) refl
-            (stands_left words reads counts start moments a b now old.folder.told old.crew old.keeper slot begins of.one (so is.mid.folder.told is.tail opens told.key told.key_is) new.keeper
+            (stands_left words reads counts start moments a b now old.folder.told old.crew old.keeper slot begins of.one (so is.mid.folder.told is.tail opens is.keyed told.key told.key_is) new.keeper
             (subst (λ (k : Keeping). TellsNotes (noted_begin of.one.begin ∷ []) k new.keeper) is.opened.keeper tells)
             (words.tails.told is.tail) of.no_looks of.tail_is of.tells (words.tails.faults is.tail) is.mid.folder.told new.folder.told of.shown is.gives_up.closes.told)
 
     -- ---- whatever it came to
 
-    pub one_more : (found : Bool) (new : Beginning T W L) → BeginsOne words.tails start.settings (file_at start.opening slot listed now) (Ok found) old new → BeginsBelow (suc slot) new
-    one_more true new is = file_begun new is
-    one_more false new is = none_opened new is
+    pub one_more : (skipped : Option Why) (new : Beginning T W L) → BeginsOne words.tails start.settings (file_at start.opening slot listed now) (Ok skipped) old new → BeginsBelow (suc slot) new
+    one_more None new is = file_begun new is
+    one_more (Some why.Gone) new is = none_opened new is
+    one_more (Some why.Moved) new is = later_slot new slot (closed_again _ new is)
+    one_more (Some why.Doubled) new is = absurd is
+    one_more (Some why.Old) new is = absurd is
+    one_more (Some why.Small) new is = absurd is
 
     pub one_ends : (what : Met) (new : Beginning T W L) → BeginsOne words.tails start.settings (file_at start.opening slot listed now) (Err what) old new → Leaves new
     one_ends met.FolderFault new is = failed_opening new is
     one_ends met.NoMemory new (inl none) = without_memory new none
-    one_ends met.NoMemory new (inr up) = given_up new up
+    one_ends met.NoMemory new (inr (inl up)) = given_up new up
+    one_ends met.NoMemory new (inr (inr closed)) = leaves new slot (closed_again _ new closed)
+    one_ends (met.NoNative other) new is = leaves new slot (closed_again _ new is.1)
     one_ends met.Done new is = absurd is
     one_ends met.Stopped new is = absurd is
     one_ends met.DiskFault new is = absurd is

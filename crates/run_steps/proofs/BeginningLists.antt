@@ -1,5 +1,5 @@
 -- Files begun one behind the other, in the order of their slots: one more, and what stays over all of them.
-use Rattle.std.proofs.Common.{◌≡◌, ◌⊎◌, inl, inr, ⊎_elim, ℕ, zero, suc, ◌+◌, ◌-◌, ◌^◌, ◌≤◌, ◌<◌, Bool, true, false, List, [], ◌∷◌, ◌++◌, length, take, append-nil, append_assoc, Some, Result, Ok, Err, IfErr, IsErrAnd, refl, sym, ap, subst, ◌∙◌, arith}
+use Rattle.std.proofs.Common.{◌≡◌, ◌⊎◌, inl, inr, ⊎_elim, ℕ, zero, suc, ◌+◌, ◌-◌, ◌^◌, ◌≤◌, ◌<◌, List, [], ◌∷◌, ◌++◌, length, take, append-nil, append_assoc, Option, None, Some, Result, Ok, Err, IfErr, IsErrAnd, refl, sym, ap, subst, ◌∙◌, arith}
 use Rattle.std.proofs.lemmas.Option.{slice_get_within}
 use Rattle.std.specs.List.{AllByRecursion}
 use Rattle.std.specs.Prelude.{slice_get}
@@ -8,11 +8,13 @@ use Rattle.keeper.specs.Keeping.{Keeping}
 use Rattle.outside.specs.Counts.{Rose}
 use Rattle.prospect.specs.declared.listed.Listed.{Listed}
 use Rattle.report.specs.declared.passing.Passing.{Passing}
+use Rattle.report.specs.declared.passing.Why.{Why}
 use Rattle.rounds.specs.Crewed.{lanings}
 use Rattle.rounds.specs.Words.{TailWords}
 use Rattle.wire_base.specs.declared.note.Begin.{Begin}
 use Rattle.wire_base.specs.declared.note.Note.{Note}
 use Rattle.wire_base.specs.declared.numbers.Moment.{Moment}
+use Rattle.wire_base.specs.declared.numbers.Slot.{Slot}
 use Rattle.wire_base.specs.declared.row.Row.{Row}
 use Rattle.run_steps.specs.Beginning.{Beginning, BeginsOne, ListedFile}
 use Rattle.run_steps.specs.BeginsAll.{AreSlotsBelow, BeginsAll, BeginsFrom, BeginsOrPasses, BeginsSome, EndsBeginning, EndsInFiles, EndsInOne, IsSlotBelow, KeepsOthers, file_at, many_harvesters, passed_by}
@@ -99,7 +101,7 @@ module _ {T W L : Type 0} (tails : TailWords T) (settings : Settings) (rows : Li
     open_tails = keeps.open_tails;
   }
 
-  one_keeps : (slot : ℕ) (listed : Listed) (result : Result Bool Met) (old new : Beginning T W L) → BeginsOne tails settings (file_at rows slot listed now) result old new → KeepsSteps (suc slot) 1 old new
+  one_keeps : (slot : ℕ) (listed : Listed) (result : Result (Option Why) Met) (old new : Beginning T W L) → BeginsOne tails settings (file_at rows slot listed now) result old new → KeepsSteps (suc slot) 1 old new
   one_keeps slot listed result old new is = record {
     carriers = carriers_kept tails settings (file_at rows slot listed now) old new keeps;
     pace = pace_kept tails settings (file_at rows slot listed now) old new keeps;
@@ -118,9 +120,9 @@ module _ {T W L : Type 0} (tails : TailWords T) (settings : Settings) (rows : Li
       keeps : BeginKeeps tails settings (file_at rows slot listed now) old new
       keeps = begin_keeps tails settings (file_at rows slot listed now) result old new is
 
-      at_most_one : (r : Result Bool Met) → followed_by r ≤ 1
-      at_most_one (Ok true) = omega arith
-      at_most_one (Ok false) = omega arith
+      at_most_one : (r : Result (Option Why) Met) → followed_by r ≤ 1
+      at_most_one (Ok None) = omega arith
+      at_most_one (Ok (Some why)) = omega arith
       at_most_one (Err what) = omega arith
 
       by_lanes : (most : ℕ) → suc slot ≤ most → AreSlotsBelow most (lanings old.crew.lanes.items) →
@@ -135,7 +137,7 @@ module _ {T W L : Type 0} (tails : TailWords T) (settings : Settings) (rows : Li
   from_keeps slot (one ∷ listed) passed old new is =
       subst (λ (n : ℕ). KeepsSteps (suc (length listed) + slot) n old new) (one_first (length listed))
       (keeps_then (suc (length listed) + slot) 1 (length listed) old is.mid new
-      (higher (suc slot) (suc (length listed) + slot) 1 old is.mid (omega arith) (one_keeps slot one (Ok is.found) old is.mid is.first))
+      (higher (suc slot) (suc (length listed) + slot) 1 old is.mid (omega arith) (one_keeps slot one (Ok is.why) old is.mid is.first))
       (higher (length listed + suc slot) (suc (length listed) + slot) (length listed) is.mid new (omega arith) (from_keeps (suc slot) listed is.later is.mid new is.rest)))
     where
       one_first : (n : ℕ) → 1 + n ≡ suc n
@@ -143,7 +145,7 @@ module _ {T W L : Type 0} (tails : TailWords T) (settings : Settings) (rows : Li
 
   -- ---- keys
 
-  one_knows : (keys : List (List ℕ)) (slot : ℕ) (listed : Listed) (result : Result Bool Met) (old new : Beginning T W L) → IsOfKeys keys listed → BeginsOne tails settings (file_at rows slot listed now) result old new →
+  one_knows : (keys : List (List ℕ)) (slot : ℕ) (listed : Listed) (result : Result (Option Why) Met) (old new : Beginning T W L) → IsOfKeys keys listed → BeginsOne tails settings (file_at rows slot listed now) result old new →
       KnowsAmong keys old.keeper → KnowsAmong keys new.keeper
   one_knows keys slot listed result old new of is knows =
       ⊎_elim (λ same. subst (KnowsAmong keys) (sym same) knows)
@@ -154,7 +156,7 @@ module _ {T W L : Type 0} (tails : TailWords T) (settings : Settings) (rows : Li
       BeginsFrom tails settings rows now slot listed passed old new → KnowsAmong keys old.keeper → KnowsAmong keys new.keeper
   from_knows keys slot [] passed old new of is knows = subst (λ (s : Beginning T W L). KnowsAmong keys s.keeper) (sym is.1) knows
   from_knows keys slot (one ∷ listed) passed old new of is knows =
-      from_knows keys (suc slot) listed is.later is.mid new of.1 is.rest (one_knows keys slot one (Ok is.found) old is.mid of.0 is.first knows)
+      from_knows keys (suc slot) listed is.later is.mid new of.1 is.rest (one_knows keys slot one (Ok is.why) old is.mid of.0 is.first knows)
 
   keep_others : (most top count : ℕ) (old new : Beginning T W L) → top ≤ most → count ≤ most → KeepsSteps top count old new → KeepsOthers most old new
   keep_others most top count old new under few keeps = record {
@@ -210,8 +212,8 @@ module _ {T W L : Type 0} (tails : TailWords T) (settings : Settings) (rows : Li
         (keep_others (length listed) (length listed + 0) (length listed) old is.mid (omega arith) (omega arith) (from_keeps 0 listed is.passed old is.mid is.begins)) more.tells is.others
 
     -- why it ended early
-    pub begin_ends : (what : Met) → BeginsSome tails settings rows now listed what old new → EndsBeginning what old new
-    begin_ends what (inr is) = subst (λ (m : Met). EndsBeginning m old new) (sym is.0) tt
+    pub begin_ends : (what : Met) → BeginsSome tails settings rows now listed what old new → EndsBeginning (length listed) what old new
+    begin_ends what (inr is) = subst (λ (m : Met). EndsBeginning (length listed) m old new) (sym is.0) tt
     begin_ends met.FolderFault (inl is) =
         let keeps = from_keeps 0 (take is.count listed) is.passed old is.mid is.begins in
         rose_since old.folder.faults is.mid.folder.faults new.folder.faults keeps.faults_never_fall (is.ended.opens.failed_only_where_faults_rose refl)
@@ -221,39 +223,43 @@ module _ {T W L : Type 0} (tails : TailWords T) (settings : Settings) (rows : Li
     begin_ends met.DiskFault (inl is) = absurd is.ended
     begin_ends (met.Unreachable worker) (inl is) = absurd is.ended
     begin_ends (met.Epochs epoch) (inl is) = absurd is.ended
+    begin_ends (met.NoNative other) (inl is) =
+        let inside = slice_get_within listed is.count is.one is.is in
+        let its = ap (λ (s : Slot). s.0) is.ended.0 in
+        omega (arith, inside, its)
 
     pub files_end : {A : Type 0} (result : Result A Met) (what : Met) → IsErrAnd result (λ other. other ≡ what) → EndsInFiles tails settings rows now listed what old new →
-        IfErr result (λ other. EndsBeginning other old new)
+        IfErr result (λ other. EndsBeginning (length listed) other old new)
     files_end (Ok value) what is ended = tt
-    files_end (Err other) what is (inl ended) = subst (λ (m : Met). EndsBeginning m old new) (sym is) (begin_ends what (inl ended))
-    files_end (Err other) what is (inr ended) = subst (λ (m : Met). EndsBeginning m old new) (sym (is ∙ ended.0)) tt
+    files_end (Err other) what is (inl ended) = subst (λ (m : Met). EndsBeginning (length listed) m old new) (sym is) (begin_ends what (inl ended))
+    files_end (Err other) what is (inr ended) = subst (λ (m : Met). EndsBeginning (length listed) m old new) (sym (is ∙ ended.0)) tt
 
-    pub memory_ends : {A : Type 0} (result : Result A Met) → IsErrAnd result (λ other. other ≡ NoMemory) → IfErr result (λ other. EndsBeginning other old new)
+    pub memory_ends : {A : Type 0} (result : Result A Met) → IsErrAnd result (λ other. other ≡ NoMemory) → IfErr result (λ other. EndsBeginning (length listed) other old new)
     memory_ends (Ok value) is = tt
-    memory_ends (Err other) is = subst (λ (m : Met). EndsBeginning m old new) (sym is) tt
+    memory_ends (Err other) is = subst (λ (m : Met). EndsBeginning (length listed) m old new) (sym is) tt
 
   -- ---- one more
 
   pub from_then : (slot : ℕ) (listed : List Listed) (one : Listed) (passed more : List Passing) (old mid new : Beginning T W L) → BeginsFrom tails settings rows now slot listed passed old mid →
       BeginsOrPasses tails settings (file_at rows (length listed + slot) one now) more mid new → BeginsFrom tails settings rows now slot (listed ++ one ∷ []) (passed ++ more) old new
   from_then slot [] one passed more old mid new is then = record {
-    found = then.found;
+    why = then.why;
     mid = new;
-    first = subst (λ (n : ℕ). BeginsOne tails settings (file_at rows n one now) (Ok then.found) old new) (none_longer slot)
-        (subst (λ (s : Beginning T W L). BeginsOne tails settings (file_at rows (0 + slot) one now) (Ok then.found) s new) is.1 then.begins);
+    first = subst (λ (n : ℕ). BeginsOne tails settings (file_at rows n one now) (Ok then.why) old new) (none_longer slot)
+        (subst (λ (s : Beginning T W L). BeginsOne tails settings (file_at rows (0 + slot) one now) (Ok then.why) s new) is.1 then.begins);
     later = [];
-    passed_are = ap (λ (l : List Passing). l ++ more) is.0 ∙ then.more_is ∙ sym (append-nil (passed_by then.found one));
+    passed_are = ap (λ (l : List Passing). l ++ more) is.0 ∙ then.more_is ∙ sym (append-nil (passed_by then.why one));
     rest = (refl, refl);
   }
     where
       none_longer : (n : ℕ) → 0 + n ≡ n
       none_longer n = omega arith
   from_then slot (first ∷ listed) one passed more old mid new is then = record {
-    found = is.found;
+    why = is.why;
     mid = is.mid;
     first = is.first;
     later = is.later ++ more;
-    passed_are = ap (λ (l : List Passing). l ++ more) is.passed_are ∙ append_assoc (passed_by is.found first) is.later more;
+    passed_are = ap (λ (l : List Passing). l ++ more) is.passed_are ∙ append_assoc (passed_by is.why first) is.later more;
     rest = from_then (suc slot) listed one is.later more is.mid mid new is.rest
         (subst (λ (n : ℕ). BeginsOrPasses tails settings (file_at rows n one now) more mid new) (one_longer (length listed)) then);
   }
@@ -279,12 +285,12 @@ module _ {T W L : Type 0} (tails : TailWords T) (settings : Settings) (rows : Li
 
     pub ends_here : (what : Met) (new : Beginning T W L) → EndsInOne tails settings (file_at rows count one now) what mid new → EndsInFiles tails settings rows now listed what old new
     ends_here what new (inl ended) = inl (record { count = count; passed = passed; mid = mid; begins = begins; one = one; is = there; ended = ended })
-    ends_here what new (inr (memory, none)) = inr (
+    ends_here what new (inr (memory, why, skipped)) = inr (
       memory,
       record {
         count = suc count;
-        passed = passed ++ passed_by false one;
-        begins = begins_next (passed_by false one) new (record { found = false; begins = none; more_is = refl });
+        passed = passed ++ passed_by (Some why) one;
+        begins = begins_next (passed_by (Some why) one) new (record { why = Some why; begins = skipped; more_is = refl });
       },
     )
 
@@ -360,7 +366,7 @@ module _ {T W L : Type 0} (tails : TailWords T) (settings : Settings) (rows : Li
 -- ---- one
 
 module _ {T W L : Type 0} (tails : TailWords T) (settings : Settings) where
-  pub followed_one : (file : ListedFile) (found : Bool) (old new : Beginning T W L) (passed : List Passing) → BeginsOne tails settings file (Ok found) old new → found ≡ true →
+  pub followed_one : (file : ListedFile) (why : Option Why) (old new : Beginning T W L) (passed : List Passing) → BeginsOne tails settings file (Ok why) old new → why ≡ None →
       (more : List Passing) × (passed ≡ passed ++ more) × BeginsOrPasses tails settings file more old new
-  followed_one file found old new passed begins is =
-      ([], sym (append-nil passed), record { found = true; begins = subst (λ (b : Bool). BeginsOne tails settings file (Ok b) old new) is begins; more_is = refl })
+  followed_one file why old new passed begins is =
+      ([], sym (append-nil passed), record { why = None; begins = subst (λ (w : Option Why). BeginsOne tails settings file (Ok w) old new) is begins; more_is = refl })

@@ -24,7 +24,7 @@ use Rattle.wire_base.specs.declared.numbers.Moment.{Moment}
 use Rattle.wire_base.specs.declared.numbers.Slot.{Slot}
 use Rattle.run_steps.specs.Began.{Began}
 use Rattle.run_steps.specs.Beginning.{SameLanes}
-use Rattle.run_steps.specs.Begun.{AreBeginNotes, AreSlotsFrom, IsKeyedByPath, IsOpenedAsListed, noted_begin}
+use Rattle.run_steps.specs.Begun.{AreBeginNotes, AreSlotsFrom, IsKeyed, IsOpenedAsListed, noted_begin}
 use Rattle.run_steps.specs.RunState.{Finished, Phase, Reading, RunState}
 use Rattle.run_steps.specs.Shown.{HasShown, IsTurnedIn}
 use Rattle.run_steps.specs.SoFar.{Left, SoFar, files_in}
@@ -143,7 +143,7 @@ module _ {T W L D : Type 0} (words : Words T W L D) (start : Began D) (moments :
   -- the file of this slot, as it is opened by the rule of its input
   pub record IsBegunSo (slot : ℕ) (one : Opened) : Type 0 where
     pub as_listed : IsOpenedAsListed start.settings start.opening start.listed one
-    pub keyed : IsSome start.shown → IsKeyedByPath one
+    pub keyed : IsSome start.shown → IsKeyed one
     pub slot_is : one.begin.slot.0 ≡ slot
 
   module _ (now : Moment) (shown : Option FolderHistory) (crew : Crew T W L) (keeper : Keeping) (slot : ℕ) (begins : Begins now shown crew keeper slot) where
@@ -179,8 +179,8 @@ module _ {T W L D : Type 0} (words : Words T W L D) (start : Began D) (moments :
       pub opened_as_listed : AllByRecursion (IsOpenedAsListed start.settings start.opening start.listed) more
       opened_as_listed = each_last (IsOpenedAsListed start.settings start.opening start.listed) was.opened one begins.stands.opened so.as_listed
 
-      pub keyed : IsSome start.shown → AllByRecursion IsKeyedByPath more
-      keyed some = each_last IsKeyedByPath was.opened one (begins.stands.keyed some) (so.keyed some)
+      pub keyed : IsSome start.shown → AllByRecursion IsKeyed more
+      keyed some = each_last IsKeyed was.opened one (begins.stands.keyed some) (so.keyed some)
 
       pub below_next : AreBelow (suc slot) more
       below_next = each_last (λ (o : Opened). o.begin.slot.0 < suc slot) was.opened one

@@ -1,5 +1,5 @@
 -- Once files were begun, rounds may follow as before, and the areas are at rest still.
-use Rattle.std.proofs.Common.{◌≡◌, ◌⊎◌, inl, inr, ℕ, suc, Bool, List, [], ◌∷◌, ◌++◌, take, Vec, Global, Result, Ok, Err, IfOk, IfErr, sym, ap, subst, ◌∙◌, append_assoc}
+use Rattle.std.proofs.Common.{◌≡◌, ◌⊎◌, inl, inr, ℕ, suc, List, [], ◌∷◌, ◌++◌, take, Vec, Global, Option, Result, Ok, Err, IfOk, IfErr, sym, ap, subst, ◌∙◌, append_assoc}
 use Rattle.std.specs.Borrow.{MutBor}
 use Rattle.atomic_table.specs.Seated.{TableId}
 use Rattle.event_tree.specs.declared.settings.Settings.{Settings}
@@ -8,6 +8,7 @@ use Rattle.prospect.specs.declared.listed.Listed.{Listed}
 use Rattle.registry_store.specs.Settled.{AreSettled}
 use Rattle.registry_store.specs.Standing.{chosen_by}
 use Rattle.report.specs.declared.passing.Passing.{Passing}
+use Rattle.report.specs.declared.passing.Why.{Why}
 use Rattle.rounds.specs.Crewing.{crewing}
 use Rattle.rounds.specs.Rounds.{IsReady}
 use Rattle.rounds.specs.Words.{DiskWords, TailWords}
@@ -37,12 +38,12 @@ rests_on disks a b more old new tells rests = record {
 
 module _ {T W L : Type 0} (tails : TailWords T) (settings : Settings) (rows : List Row) (now : Moment) where
   -- what each step keeps, all of them keep
-  module _ (P : Beginning T W L → Type 0) (one : (slot : ℕ) (listed : Listed) (result : Result Bool Met) (old new : Beginning T W L) → BeginsOne tails settings (file_at rows slot listed now) result old new → P old → P new)
+  module _ (P : Beginning T W L → Type 0) (one : (slot : ℕ) (listed : Listed) (result : Result (Option Why) Met) (old new : Beginning T W L) → BeginsOne tails settings (file_at rows slot listed now) result old new → P old → P new)
       (told : (mid new : Beginning T W L) (more : List Note) → TellsNotes more mid.keeper new.keeper → new ≡ record mid { keeper = new.keeper } → P mid → P new) where
     through_files : (slot : ℕ) (listed : List Listed) (passed : List Passing) (old new : Beginning T W L) → BeginsFrom tails settings rows now slot listed passed old new → P old → P new
     through_files slot [] passed old new is holds = subst P (sym is.1) holds
     through_files slot (first ∷ listed) passed old new is holds =
-        through_files (suc slot) listed is.later is.mid new is.rest (one slot first (Ok is.found) old is.mid is.first holds)
+        through_files (suc slot) listed is.later is.mid new is.rest (one slot first (Ok is.why) old is.mid is.first holds)
 
     through : (listed : List Listed) (result : Result (Vec Passing Global) Met) (old new : Beginning T W L) → IfOk result (λ passed. BeginsAll tails settings rows now listed passed.items old new) →
         IfErr result (λ what. BeginsSome tails settings rows now listed what old new) → P old → P new
@@ -62,7 +63,7 @@ module _ {T W L : Type 0} (tails : TailWords T) (settings : Settings) (rows : Li
     abbrev pub MayRun : Beginning T W L → Type 0
     MayRun state = IsReady tails queue desk (crewing state.crew (lent loan state.keeper a b))
 
-    one_runs : (slot : ℕ) (listed : Listed) (result : Result Bool Met) (old new : Beginning T W L) → BeginsOne tails settings (file_at rows slot listed now) result old new → MayRun old → MayRun new
+    one_runs : (slot : ℕ) (listed : Listed) (result : Result (Option Why) Met) (old new : Beginning T W L) → BeginsOne tails settings (file_at rows slot listed now) result old new → MayRun old → MayRun new
     one_runs slot listed result old new is ready =
         let keeps = begin_keeps tails settings (file_at rows slot listed now) result old new is in
         let others = keeper_others tails settings (file_at rows slot listed now) old new keeps in
@@ -93,7 +94,7 @@ module _ {T W L : Type 0} (tails : TailWords T) (settings : Settings) (rows : Li
     abbrev pub Rests : Beginning T W L → Type 0
     Rests state = IsAtRest disks state.keeper a b
 
-    one_rests : (slot : ℕ) (listed : Listed) (result : Result Bool Met) (old new : Beginning T W L) → BeginsOne tails settings (file_at rows slot listed now) result old new → Rests old → Rests new
+    one_rests : (slot : ℕ) (listed : Listed) (result : Result (Option Why) Met) (old new : Beginning T W L) → BeginsOne tails settings (file_at rows slot listed now) result old new → Rests old → Rests new
     one_rests slot listed result old new is rests = by_case (begin_keeps tails settings (file_at rows slot listed now) result old new is).keeper
       where
         by_case : (new.keeper ≡ old.keeper) ⊎ TellsBegin (record { 0 = slot }) listed (start_among rows listed) old.keeper new.keeper → IsAtRest disks new.keeper a b

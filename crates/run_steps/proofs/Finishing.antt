@@ -1,5 +1,5 @@
--- Where all lanes are done, each file is told to its end: a file that is followed by its path has no other key.
-use Rattle.std.proofs.Common.{◌≡◌, ◌≢◌, ⊎_elim, ℕ, List, [], ◌∷◌, ◌++◌, Contains, Option, Some, None, IsSome, sym, ap, subst, ◌∙◌}
+-- Where all lanes are done, each file is told to its end: a file that is known without being read has no other key.
+use Rattle.std.proofs.Common.{◌≡◌, ◌≢◌, ⊎_elim, ℕ, List, [], ◌∷◌, ◌++◌, Contains, Option, Some, None, IsSome, refl, sym, ap, subst, ◌∙◌}
 use Rattle.std.proofs.lemmas.List.Elements.{All-contains}
 use Rattle.std.specs.List.{AllByRecursion, flat_map}
 use Rattle.accounts.specs.Opened.{Opened}
@@ -7,7 +7,7 @@ use Rattle.accounts.specs.ToldFile.{IsToldToItsEnd}
 use Rattle.accounts.specs.Turned.{Turned}
 use Rattle.accounts.specs.Turning.{IsTurnedSo, Pairs}
 use Rattle.event_tree.specs.declared.input_rule.IdentityRule.{IdentityRule}
-use Rattle.event_tree.specs.declared.input_rule.IdentityRule.TheVariants.{Path}
+use Rattle.event_tree.specs.declared.input_rule.IdentityRule.TheVariants.{Fingerprint, Native, Path}
 use Rattle.event_tree.specs.declared.input_rule.InputRule.{InputRule}
 use Rattle.event_tree.specs.declared.processor_rule.ProcessorRule.{ProcessorRule}
 use Rattle.file_identity.specs.Key.{named_key}
@@ -18,18 +18,26 @@ use Rattle.harvester.specs.Looked.{AreLookedAt, HasChanged, IsLookedAt, StandBeh
 use Rattle.harvester.specs.Standing.{stage_of}
 use Rattle.harvester.specs.declared.harvester.Harvester.{Harvester}
 use Rattle.harvester.specs.declared.stage.Stage.TheVariants as stage
+use Rattle.kept_rows.specs.Scans.{IsNoFingerprint}
 use Rattle.lanes.specs.Done.{IsDone, IsThrough}
 use Rattle.lanes.specs.Laning.{Laning}
+use Rattle.outside.specs.Files.{File}
 use Rattle.outside.specs.Tails.{TailHistory}
 use Rattle.outside.specs.declared.history.Look.{Look}
 use Rattle.ship_core.proofs.Members.{first_there, later_there}
 use Rattle.wire_base.specs.declared.note.Begin.{Begin}
-use Rattle.run_steps.specs.Begun.{IsKeyedByPath}
+use Rattle.run_steps.specs.Begun.{IsKeyed}
 
 -- ---- no other key
 
+-- no look is asked
+pub given_is : (id : List ℕ) (rule : IdentityRule) (path : List ℕ) (file : File) (asked : List Look) → IsNoFingerprint rule → given_key id rule path file asked ≡ named_key id rule path file.numbers
+given_is id (Fingerprint offset count) path file asked named = absurd named
+given_is id Native path file asked named = refl
+given_is id Path path file asked named = refl
+
 module _ (opened : Opened) (h : History) (told : TailHistory) (looked : IsLookedAt opened.file.numbers h told) (begin : h.begin ≡ opened.begin) (rule : h.rule ≡ opened.rule)
-    (by_path : opened.rule.file_identity ≡ Path) (keyed : IsKeyedByPath opened) where
+    (named : IsNoFingerprint opened.rule.file_identity) (keyed : IsKeyed opened) where
   never_changed : h.stage ≡ Changed → ⊥
   never_changed is =
       let file = with_numbers opened.file.numbers told.file in
@@ -44,14 +52,14 @@ module _ (opened : Opened) (h : History) (told : TailHistory) (looked : IsLooked
 
       same_key : (asked : List Look) → given_key h.rule.id h.rule.file_identity h.begin.path (with_numbers opened.file.numbers told.file) asked ≡ Some h.begin.key
       same_key asked =
-          ap (λ (i : IdentityRule). given_key h.rule.id i h.begin.path (with_numbers opened.file.numbers told.file) asked)
-          (ap (λ (r : InputRule). r.file_identity) rule ∙ by_path)
-          ∙ (λ k. named_key (id_is k) Path (path_is k) opened.file.numbers) ∙ keyed ∙ ap (λ (b : Begin). Some b.key) (sym begin)
+          given_is h.rule.id h.rule.file_identity h.begin.path (with_numbers opened.file.numbers told.file) asked
+          (subst (λ (r : InputRule). IsNoFingerprint r.file_identity) (sym rule) named)
+          ∙ (λ k. named_key (id_is k) (rule k).file_identity (path_is k) opened.file.numbers) ∙ keyed ∙ ap (λ (b : Begin). Some b.key) (sym begin)
 
 -- ---- one by one
 
 module _ {T : Type 0} (numbers : T → Option (ℕ × ℕ)) (told : T → Option TailHistory) (processors : List ProcessorRule) (files : List Opened) (moments : List ℕ)
-    (by_path : (one : Opened) → Contains files one → (one.rule.file_identity ≡ Path) × IsKeyedByPath one) where
+    (of_names : (one : Opened) → Contains files one → IsNoFingerprint one.rule.file_identity × IsKeyed one) where
   abbrev Stands : Turned → Harvester T → Type 0
   Stands = IsTurnedSo numbers told processors files moments
 
@@ -61,13 +69,13 @@ module _ {T : Type 0} (numbers : T → Option (ℕ × ℕ)) (told : T → Option
   one_ends : (turned : Turned) (harvester : Harvester T) → Stands turned harvester → IsSome (told harvester.tail) → harvester.reader.stage ≢ stage.Over → IsThrough harvester → ToItsEnd turned
   one_ends turned harvester stands tells not_over through = ⊎_elim (λ rests. stands.rests rests.rests) (λ changed. absurd (⊎_elim other not_over changed)) through
     where
-      of_path : (stands.opened.rule.file_identity ≡ Path) × IsKeyedByPath stands.opened
-      of_path = by_path stands.opened stands.of_files
+      of_name : IsNoFingerprint stands.opened.rule.file_identity × IsKeyed stands.opened
+      of_name = of_names stands.opened stands.of_files
 
       none : (o : Option TailHistory) → IsSome o → AreLookedAt stands.opened.file.numbers turned.history o → turned.history.stage ≡ Changed → ⊥
       none None some looked is = cc
       none (Some history) some looked is =
-          never_changed stands.opened turned.history history looked stands.is_told.history.begin stands.is_told.history.rule of_path.0 of_path.1 is
+          never_changed stands.opened turned.history history looked stands.is_told.history.begin stands.is_told.history.rule of_name.0 of_name.1 is
 
       other : harvester.reader.stage ≡ stage.Changed → ⊥
       other is = none (told harvester.tail) tells stands.is_told.looked (sym stands.has_told.held.holds.follows.stage ∙ ap stage_of is)

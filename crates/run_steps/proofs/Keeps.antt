@@ -1,17 +1,19 @@
 -- What the beginning of a file keeps, whatever it answers.
-use Rattle.std.proofs.Common.{◌≡◌, ◌⊎◌, inl, inr, ⊎_elim, ℕ, ◌+◌, ◌≤◌, ◌%◌, Bool, true, false, List, [], ◌∷◌, ◌++◌, length, Result, Ok, Err, sym, ap, subst, ◌∙◌, arith}
+use Rattle.std.proofs.Common.{◌≡◌, ◌⊎◌, inl, inr, ⊎_elim, ℕ, ◌+◌, ◌≤◌, ◌%◌, List, [], ◌∷◌, ◌++◌, length, Option, None, Some, Result, Ok, Err, sym, ap, subst, ◌∙◌, arith}
 use Rattle.std.proofs.lemmas.List.{length-append, length-map}
 use Rattle.event_tree.specs.declared.settings.Settings.{Settings}
 use Rattle.harvester.specs.declared.harvester.Harvester.{Harvester}
 use Rattle.keeper.specs.Keeping.{Keeping}
 use Rattle.lanes.specs.Laning.{Laning, laning}
+use Rattle.report.specs.declared.passing.Why.{Why}
+use Rattle.report.specs.declared.passing.Why.TheVariants.{Doubled, Gone, Moved, Old, Small}
 use Rattle.rounds.specs.Crewed.{lanings}
 use Rattle.rounds.specs.Words.{TailWords}
 use Rattle.rounds.specs.declared.crew.Crew.{Crew}
-use Rattle.run_steps.specs.Beginning.{AdmitsAt, Beginning, BeginsOne, GivesUp, HasOpened, IsOpenedFor, ListedFile, TakesIn}
+use Rattle.run_steps.specs.Beginning.{AdmitsAt, Beginning, BeginsOne, ClosesFile, GivesUp, HasOpened, IsOpenedFor, ListedFile, TakesIn}
 use Rattle.run_steps.specs.Telling.{TellsBegin, begin_note}
 use Rattle.run_steps.specs.declared.met.Met.{Met}
-use Rattle.run_steps.specs.declared.met.Met.TheVariants.{Done, Stopped, NoMemory, DiskFault, FolderFault, Unreachable, Epochs}
+use Rattle.run_steps.specs.declared.met.Met.TheVariants.{DiskFault, Done, Epochs, FolderFault, NoMemory, NoNative, Stopped, Unreachable}
 
 -- the lanes have the same harvesters, or one of them has one more
 pub record TakesOne {T : Type 0} (tails : TailWords T) (settings : Settings) (file : ListedFile) (old new : List (Laning T)) : Type 0 where
@@ -70,12 +72,22 @@ module _ {T W L : Type 0} (tails : TailWords T) (settings : Settings) (file : Li
     faults_never_fall = omega (arith, gives_up.closes.counts_faults);
   }
 
-  pub begin_keeps : (result : Result Bool Met) (old new : Beginning T W L) → BeginsOne tails settings file result old new → BeginKeeps tails settings file old new
-  begin_keeps (Ok true) old new begins = behind_opening begins.tail old begins.mid new begins.opened (follows_keeps begins.tail begins.follows.harvester begins.mid new begins.follows.opened begins.follows.taken)
-  begin_keeps (Ok false) old new begins = none_opened old new begins.crew begins.keeper begins.opens.faults_never_fall
+  closes_keeps : (Why : T → Type 0) (old new : Beginning T W L) → ClosesFile tails file Why old new → BeginKeeps tails settings file old new
+  closes_keeps Why old new closed = behind_opening closed.tail old closed.mid new closed.opened
+      (none_opened closed.mid new closed.closed.crew closed.closed.keeper (omega (arith, closed.closed.closes.counts_faults)))
+
+  pub begin_keeps : (result : Result (Option Why) Met) (old new : Beginning T W L) → BeginsOne tails settings file result old new → BeginKeeps tails settings file old new
+  begin_keeps (Ok None) old new begins = behind_opening begins.tail old begins.mid new begins.opened (follows_keeps begins.tail begins.follows.harvester begins.mid new begins.follows.opened begins.follows.taken)
+  begin_keeps (Ok (Some Gone)) old new begins = none_opened old new begins.crew begins.keeper begins.opens.faults_never_fall
+  begin_keeps (Ok (Some Moved)) old new begins = closes_keeps _ old new begins
+  begin_keeps (Ok (Some Doubled)) old new begins = absurd begins
+  begin_keeps (Ok (Some Old)) old new begins = absurd begins
+  begin_keeps (Ok (Some Small)) old new begins = absurd begins
   begin_keeps (Err FolderFault) old new begins = none_opened old new begins.crew begins.keeper begins.opens.faults_never_fall
   begin_keeps (Err NoMemory) old new (inl begins) = none_opened old new begins.crew begins.keeper begins.opens.faults_never_fall
-  begin_keeps (Err NoMemory) old new (inr begins) = behind_opening begins.tail old begins.mid new begins.opened (gives_up_keeps begins.tail begins.mid new begins.gives_up)
+  begin_keeps (Err NoMemory) old new (inr (inl begins)) = behind_opening begins.tail old begins.mid new begins.opened (gives_up_keeps begins.tail begins.mid new begins.gives_up)
+  begin_keeps (Err NoMemory) old new (inr (inr begins)) = closes_keeps _ old new begins
+  begin_keeps (Err (NoNative slot)) old new begins = closes_keeps _ old new begins.1
   begin_keeps (Err Done) old new begins = absurd begins
   begin_keeps (Err Stopped) old new begins = absurd begins
   begin_keeps (Err DiskFault) old new begins = absurd begins

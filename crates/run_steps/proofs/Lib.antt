@@ -13,7 +13,6 @@ pub mod BegunCrews
 pub mod BegunFolder
 pub mod BegunNotes
 pub mod BegunReady
-pub mod ByPath
 pub mod Causing
 pub mod Clocks
 pub mod Closing
@@ -37,6 +36,7 @@ pub mod Members
 pub mod MetBy
 pub mod Moments
 pub mod Named
+pub mod NamedInputs
 pub mod Notes
 pub mod Noting
 pub mod OfInputs
@@ -71,11 +71,12 @@ pub mod Scanning
 pub mod SeenMoments
 pub mod Serving
 pub mod SettingOut
-pub mod Starting
 pub mod Settling
+pub mod Starting
 pub mod TailOpened
 pub mod Tails
 pub mod ToldMoments
 pub mod Turning
+pub mod Unnumbered
 pub mod Unreached
 pub mod Whole

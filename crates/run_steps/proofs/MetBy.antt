@@ -21,7 +21,7 @@ use Rattle.run_steps.specs.MetBy.{GoesOn, HasFaults, IsMetBy, IsOverOf, Since, p
 use Rattle.run_steps.specs.MetIn.{IsMetIn}
 use Rattle.run_steps.specs.RunState.{Finished, Leaving, Reading}
 use Rattle.run_steps.specs.declared.met.Met.{Met}
-use Rattle.run_steps.specs.declared.met.Met.TheVariants.{DiskFault, Done, Epochs, FolderFault, NoMemory, Stopped, Unreachable}
+use Rattle.run_steps.specs.declared.met.Met.TheVariants.{DiskFault, Done, Epochs, FolderFault, NoMemory, Stopped, Unreachable, NoNative}
 use Rattle.run_steps.proofs.Causing.{faults_show, over_shows, round_shows}
 
 not_reading : Leaving ≡ Reading → ⊥
@@ -59,6 +59,7 @@ module _ {T W L D : Type 0} (words : Words T W L D) (queue : BoundedQueue) (desk
       had.steps (lanings old.lanes.items) had.lanes (lanings new.lanes.items) had.steps_are had.lanes_are known
       ((keeps.causes.files had).tail_faults (λ none. let some = is.1 in omega (arith, some, none)))
   round_met (Unreachable worker) is = is.1
+  round_met (NoNative slot) is = is
   round_met (Epochs slot) is =
       let had = keeps.causes.had in
       round_shows words.tails queue.capacity desk.capacity when (WasOver slot) (IsOverOf slot) (over_shows words.tails.numbers words.tails.told words.tails.faults slot)
@@ -80,6 +81,7 @@ module _ {T W L D : Type 0} (words : Words T W L D) (queue : BoundedQueue) (desk
   none_out (Some FolderFault) is phase = absurd (⊎_elim not_reading not_finished phase)
   none_out (Some (Unreachable worker)) is phase = absurd (⊎_elim not_reading not_finished phase)
   none_out (Some (Epochs slot)) is phase = absurd (⊎_elim not_reading not_finished phase)
+  none_out (Some (NoNative slot)) is phase = absurd is
 
   pub all_done : (result : Option Met) → IsMetIn attempts (crew_of new) new.storing.keeper.now round result → phase_of result ≡ Finished → AllByRecursion IsDone (lanings new.lanes.items)
   all_done None is phase = absurd (reads_not phase)
@@ -90,6 +92,7 @@ module _ {T W L D : Type 0} (words : Words T W L D) (queue : BoundedQueue) (desk
   all_done (Some FolderFault) is phase = absurd (not_finished phase)
   all_done (Some (Unreachable worker)) is phase = absurd (not_finished phase)
   all_done (Some (Epochs slot)) is phase = absurd (not_finished phase)
+  all_done (Some (NoNative slot)) is phase = absurd is
 
   -- memory was there, and no disk failed
   pub stored_well : (result : Option Met) → IsMetIn attempts (crew_of new) new.storing.keeper.now round result → GoesOn result → (round.memory ≡ false) × (round.disk ≡ false)
@@ -101,6 +104,7 @@ module _ {T W L D : Type 0} (words : Words T W L D) (queue : BoundedQueue) (desk
   stored_well (Some FolderFault) is goes = (is.0.memory, is.0.disk)
   stored_well (Some (Unreachable worker)) is goes = (is.0.storing.memory, is.0.storing.disk)
   stored_well (Some (Epochs slot)) is goes = (is.0.memory, is.0.disk)
+  stored_well (Some (NoNative slot)) is goes = absurd is
 
 -- ---- from an earlier moment on
 
@@ -118,3 +122,4 @@ module _ {T W L D : Type 0} (words : Words T W L D) (attempts : ℕ) (a b : D) (
   met_since FolderFault is = is
   met_since (Unreachable worker) is = is
   met_since (Epochs slot) is = is
+  met_since (NoNative slot) is = is

@@ -1,48 +1,54 @@
--- Files that were opened as a scan listed them have each its own name, since the listed files stand in the order of their names.
+-- Files that were opened as a scan listed them have each its own key, since no two of those that are followed have one.
 use Rattle.std.proofs.Common.{◌≡◌, ◌⊎◌, inl, inr, ℕ, zero, suc, ◌+◌, ◌≤◌, ◌<◌, List, [], ◌∷◌, Contains, map, Some, None, refl, sym, ap, subst, ◌∙◌, arith}
-use Rattle.std.proofs.lemmas.Cmp.{nat_cmp_total, tied_itself}
 use Rattle.std.specs.Prelude.{slice_get}
 use Rattle.std.specs.List.{AllByRecursion}
-use Rattle.std.specs.List.Sorted.{IsStrictlySortedBy}
-use Rattle.std.specs.Ordering.{nat_cmp, ordering_then}
-use Rattle.std.specs.declared.cmp.Ordering.{Ordering}
-use Rattle.std.specs.declared.cmp.Ordering.TheVariants.{Equal, Less}
-use Rattle.accounts.proofs.Following.{got_each}
+use Rattle.accounts.proofs.Backing.{mapped_there}
+use Rattle.accounts.proofs.Following.{got_there}
 use Rattle.accounts.proofs.Grounded.{of_map}
 use Rattle.accounts.specs.Filed.{Filed, slot_in}
-use Rattle.accounts.specs.FollowedFile.{AreInSlots, Named, name_in}
+use Rattle.accounts.specs.FollowedFile.{AreInSlots, key_in}
 use Rattle.event_tree.specs.declared.settings.Settings.{Settings}
 use Rattle.kept_rows.specs.Scans.{AreDistinct}
-use Rattle.prospect.specs.ListedFiles.{Place, place_of, place_order}
+use Rattle.prospect.specs.Doubled.{AreKeysApart, HaveKey}
 use Rattle.prospect.specs.declared.listed.Listed.{Listed}
 use Rattle.ship_core.proofs.Members.{none_there, there_cases}
-use Rattle.wire_base.proofs.ByteOrder.{compare_same}
 use Rattle.wire_base.specs.declared.row.Row.{Row}
 use Rattle.run_steps.specs.Begun.{IsOpenedAsListed}
 use Rattle.run_steps.proofs.Members.{member_is}
 
--- ---- places
-
-place_itself : (place : Place) → place_order place place ≡ Equal
-place_itself place =
-    ap (λ (o : Ordering). ordering_then o (nat_cmp place.input place.input)) (compare_same place.path place.path refl) ∙ tied_itself nat_cmp_total place.input
+-- ---- lists
 
 pub mapped_at : {A B : Type 0} (f : A → B) (xs : List A) (k : ℕ) (x : A) → slice_get xs k ≡ Some x → slice_get (map f xs) k ≡ Some (f x)
 mapped_at f [] k x at = absurd (let q : None ≡ Some x = at in cc)
 mapped_at f (first ∷ xs) zero x at = let q : Some first ≡ Some x = at in let same : first ≡ x = cc in ap (λ y. Some (f y)) same
 mapped_at f (first ∷ xs) (suc k) x at = mapped_at f xs k x at
 
-earlier_is_less : (places : List Place) (k other : ℕ) (one later : Place) → IsStrictlySortedBy place_order places → k < other →
-    slice_get places k ≡ Some one → slice_get places other ≡ Some later → place_order one later ≡ Less
-unfolding IsStrictlySortedBy
-earlier_is_less [] k other one later sorted before at there = absurd (let q : None ≡ Some one = at in cc)
-earlier_is_less (first ∷ places) zero zero one later sorted before at there = absurd (omega (arith, before))
-earlier_is_less (first ∷ places) zero (suc other) one later sorted before at there =
+-- of distinct items, told apart by what they have, two places have one item only where they are one place
+pub same_place : {A B : Type 0} (f : A → B) (xs : List A) (k other : ℕ) (x y : A) → AreDistinct (map f xs) → slice_get xs k ≡ Some x → slice_get xs other ≡ Some y → f x ≡ f y → k ≡ other
+same_place f [] k other x y apart at there same = absurd (let q : None ≡ Some x = at in cc)
+same_place f (first ∷ xs) zero zero x y apart at there same = refl
+same_place f (first ∷ xs) zero (suc other) x y apart at there same =
+    let q : Some first ≡ Some x = at in
+    let here : first ≡ x = cc in
+    absurd (apart.0 (subst (λ b. Contains (map f xs) b) (sym same ∙ ap f (sym here)) (mapped_there f xs y (got_there xs other y there))))
+same_place f (first ∷ xs) (suc k) zero x y apart at there same =
+    let q : Some first ≡ Some y = there in
+    let here : first ≡ y = cc in
+    absurd (apart.0 (subst (λ b. Contains (map f xs) b) (same ∙ ap f (sym here)) (mapped_there f xs x (got_there xs k x at))))
+same_place f (first ∷ xs) (suc k) (suc other) x y apart at there same = ap suc (same_place f xs k other x y apart.1 at there same)
+
+-- no key is that of two places
+later_has_other : (listed : List Listed) (k other : ℕ) (one later : Listed) (key : List ℕ) → AreKeysApart listed → k < other → slice_get listed k ≡ Some one → slice_get listed other ≡ Some later →
+    one.key ≡ Some key → later.key ≡ Some key → ⊥
+later_has_other [] k other one later key apart before at there keyed same = absurd (let q : None ≡ Some one = at in cc)
+later_has_other (first ∷ listed) zero zero one later key apart before at there keyed same = absurd (omega (arith, before))
+later_has_other (first ∷ listed) zero (suc other) one later key apart before at there keyed same =
     let q : Some first ≡ Some one = at in
-    let same : first ≡ one = cc in
-    subst (λ (p : Place). place_order p later ≡ Less) same (got_each (λ p. place_order first p ≡ Less) places other later sorted.0 there)
-earlier_is_less (first ∷ places) (suc k) zero one later sorted before at there = absurd (omega (arith, before))
-earlier_is_less (first ∷ places) (suc k) (suc other) one later sorted before at there = earlier_is_less places k other one later sorted.1 (omega (arith, before)) at there
+    let here : first ≡ one = cc in
+    let among = got_there listed other later there in
+    apart.0 (subst (HaveKey listed) (sym (ap (λ (l : Listed). l.key) here ∙ keyed)) (among.0, later, among.1, among.2, same))
+later_has_other (first ∷ listed) (suc k) zero one later key apart before at there keyed same = absurd (omega (arith, before))
+later_has_other (first ∷ listed) (suc k) (suc other) one later key apart before at there keyed same = later_has_other listed k other one later key apart.1 (omega (arith, before)) at there keyed same
 
 -- ---- files
 
@@ -54,31 +60,19 @@ slot_at_least least (first ∷ files) file slots there = by_case (there_cases fi
     by_case (inl same) later = let low = slots.0 in let is : slot_in first ≡ slot_in file = ap slot_in same in omega (arith, low, is)
     by_case (inr behind) later = let low = slots.0 in let more = later behind in omega (arith, low, more)
 
-module _ (settings : Settings) (rows : List Row) (listed : List Listed) (sorted : IsStrictlySortedBy place_order (map place_of listed)) where
+module _ (settings : Settings) (rows : List Row) (listed : List Listed) (apart : AreKeysApart listed) where
   abbrev AsListed : Filed → Type 0
   AsListed file = IsOpenedAsListed settings rows listed file.opened
 
-  -- it has the name of the listed one
-  named_as_listed : (file : Filed) (is : AsListed file) → name_in file ≡ record { path = is.one.path; input = is.one.input }
-  named_as_listed file is k = record {
-    path = ap (λ b. b.path) is.begin_is k;
-    input = ap (λ b. b.input) is.begin_is k;
-  }
-
-  pub names_apart : (least : ℕ) (files : List Filed) → AreInSlots least files → AllByRecursion AsListed files → AreDistinct (map name_in files)
-  names_apart least [] slots each = tt
-  names_apart least (file ∷ files) slots each = (
+  pub keys_apart : (least : ℕ) (files : List Filed) → AreInSlots least files → AllByRecursion AsListed files → AreDistinct (map key_in files)
+  keys_apart least [] slots each = tt
+  keys_apart least (file ∷ files) slots each = (
     λ there.
-        let of = of_map name_in files (name_in file) there in
+        let of = of_map key_in files (key_in file) there in
         let one = each.0 in
         let other = member_is AsListed files of.item each.1 of.among in
         let more = slot_at_least (slot_in file + 1) files of.item slots.1 of.among in
-        let less = earlier_is_less (map place_of listed) (slot_in file) (slot_in of.item) (place_of one.one) (place_of other.one) sorted (omega (arith, more))
-        (mapped_at place_of listed (slot_in file) one.one one.listed_there) (mapped_at place_of listed (slot_in of.item) other.one other.listed_there) in
-        let named : record { path = one.one.path; input = one.one.input } ≡ record { path = other.one.path; input = other.one.input } =
-        sym (named_as_listed file one) ∙ sym of.is ∙ named_as_listed of.item other in
-        let same : place_of one.one ≡ place_of other.one = λ k. record { path = ap (λ (n : Named). n.path) named k; input = ap (λ (n : Named). n.input) named k } in
-        let q : Less ≡ Equal = sym less ∙ ap (place_order (place_of one.one)) (sym same) ∙ place_itself (place_of one.one) in
-        absurd cc,
-    names_apart (slot_in file + 1) files slots.1 each.1,
+        later_has_other listed (slot_in file) (slot_in of.item) one.one other.one (key_in file) apart (omega (arith, more)) one.listed_there other.listed_there one.keyed
+        (other.keyed ∙ ap (λ (k : List ℕ). Some k) of.is),
+    keys_apart (slot_in file + 1) files slots.1 each.1,
   )

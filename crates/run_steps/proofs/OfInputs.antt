@@ -1,28 +1,24 @@
 -- Listed files are of inputs within their ranges; and a slot that some harvester has is below the number of files.
-use Rattle.std.proofs.Common.{◌≡◌, inl, inr, ℕ, zero, suc, ◌<◌, All, List, [], ◌∷◌, get_or, length, map, Option, Some, refl, sym, ap, subst, ◌∙◌, arith}
+use Rattle.std.proofs.Common.{◌≡◌, inl, inr, ℕ, zero, suc, ◌<◌, All, List, [], ◌∷◌, get_or, length, map, Some, refl, sym, subst, ◌∙◌, arith}
 use Rattle.std.proofs.lemmas.Option.{slice_get-get_or, slice_get_within}
 use Rattle.std.specs.Prelude.{slice_get}
 use Rattle.std.specs.List.{AllByRecursion}
 use Rattle.beat_config.specs.InRange.{AreInRange, IsGroupInRange, IsInputInRange}
 use Rattle.event_tree.specs.declared.group_rule.GroupRule.{GroupRule}
 use Rattle.event_tree.specs.declared.group_rule.GroupRule.TheVariants.{Count, Pattern, Single}
-use Rattle.event_tree.specs.declared.input_rule.IdentityRule.{IdentityRule}
-use Rattle.event_tree.specs.declared.input_rule.IdentityRule.TheVariants.{Path}
 use Rattle.event_tree.specs.declared.input_rule.InputRule.{InputRule}
 use Rattle.event_tree.specs.declared.settings.Settings.{Settings}
-use Rattle.file_identity.specs.Key.{named_key}
 use Rattle.harvester.specs.HasTold.{begin_of}
 use Rattle.harvester.specs.declared.harvester.Harvester.{Harvester}
+use Rattle.kept_rows.specs.Scans.{IsNoFingerprint}
 use Rattle.lanes.specs.Laning.{Laning}
 use Rattle.multiline_core.specs.Rule.{IsGroupRule}
-use Rattle.outside.specs.declared.history.Shown.{Shown}
-use Rattle.prospect.specs.ListedFiles.{IsListedBy}
 use Rattle.prospect.specs.declared.listed.Listed.{Listed}
 use Rattle.rounds.specs.Pairs.{SomeOf}
 use Rattle.rounds.specs.Staying.{HaveSlot}
 use Rattle.wire_base.specs.declared.note.Begin.{Begin}
 use Rattle.wire_base.specs.declared.numbers.Slot.{Slot}
-use Rattle.run_steps.specs.BeginsAll.{AreSlotsBelow, IsOfPathInput, IsSlotBelow}
+use Rattle.run_steps.specs.BeginsAll.{AreSlotsBelow, IsOfNamedInput, IsSlotBelow}
 
 groups : (rule : GroupRule) → IsGroupInRange rule → IsGroupRule rule
 groups (Single limit) h = h
@@ -41,29 +37,18 @@ rule_at [] place inside = absurd (omega (arith, inside))
 rule_at (first ∷ inputs) zero inside = (first, refl)
 rule_at (first ∷ inputs) (suc place) inside = rule_at inputs place (omega (arith, inside))
 
--- where all inputs tell files by their paths, and what was listed is by what was shown
-pub of_path_input : (settings : Settings) (Tells : Type 0) (listed : Listed) → AreInRange settings → All (λ (rule : InputRule). rule.file_identity ≡ Path) settings.inputs → listed.input < length settings.inputs →
-    (Tells → (shown : Shown) × IsListedBy settings.inputs listed shown) → IsOfPathInput settings Tells listed
-of_path_input settings Tells listed range paths inside by = record {
+-- where all inputs know their files without reading them
+pub of_named_input : (settings : Settings) (listed : Listed) → AreInRange settings → All (λ (rule : InputRule). IsNoFingerprint rule.file_identity) settings.inputs → listed.input < length settings.inputs →
+    IsOfNamedInput settings listed
+of_named_input settings listed range named inside = record {
   rule = its.0;
   rule_is = its.1;
-  by_path = got_of (λ (rule : InputRule). rule.file_identity ≡ Path) settings.inputs listed.input its.0 paths its.1;
+  named = got_of (λ (rule : InputRule). IsNoFingerprint rule.file_identity) settings.inputs listed.input its.0 named its.1;
   in_range = groups its.0.multiline (got_of IsInputInRange settings.inputs listed.input its.0 range.inputs its.1).multiline;
-  keyed = λ tells. keyed (by tells).0 (by tells).1;
 }
   where
     its : (rule : InputRule) × (slice_get settings.inputs listed.input ≡ Some rule)
     its = rule_at settings.inputs listed.input inside
-
-    keyed : (shown : Shown) → IsListedBy settings.inputs listed shown → (numbers : Option (ℕ × ℕ)) × (listed.key ≡ named_key its.0.id Path listed.path numbers)
-    keyed shown is =
-        let same : is.rule ≡ its.0 = let q : Some is.rule ≡ Some its.0 = sym is.rule_is ∙ its.1 in cc in
-        let path : is.rule.file_identity ≡ Path = got_of (λ (rule : InputRule). rule.file_identity ≡ Path) settings.inputs listed.input is.rule paths is.rule_is in (
-          shown.entry.native,
-          is.key_is ∙ ap (λ (i : IdentityRule). named_key is.rule.id i shown.entry.path shown.entry.native) path
-              ∙ ap (λ (p : List ℕ). named_key is.rule.id Path p shown.entry.native) (sym is.path_is)
-              ∙ ap (λ (r : InputRule). named_key r.id Path listed.path shown.entry.native) same,
-        )
 
 -- ---- slots
 

@@ -8,7 +8,6 @@ use Rattle.accounts.specs.Turned.{Turned, notes_told, parcels_told, spans_in}
 use Rattle.accounts.specs.Turning.{IsTurnedSo, Pairs}
 use Rattle.accounts.proofs.Lists.{flat_map_both}
 use Rattle.accounts.proofs.Often.{often_same, often_then}
-use Rattle.event_tree.specs.declared.input_rule.IdentityRule.TheVariants.{Path}
 use Rattle.harvester.specs.declared.harvester.Harvester.{Harvester}
 use Rattle.harvester.specs.declared.stage.Stage.TheVariants as stage
 use Rattle.lanes.specs.Done.{IsDone}
@@ -21,6 +20,7 @@ use Rattle.outside.specs.Times.{GivesMoment}
 use Rattle.pass_sums.specs.Weight.{AsOften}
 use Rattle.pass_sums.proofs.Weights.{weigh-append}
 use Rattle.keeper.specs.Keeping.{held_in}
+use Rattle.kept_rows.specs.Scans.{IsNoFingerprint}
 use Rattle.rounds.specs.Books.{Heard, flat}
 use Rattle.rounds.specs.Crewed.{lanings}
 use Rattle.rounds.specs.Crewing.{Crewing, crew_of}
@@ -41,7 +41,7 @@ use Rattle.wire_base.specs.declared.numbers.Slot.{Slot}
 use Rattle.wire_base.specs.declared.row.Row.{Row}
 use Rattle.run_steps.specs.Areas.{BeganAtRest, HaveHeldFronts, IsAtRest}
 use Rattle.run_steps.specs.Began.{Began}
-use Rattle.run_steps.specs.Begun.{IsKeyedByPath, IsOpenedAsListed}
+use Rattle.run_steps.specs.Begun.{IsKeyed, IsOpenedAsListed}
 use Rattle.run_steps.specs.RunState.{Finished, Phase, Reading, RunState}
 use Rattle.run_steps.specs.Shown.{HasShown}
 use Rattle.run_steps.specs.SoFar.{Left, SoFar, files_in}
@@ -288,13 +288,13 @@ module _ {T W L D : Type 0} (words : Words T W L D) (queue : BoundedQueue) (desk
       finished : phase ≡ Finished → IsSome start.shown → AllByRecursion (λ (t : Turned). IsToldToItsEnd t.history) (files_in after)
       finished is some = subst (λ (l : List Left). AllByRecursion (λ (t : Turned). IsToldToItsEnd t.history) (all_of told.after ++ map (λ (one : Left). one.turned) l)) (sym reading.none_left)
           (subst (λ (l : List Turned). AllByRecursion (λ (t : Turned). IsToldToItsEnd t.history) l) (sym (append-nil (all_of told.after)))
-          (all_end words.tails.numbers words.tails.told start.settings.processors so_far.opened since by_path told.after (lanings new.lanes.items) turned
+          (all_end words.tails.numbers words.tails.told start.settings.processors so_far.opened since of_names told.after (lanings new.lanes.items) turned
           (tell some) (none_over (none_out (inr is))) (done is)))
         where
-          by_path : (one : Opened) → Contains so_far.opened one → (one.rule.file_identity ≡ Path) × IsKeyedByPath one
-          by_path one among = (
-            (member_is (IsOpenedAsListed start.settings start.opening start.listed) so_far.opened one stands.opened among).by_path,
-            member_is IsKeyedByPath so_far.opened one (stands.keyed some) among,
+          of_names : (one : Opened) → Contains so_far.opened one → IsNoFingerprint one.rule.file_identity × IsKeyed one
+          of_names one among = (
+            (member_is (IsOpenedAsListed start.settings start.opening start.listed) so_far.opened one stands.opened among).named,
+            member_is IsKeyed so_far.opened one (stands.keyed some) among,
           )
 
       module _ (reads : (disk : D) → IfSome (words.disks.contents disk) (words.disks.images disk))

@@ -47,7 +47,7 @@ use Rattle.run_steps.proofs.RunDoneOf.{run_done}
 use Rattle.run_steps.proofs.RunFits.{moments_since}
 use Rattle.run_steps.proofs.RunNumbers.{all_are_counted, numbers_are, placed_so}
 use Rattle.run_steps.proofs.RunRows.{OneChoice, given_over_fronts, opened_over_fronts, rows_of_store}
-use Rattle.run_steps.proofs.RunToldOf.{keys_are_shown, run, run_files, run_told, scan, the_full_scan, workers}
+use Rattle.run_steps.proofs.RunToldOf.{keys_are_shown, only_listed_shown, run, run_files, run_told, scan, the_full_scan, workers}
 
 module _ {T W L D : Type 0} (words : Words T W L D) (start : Began D) (ending : Ending D) (met : Met) (unused wires : List W) (ends : Ends words start ending met unused wires)
     (left : AreLeftSo words.disks start ending met ends.crew) (folder : FolderTold) (has : HasScanned start folder) (tell : DoTell words.wires ending folder wires) where
@@ -156,7 +156,7 @@ module _ {T W L D : Type 0} (words : Words T W L D) (start : Began D) (ending : 
       wires = ap (λ (l : List ℕ). wires_behind l (map words.wires.outcomes wires)) (sym starts);
     }
 
-    module _ (one : OneChoice) (gave : GaveRows words.disks start) (served : met ≡ Done → AreServed start.opening start.listed notes folder) where
+    module _ (one : OneChoice) (gave : GaveRows words.disks start) (served : met ≡ Done → AreServed start.settings start.opening start.listed notes folder) where
       drained : BeganAtRest words.disks start → met ≡ Done → Premises the_run (followings_in account) → (first second : List ℕ) (rows : List Row) →
           words.disks.contents ending.a ≡ Some first → words.disks.contents ending.b ≡ Some second → GivesRows first second rows → IsDrained the_run account rows
       drained at_rest is_done premises first second rows a_is b_is gives =
@@ -186,7 +186,7 @@ module _ {T W L D : Type 0} (words : Words T W L D) (start : Began D) (ending : 
         scan = the_scan;
         only = refl;
         whole = whole_by_entries the_run the_scan the_run_told.by (the_full_scan words start ending met unused wires ends left folder has tell);
-        asked = refl;
+        only_listed = only_listed_shown words start ending met unused wires ends left folder has tell;
         lists = keys_are_shown words start ending met unused wires ends left folder has tell;
         shown = keys_shown the_files the_run_told.followed.each;
         placed = placed_so words start ending met unused wires ends left folder has tell accounted.placed accounted.places;

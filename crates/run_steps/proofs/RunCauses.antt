@@ -11,7 +11,7 @@ use Rattle.run_steps.specs.Beginning.{Beginning}
 use Rattle.run_steps.specs.BeginsAll.{AreSlotsBelow, EndsBeginning, IsSlotBelow}
 use Rattle.run_steps.specs.Worked.{IsBegunWith, IsMetByRun, IsWorkedBy, Tolls}
 use Rattle.run_steps.specs.declared.met.Met.{Met}
-use Rattle.run_steps.specs.declared.met.Met.TheVariants.{Done, Stopped, NoMemory, DiskFault, FolderFault, Unreachable, Epochs}
+use Rattle.run_steps.specs.declared.met.Met.TheVariants.{Done, Stopped, NoMemory, DiskFault, FolderFault, Unreachable, Epochs, NoNative}
 use Rattle.run_steps.proofs.OfInputs.{slot_below}
 
 pub no_slots : {T : Type 0} (count : ℕ) (lanes : List (Laning T)) → AllByRecursion IsBegunLane lanes → AreSlotsBelow count lanes
@@ -34,7 +34,7 @@ module _ {T W L : Type 0} (workers files : ℕ) (crew : Crew T W L) (a_faults b_
   abbrev begun_by : Tolls
   begun_by = record { a_faults = a_faults; b_faults = b_faults; folder_faults = new.folder.faults; rings = rings }
 
-  by_beginning : (first : Met) → EndsBeginning first old new → new.folder.faults ≤ after.folder_faults → IsMetByRun workers files set_out after first
+  by_beginning : (first : Met) → EndsBeginning files first old new → new.folder.faults ≤ after.folder_faults → IsMetByRun workers files set_out after first
   by_beginning Done ends more = absurd ends
   by_beginning Stopped ends more = absurd ends
   by_beginning NoMemory ends more = tt
@@ -42,6 +42,7 @@ module _ {T W L : Type 0} (workers files : ℕ) (crew : Crew T W L) (a_faults b_
   by_beginning FolderFault ends more = later old.folder.faults new.folder.faults after.folder_faults ends more
   by_beginning (Unreachable worker) ends more = absurd ends
   by_beginning (Epochs slot) ends more = absurd ends
+  by_beginning (NoNative slot) ends more = ends
 
   module _ (never_fall : old.folder.faults ≤ new.folder.faults) (many : length crew.carriers.items ≡ workers) (below : AreSlotsBelow files (lanings crew.lanes.items)) where
     by_working : (met : Met) → IsWorkedBy crew begun_by after met → IsMetByRun workers files set_out after met
@@ -52,8 +53,9 @@ module _ {T W L : Type 0} (workers files : ℕ) (crew : Crew T W L) (a_faults b_
     by_working FolderFault by = since old.folder.faults new.folder.faults after.folder_faults never_fall by
     by_working (Unreachable worker) by = subst (λ (n : ℕ). worker < n) many by
     by_working (Epochs slot) by = slot_below slot files (lanings crew.lanes.items) below by
+    by_working (NoNative slot) by = absurd by
 
-    pub met_by_run : (begun : Result (Vec Passing Global) Met) (met : Met) → IfErr begun (λ first. EndsBeginning first old new) → new.folder.faults ≤ after.folder_faults →
+    pub met_by_run : (begun : Result (Vec Passing Global) Met) (met : Met) → IfErr begun (λ first. EndsBeginning files first old new) → new.folder.faults ≤ after.folder_faults →
         IsBegunWith begun met ⊎ IsWorkedBy crew begun_by after met → IsMetByRun workers files set_out after met
     met_by_run (Ok passed) met ends more (inl is) = absurd is
     met_by_run (Err first) met ends more (inl is) = subst (IsMetByRun workers files set_out after) (sym is) (by_beginning first ends more)

@@ -30,7 +30,7 @@ use Rattle.run_steps.proofs.RunToldOf.{fit, run, run_files, scan, the_full_scan,
 
 module _ {T W L D : Type 0} (words : Words T W L D) (start : Began D) (ending : Ending D) (met : Met) (unused wires : List W) (ends : Ends words start ending met unused wires)
     (left : AreLeftSo words.disks start ending met ends.crew) (folder : FolderTold) (has : HasScanned start folder) (tell : DoTell words.wires ending folder wires)
-    (is_done : met ≡ Done) (served : AreServed start.opening start.listed ending.keeper.tracked.notes folder) where
+    (is_done : met ≡ Done) (served : AreServed start.settings start.opening start.listed ending.keeper.tracked.notes folder) where
   abbrev all_workers : List Taken
   all_workers = workers words start ending met unused wires ends left folder has tell
 

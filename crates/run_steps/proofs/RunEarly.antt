@@ -31,7 +31,7 @@ use Rattle.prospect.specs.Members.{globs_of}
 use Rattle.prospect.specs.Scan.{AreListed, Listing, event_of}
 use Rattle.prospect.specs.Unfinished.{ListSome, ListsSome}
 use Rattle.prospect.specs.declared.scan_error.ScanError.{ScanError}
-use Rattle.prospect.specs.declared.scan_error.ScanError.TheVariants.{Failed, NoMemory, TooMany}
+use Rattle.prospect.specs.declared.scan_error.ScanError.TheVariants.{Failed, NoMemory, NoNative, TooMany}
 use Rattle.registry_store.specs.Choice.{GivesRows}
 use Rattle.registry_store.specs.Settled.{AreAtRest}
 use Rattle.rounds.specs.Images.{GivesFronts}
@@ -48,7 +48,7 @@ use Rattle.run_steps.specs.ScannedSome.{HasScannedSome}
 use Rattle.run_steps.specs.Shown.{HasGiven}
 use Rattle.run_steps.specs.declared.met.Met.{Met}
 use Rattle.run_steps.specs.declared.met.Met.TheVariants.{Done}
-use Rattle.run_steps.proofs.ByPath.{inputs_are_by_path}
+use Rattle.run_steps.proofs.NamedInputs.{inputs_are_named}
 use Rattle.run_steps.proofs.HeldRows.{rows_in_order, some_of}
 use Rattle.run_steps.proofs.Members.{some_is}
 use Rattle.run_steps.proofs.RowsStay.{rows_stay}
@@ -86,6 +86,7 @@ listed_all globs told listings after are = record {
 pub ended_some : (inputs : List InputRule) (told : FolderHistory) (error : ScanError) (after : Option FolderHistory) → EndsAs inputs told error after → ListsSome (globs_of inputs) told after
 ended_some inputs told Failed after ends = ends
 ended_some inputs told NoMemory after ends = ends
+ended_some inputs told (NoNative path) after ends = listed_all (globs_of inputs) told ends.listings after ends.listed_is
 ended_some inputs told (TooMany path) after ends = listed_all (globs_of inputs) told ends.listings after ends.listed_is
 
 -- none of them is an opening
@@ -142,7 +143,7 @@ given_by fronts = (fronts.rows, fronts.given)
 
 -- listed nothing that it kept
 abbrev pub scanned_some : {D : Type 0} → Began D → Began D
-scanned_some start = record start { listed = [] }
+scanned_some start = record start { listed = []; doubled = [] }
 
 -- and did nothing more with the folder
 abbrev pub folder_scanned : FolderTold → FolderTold
@@ -187,7 +188,7 @@ module _ {D : Type 0} (disks : DiskWords D) (start : Began D) (folder : FolderTo
       moments = (given.among.0, given.among.1, given.among.2, tt);
     };
     askings = tt;
-    inputs = inputs_are_by_path start.settings has.in_range has.by_path;
+    inputs = inputs_are_named start.settings has.in_range has.named;
   }
 
   no_opening : EachOpeningIsOne early_run []
@@ -198,7 +199,7 @@ module _ {D : Type 0} (disks : DiskWords D) (start : Began D) (folder : FolderTo
   early_told : RunTold early_run early_scan [] (took_none outcomes) [] []
   early_told = record {
     by = by_one_scan;
-    followed = record { each = tt; slots = tt; names_apart = tt; openings_apart = tt; openings_serve = no_opening };
+    followed = record { each = tt; slots = tt; keys_apart = tt; openings_apart = tt; openings_serve = no_opening };
     talks = silent_wires outcomes;
     noted = record { begins = []; seens = []; notes_are = refl; each_begin = tt; each_seen = tt };
     fits = record {

@@ -46,7 +46,7 @@ module _ {T W L D : Type 0} (words : Words T W L D) (start : Began D) (ending : 
   whole = record folder { ended = told.0 }
 
   has_whole : HasScanned start whole
-  has_whole = record { in_range = has.in_range; by_path = has.by_path; shown = has.shown; scans = has.scans }
+  has_whole = record { in_range = has.in_range; named = has.named; shown = has.shown; all = has.all; scans = has.scans; keyed = has.keyed; parts = has.parts }
 
   do_tell : DoTell words.wires ending whole wires
   do_tell = record {
@@ -62,11 +62,11 @@ module _ {T W L D : Type 0} (words : Words T W L D) (start : Began D) (ending : 
       after = record { folder = ending.shown; moments = ending.moments; outcomes = map words.wires.outcomes wires; a = ending.a; b = ending.b };
     }
 
-    pub ended_is_accounted_for : OneChoice → GaveRows words.disks start → (met ≡ Done → IsServedAtEnd start.opening start.listed ending.keeper.tracked.notes folder ending.shown) → AccountedOver words.disks start.settings start.opening start.listed ended_objects met ending.keeper.shipped ending.keeper.dropped
+    pub ended_is_accounted_for : OneChoice → GaveRows words.disks start → (met ≡ Done → IsServedAtEnd start.settings start.opening start.listed ending.keeper.tracked.notes folder ending.shown) → AccountedOver words.disks start.settings start.opening start.listed ended_objects met ending.keeper.shipped ending.keeper.dropped
     ended_is_accounted_for one gave served =
         accounted_over words start ending met unused wires ended.ends ended.left whole has_whole do_tell outcomes starts one gave
         (λ is_done. by_served (served is_done))
       where
-        by_served : IsServedAtEnd start.opening start.listed ending.keeper.tracked.notes folder ending.shown → AreServed start.opening start.listed ending.keeper.tracked.notes whole
+        by_served : IsServedAtEnd start.settings start.opening start.listed ending.keeper.tracked.notes folder ending.shown → AreServed start.settings start.opening start.listed ending.keeper.tracked.notes whole
         by_served at_end =
-            subst (λ (e : FolderHistory). AreServed start.opening start.listed ending.keeper.tracked.notes (record folder { ended = e })) (some_is at_end.ended told.0 (sym at_end.is ∙ told.1)) at_end.served
+            subst (λ (e : FolderHistory). AreServed start.settings start.opening start.listed ending.keeper.tracked.notes (record folder { ended = e })) (some_is at_end.ended told.0 (sym at_end.is ∙ told.1)) at_end.served

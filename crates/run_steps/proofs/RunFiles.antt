@@ -1,5 +1,6 @@
 -- The files of a run, each with what its tail told as it was closed: listed by the run's scan, opened behind it, and begun once.
 use Rattle.std.proofs.Common.{◌≡◌, ◌⊎◌, inl, inr, ⊎_elim, ℕ, suc, ◌+◌, ◌≤◌, max, min, All, List, [], ◌∷◌, ◌++◌, Contains, drop, length, length-append, map, Option, Some, None, IsSome, IfSome, refl, sym, ap, subst, ◌∙◌, arith, Bool, true, false, nat_le, if◌then◌else◌}
+use Rattle.std.proofs.lemmas.List.Elements.{Contains-append_left}
 use Rattle.std.specs.Prelude.{option_map, slice_get}
 use Rattle.std.specs.List.{AllByRecursion, flat_map}
 use Rattle.std.specs.Option.{option_map_or}
@@ -14,11 +15,10 @@ use Rattle.accounts.specs.ToldFile.{IsToldFile}
 use Rattle.accounts.specs.Turned.{Turned}
 use Rattle.accounts.specs.Turning.{IsTurnedSo, Pairs}
 use Rattle.event_tree.specs.declared.processor_rule.ProcessorRule.{ProcessorRule}
-use Rattle.file_identity.specs.Key.{path_key}
 use Rattle.harvester.specs.declared.harvester.Harvester.{Harvester}
 use Rattle.kept_rows.specs.Followed.{OnlyReads, Start as StartBy, start_by}
 use Rattle.kept_rows.specs.Run.{Run, Scan}
-use Rattle.kept_rows.specs.Scans.{AreDistinct, ShowsFileTo, moment_in}
+use Rattle.kept_rows.specs.Scans.{AreDistinct, IsFirstPath, ShowsFileTo, moment_in}
 use Rattle.kept_rows.specs.Telling.{opening_moment}
 use Rattle.kept_rows.specs.Trace.{Closing, WireTold, closing_in, first_of_two, looks_of, open_looks_in}
 use Rattle.lanes.specs.Laning.{Laning}
@@ -42,7 +42,7 @@ use Rattle.wire_base.specs.declared.row.Row.{Row}
 use Rattle.run_steps.specs.Telling.{moment_noted}
 use Rattle.run_steps.specs.Began.{Began}
 use Rattle.run_steps.specs.BeginFor.{row_of}
-use Rattle.run_steps.specs.Begun.{AreSlotsFrom, IsKeyedByPath, IsOpenedAsListed}
+use Rattle.run_steps.specs.Begun.{AreSlotsFrom, IsKeyed, IsOpenedAsListed}
 use Rattle.run_steps.specs.Releasing.{HasNoHarvesters}
 use Rattle.run_steps.specs.RunOf.{FolderTold, run_of, scan_of}
 use Rattle.run_steps.specs.RunState.{RunState}
@@ -50,10 +50,11 @@ use Rattle.run_steps.specs.Scanned.{HasScanned}
 use Rattle.run_steps.specs.Shown.{HasDone, HasShown, WasClosedWith, WasOpenedSince, openings_of}
 use Rattle.run_steps.specs.SoFar.{Left, SoFar, files_in}
 use Rattle.run_steps.specs.Stands.{AreTurnedIn, IsLeftSo, Stands}
-use Rattle.run_steps.proofs.ByPath.{each_of}
+use Rattle.run_steps.proofs.NamedInputs.{each_of}
 use Rattle.run_steps.proofs.Members.{member_is}
-use Rattle.run_steps.proofs.Named.{names_apart}
-use Rattle.run_steps.proofs.ScanOf.{IsOfEntry, behind_scan, entries, got_there, is_before, scanned_is, shows_file}
+use Rattle.prospect.proofs.Doubled.{keys_apart as files_keys_apart}
+use Rattle.run_steps.proofs.Named.{keys_apart}
+use Rattle.run_steps.proofs.ScanOf.{IsOfEntry, behind_scan, entry_of, got_there, is_before, is_first_path, scanned_is, shows_file}
 
 -- ---- what stands of a file in the lists
 
@@ -231,7 +232,7 @@ module _ {T W L D : Type 0} (words : Words T W L D) (start : Began D) (state : R
     entry_there = got_there start.listed one.begin.slot.0 entry as_listed.listed_there
 
     pub of_entry : IsOfEntry start.settings.inputs has.scans.listings entry
-    of_entry = member_is (IsOfEntry start.settings.inputs has.scans.listings) start.listed entry (entries start folder has so_far done wires) entry_there
+    of_entry = entry_of start folder has so_far done wires entry (Contains-append_left start.listed start.doubled entry entry_there)
 
     abbrev its_entry : Shown
     its_entry = of_entry.shown
@@ -248,7 +249,7 @@ module _ {T W L D : Type 0} (words : Words T W L D) (start : Began D) (state : R
     shows : ShowsFileTo run scan one.begin.input key its_entry.file its_entry
     shows =
         subst (λ (i : ℕ). ShowsFileTo run scan i key its_entry.file its_entry) (sym input_is)
-        (shows_file start folder has so_far done wires entry entry_there of_entry key as_listed.keyed one.rule as_listed.rule_is as_listed.by_path)
+        (shows_file start folder has so_far done wires entry (Contains-append_left start.listed start.doubled entry entry_there) of_entry key as_listed.keyed one.rule as_listed.rule_is)
 
     starts : start_in one ≡ start_by (find key start.opening) its_entry.entry.size
     starts =
@@ -257,11 +258,18 @@ module _ {T W L D : Type 0} (words : Words T W L D) (start : Began D) (state : R
         ∙ ap (λ (o : Option (List ℕ)). start_from (start_of its_entry.entry.size (row_of start.opening o))) as_listed.keyed
         ∙ same_start (find key start.opening) its_entry.entry.size
 
+    first : IsFirstPath run scan key its_entry.file one.begin.path
+    first =
+        subst (IsFirstPath run scan key its_entry.file) (sym path_is)
+        (is_first_path start folder has so_far done wires entry key its_entry.file entry_there as_listed.keyed
+        (record { shown = its_entry; path_is = sym of_entry.by.path_is; shows = (one.begin.input, shows) }))
+
     is_listed : IsListedAs run scan one its_entry
     is_listed = record {
       number = its_entry.file;
       shows = shows;
       path_is = sym of_entry.by.path_is ∙ sym path_is;
+      first = first;
       before = is_before start folder has so_far done wires one.opening opened_since.since;
       starts = starts;
     }
@@ -270,14 +278,8 @@ module _ {T W L D : Type 0} (words : Words T W L D) (start : Began D) (state : R
     pub moment_is : file.changed ≡ (moment_noted start.opening entry).0
     moment_is = is_joined.changed_is ∙ ap (λ (o : Option Listed). option_map_or (λ (e : Listed). (moment_noted start.opening e).0) o 0) as_listed.listed_there
 
-    keyed_by_path : IsKeyedByPath one
-    keyed_by_path = member_is IsKeyedByPath so_far.opened one (stands.keyed tells) was_opened
-
-    key_by_path : key ≡ path_key one.rule.id one.begin.path
-    key_by_path = same_key key (path_key one.rule.id one.begin.path) (sym keyed_by_path)
-      where
-        same_key : (x y : List ℕ) → Some x ≡ Some y → x ≡ y
-        same_key x y is = cc
+    keyed : IsKeyed one
+    keyed = member_is IsKeyed so_far.opened one (stands.keyed tells) was_opened
 
     changed_by_entry : (moment_noted start.opening entry).0 ≡ max (opening_moment start.opening key) (moment_in its_entry)
     changed_by_entry = ap (λ (m : Moment). max (option_map_or (λ (row : Row). row.changed.0) (row_of start.opening entry.key) 0) (min m.0 MAX_MOMENT)) of_entry.by.changed_is
@@ -289,7 +291,7 @@ module _ {T W L D : Type 0} (words : Words T W L D) (start : Began D) (state : R
     pub is_followed : IsFollowedFile run scan file
     is_followed = record {
       rule_is = rule_is;
-      key_is = key_by_path;
+      key_is = keyed;
       in_range = as_listed.in_range;
       file_is = opened_since.file_is;
       tail = record {
@@ -343,7 +345,7 @@ module _ {T W L D : Type 0} (words : Words T W L D) (start : Began D) (state : R
   are_followed_files = record {
     each = each_member (IsFollowedFile run scan) files is_followed;
     slots = in_slots;
-    names_apart = names_apart start.settings start.opening start.listed has.scans.in_order 0 files in_slots
+    keys_apart = keys_apart start.settings start.opening start.listed (files_keys_apart has.all start.listed start.doubled has.parts) 0 files in_slots
         (each_member (λ (file : Filed). IsOpenedAsListed start.settings start.opening start.listed file.opened) files as_listed);
     openings_apart = subst AreDistinct (sym openings_are) done.apart;
     openings_serve = each_opening;

@@ -1,5 +1,6 @@
 -- From what stands of a run as it ends to what accounts ask of it.
 use Rattle.std.proofs.Common.{◌≡◌, ℕ, Contains, List, ◌++◌, map, IsSome, Some, sym, subst}
+use Rattle.std.proofs.lemmas.List.Elements.{Contains-append_left}
 use Rattle.std.specs.List.{AllByRecursion}
 use Rattle.accounts.proofs.SoFar.{joined_first_notes, joined_fit}
 use Rattle.accounts.specs.Filed.{Filed}
@@ -11,6 +12,7 @@ use Rattle.batch_worker.specs.Standing.{length_of}
 use Rattle.kept_rows.specs.Run.{Run, Scan}
 use Rattle.kept_rows.specs.Scans.{ShowsKey}
 use Rattle.kept_rows.specs.Trace.{WireTold}
+use Rattle.prospect.specs.Doubled.{HaveKey}
 use Rattle.prospect.specs.declared.listed.Listed.{Listed}
 use Rattle.rounds.specs.Crewed.{lanings}
 use Rattle.rounds.specs.Words.{Words}
@@ -25,7 +27,7 @@ use Rattle.run_steps.specs.declared.met.Met.{Met}
 use Rattle.run_steps.proofs.RunBooks.{FitWith, books_fit, first_notes}
 use Rattle.run_steps.proofs.RunFiles.{are_followed_files, done, files, joined}
 use Rattle.run_steps.proofs.RunWires.{acknowledged_are, carried_are, of_workers, took_each, took_none}
-use Rattle.run_steps.proofs.ScanOf.{is_by_one_scan, is_full_scan, key_is_shown}
+use Rattle.run_steps.proofs.ScanOf.{is_by_one_scan, is_full_scan, key_is_shown, only_listed}
 
 module _ {T W L D : Type 0} (words : Words T W L D) (start : Began D) (ending : Ending D) (met : Met) (unused wires : List W) (ends : Ends words start ending met unused wires)
     (left : AreLeftSo words.disks start ending met ends.crew) (folder : FolderTold) (has : HasScanned start folder) (tell : DoTell words.wires ending folder wires) where
@@ -68,7 +70,12 @@ module _ {T W L D : Type 0} (words : Words T W L D) (start : Began D) (ending : 
 
   pub keys_are_shown : (one : Listed) (key : List ℕ) → Contains start.listed one → one.key ≡ Some key → ShowsKey run scan key
   keys_are_shown =
-      key_is_shown start folder has so_far (done words start (with_crew ending ends.crew) so_far ends.stands left.released folder has tell.shown wires_told) wires_told
+      λ one key among. key_is_shown start folder has so_far (done words start (with_crew ending ends.crew) so_far ends.stands left.released folder has tell.shown wires_told) wires_told
+      one key (Contains-append_left start.listed start.doubled one among)
+
+  pub only_listed_shown : (key : List ℕ) → ShowsKey run scan key → HaveKey start.listed (Some key)
+  only_listed_shown =
+      only_listed start folder has so_far (done words start (with_crew ending ends.crew) so_far ends.stands left.released folder has tell.shown wires_told) wires_told
 
   pub run_told : RunTold run scan run_files workers so_far.begun so_far.collected
   run_told = record {

@@ -1,48 +1,82 @@
--- Beginning all listed files begins or skips each; and what is known of it stays known as the run goes on, since the folder's
+-- Beginning all listed files begins or skips each for its reason; and what is known of it stays known as the run goes on, since the folder's
 -- list grows, and of notes only those are collected that lanes and workers post.
-use Rattle.std.proofs.Common.{◌≡◌, ◌⊎◌, inl, inr, ⊎_elim, ℕ, zero, suc, ◌+◌, ◌<◌, Bool, true, false, List, [], ◌∷◌, ◌++◌, Contains, length, append_assoc, append-nil, Option, Some, None, IfSome, Ok, refl, sym, ap, subst, ◌∙◌, arith}
+use Rattle.std.proofs.Common.{◌≡◌, ◌≢◌, ◌⊎◌, inl, inr, ⊎_elim, ℕ, zero, suc, ◌+◌, ◌<◌, Bool, drop, if◌then◌else◌, List, [], ◌∷◌, ◌++◌, Contains, length, append_assoc, append-nil, Option, Some, None, IfSome, Ok, refl, sym, ap, subst, ◌∙◌, arith, IsSome}
 use Rattle.std.proofs.lemmas.List.Elements.{Contains-append_cases, Contains-append_left, Contains-append_right}
-use Rattle.std.proofs.lemmas.Option.{slice_get-get_or}
+use Rattle.std.proofs.lemmas.Bool.{eq-eqb}
+use Rattle.std.proofs.lemmas.List.{drop-append-le, length-append}
+use Rattle.std.proofs.lemmas.Option.{slice_get-get_or, slice_get_within}
 use Rattle.std.specs.Prelude.{slice_get}
 use Rattle.std.specs.List.{AllByRecursion}
+use Rattle.event_tree.specs.declared.input_rule.InputRule.{InputRule}
 use Rattle.event_tree.specs.declared.settings.Settings.{Settings}
+use Rattle.file_identity.specs.Key.{named_key}
 use Rattle.keeper.specs.Collecting.{Collects}
 use Rattle.keeper.specs.Keeping.{Keeping, held_in}
-use Rattle.outside.specs.Folders.{Event, FolderHistory, FindsNone, NotThere, Opened, OpensFile, TellsOpening, with_event}
+use Rattle.kept_rows.specs.Trace.{Closing, closing_by, closing_in, first_of_two}
+use Rattle.outside.specs.Files.{File, sight_of}
+use Rattle.outside.specs.Folders.{Closed, Event, FolderHistory, FindsNone, NotThere, Opened, OpensFile, TellsOpening, with_event}
+use Rattle.outside.specs.Tails.{TailHistory}
 use Rattle.outside.specs.declared.history.Shown.{Shown}
 use Rattle.outside.specs.declared.history.Sight.{Sight}
 use Rattle.prospect.specs.declared.listed.Listed.{Listed}
 use Rattle.report.specs.declared.passing.Passing.{Passing}
+use Rattle.report.specs.declared.passing.Why.{Why}
+use Rattle.report.specs.declared.passing.Why.TheVariants.{Doubled, Gone, Moved, Old, Small}
 use Rattle.rounds.specs.Words.{TailWords}
 use Rattle.settle_box.specs.Notes.{IsPostable}
 use Rattle.settle_box.specs.Senders.{notes}
-use Rattle.ship_core.proofs.Members.{first_there, later_there}
+use Rattle.ship_core.proofs.Members.{first_there}
 use Rattle.wire_base.specs.declared.note.Begin.{Begin as Beginning_of_file}
 use Rattle.wire_base.specs.declared.note.Note.{Note}
 use Rattle.wire_base.specs.declared.note.Note.TheVariants.{Announce, Begin, Forget, Rename, Seen, Settle}
 use Rattle.wire_base.specs.declared.numbers.Moment.{Moment}
 use Rattle.wire_base.specs.declared.row.Row.{Row}
 use Rattle.run_steps.specs.BeginFor.{begin_for, start_among}
-use Rattle.run_steps.specs.Beginning.{Beginning, BeginsOne}
+use Rattle.run_steps.specs.Beginning.{Beginning, BeginsOne, ClosesFile, HasOtherKey, ListedFile}
 use Rattle.run_steps.specs.BeginsAll.{BeginsAll, BeginsFrom, file_at}
 use Rattle.run_steps.specs.Begun.{AreAllSeen, noted_begin}
-use Rattle.run_steps.specs.Releasing.{with_events}
+use Rattle.run_steps.specs.Releasing.{closing_of, with_events}
 use Rattle.run_steps.specs.RunOf.{FolderTold}
-use Rattle.run_steps.specs.Served.{AreServed, HasBegin, IsEachServed, WasNotThere}
+use Rattle.run_steps.specs.Served.{AreServed, HasBegin, IsEachServed, WasMoved, WasNotThere}
 use Rattle.run_steps.specs.Telling.{TellMoments, TellsMoment, moment_noted}
-use Rattle.run_steps.proofs.ByPath.{each_of}
+use Rattle.run_steps.proofs.NamedInputs.{each_of}
 use Rattle.run_steps.proofs.Members.{member_is}
 use Rattle.run_steps.proofs.RunNotes.{IsNoBegin}
+use Rattle.event_tree.specs.declared.input_rule.IdentityRule.TheVariants.{Native}
 
 -- ---- one file
 
--- the folder tells one thing more, and the keeper maybe some notes: the file is begun, or this thing is that it was not there
-pub record ServesOne {T W L : Type 0} (slot : ℕ) (path : List ℕ) (before : FolderHistory) (old new : Beginning T W L) : Type 0 where
-  pub event : Event
-  pub told : new.folder.told ≡ Some (with_event before event)
+-- among these events behind what the folder told, the file of the path was opened, had another key than it was listed with, and was
+-- closed unread at once
+pub record MovedIn (settings : Settings) (before : FolderHistory) (events : List Event) (one : Listed) : Type 0 where
+  pub front : List Event
+  pub back : List Event
+  pub opening : ℕ
+  pub opening_is : opening ≡ length before.events + length front
+  pub number : ℕ
+  pub begun : Sight
+  pub faults : ℕ
+  pub are : events ≡ front ++ (Opened one.path number begun ∷ (Closed opening [] faults ∷ back))
+  pub file : File
+  pub file_is : slice_get before.files number ≡ Some file
+  pub rule : InputRule
+  pub rule_is : slice_get settings.inputs one.input ≡ Some rule
+  pub numbered : rule.file_identity ≡ Native → IsSome file.numbers
+  pub other : named_key rule.id rule.file_identity one.path file.numbers ≢ one.key
+
+abbrev pub IsServedIn : Settings → FolderHistory → List Event → List Note → ℕ → Listed → Type 0
+IsServedIn settings before events more slot one = HasBegin more slot ⊎ (Contains events (NotThere one.path) ⊎ MovedIn settings before events one)
+
+abbrev pub with_more : FolderHistory → List Event → FolderHistory
+with_more before events = record before { events = before.events ++ events }
+
+-- the folder tells these things more, and the keeper maybe some notes: so the file is begun or skipped
+pub record ServesOne {T W L : Type 0} (settings : Settings) (slot : ℕ) (one : Listed) (before : FolderHistory) (old new : Beginning T W L) : Type 0 where
+  pub events : List Event
+  pub told : new.folder.told ≡ Some (with_more before events)
   pub more : List Note
   pub noted : new.keeper.tracked.notes ≡ old.keeper.tracked.notes ++ more
-  pub served : HasBegin more slot ⊎ (event ≡ NotThere path)
+  pub served : IsServedIn settings before events more slot one
 
 begun_left : (first second : List Note) (slot : ℕ) → HasBegin first slot → HasBegin (first ++ second) slot
 begun_left first second slot has = record { begin = has.begin; slot_is = has.slot_is; noted = Contains-append_left first second (noted_begin has.begin) has.noted }
@@ -50,13 +84,61 @@ begun_left first second slot has = record { begin = has.begin; slot_is = has.slo
 begun_right : (first second : List Note) (slot : ℕ) → HasBegin second slot → HasBegin (first ++ second) slot
 begun_right first second slot has = record { begin = has.begin; slot_is = has.slot_is; noted = Contains-append_right first second (noted_begin has.begin) has.noted }
 
+moved_left : (settings : Settings) (before : FolderHistory) (first second : List Event) (one : Listed) → MovedIn settings before first one → MovedIn settings before (first ++ second) one
+moved_left settings before first second one moved = record {
+  front = moved.front;
+  back = moved.back ++ second;
+  opening = moved.opening;
+  opening_is = moved.opening_is;
+  number = moved.number;
+  begun = moved.begun;
+  faults = moved.faults;
+  are = ap (λ (l : List Event). l ++ second) moved.are ∙ append_assoc moved.front (Opened one.path moved.number moved.begun ∷ (Closed moved.opening [] moved.faults ∷ moved.back)) second;
+  file = moved.file;
+  file_is = moved.file_is;
+  rule = moved.rule;
+  rule_is = moved.rule_is;
+  numbered = moved.numbered;
+  other = moved.other;
+}
+
+moved_right : (settings : Settings) (before : FolderHistory) (first second : List Event) (one : Listed) → MovedIn settings (with_more before first) second one → MovedIn settings before (first ++ second) one
+moved_right settings before first second one moved = record {
+  front = first ++ moved.front;
+  back = moved.back;
+  opening = moved.opening;
+  opening_is =
+      let is = moved.opening_is in
+      omega (arith, is, length-append before.events first, length-append first moved.front);
+  number = moved.number;
+  begun = moved.begun;
+  faults = moved.faults;
+  are = ap (λ (l : List Event). first ++ l) moved.are ∙ sym (append_assoc first moved.front (Opened one.path moved.number moved.begun ∷ (Closed moved.opening [] moved.faults ∷ moved.back)));
+  file = moved.file;
+  file_is = moved.file_is;
+  rule = moved.rule;
+  rule_is = moved.rule_is;
+  numbered = moved.numbered;
+  other = moved.other;
+}
+
+served_left : (settings : Settings) (before : FolderHistory) (first second : List Event) (notes_first notes_second : List Note) (slot : ℕ) (one : Listed) → IsServedIn settings before first notes_first slot one →
+    IsServedIn settings before (first ++ second) (notes_first ++ notes_second) slot one
+served_left settings before first second notes_first notes_second slot one (inl has) = inl (begun_left notes_first notes_second slot has)
+served_left settings before first second notes_first notes_second slot one (inr (inl gone)) = inr (inl (Contains-append_left first second (NotThere one.path) gone))
+served_left settings before first second notes_first notes_second slot one (inr (inr moved)) = inr (inr (moved_left settings before first second one moved))
+
+served_right : (settings : Settings) (before : FolderHistory) (first second : List Event) (notes_first notes_second : List Note) (slot : ℕ) (one : Listed) →
+    IsServedIn settings (with_more before first) second notes_second slot one → IsServedIn settings before (first ++ second) (notes_first ++ notes_second) slot one
+served_right settings before first second notes_first notes_second slot one (inl has) = inl (begun_right notes_first notes_second slot has)
+served_right settings before first second notes_first notes_second slot one (inr (inl gone)) = inr (inl (Contains-append_right first second (NotThere one.path) gone))
+served_right settings before first second notes_first notes_second slot one (inr (inr moved)) = inr (inr (moved_right settings before first second one moved))
+
 module _ {T : Type 0} (tails : TailWords T) where
-  opened_event : (path : List ℕ) (tail : T) (before : FolderHistory) (told after : Option FolderHistory) (states : List Sight) (present : List Shown) → told ≡ Some before →
-      TellsOpening tails.told tails.numbers told states present path (Ok (Some tail)) after → (event : Event) × (after ≡ Some (with_event before event))
-  opened_event path tail before told after states present is tells =
-      let opens : OpensFile tails.told tails.numbers before states present path tail after =
-      subst (λ (o : Option FolderHistory). TellsOpening tails.told tails.numbers o states present path (Ok (Some tail)) after) is tells in
-      (Opened path opens.one.file _, opens.kept)
+  pub opened_file : (path : List ℕ) (tail : T) (before : FolderHistory) (told after : Option FolderHistory) (states : List Sight) (present : List Shown) → told ≡ Some before →
+      TellsOpening tails.told tails.numbers told states present path (Ok (Some tail)) after → OpensFile tails.told tails.numbers before states present path tail after
+  opened_file path tail before told after states present is tells =
+      subst (λ (o : Option FolderHistory). TellsOpening tails.told tails.numbers o states present path (Ok (Some tail)) after) is tells
 
   none_event : (path : List ℕ) (before : FolderHistory) (told after : Option FolderHistory) (states : List Sight) (present : List Shown) → told ≡ Some before →
       TellsOpening tails.told tails.numbers told states present path (Ok None) after → after ≡ Some (with_event before (NotThere path))
@@ -66,14 +148,26 @@ module _ {T : Type 0} (tails : TailWords T) where
       finds.kept
 
 module _ {T W L : Type 0} (tails : TailWords T) (settings : Settings) (rows : List Row) (now : Moment) where
-  serves_one : (slot : ℕ) (one : Listed) (found : Bool) (before : FolderHistory) (old new : Beginning T W L) → old.folder.told ≡ Some before →
-      BeginsOne tails settings (file_at rows slot one now) (Ok found) old new → ServesOne slot one.path before old new
-  serves_one slot one true before old new is begins =
-      let opened = opened_event tails one.path begins.tail before old.folder.told begins.mid.folder.told old.folder.states old.folder.present is begins.opened.opens.told in
+  -- what the folder tells of a file that was opened and closed again
+  pub closed_told : (file : ListedFile) (Why : T → Type 0) (before : FolderHistory) (old new : Beginning T W L) (closed : ClosesFile tails file Why old new)
+      (opens : OpensFile tails.told tails.numbers before old.folder.states old.folder.present file.listed.path closed.tail closed.mid.folder.told) →
+      new.folder.told ≡ Some (with_more before (Opened file.listed.path opens.one.file (sight_of opens.one) ∷ (Closed (length before.events) [] (tails.faults closed.tail) ∷ [])))
+  closed_told file Why before old new closed opens =
+      let opening = Opened file.listed.path opens.one.file (sight_of opens.one) in
+      let closing = Closed (length before.events) [] (tails.faults closed.tail) in
+      closed.closed.closes.told
+      ∙ ap (λ (o : Option TailHistory). with_events (closing_of o (tails.faults closed.tail)) closed.mid.folder.told) opens.begins
+      ∙ ap (with_events (closing ∷ [])) opens.kept
+      ∙ ap (λ (l : List Event). Some (record before { events = l })) (append_assoc before.events (opening ∷ []) (closing ∷ []))
+
+  serves_one : (slot : ℕ) (one : Listed) (skipped : Option Why) (before : FolderHistory) (old new : Beginning T W L) → old.folder.told ≡ Some before →
+      BeginsOne tails settings (file_at rows slot one now) (Ok skipped) old new → ServesOne settings slot one before old new
+  serves_one slot one None before old new is begins =
+      let opens = opened_file tails one.path begins.tail before old.folder.told begins.mid.folder.told old.folder.states old.folder.present is begins.opened.opens.told in
       let tells = begins.follows.taken.tells in
       record {
-        event = opened.0;
-        told = ap (λ f. f.told) begins.follows.taken.folder ∙ opened.1;
+        events = Opened one.path opens.one.file (sight_of opens.one) ∷ [];
+        told = ap (λ f. f.told) begins.follows.taken.folder ∙ opens.kept;
         more = noted_begin (begin_for (record { 0 = slot }) one tells.key (start_among rows one)) ∷ [];
         noted = tells.tells.told ∙ ap (λ (k : Keeping). k.tracked.notes ++ noted_begin (begin_for (record { 0 = slot }) one tells.key (start_among rows one)) ∷ []) begins.opened.keeper;
         served = inl (record {
@@ -82,22 +176,50 @@ module _ {T W L : Type 0} (tails : TailWords T) (settings : Settings) (rows : Li
           noted = first_there (noted_begin (begin_for (record { 0 = slot }) one tells.key (start_among rows one))) [];
         });
       }
-  serves_one slot one false before old new is opens = record {
-    event = NotThere one.path;
+  serves_one slot one (Some Gone) before old new is opens = record {
+    events = NotThere one.path ∷ [];
     told = none_event tails one.path before old.folder.told new.folder.told old.folder.states old.folder.present is opens.opens.told;
     more = [];
     noted = ap (λ (k : Keeping). k.tracked.notes) opens.keeper ∙ sym (append-nil old.keeper.tracked.notes);
-    served = inr refl;
+    served = inr (inl (first_there (NotThere one.path) []));
   }
+  serves_one slot one (Some Moved) before old new is closed =
+      let opens = opened_file tails one.path closed.tail before old.folder.told closed.mid.folder.told old.folder.states old.folder.present is closed.opened.opens.told in
+      let faults = tails.faults closed.tail in
+      record {
+        events = Opened one.path opens.one.file (sight_of opens.one) ∷ (Closed (length before.events) [] faults ∷ []);
+        told = closed_told (file_at rows slot one now) (HasOtherKey tails settings (file_at rows slot one now)) before old new closed opens;
+        more = [];
+        noted = ap (λ (k : Keeping). k.tracked.notes) (closed.closed.keeper ∙ closed.opened.keeper) ∙ sym (append-nil old.keeper.tracked.notes);
+        served = inr (inr (record {
+          front = [];
+          back = [];
+          opening = length before.events;
+          opening_is = omega arith;
+          number = opens.one.file;
+          begun = sight_of opens.one;
+          faults = faults;
+          are = refl;
+          file = opens.file;
+          file_is = opens.file_is;
+          rule = closed.why.rule;
+          rule_is = closed.why.rule_is;
+          numbered = λ native. subst (λ (numbers : Option (ℕ × ℕ)). IsSome numbers) opens.numbers (closed.why.numbered native);
+          other = λ same. closed.why.other (ap (named_key closed.why.rule.id closed.why.rule.file_identity one.path) opens.numbers ∙ same);
+        }));
+      }
+  serves_one slot one (Some Doubled) before old new is begins = absurd begins
+  serves_one slot one (Some Old) before old new is begins = absurd begins
+  serves_one slot one (Some Small) before old new is begins = absurd begins
 
   -- ---- all of them
 
   pub record ServesFrom (slot : ℕ) (listed : List Listed) (before : FolderHistory) (old new : Beginning T W L) : Type 0 where
     pub events : List Event
-    pub told : new.folder.told ≡ Some (record before { events = before.events ++ events })
+    pub told : new.folder.told ≡ Some (with_more before events)
     pub more : List Note
     pub noted : new.keeper.tracked.notes ≡ old.keeper.tracked.notes ++ more
-    pub each : (k : ℕ) (one : Listed) → slice_get listed k ≡ Some one → HasBegin more (slot + k) ⊎ Contains events (NotThere one.path)
+    pub each : (k : ℕ) (one : Listed) → slice_get listed k ≡ Some one → IsServedIn settings before events more (slot + k) one
 
   pub serves_from : (slot : ℕ) (listed : List Listed) (passed : List Passing) (before : FolderHistory) (old new : Beginning T W L) → old.folder.told ≡ Some before →
       BeginsFrom tails settings rows now slot listed passed old new → ServesFrom slot listed before old new
@@ -109,30 +231,29 @@ module _ {T W L : Type 0} (tails : TailWords T) (settings : Settings) (rows : Li
     each = λ k one at. absurd (let q : None ≡ Some one = at in cc);
   }
   serves_from slot (one ∷ listed) passed before old new is begins =
-      let first = serves_one slot one begins.found before old begins.mid is begins.first in
-      join_both first (serves_from (suc slot) listed begins.later (with_event before first.event) begins.mid new first.told begins.rest)
+      let first = serves_one slot one begins.why before old begins.mid is begins.first in
+      join_both first (serves_from (suc slot) listed begins.later (with_more before first.events) begins.mid new first.told begins.rest)
     where
-      join_both : (first : ServesOne slot one.path before old begins.mid) → ServesFrom (suc slot) listed (with_event before first.event) begins.mid new → ServesFrom slot (one ∷ listed) before old new
+      join_both : (first : ServesOne settings slot one before old begins.mid) → ServesFrom (suc slot) listed (with_more before first.events) begins.mid new → ServesFrom slot (one ∷ listed) before old new
       join_both first rest = record {
-        events = first.event ∷ rest.events;
-        told = rest.told ∙ ap (λ (l : List Event). Some (record before { events = l })) (append_assoc before.events (first.event ∷ []) rest.events);
+        events = first.events ++ rest.events;
+        told = rest.told ∙ ap (λ (l : List Event). Some (record before { events = l })) (append_assoc before.events first.events rest.events);
         more = first.more ++ rest.more;
         noted = rest.noted ∙ ap (λ (l : List Note). l ++ rest.more) first.noted ∙ append_assoc old.keeper.tracked.notes first.more rest.more;
         each = each;
       }
         where
-          each : (k : ℕ) (other : Listed) → slice_get (one ∷ listed) k ≡ Some other → HasBegin (first.more ++ rest.more) (slot + k) ⊎ Contains (first.event ∷ rest.events) (NotThere other.path)
+          each : (k : ℕ) (other : Listed) → slice_get (one ∷ listed) k ≡ Some other → IsServedIn settings before (first.events ++ rest.events) (first.more ++ rest.more) (slot + k) other
           each zero other at =
               let q : Some one ≡ Some other = at in
               let same : one ≡ other = cc in
               let here : slot ≡ slot + 0 = omega arith in
-              ⊎_elim (λ has. inl (subst (HasBegin (first.more ++ rest.more)) here (begun_left first.more rest.more slot has)))
-              (λ gone. inr (subst (λ (e : Event). Contains (first.event ∷ rest.events) e) (gone ∙ ap (λ (l : Listed). NotThere l.path) same) (first_there first.event rest.events)))
-              first.served
+              subst (λ (n : ℕ). IsServedIn settings before (first.events ++ rest.events) (first.more ++ rest.more) n other) here
+              (served_left settings before first.events rest.events first.more rest.more slot other (subst (IsServedIn settings before first.events first.more slot) same first.served))
           each (suc k) other at =
               let here : suc slot + k ≡ slot + suc k = omega arith in
-              ⊎_elim (λ has. inl (subst (HasBegin (first.more ++ rest.more)) here (begun_right first.more rest.more (suc slot + k) has)))
-              (λ gone. inr (later_there first.event (NotThere other.path) rest.events gone)) (rest.each k other at)
+              subst (λ (n : ℕ). IsServedIn settings before (first.events ++ rest.events) (first.more ++ rest.more) n other) here
+              (served_right settings before first.events rest.events first.more rest.more (suc slot + k) other (rest.each k other at))
 
 -- ---- of the keeper's notes, and behind the scan
 
@@ -141,10 +262,24 @@ got_behind [] xs k place x at is = ap (slice_get xs) (omega (arith, is)) ∙ at
 got_behind (y ∷ front) xs k zero x at is = absurd (omega (arith, is))
 got_behind (y ∷ front) xs k (suc place) x at is = got_behind front xs k place x at (omega (arith, is))
 
-got_still : {A : Type 0} (xs more : List A) (k : ℕ) (x : A) → slice_get xs k ≡ Some x → slice_get (xs ++ more) k ≡ Some x
+pub got_still : {A : Type 0} (xs more : List A) (k : ℕ) (x : A) → slice_get xs k ≡ Some x → slice_get (xs ++ more) k ≡ Some x
 got_still [] more k x at = absurd (let q : None ≡ Some x = at in cc)
 got_still (y ∷ xs) more zero x at = at
 got_still (y ∷ xs) more (suc k) x at = got_still xs more k x at
+
+pub got_at_end : {A : Type 0} (front : List A) (x : A) (back : List A) (place : ℕ) → place ≡ length front → slice_get (front ++ (x ∷ back)) place ≡ Some x
+got_at_end [] x back place is = ap (slice_get (x ∷ back)) is
+got_at_end (y ∷ front) x back zero is = absurd (omega (arith, is))
+got_at_end (y ∷ front) x back (suc place) is = got_at_end front x back place (omega (arith, is))
+
+behind_it : {A : Type 0} (front : List A) (x : A) (back : List A) (place : ℕ) → place ≡ length front → drop (suc place) (front ++ (x ∷ back)) ≡ back
+behind_it [] x back place is = ap (λ (n : ℕ). drop (suc n) (x ∷ back)) is
+behind_it (y ∷ front) x back zero is = absurd (omega (arith, is))
+behind_it (y ∷ front) x back (suc place) is = behind_it front x back place (omega (arith, is))
+
+closes_first : (opening faults : ℕ) (back : List Event) → closing_in opening (Closed opening [] faults ∷ back) ≡ Some (record { looks = []; faults = faults })
+closes_first opening faults back =
+    ap (λ (b : Bool). first_of_two (if b then Some (record { looks = []; faults = faults }) else None) (closing_in opening back)) (eq-eqb opening opening refl)
 
 -- notes that moments of files add begin no file, and take none away
 moments_grow : (rows : List Row) (slot : ℕ) (listed : List Listed) (old new : Keeping) → TellMoments rows slot listed old new → (more : List Note) × (new.tracked.notes ≡ old.tracked.notes ++ more)
@@ -169,13 +304,13 @@ module _ {T W L : Type 0} (tails : TailWords T) (settings : Settings) (rows : Li
   pub record IsServedBehind : Type 0 where
     pub events : List Event
     pub told : new.folder.told ≡ Some (folder_begun folder events).ended
-    pub each : IsEachServed listed new.keeper.tracked.notes (folder_begun folder events)
+    pub each : IsEachServed settings listed new.keeper.tracked.notes (folder_begun folder events)
 
   pub each_is_served : IsServedBehind
   each_is_served = record {
     events = of.events;
     told = ap (λ (s : Beginning T W L). s.folder.told) begins.others ∙ of.told;
-    each = λ slot one at. ⊎_elim (λ has. inl (begun_in_all slot (subst (HasBegin of.more) (no_less slot) has))) (λ gone. inr (not_there one.path gone)) (of.each slot one at);
+    each = λ slot one at. of_each slot one (of.each slot one at);
   }
     where
       of : ServesFrom tails settings rows now 0 listed folder.scanned old begins.mid
@@ -200,7 +335,61 @@ module _ {T W L : Type 0} (tails : TailWords T) (settings : Settings) (rows : Li
             (slice_get-get_or of.events there.0 (NotThere path) there.1 ∙ ap (λ (e : Event). Some e) there.2) refl;
       }
 
+      moved : (one : Listed) → MovedIn settings folder.scanned of.events one → WasMoved settings (folder_begun folder of.events) one
+      moved one is = record {
+        opening = is.opening;
+        since = let its = is.opening_is in omega (arith, its);
+        number = is.number;
+        begun = is.begun;
+        is = subst (λ (l : List Event). slice_get l is.opening ≡ Some (Opened one.path is.number is.begun)) (sym all_events)
+            (got_at_end all_front (Opened one.path is.number is.begun) (Closed is.opening [] is.faults ∷ is.back) is.opening long);
+        closed = record {
+          faults = is.faults;
+          closing = subst (λ (l : List Event). closing_in is.opening (drop (suc is.opening) l) ≡ Some (record { looks = []; faults = is.faults })) (sym all_events)
+              (ap (closing_in is.opening) (behind_it all_front (Opened one.path is.number is.begun) (Closed is.opening [] is.faults ∷ is.back) is.opening long)
+              ∙ closes_first is.opening is.faults is.back);
+        };
+        file = is.file;
+        file_is = is.file_is;
+        rule = is.rule;
+        rule_is = is.rule_is;
+        numbered = is.numbered;
+        other = is.other;
+      }
+        where
+          all_front : List Event
+          all_front = folder.scanned.events ++ is.front
+
+          long : is.opening ≡ length all_front
+          long = let its = is.opening_is in omega (arith, its, length-append folder.scanned.events is.front)
+
+          all_events : folder.scanned.events ++ of.events ≡ all_front ++ (Opened one.path is.number is.begun ∷ (Closed is.opening [] is.faults ∷ is.back))
+          all_events = ap (λ (l : List Event). folder.scanned.events ++ l) is.are
+              ∙ sym (append_assoc folder.scanned.events is.front (Opened one.path is.number is.begun ∷ (Closed is.opening [] is.faults ∷ is.back)))
+
+      of_each : (slot : ℕ) (one : Listed) → IsServedIn settings folder.scanned of.events of.more (0 + slot) one →
+          HasBegin new.keeper.tracked.notes slot ⊎ (WasNotThere (folder_begun folder of.events) one.path ⊎ WasMoved settings (folder_begun folder of.events) one)
+      of_each slot one (inl has) = inl (begun_in_all slot (subst (HasBegin of.more) (no_less slot) has))
+      of_each slot one (inr (inl gone)) = inr (inl (not_there one.path gone))
+      of_each slot one (inr (inr is)) = inr (inr (moved one is))
+
 -- ---- as the run goes on
+
+found_first : (o : Option Closing) (rest later : Option Closing) (closing : Closing) → first_of_two o rest ≡ Some closing → (rest ≡ Some closing → later ≡ Some closing) → first_of_two o later ≡ Some closing
+found_first None rest later closing is on = on is
+found_first (Some found) rest later closing is on = is
+
+first_found : (opening : ℕ) (events later : List Event) (closing : Closing) → closing_in opening events ≡ Some closing → closing_in opening (events ++ later) ≡ Some closing
+first_found opening [] later closing is = absurd (let q : None ≡ Some closing = is in cc)
+first_found opening (event ∷ events) later closing is =
+    found_first (closing_by opening event) (closing_in opening events) (closing_in opening (events ++ later)) closing is (first_found opening events later closing)
+
+-- a closing that stands in a list stands there however it goes on
+closed_still : (xs more : List Event) (opening : ℕ) (x : Event) (closing : Closing) → slice_get xs opening ≡ Some x → closing_in opening (drop (suc opening) xs) ≡ Some closing →
+    closing_in opening (drop (suc opening) (xs ++ more)) ≡ Some closing
+closed_still xs more opening x closing at is =
+    let within = slice_get_within xs opening x at in
+    ap (closing_in opening) (drop-append-le (suc opening) xs more (omega (arith, within))) ∙ first_found opening (drop (suc opening) xs) more closing is
 
 -- the folder's list has these things more
 abbrev pub folder_on : FolderTold → List Event → FolderTold
@@ -218,7 +407,7 @@ front_of_both : (P : Note → Type 0) (first second : List Note) → AllByRecurs
 front_of_both P [] second each = tt
 front_of_both P (note ∷ first) second each = (each.0, front_of_both P first second each.1)
 
-module _ (rows : List Row) (listed : List Listed) (folder : FolderTold) (old new : Keeping) (events : List Event) (collects : Collects old new) (none_held : old.held ≡ None) where
+module _ (settings : Settings) (rows : List Row) (listed : List Listed) (folder : FolderTold) (old new : Keeping) (events : List Event) (collects : Collects old new) (none_held : old.held ≡ None) where
   -- what was noted behind the beginning of files was posted
   were_posted : AllByRecursion IsPostable collects.more
   were_posted =
@@ -232,6 +421,22 @@ module _ (rows : List Row) (listed : List Listed) (folder : FolderTold) (old new
   still_not_there : (path : List ℕ) → WasNotThere folder path → WasNotThere (folder_on folder events) path
   still_not_there path gone = record { opening = gone.opening; since = gone.since; is = got_still folder.ended.events events gone.opening (NotThere path) gone.is }
 
+  still_moved : (one : Listed) → WasMoved settings folder one → WasMoved settings (folder_on folder events) one
+  still_moved one moved = record {
+    opening = moved.opening;
+    since = moved.since;
+    number = moved.number;
+    begun = moved.begun;
+    is = got_still folder.ended.events events moved.opening (Opened one.path moved.number moved.begun) moved.is;
+    closed = record { faults = moved.closed.faults; closing = closed_still folder.ended.events events moved.opening (Opened one.path moved.number moved.begun) _ moved.is moved.closed.closing };
+    file = moved.file;
+    file_is = moved.file_is;
+    rule = moved.rule;
+    rule_is = moved.rule_is;
+    numbered = moved.numbered;
+    other = moved.other;
+  }
+
   still_noted : (note : Note) → Contains old.tracked.notes note → Contains new.tracked.notes note
   still_noted note there = subst (λ (l : List Note). Contains l note) (sym collects.noted) (Contains-append_left old.tracked.notes collects.more note there)
 
@@ -241,9 +446,15 @@ module _ (rows : List Row) (listed : List Listed) (folder : FolderTold) (old new
       (λ later. absurd (posted_begins_none (noted_begin begin) (member_is IsPostable collects.more (noted_begin begin) were_posted later)))
       (Contains-append_cases old.tracked.notes collects.more (noted_begin begin) (subst (λ (l : List Note). Contains l (noted_begin begin)) collects.noted there))
 
-  pub still_served : AreServed rows listed old.tracked.notes folder → AreServed rows listed new.tracked.notes (folder_on folder events)
+  still_so : (slot : ℕ) (one : Listed) → HasBegin old.tracked.notes slot ⊎ (WasNotThere folder one.path ⊎ WasMoved settings folder one) →
+      HasBegin new.tracked.notes slot ⊎ (WasNotThere (folder_on folder events) one.path ⊎ WasMoved settings (folder_on folder events) one)
+  still_so slot one (inl has) = inl (still_begun slot has)
+  still_so slot one (inr (inl gone)) = inr (inl (still_not_there one.path gone))
+  still_so slot one (inr (inr moved)) = inr (inr (still_moved one moved))
+
+  pub still_served : AreServed settings rows listed old.tracked.notes folder → AreServed settings rows listed new.tracked.notes (folder_on folder events)
   still_served served = record {
-    each = λ slot one at. ⊎_elim (λ has. inl (still_begun slot has)) (λ gone. inr (still_not_there one.path gone)) (served.each slot one at);
+    each = λ slot one at. still_so slot one (served.each slot one at);
     seen = λ begin there. seen_still begin (slice_get listed begin.slot.0) (served.seen begin (begun_before begin there));
   }
     where
@@ -255,21 +466,21 @@ module _ (rows : List Row) (listed : List Listed) (folder : FolderTold) (old new
 -- ---- from the beginning of files to the end of the run
 
 -- as the folder tells at the end, and by what its keeper noted then
-pub record IsServedAtEnd (rows : List Row) (listed : List Listed) (noted : List Note) (folder : FolderTold) (shown : Option FolderHistory) : Type 0 where
+pub record IsServedAtEnd (settings : Settings) (rows : List Row) (listed : List Listed) (noted : List Note) (folder : FolderTold) (shown : Option FolderHistory) : Type 0 where
   pub ended : FolderHistory
   pub is : shown ≡ Some ended
-  pub served : AreServed rows listed noted (record folder { ended = ended })
+  pub served : AreServed settings rows listed noted (record folder { ended = ended })
 
 pub served_at_end : {T W L : Type 0} (tails : TailWords T) (settings : Settings) (rows : List Row) (now : Moment) (listed : List Listed) (passed : List Passing) (folder : FolderTold)
     (old new : Beginning T W L) → old.folder.told ≡ Some folder.scanned → BeginsAll tails settings rows now listed passed old new → AreAllSeen rows listed new.keeper.tracked.notes →
     (keeper : Keeping) → Collects new.keeper keeper → new.keeper.held ≡ None → (events : List Event) (shown : Option FolderHistory) → shown ≡ with_events events new.folder.told →
-    IsServedAtEnd rows listed keeper.tracked.notes folder shown
-served_at_end tails settings rows now listed passed folder old new is begins seen keeper collects none_held events shown then =
+    IsServedAtEnd settings rows listed keeper.tracked.notes folder shown
+served_at_end tails settings rows now listed passed folder old new is begins seen keeper collects none_held events shown grown =
     by_beginning (each_is_served tails settings rows now listed passed folder old new is begins)
   where
-    by_beginning : IsServedBehind tails settings rows now listed passed folder old new is begins → IsServedAtEnd rows listed keeper.tracked.notes folder shown
+    by_beginning : IsServedBehind tails settings rows now listed passed folder old new is begins → IsServedAtEnd settings rows listed keeper.tracked.notes folder shown
     by_beginning behind = record {
       ended = (folder_on (folder_begun folder behind.events) events).ended;
-      is = then ∙ ap (with_events events) behind.told;
-      served = still_served rows listed (folder_begun folder behind.events) new.keeper keeper events collects none_held (record { each = behind.each; seen = seen });
+      is = grown ∙ ap (with_events events) behind.told;
+      served = still_served settings rows listed (folder_begun folder behind.events) new.keeper keeper events collects none_held (record { each = behind.each; seen = seen });
     }

@@ -120,9 +120,9 @@ module _ {T W L : Type 0} (told : L → Option Talk) (queue desk : TableId) (set
 
 module _ {T W L D : Type 0} (words : Words T W L D) (reads : (disk : D) → IfSome (words.disks.contents disk) (words.disks.images disk))
     (counts : (disk : D) (at : ℕ) (image : List ℕ) → at ≤ words.disks.moment disk → words.disks.images disk image → words.disks.images_since disk at image)
-    (queue desk : TableId) (settings : Settings) (listed : List Listed) (now : Moment) (moments : Option (List ℕ)) (wires left : List W) (a b : D) (old : Beginning T W L) (earlier : Earlier D) where
+    (queue desk : TableId) (settings : Settings) (listed doubled : List Listed) (now : Moment) (moments : Option (List ℕ)) (wires left : List W) (a b : D) (old : Beginning T W L) (earlier : Earlier D) where
   abbrev outset : Outset W D
-  outset = record { settings = settings; listed = listed; moment = now.0; shown = old.folder.told; moments = moments; wires = wires; keeper = old.keeper; a = a; b = b }
+  outset = record { settings = settings; listed = listed; doubled = doubled; moment = now.0; shown = old.folder.told; moments = moments; wires = wires; keeper = old.keeper; a = a; b = b }
 
   abbrev start : Began D
   start = began_with words.wires outset earlier
@@ -170,11 +170,11 @@ module _ {T W L D : Type 0} (words : Words T W L D) (reads : (disk : D) → IfSo
             ∙ map_both (λ (w : W). length_of (words.wires.outcomes w)) (take settings.output.workers wires) left
 
         served : met ≡ Done → IfErr result (λ _. met ≢ Done) → Collects new.keeper ending.keeper → new.keeper.held ≡ None → (events : List Event) → ending.shown ≡ with_events events new.folder.told →
-            IsServedAtEnd old.keeper.store.rows listed ending.keeper.tracked.notes folder ending.shown
+            IsServedAtEnd settings old.keeper.store.rows listed ending.keeper.tracked.notes folder ending.shown
         served is_done not_done collects none_held events then = by_result result begins not_done
           where
             by_result : (r : Result (Vec Passing Global) Met) → IfOk r (λ passed. BeginsAll words.tails settings old.keeper.store.rows now listed passed.items old new) → IfErr r (λ _. met ≢ Done) →
-                IsServedAtEnd old.keeper.store.rows listed ending.keeper.tracked.notes folder ending.shown
+                IsServedAtEnd settings old.keeper.store.rows listed ending.keeper.tracked.notes folder ending.shown
             by_result (Ok passed) all not = served_at_end words.tails settings old.keeper.store.rows now listed passed.items folder old new has.shown all
                 (all_are_seen words reads counts start moments a b now old (so_far words start old.crew first.store first.pass a b moments settings.output made) stands_out refl
                 (given words start old.crew first.store first.pass a b moments settings.output made).ends sets.of_inputs passed.items new all)

@@ -30,7 +30,7 @@ use Rattle.run_steps.specs.MetIn.{HasFailed, HasTriesLeft, NoneFailed}
 use Rattle.run_steps.specs.Settling.{IsMetByStoring, Written}
 use Rattle.run_steps.specs.Worked.{IsBeginEnd, IsFollowedBy}
 use Rattle.run_steps.specs.declared.met.Met.{Met}
-use Rattle.run_steps.specs.declared.met.Met.TheVariants.{DiskFault, Done, Epochs, FolderFault, NoMemory, Stopped, Unreachable}
+use Rattle.run_steps.specs.declared.met.Met.TheVariants.{DiskFault, Done, Epochs, FolderFault, NoMemory, Stopped, Unreachable, NoNative}
 use Rattle.run_steps.proofs.Members.{some_is}
 use Rattle.run_steps.proofs.SettingOut.{first_wires}
 
@@ -113,6 +113,7 @@ module _ {T W L D : Type 0} (words : Words T W L D) (attempts timeout earlier : 
   by_following DiskFault range follows failing stay ended = tt
   by_following FolderFault range follows failing stay ended = tt
   by_following (Epochs slot) range follows failing stay ended = tt
+  by_following (NoNative slot) range follows failing stay ended = tt
   by_following (Unreachable worker) range follows failing stay ended =
       has_failed_at words.links words.wires attempts timeout earlier starts since.now.carriers.items three unused all moments worker failing (failed begun range follows) stay ended
     where
@@ -127,6 +128,7 @@ module _ {T W L D : Type 0} (words : Words T W L D) (attempts timeout earlier : 
   by_storing DiskFault met = tt
   by_storing FolderFault met = tt
   by_storing (Epochs slot) met = tt
+  by_storing (NoNative slot) met = tt
   by_storing (Unreachable worker) met = absurd met
 
   pub failed_as_met : (met now : Met) → IfErr begun IsBeginEnd → IsFollowedBy words.tails words.disks attempts since begun met → (now ≡ met) ⊎ IsMetByStoring words.disks written now →

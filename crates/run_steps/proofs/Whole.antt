@@ -35,7 +35,7 @@ use Rattle.run_steps.specs.SoFar.{SoFar}
 use Rattle.run_steps.specs.Stands.{Further, Stands}
 use Rattle.run_steps.specs.Worked.{IsBeginEnd, IsBegunWith, IsFollowedBy, IsWorkedBy, Tolls, phase_begun, phase_worked}
 use Rattle.run_steps.specs.declared.met.Met.{Met}
-use Rattle.run_steps.specs.declared.met.Met.TheVariants.{DiskFault, Done, Epochs, FolderFault, NoMemory, Stopped, Unreachable}
+use Rattle.run_steps.specs.declared.met.Met.TheVariants.{DiskFault, Done, Epochs, FolderFault, NoMemory, Stopped, Unreachable, NoNative}
 use Rattle.run_steps.proofs.Leaving.{spans_same, stands_released}
 use Rattle.run_steps.proofs.Released.{rose_where_some}
 
@@ -49,6 +49,7 @@ left_or_not DiskFault = inr (λ left. left)
 left_or_not FolderFault = inl tt
 left_or_not (Unreachable worker) = inl tt
 left_or_not (Epochs slot) = inl tt
+left_or_not (NoNative slot) = inl tt
 
 -- what the last steps met is none of these
 pub done_before : {D : Type 0} (disks : DiskWords D) (written : Written D) (met now : Met) → (now ≡ met) ⊎ IsMetByStoring disks written now → now ≡ Done → met ≡ Done
@@ -65,6 +66,7 @@ left_still disks written met DiskFault (inr by) left = absurd left
 left_still disks written met FolderFault (inr by) left = absurd by
 left_still disks written met (Unreachable worker) (inr by) left = absurd by
 left_still disks written met (Epochs slot) (inr by) left = absurd by
+left_still disks written met (NoNative slot) (inr by) left = absurd by
 
 pub finished_by : (begun : Result (Vec Passing Global) Met) (met : Met) → IfErr begun IsBeginEnd → (IfErr begun (λ first. met ≡ first)) → met ≡ Done →
     phase_left (phase_worked begun met) ≡ Finished
@@ -240,6 +242,7 @@ module _ {T W L D : Type 0} (words : Words T W L D) (attempts : ℕ) (crew one :
         got_within (x ∷ cs) zero c got = omega arith
         got_within (x ∷ cs) (suc k) c got = let more = got_within cs k c got in omega (arith, more)
     by_rounds (Epochs slot) is = subst (SomeOf (SomeOf (λ (b : Begin). b.slot ≡ slot))) counts.slots (has_slot slot (lanings one.lanes.items) is)
+    by_rounds (NoNative slot) is = is
 
     by_storing : (met : Met) → IsMetByStoring words.disks (record { a = first.a.now; b = first.b.now; new_a = second.a.now; new_b = second.b.now }) met → IsWorkedBy crew before after met
     by_storing Done is = absurd is
@@ -253,6 +256,7 @@ module _ {T W L D : Type 0} (words : Words T W L D) (attempts : ℕ) (crew one :
     by_storing FolderFault is = absurd is
     by_storing (Unreachable worker) is = absurd is
     by_storing (Epochs slot) is = absurd is
+    by_storing (NoNative slot) is = absurd is
 
     by_following : (begun : Result (Vec Passing Global) Met) (met : Met) →
         IsFollowedBy words.tails words.disks attempts (record { a = storing.a.now; b = storing.b.now; now = crewing one first }) begun met →
@@ -265,6 +269,7 @@ module _ {T W L D : Type 0} (words : Words T W L D) (attempts : ℕ) (crew one :
     by_following (Ok passed) FolderFault is rang = inr (by_rounds FolderFault (is (λ e. cc)))
     by_following (Ok passed) (Unreachable worker) is rang = inr (by_rounds (Unreachable worker) (is (λ e. cc)))
     by_following (Ok passed) (Epochs slot) is rang = inr (by_rounds (Epochs slot) (is (λ e. cc)))
+    by_following (Ok passed) (NoNative slot) is rang = inr (by_rounds (NoNative slot) (is (λ e. cc)))
 
     pub cause : (begun : Result (Vec Passing Global) Met) (met now : Met) →
         IsFollowedBy words.tails words.disks attempts (record { a = storing.a.now; b = storing.b.now; now = crewing one first }) begun met →

@@ -1,21 +1,21 @@
 -- A run over listed files that is accounted for (this project's profile), before rows of removed files go: each key that had a row, or
--- was begun where the last steps were made, has one. It began with the rows of its store; its one scan was whole, asked for the keys of
--- the listed files by their entries, and showed the key of each listed file and of each slot. Its events are placed as its wires
+-- was begun where the last steps were made, has one. It began with the rows of its store; its one scan was whole, and showed the keys of the
+-- listed files, that of each slot among them, and no other. Its events are placed as its wires
 -- acknowledge their payloads. Where the last steps were made, the numbers of shipped and of dropped events are those of the account;
 -- where it is done, these are all of its events.
-use Rattle.std.specs.Prelude.{◌≡◌, ℕ, List, [], ◌∷◌, Contains, Some, map}
+use Rattle.std.specs.Prelude.{◌≡◌, ℕ, List, [], ◌∷◌, Contains, Some}
 use Rattle.std.specs.List.{AllByRecursion}
 use Rattle.accounts.specs.Numbers.{AreAllCounted, AreNumbersOf, ArePlacedIn}
 use Rattle.event_tree.specs.declared.settings.Settings.{Settings}
 use Rattle.kept_rows.specs.Account.{key_of}
 use Rattle.kept_rows.specs.Run.{Scan}
 use Rattle.kept_rows.specs.Scans.{IsWhole, ShowsKey}
+use Rattle.prospect.specs.Doubled.{HaveKey}
 use Rattle.prospect.specs.declared.listed.Listed.{Listed}
 use Rattle.rounds.specs.Words.{DiskWords}
 use Rattle.wire_base.specs.declared.row.Row.{Row}
 use Rattle.run_steps.specs.AccountedFor.{AccountedWith, NoKey, RunObjects}
 use Rattle.run_steps.specs.Met.{AreLeft}
-use Rattle.run_steps.specs.RunOf.{asking_of}
 use Rattle.run_steps.specs.declared.met.Met.{Met}
 use Rattle.run_steps.specs.declared.met.Met.TheVariants.{Done}
 
@@ -25,7 +25,7 @@ pub record AccountedOver {D : Type 0} (disks : DiskWords D) (settings : Settings
   pub scan : Scan
   pub only : accounted.run.scans ≡ scan ∷ []
   pub whole : IsWhole accounted.run scan
-  pub asked : scan.askings ≡ map asking_of listed
+  pub only_listed : (key : List ℕ) → ShowsKey accounted.run scan key → HaveKey listed (Some key)
   pub lists : (one : Listed) (key : List ℕ) → Contains listed one → one.key ≡ Some key → ShowsKey accounted.run scan key
   pub shown : AllByRecursion (λ one. ShowsKey accounted.run scan (key_of one)) accounted.account
   pub placed : ArePlacedIn accounted.account accounted.run.trace.wires

@@ -10,8 +10,10 @@ pub record Began (D : Type 0) : Type 0 where
   pub settings : Settings
   -- as it was opened
   pub opening : List Row
-  -- a file's slot is its place in this list
+  -- the first file of each key; its slot is its place in this list
   pub listed : List Listed
+  -- the others
+  pub doubled : List Listed
   pub moment : ℕ
   -- the folder behind the scan, and the clock before it
   pub shown : Option FolderHistory

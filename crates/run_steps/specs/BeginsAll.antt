@@ -1,19 +1,18 @@
 -- What beginning all listed files does (this project's profile): file by file, in the order of their slots, each is opened and
--- followed, or skipped where none is there; and then the keeper is told when each was changed.
-use Rattle.std.specs.Prelude.{◌≡◌, ◌⊎◌, ℕ, suc, ◌+◌, ◌-◌, ◌^◌, ◌<◌, ◌≤◌, Bool, true, false, List, [], ◌∷◌, ◌++◌, length, take, slice_get, Option, Some, Ok, Err}
+-- followed, or skipped where none is there or its key is another; and then the keeper is told when each was changed.
+use Rattle.std.specs.Prelude.{◌≡◌, ◌⊎◌, ℕ, suc, ◌+◌, ◌-◌, ◌^◌, ◌<◌, ◌≤◌, List, [], ◌∷◌, ◌++◌, length, take, slice_get, Option, None, Some, Ok, Err}
 use Rattle.std.specs.List.{AllByRecursion}
-use Rattle.event_tree.specs.declared.input_rule.IdentityRule.TheVariants.{Path}
 use Rattle.event_tree.specs.declared.input_rule.InputRule.{InputRule}
 use Rattle.event_tree.specs.declared.settings.Settings.{Settings}
-use Rattle.file_identity.specs.Key.{named_key}
 use Rattle.harvester.specs.HasTold.{begin_of}
 use Rattle.harvester.specs.declared.harvester.Harvester.{Harvester}
+use Rattle.kept_rows.specs.Scans.{IsNoFingerprint}
 use Rattle.lanes.specs.Laning.{Laning}
 use Rattle.multiline_core.specs.Rule.{IsGroupRule}
 use Rattle.outside.specs.Counts.{Rose}
 use Rattle.prospect.specs.declared.listed.Listed.{Listed}
 use Rattle.report.specs.declared.passing.Passing.{Passing}
-use Rattle.report.specs.declared.passing.Why.TheVariants.{Gone}
+use Rattle.report.specs.declared.passing.Why.{Why}
 use Rattle.rounds.specs.Crewed.{lanings}
 use Rattle.rounds.specs.Words.{TailWords}
 use Rattle.wire_base.specs.declared.numbers.Moment.{Moment}
@@ -23,12 +22,12 @@ use Rattle.run_steps.specs.Beginning.{Beginning, BeginsOne, ListedFile, listed_f
 use Rattle.run_steps.specs.Releasing.{harvesters_of}
 use Rattle.run_steps.specs.Telling.{TellMoments, TellSomeMoments}
 use Rattle.run_steps.specs.declared.met.Met.{Met}
-use Rattle.run_steps.specs.declared.met.Met.TheVariants.{DiskFault, Done, Epochs, FolderFault, NoMemory, Stopped, Unreachable}
+use Rattle.run_steps.specs.declared.met.Met.TheVariants.{DiskFault, Done, Epochs, FolderFault, NoMemory, NoNative, Stopped, Unreachable}
 
--- the path is skipped where its opening found no file
-abbrev pub passed_by : Bool → Listed → List Passing
-passed_by true listed = []
-passed_by false listed = record { path = listed.path; why = Gone } ∷ []
+-- the path is skipped where there is a reason to
+abbrev pub passed_by : Option Why → Listed → List Passing
+passed_by None listed = []
+passed_by (Some why) listed = record { path = listed.path; why = why } ∷ []
 
 -- it starts by its row among these
 abbrev pub file_at : List Row → ℕ → Listed → Moment → ListedFile
@@ -37,22 +36,22 @@ file_at rows slot listed now = listed_file (record { 0 = slot }) listed (start_a
 module _ {T W L : Type 0} (tails : TailWords T) (settings : Settings) where
   -- a file was opened and followed, or skipped with this path
   pub record BeginsOrPasses (file : ListedFile) (more : List Passing) (old new : Beginning T W L) : Type 0 where
-    pub found : Bool
-    pub begins : BeginsOne tails settings file (Ok found) old new
-    pub more_is : more ≡ passed_by found file.listed
+    pub why : Option Why
+    pub begins : BeginsOne tails settings file (Ok why) old new
+    pub more_is : more ≡ passed_by why file.listed
 
   -- the call ended in it, or as its path was to be noted as skipped
   abbrev pub EndsInOne : ListedFile → Met → Beginning T W L → Beginning T W L → Type 0
-  EndsInOne file met old new = BeginsOne tails settings file (Err met) old new ⊎ ((met ≡ NoMemory) × BeginsOne tails settings file (Ok false) old new)
+  EndsInOne file met old new = BeginsOne tails settings file (Err met) old new ⊎ ((met ≡ NoMemory) × (why : Why) × BeginsOne tails settings file (Ok (Some why)) old new)
 
 module _ {T W L : Type 0} (tails : TailWords T) (settings : Settings) (rows : List Row) (now : Moment) where
   -- one file was opened or skipped, and then the rest
   pub record BeginsFirst (slot : ℕ) (listed : Listed) (Rest : List Passing → Beginning T W L → Type 0) (passed : List Passing) (old : Beginning T W L) : Type 0 where
-    pub found : Bool
+    pub why : Option Why
     pub mid : Beginning T W L
-    pub first : BeginsOne tails settings (file_at rows slot listed now) (Ok found) old mid
+    pub first : BeginsOne tails settings (file_at rows slot listed now) (Ok why) old mid
     pub later : List Passing
-    pub passed_are : passed ≡ passed_by found listed ++ later
+    pub passed_are : passed ≡ passed_by why listed ++ later
     pub rest : Rest later mid
 
   -- these files, in the order of their slots from this one on
@@ -100,27 +99,27 @@ module _ {T W L : Type 0} (tails : TailWords T) (settings : Settings) (rows : Li
     abbrev pub BeginsSome : Met → Beginning T W L → Beginning T W L → Type 0
     BeginsSome met old new = EndsInFile met old new ⊎ ((met ≡ NoMemory) × (EndsBehindFile old new ⊎ EndsInMoments old new))
 
--- a listed file of an input that tells files by their paths: where the folder tells, its key is the one of its path
-pub record IsOfPathInput (settings : Settings) (Tells : Type 0) (listed : Listed) : Type 0 where
+-- a listed file of an input that knows its files without reading them
+pub record IsOfNamedInput (settings : Settings) (listed : Listed) : Type 0 where
   pub rule : InputRule
   pub rule_is : slice_get settings.inputs listed.input ≡ Some rule
-  pub by_path : rule.file_identity ≡ Path
+  pub named : IsNoFingerprint rule.file_identity
   pub in_range : IsGroupRule rule.multiline
-  pub keyed : Tells → (numbers : Option (ℕ × ℕ)) × (listed.key ≡ named_key rule.id Path listed.path numbers)
 
 -- its input is one of the settings
 abbrev pub IsOfInputs : Settings → Listed → Type 0
 IsOfInputs settings listed = listed.input < length settings.inputs
 
--- beginning files ends early where memory is out, or where the folder failed
-abbrev pub EndsBeginning : {T W L : Type 0} → Met → Beginning T W L → Beginning T W L → Type 0
-EndsBeginning NoMemory old new = Unit {0}
-EndsBeginning FolderFault old new = Rose old.folder.faults new.folder.faults
-EndsBeginning Done old new = ⊥
-EndsBeginning Stopped old new = ⊥
-EndsBeginning DiskFault old new = ⊥
-EndsBeginning (Unreachable worker) old new = ⊥
-EndsBeginning (Epochs slot) old new = ⊥
+-- beginning so many files ends early where memory is out, where the folder failed, or where one told no native numbers
+abbrev pub EndsBeginning : {T W L : Type 0} → ℕ → Met → Beginning T W L → Beginning T W L → Type 0
+EndsBeginning count NoMemory old new = Unit {0}
+EndsBeginning count FolderFault old new = Rose old.folder.faults new.folder.faults
+EndsBeginning count (NoNative slot) old new = slot.0 < count
+EndsBeginning count Done old new = ⊥
+EndsBeginning count Stopped old new = ⊥
+EndsBeginning count DiskFault old new = ⊥
+EndsBeginning count (Unreachable worker) old new = ⊥
+EndsBeginning count (Epochs slot) old new = ⊥
 
 -- each harvester is of one of so many slots
 abbrev pub IsSlotBelow : {T : Type 0} → ℕ → Harvester T → Type 0

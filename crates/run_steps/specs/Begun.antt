@@ -1,11 +1,11 @@
--- How files are begun in a run that reads them once, by their paths (this project's profile): the one of a slot is the one that was
+-- How files are begun in a run that reads them once (this project's profile): the one of a slot is the one that was
 -- listed at its place, from where its row stood on. Its Begin is the keeper's first note of it, and then comes the moment of its change.
 use Rattle.std.specs.Prelude.{◌≡◌, ℕ, ◌+◌, ◌≤◌, ◌<◌, List, [], ◌∷◌, ◌++◌, Contains, map, slice_get, Some, IfSome}
 use Rattle.std.specs.List.{AllByRecursion}
 use Rattle.accounts.specs.Opened.{Opened}
-use Rattle.event_tree.specs.declared.input_rule.IdentityRule.TheVariants.{Path}
 use Rattle.event_tree.specs.declared.settings.Settings.{Settings}
 use Rattle.file_identity.specs.Key.{named_key}
+use Rattle.kept_rows.specs.Scans.{IsNoFingerprint}
 use Rattle.multiline_core.specs.Rule.{IsGroupRule}
 use Rattle.prospect.specs.declared.listed.Listed.{Listed}
 use Rattle.wire_base.specs.declared.note.Begin.{Begin as Beginning}
@@ -26,12 +26,12 @@ pub record IsOpenedAsListed (settings : Settings) (rows : List Row) (listed : Li
   pub keyed : one.key ≡ Some opened.begin.key
   pub begin_is : opened.begin ≡ begin_for opened.begin.slot one opened.begin.key (start_among rows one)
   pub rule_is : slice_get settings.inputs one.input ≡ Some opened.rule
-  pub by_path : opened.rule.file_identity ≡ Path
+  pub named : IsNoFingerprint opened.rule.file_identity
   pub in_range : IsGroupRule opened.rule.multiline
 
--- its key is the one of its path
-abbrev pub IsKeyedByPath : Opened → Type 0
-IsKeyedByPath opened = named_key opened.rule.id Path opened.begin.path opened.file.numbers ≡ Some opened.begin.key
+-- its key is the one of its path, or of its numbers
+abbrev pub IsKeyed : Opened → Type 0
+IsKeyed opened = named_key opened.rule.id opened.rule.file_identity opened.begin.path opened.file.numbers ≡ Some opened.begin.key
 
 -- the slots rise from this one on
 abbrev pub AreSlotsFrom : ℕ → List Opened → Type 0

@@ -12,7 +12,7 @@ use Rattle.rounds.specs.Words.{LinkWords, WireWords}
 use Rattle.rounds.specs.declared.carrier.Carrier.{Carrier}
 use Rattle.run_steps.specs.MetIn.{HasTriesLeft, NoneFailed}
 use Rattle.run_steps.specs.declared.met.Met.{Met}
-use Rattle.run_steps.specs.declared.met.Met.TheVariants.{DiskFault, Done, Epochs, FolderFault, NoMemory, Stopped, Unreachable}
+use Rattle.run_steps.specs.declared.met.Met.TheVariants.{DiskFault, Done, Epochs, FolderFault, NoMemory, NoNative, Stopped, Unreachable}
 
 -- how many outcomes a wire has told; none where it does not tell
 abbrev pub count_told : Option (List Outcome) → Option ℕ
@@ -89,3 +89,4 @@ module _ {W : Type 0} (wires : WireWords W) (attempts timeout earlier : ℕ) (st
   FailedAsMet FolderFault = Unit {0}
   FailedAsMet (Unreachable worker) = HasFailedAt worker
   FailedAsMet (Epochs slot) = Unit {0}
+  FailedAsMet (NoNative slot) = Unit {0}

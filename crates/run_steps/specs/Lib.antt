@@ -35,4 +35,5 @@ pub mod Stands
 pub mod Starting
 pub mod Telling
 pub mod Tells
+pub mod Unnumbered
 pub mod Worked

@@ -4,7 +4,7 @@ use Rattle.std.specs.Prelude.{◌≡◌, ℕ, ◌<◌}
 use Rattle.outside.specs.declared.failed.FolderError.{FolderError}
 use Rattle.outside.specs.declared.failed.FolderError.TheVariants.{Failed as Failing, NoMemory as WithoutMemory}
 use Rattle.run_steps.specs.declared.met.Met.{Met}
-use Rattle.run_steps.specs.declared.met.Met.TheVariants.{Done, Stopped, NoMemory, DiskFault, FolderFault, Unreachable, Epochs}
+use Rattle.run_steps.specs.declared.met.Met.TheVariants.{DiskFault, Done, Epochs, FolderFault, NoMemory, NoNative, Stopped, Unreachable}
 
 -- how an error of the folder is met
 abbrev pub IsMetByFolder : FolderError → Met → Type 0
@@ -20,6 +20,7 @@ IsMetOf count DiskFault = Unit {0}
 IsMetOf count FolderFault = Unit {0}
 IsMetOf count (Unreachable worker) = Unit {0}
 IsMetOf count (Epochs slot) = slot.0 < count
+IsMetOf count (NoNative slot) = slot.0 < count
 
 -- behind it the last steps are made
 abbrev pub AreLeft : Met → Type 0
@@ -30,3 +31,4 @@ AreLeft DiskFault = ⊥
 AreLeft FolderFault = Unit {0}
 AreLeft (Unreachable worker) = Unit {0}
 AreLeft (Epochs slot) = Unit {0}
+AreLeft (NoNative slot) = Unit {0}

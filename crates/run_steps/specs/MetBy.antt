@@ -16,7 +16,7 @@ use Rattle.run_steps.specs.Met.{AreLeft}
 use Rattle.run_steps.specs.MetIn.{HasFailed}
 use Rattle.run_steps.specs.RunState.{Finished, Leaving, Phase, Reading}
 use Rattle.run_steps.specs.declared.met.Met.{Met}
-use Rattle.run_steps.specs.declared.met.Met.TheVariants.{DiskFault, Done, Epochs, FolderFault, NoMemory, Stopped, Unreachable}
+use Rattle.run_steps.specs.declared.met.Met.TheVariants.{DiskFault, Done, Epochs, FolderFault, NoMemory, NoNative, Stopped, Unreachable}
 
 abbrev pub SomeHarvester : {T : Type 0} → (Harvester T → Type 0) → List (Laning T) → Type 0
 SomeHarvester P lanes = SomeOf (λ lane. SomeOf P lane.harvesters) lanes
@@ -45,6 +45,7 @@ module _ {T W L D : Type 0} (tails : TailWords T) (disks : DiskWords D) (attempt
   IsMetBy since FolderFault = SomeHarvester (HasFaults tails) (lanings since.now.lanes.items)
   IsMetBy since (Unreachable worker) = HasFailed attempts since.now.carriers.items worker
   IsMetBy since (Epochs slot) = SomeHarvester (IsOverOf slot) (lanings since.now.lanes.items)
+  IsMetBy since (NoNative slot) = ⊥
 
 -- another round may follow, or the last steps
 abbrev pub GoesOn : Option Met → Type 0
@@ -60,6 +61,7 @@ phase_met DiskFault = Leaving
 phase_met FolderFault = Leaving
 phase_met (Unreachable worker) = Leaving
 phase_met (Epochs slot) = Leaving
+phase_met (NoNative slot) = Leaving
 
 abbrev pub phase_of : Option Met → Phase
 phase_of None = Reading

@@ -6,7 +6,7 @@ use Rattle.rounds.specs.declared.answer.Round.{Round}
 use Rattle.rounds.specs.declared.carrier.Carrier.{Carrier}
 use Rattle.rounds.specs.declared.crew.Crew.{Crew}
 use Rattle.run_steps.specs.declared.met.Met.{Met}
-use Rattle.run_steps.specs.declared.met.Met.TheVariants.{Done, Stopped, NoMemory, DiskFault, FolderFault, Unreachable, Epochs}
+use Rattle.run_steps.specs.declared.met.Met.TheVariants.{DiskFault, Done, Epochs, FolderFault, NoMemory, NoNative, Stopped, Unreachable}
 
 -- the worker failed less often in a row than it may
 abbrev pub HasTriesLeft : {W L : Type 0} → ℕ → Carrier W L → Type 0
@@ -46,4 +46,5 @@ IsMetIn attempts crew keeper round (Some (Epochs slot)) = WasStoring round × (r
 IsMetIn attempts crew keeper round (Some (Unreachable worker)) = WasReading round × HasFailed attempts crew.carriers.items worker
 IsMetIn attempts crew keeper round (Some Done) = WasSending attempts crew round × (round.moved ≡ false) × IsDoneIn crew keeper
 IsMetIn attempts crew keeper round (Some Stopped) = ⊥
+IsMetIn attempts crew keeper round (Some (NoNative slot)) = ⊥
 IsMetIn attempts crew keeper round None = WasSending attempts crew round × (round.moved ≡ false → ¬ (IsDoneIn crew keeper))

@@ -1,6 +1,6 @@
 -- How a run sets out (this project's profile): its settings, what its one scan listed and at which moment, what its objects told by
 -- then, and a keeper to which nothing was told over the opened store.
-use Rattle.std.specs.Prelude.{◌≡◌, ℕ, List, [], IsSome, Option, false, map, take}
+use Rattle.std.specs.Prelude.{◌≡◌, ℕ, List, [], Option, false, map, take}
 use Rattle.std.specs.List.{AllByRecursion}
 use Rattle.atomic_table.specs.Seated.{TableId}
 use Rattle.batch_worker.specs.Standing.{length_of}
@@ -15,11 +15,12 @@ use Rattle.settle_box.specs.Collector.{Collector}
 use Rattle.ship_core.specs.Rows.{IsInOrder}
 use Rattle.run_steps.specs.Areas.{BeganAtRest, GaveRows, HaveHeldFronts, IsAtRest}
 use Rattle.run_steps.specs.Began.{Began}
-use Rattle.run_steps.specs.BeginsAll.{IsOfPathInput}
+use Rattle.run_steps.specs.BeginsAll.{IsOfNamedInput}
 
 pub record Outset (W D : Type 0) : Type 0 where
   pub settings : Settings
   pub listed : List Listed
+  pub doubled : List Listed
   pub moment : ℕ
   pub shown : Option FolderHistory
   pub moments : Option (List ℕ)
@@ -40,6 +41,7 @@ began_with {W} wires outset earlier = record {
   settings = outset.settings;
   opening = outset.keeper.store.rows;
   listed = outset.listed;
+  doubled = outset.doubled;
   moment = outset.moment;
   shown = outset.shown;
   moments = earlier.moments;
@@ -49,13 +51,13 @@ began_with {W} wires outset earlier = record {
 }
 
 -- the clock gave its moment, its areas gave the rows of its store and, where they were at rest, have held no others since, and each listed file is of an input that
--- tells files by their paths
+-- knows its files without reading them
 pub record SetsOut {W D : Type 0} (disks : DiskWords D) (start : Began D) (outset : Outset W D) : Type 0 where
   pub gives : GivesMoment start.moments start.moment outset.moments
   pub areas : BeganAtRest disks start → HaveHeldFronts disks start.opening [] start.a start.b outset.a outset.b
   pub gave : GaveRows disks start
   pub at_rest : BeganAtRest disks start → IsAtRest disks outset.keeper outset.a outset.b
-  pub of_inputs : AllByRecursion (IsOfPathInput start.settings (IsSome start.shown)) start.listed
+  pub of_inputs : AllByRecursion (IsOfNamedInput start.settings) start.listed
 
 -- it was made over an open store, and its pass collected nothing
 pub record IsFirstKeeper (desk : TableId) (keeper : Keeping) : Type 0 where

@@ -1,16 +1,17 @@
--- Which paths a run skipped (this project's profile): those of listed files that were not found as they were to be opened, in
--- the order of the list.
-use Rattle.std.specs.Prelude.{◌≡◌, Bool, List, [], ◌∷◌, ◌++◌}
+-- Which paths a run skipped as it opened files (this project's profile): those of listed files that were not found, or were found with
+-- another key, in the order of the list.
+use Rattle.std.specs.Prelude.{◌≡◌, List, [], ◌∷◌, ◌++◌, Option}
 use Rattle.prospect.specs.declared.listed.Listed.{Listed}
 use Rattle.report.specs.declared.passing.Passing.{Passing}
+use Rattle.report.specs.declared.passing.Why.{Why}
 use Rattle.run_steps.specs.BeginsAll.{passed_by}
 
--- by whether each of the first ones was found
-abbrev pub passed_among : List Bool → List Listed → List Passing
+-- by why each of the first ones was skipped, if it was
+abbrev pub passed_among : List (Option Why) → List Listed → List Passing
 passed_among [] listed = []
-passed_among (found ∷ founds) [] = []
-passed_among (found ∷ founds) (one ∷ listed) = passed_by found one ++ passed_among founds listed
+passed_among (why ∷ whys) [] = []
+passed_among (why ∷ whys) (one ∷ listed) = passed_by why one ++ passed_among whys listed
 
 pub record ArePassedOver (listed : List Listed) (passed : List Passing) : Type 0 where
-  pub founds : List Bool
-  pub are : passed ≡ passed_among founds listed
+  pub whys : List (Option Why)
+  pub are : passed ≡ passed_among whys listed

@@ -23,12 +23,12 @@ pub record FolderTold : Type 0 where
 abbrev pub asking_of : Listed → Asking
 asking_of listed = record { input = listed.input; path = listed.path; opening = None }
 
--- its listings are those of the folder's list between the start and what stands behind the scan
+-- its listings are those of the folder's list between the start and what stands behind the scan; it asked for the keys of all listed files
 abbrev pub scan_of : {D : Type 0} → Began D → FolderTold → Scan
 scan_of start folder = record {
   moment = start.moment;
   listings = listings_from (length folder.earlier.events) (drop (length folder.earlier.events) folder.scanned.events);
-  askings = map asking_of start.listed;
+  askings = map asking_of (start.listed ++ start.doubled);
 }
 
 -- ---- its wires

@@ -4,7 +4,7 @@ use Rattle.outside.specs.Counts.{Rose}
 use Rattle.rounds.specs.Words.{DiskWords}
 use Rattle.rounds.specs.declared.answer.Round.{Round}
 use Rattle.run_steps.specs.declared.met.Met.{Met}
-use Rattle.run_steps.specs.declared.met.Met.TheVariants.{DiskFault, Done, Epochs, FolderFault, NoMemory, Stopped, Unreachable}
+use Rattle.run_steps.specs.declared.met.Met.TheVariants.{DiskFault, Done, Epochs, FolderFault, NoMemory, NoNative, Stopped, Unreachable}
 
 -- the areas before and now
 pub record Written (D : Type 0) : Type 0 where
@@ -21,6 +21,7 @@ IsMetByStoring disks written Stopped = ⊥
 IsMetByStoring disks written FolderFault = ⊥
 IsMetByStoring disks written (Unreachable worker) = ⊥
 IsMetByStoring disks written (Epochs slot) = ⊥
+IsMetByStoring disks written (NoNative slot) = ⊥
 
 -- what is made of the keeper's turns
 abbrev pub IsStoredAs : Round → Option Met → Type 0
@@ -31,4 +32,5 @@ IsStoredAs round (Some Stopped) = ⊥
 IsStoredAs round (Some FolderFault) = ⊥
 IsStoredAs round (Some (Unreachable worker)) = ⊥
 IsStoredAs round (Some (Epochs slot)) = ⊥
+IsStoredAs round (Some (NoNative slot)) = ⊥
 IsStoredAs round None = (round.memory ≡ false) × (round.disk ≡ false)

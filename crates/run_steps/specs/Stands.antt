@@ -22,7 +22,7 @@ use Rattle.wire_base.specs.declared.note.Note.{Note}
 use Rattle.wire_base.specs.declared.row.Row.{Row}
 use Rattle.run_steps.specs.Areas.{BeganAtRest, HaveHeldFronts}
 use Rattle.run_steps.specs.Began.{Began}
-use Rattle.run_steps.specs.Begun.{AreBeginNotes, AreSlotsFrom, IsKeyedByPath, IsOpenedAsListed}
+use Rattle.run_steps.specs.Begun.{AreBeginNotes, AreSlotsFrom, IsKeyed, IsOpenedAsListed}
 use Rattle.run_steps.specs.RunState.{Finished, Reading, RunState}
 use Rattle.run_steps.specs.Shown.{HasGiven, HasShown}
 use Rattle.run_steps.specs.SoFar.{Left, SoFar, files_in}
@@ -78,7 +78,7 @@ pub record AreNoted (opening : List Row) (keeper : Keeping) (begun collected : L
 
 pub record Stands {T W L D : Type 0} (words : Words T W L D) (start : Began D) (state : RunState T W L D) (so_far : SoFar) : Type 0 where
   pub opened : AllByRecursion (IsOpenedAsListed start.settings start.opening start.listed) so_far.opened
-  pub keyed : IsSome start.shown → AllByRecursion IsKeyedByPath so_far.opened
+  pub keyed : IsSome start.shown → AllByRecursion IsKeyed so_far.opened
   pub each_once : AreEachOnce so_far.opened (files_in so_far)
   pub turned : Pairs (AreTurnedIn words.tails start.settings.processors so_far.opened so_far.moments) so_far.lanes (lanings state.crew.lanes.items)
   pub left : AllByRecursion (IsLeftSo start.settings.processors so_far.opened so_far.moments) so_far.left

@@ -14,7 +14,7 @@ use Rattle.rounds.specs.declared.storing.Storing.{Storing}
 use Rattle.run_steps.specs.MetBy.{IsMetBy, Since, phase_met}
 use Rattle.run_steps.specs.RunState.{Leaving, Phase, Reading}
 use Rattle.run_steps.specs.declared.met.Met.{Met}
-use Rattle.run_steps.specs.declared.met.Met.TheVariants.{DiskFault, Done, Epochs, FolderFault, NoMemory, Stopped, Unreachable}
+use Rattle.run_steps.specs.declared.met.Met.TheVariants.{DiskFault, Done, Epochs, FolderFault, NoMemory, NoNative, Stopped, Unreachable}
 
 -- what may end the beginning of files
 abbrev pub IsBeginEnd : Met → Type 0
@@ -25,6 +25,7 @@ IsBeginEnd DiskFault = ⊥
 IsBeginEnd FolderFault = Unit {0}
 IsBeginEnd (Unreachable worker) = ⊥
 IsBeginEnd (Epochs slot) = ⊥
+IsBeginEnd (NoNative slot) = Unit {0}
 
 abbrev pub phase_begun : Result (Vec Passing Global) Met → Phase
 phase_begun (Ok passed) = Reading
@@ -72,6 +73,7 @@ IsWorkedBy crew before after DiskFault = Rose before.a_faults after.a_faults ⊎
 IsWorkedBy crew before after FolderFault = Rose before.folder_faults after.folder_faults
 IsWorkedBy crew before after (Unreachable worker) = worker < length crew.carriers.items
 IsWorkedBy crew before after (Epochs slot) = HaveSlot slot (lanings crew.lanes.items)
+IsWorkedBy crew before after (NoNative slot) = ⊥
 
 -- why a run with so many workers over so many listed files met this
 abbrev pub IsMetByRun : ℕ → ℕ → Tolls → Tolls → Met → Type 0
@@ -82,6 +84,7 @@ IsMetByRun workers files before after DiskFault = Rose before.a_faults after.a_f
 IsMetByRun workers files before after FolderFault = Rose before.folder_faults after.folder_faults
 IsMetByRun workers files before after (Unreachable worker) = worker < workers
 IsMetByRun workers files before after (Epochs slot) = slot.0 < files
+IsMetByRun workers files before after (NoNative slot) = slot.0 < files
 
 -- a lent keeper with its areas, as they are lent to the rounds
 abbrev pub lent : {D : Type 0} → MutBor Keeping → Keeping → MutBor D → MutBor D → Storing D

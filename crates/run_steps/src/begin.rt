@@ -1,11 +1,10 @@
-ghost use Rattle.std.specs.Prelude.{◌≡◌, ◌∷◌, ◌++◌, ◌%◌, ◌<◌, ◌≤◌, [], All, IfErr, IfOk, OnErr, OnOk, length};
+ghost use Rattle.std.specs.Prelude.{◌≡◌, ◌∷◌, ◌++◌, ◌%◌, ◌<◌, ◌≤◌, ◌↔◌, [], All, IfErr, IfOk, IsTrue, OnErr, OnOk, length};
 ghost use Rattle.beat_config.specs.InRange.{AreInRange};
 ghost use Rattle.prospect.specs.ListedFiles.{IsListedInRange};
-ghost use Rattle.report.specs.declared.passing.Why.TheVariants.{Gone};
 ghost use Rattle.rounds.specs.Crewed.{lanings};
 ghost use Rattle.rounds.specs.Words.{tail_words};
 ghost use Rattle.wire_base.specs.Ranges.{IsMoment};
-ghost use Rattle.run_steps.specs.Beginning.{AdmitsAt, BeginsOne, Follows, GivesUp, IsOpenedFor, SameLanes, TakesIn, beginning, listed_file};
+ghost use Rattle.run_steps.specs.Beginning.{AdmitsAt, BeginsOne, Follows, FollowsListed, GivesUp, IsOpenedFor, SameLanes, TakesIn, TellsKey, beginning, listed_file};
 ghost use Rattle.run_steps.specs.FolderSeen.{folder_words};
 ghost use Rattle.run_steps.specs.KnownKeys.{HasRoomToBegin};
 
@@ -14,38 +13,41 @@ use crate::leave::release;
 use crate::met::Met;
 use crate::opening::{Opening, begin_of};
 use crate::telling::tell_begin;
+use file_identity::{IdentityError, listed_key};
 use harvester::Harvester;
 use keeper::Keeper;
-use outside::{Folder, Link, Tail, Wire};
+use outside::{Entry, Folder, Link, Tail, Wire};
 use prospect::Listed;
 use report::{Passing, Why};
 use rounds::Crew;
 use std::alloc::Global;
-use wire_base::{NoMemory, Slot};
+use wire_base::{NoMemory, Slot, Text};
 
-/// Adds the path of a file that was listed and then not found.
-pub fn pass_over(alloc: Global, listed: &Listed, passed: &mut Vec<Passing>) -> Result<(), NoMemory>
+/// Adds the path of a file that was listed and is skipped.
+pub fn pass_over(
+    alloc: Global,
+    listed: &Listed,
+    why: Why,
+    passed: &mut Vec<Passing>,
+) -> Result<(), NoMemory>
     ensures passed { OnOk result (passed.new.items
-        ≡ passed.old.items ++ record { path = listed.now.path; why = Gone } ∷ []) }
+        ≡ passed.old.items ++ record { path = listed.now.path; why = why } ∷ []) }
     ensures kept { OnErr result (passed.new.items ≡ passed.old.items) }
 {
     let path = listed.path.copy(alloc)?;
-    passed.push(Passing {
-        path,
-        why: Why::Gone,
-    })?;
+    passed.push(Passing { path, why })?;
     Ok(())
 }
 
-/// Opens the file and follows it in the lane of its slot; whether some file had the path. `Err` is `FolderFault` where the
-/// folder failed, and `NoMemory`; a file that was opened is closed again then.
+/// Opens the file and follows it in the lane of its slot; or why it is skipped. `Err` is `FolderFault` where the folder failed,
+/// `NoNative` where the file wants numbers and told none, and `NoMemory`; a file that was opened is closed again then.
 pub fn begin_one<F: Folder, L: Link, W: Wire<Link = L>>(
     context: Context<'_, '_>,
     opening: Opening<'_>,
     folder: &mut F,
     crew: &mut Crew<F::Tail, W, L>,
     keeper: &mut Keeper,
-) -> Result<bool, Met>
+) -> Result<Option<Why>, Met>
     requires settings { AreInRange context.settings.now }
     requires in_range { IsListedInRange opening.listed.now }
     requires input { opening.listed.now.input < length context.settings.now.inputs }
@@ -63,13 +65,83 @@ pub fn begin_one<F: Folder, L: Link, W: Wire<Link = L>>(
         folder.new crew.new keeper.new) }
 {
     match folder.open(context.alloc, &opening.listed.path) {
-        Ok(Some(tail)) => match follow_one(context, opening, tail, folder, crew, keeper) {
-            Ok(()) => Ok(true),
-            Err(NoMemory) => Err(Met::NoMemory),
-        },
-        Ok(None) => Ok(false),
+        Ok(Some(tail)) => follow_listed(context, opening, tail, folder, crew, keeper),
+        Ok(None) => Ok(Some(Why::Gone)),
         Err(error) => Err(error.into()),
     }
+}
+
+/// Follows an open file that has the key with which it was listed, or closes it.
+fn follow_listed<F: Folder, L: Link, W: Wire<Link = L>>(
+    context: Context<'_, '_>,
+    opening: Opening<'_>,
+    tail: F::Tail,
+    folder: &mut F,
+    crew: &mut Crew<F::Tail, W, L>,
+    keeper: &mut Keeper,
+) -> Result<Option<Why>, Met>
+    requires settings { AreInRange context.settings.now }
+    requires in_range { IsListedInRange opening.listed.now }
+    requires input { opening.listed.now.input < length context.settings.now.inputs }
+    requires moment { IsMoment opening.now }
+    requires some_lanes { 0 < length crew.old.lanes.items }
+    requires start { opening.start.base ≤ opening.listed.now.size }
+    requires few { HasRoomToBegin opening.listed.now keeper.old }
+    ensures { FollowsListed (tail_words F.Tail.numbers F.Tail.told F.Tail.faults)
+        context.entry.settings.now
+        (listed_file opening.entry.slot opening.entry.listed.now opening.entry.start
+        opening.entry.now) tail result
+        (beginning (folder_words F.told F.states F.present F.open_tails F.faults)
+        folder.old crew.old keeper.old)
+        (beginning (folder_words F.told F.states F.present F.open_tails F.faults)
+        folder.new crew.new keeper.new) }
+{
+    match has_listed_key(context, opening, &tail) {
+        Ok(true) => match follow_one(context, opening, tail, folder, crew, keeper) {
+            Ok(()) => Ok(None),
+            Err(NoMemory) => Err(Met::NoMemory),
+        },
+        Ok(false) => {
+            folder.close(tail);
+            Ok(Some(Why::Moved))
+        }
+        Err(met) => {
+            folder.close(tail);
+            Err(met)
+        }
+    }
+}
+
+/// Whether the open file has the key with which it was listed: by its numbers and its path, as a listing would show it now.
+fn has_listed_key<T: Tail>(
+    context: Context<'_, '_>,
+    opening: Opening<'_>,
+    tail: &T,
+) -> Result<bool, Met>
+    requires input { opening.listed.now.input < length context.settings.now.inputs }
+    ensures { TellsKey (tail_words T.numbers T.told T.faults) context.entry.settings.now
+        (listed_file opening.entry.slot opening.entry.listed.now opening.entry.start
+        opening.entry.now) tail.now result }
+{
+    let listed = opening.listed;
+    let rule = &context.settings.inputs.as_slice()[listed.input as usize];
+    let entry = Entry {
+        path: listed.path.copy(context.alloc)?,
+        size: listed.size,
+        native: tail.native(),
+        changed: listed.changed,
+    };
+    match listed_key(context.alloc, &rule.id, &rule.file_identity, &entry) {
+        Ok(key) => Ok(is_same(&key, &listed.key)),
+        Err(IdentityError::NoNative) => Err(Met::NoNative(opening.slot)),
+        Err(_) => Err(Met::NoMemory),
+    }
+}
+
+fn is_same(key: &Option<Text>, listed: &Option<Text>) -> bool
+    ensures { IsTrue result ↔ key.now ≡ listed.now }
+{
+    key == listed
 }
 
 /// Follows an open file in the lane of its slot, or closes it.

@@ -9,6 +9,7 @@ ghost use Rattle.run_steps.specs.BeginsAll.{BeginsAll, BeginsFrom, BeginsOrPasse
 ghost use Rattle.run_steps.specs.FolderSeen.{folder_words};
 ghost use Rattle.run_steps.specs.KnownKeys.{HasRoomToBegin};
 ghost use Rattle.run_steps.specs.Starting.{AreFewFiles, starts_among};
+ghost use Rattle.run_steps.specs.Unnumbered.{IsMetUnnumbered};
 
 use crate::begin::{begin_one, pass_over};
 use crate::context::Context;
@@ -23,16 +24,19 @@ use restart_join::Start;
 use rounds::Crew;
 use wire_base::{Moment, Slot};
 
-/// What a scan told, where each file starts, and the moment of the scan. A file's slot is its place in the list.
+/// What a scan told, where each file starts, and the moment of the scan.
 #[derive(Debug, Drop)]
 pub struct Scanned {
+    /// The first file of each key; its slot is its place in the list.
     pub listed: Vec<Listed>,
+    /// The files that an earlier path led to.
+    pub doubled: Vec<Listed>,
     pub starts: Vec<Start>,
     pub now: Moment,
 }
 
-/// Opens each listed file, tells the keeper how each begins, and then when each was changed. The paths that no file had any more.
-/// `Err` is `FolderFault` where the folder failed, and `NoMemory`; what was begun by then stays begun.
+/// Opens each listed file, tells the keeper how each begins, and then when each was changed. The paths that were skipped. `Err` is
+/// `FolderFault` where the folder failed, `NoNative` where a file told no numbers, and `NoMemory`; what was begun by then stays begun.
 pub fn begin_all<F: Folder, L: Link, W: Wire<Link = L>>(
     context: Context<'_, '_>,
     scanned: &Scanned,
@@ -64,11 +68,14 @@ pub fn begin_all<F: Folder, L: Link, W: Wire<Link = L>>(
         folder.old crew.old keeper.old)
         (beginning (folder_words F.told F.states F.present F.open_tails F.faults)
         folder.new crew.new keeper.new)) }
-    ensures ends { IfErr result (λ met. EndsBeginning met
+    ensures ends { IfErr result (λ met. EndsBeginning
+        (length scanned.entry.now.listed.items) met
         (beginning (folder_words F.told F.states F.present F.open_tails F.faults)
         folder.old crew.old keeper.old)
         (beginning (folder_words F.told F.states F.present F.open_tails F.faults)
         folder.new crew.new keeper.new)) }
+    ensures unnumbered { IfErr result (IsMetUnnumbered context.entry.settings.now
+        scanned.entry.now.listed.items (F.told folder.old) (F.told folder.new)) }
     ensures kept { KeepsOthers (length scanned.entry.now.listed.items)
         (beginning (folder_words F.told F.states F.present F.open_tails F.faults)
         folder.old crew.old keeper.old)
@@ -162,9 +169,8 @@ fn begin_or_pass<F: Folder, L: Link, W: Wire<Link = L>>(
         (beginning (folder_words F.told F.states F.present F.open_tails F.faults)
         folder.new crew.new keeper.new)) }
 {
-    if begin_one(context, opening, folder, crew, keeper)? {
-        return Ok(());
+    if let Some(why) = begin_one(context, opening, folder, crew, keeper)? {
+        pass_over(context.alloc, opening.listed, why, passed)?;
     }
-    pass_over(context.alloc, opening.listed, passed)?;
     Ok(())
 }

@@ -16,6 +16,8 @@ pub enum Met {
     Unreachable(u32),
     /// The last epoch of this file is over.
     Epochs(Slot),
+    /// The system told no inode and device of this file as it was opened, and its input knows files by them.
+    NoNative(Slot),
 }
 
 impl From<NoMemory> for Met {

@@ -19,6 +19,7 @@ ghost use Rattle.run_steps.specs.RunOf.{FolderTold};
 ghost use Rattle.run_steps.specs.RunState.{Phase};
 ghost use Rattle.run_steps.specs.Scanned.{HasScanned};
 ghost use Rattle.run_steps.specs.Starting.{AreFewFiles, starts_among};
+ghost use Rattle.run_steps.specs.Unnumbered.{IsMetUnnumbered};
 ghost use Rattle.run_steps.specs.Worked.{IsMetByRun};
 
 use crate::beginning::{Scanned, begin_all};
@@ -71,6 +72,7 @@ where
         (began_with (wire_words W.outcomes W.open_links W.faults W.idles) (record {
           settings = context.entry.settings.now;
           listed = scanned.entry.now.listed.items;
+          doubled = scanned.entry.now.doubled.items;
           moment = scanned.entry.now.now.0;
           shown = F.told around.old.folder.now;
           moments = K.moments around.old.clock.now;
@@ -81,6 +83,7 @@ where
         }) earlier) (record {
           settings = context.entry.settings.now;
           listed = scanned.entry.now.listed.items;
+          doubled = scanned.entry.now.doubled.items;
           moment = scanned.entry.now.now.0;
           shown = F.told around.old.folder.now;
           moments = K.moments around.old.clock.now;
@@ -96,6 +99,7 @@ where
         (began_with (wire_words W.outcomes W.open_links W.faults W.idles) (record {
           settings = context.entry.settings.now;
           listed = scanned.entry.now.listed.items;
+          doubled = scanned.entry.now.doubled.items;
           moment = scanned.entry.now.now.0;
           shown = F.told around.old.folder.now;
           moments = K.moments around.old.clock.now;
@@ -121,6 +125,7 @@ where
         (began_with (wire_words W.outcomes W.open_links W.faults W.idles) (record {
           settings = context.entry.settings.now;
           listed = scanned.entry.now.listed.items;
+          doubled = scanned.entry.now.doubled.items;
           moment = scanned.entry.now.now.0;
           shown = F.told around.old.folder.now;
           moments = K.moments around.old.clock.now;
@@ -131,6 +136,7 @@ where
         }) earlier) (record {
           settings = context.entry.settings.now;
           listed = scanned.entry.now.listed.items;
+          doubled = scanned.entry.now.doubled.items;
           moment = scanned.entry.now.now.0;
           shown = F.told around.old.folder.now;
           moments = K.moments around.old.clock.now;
@@ -142,6 +148,7 @@ where
         (began_with (wire_words W.outcomes W.open_links W.faults W.idles) (record {
           settings = context.entry.settings.now;
           listed = scanned.entry.now.listed.items;
+          doubled = scanned.entry.now.doubled.items;
           moment = scanned.entry.now.now.0;
           shown = F.told around.old.folder.now;
           moments = K.moments around.old.clock.now;
@@ -186,6 +193,10 @@ where
           folder_faults = F.faults around.new.folder.now;
           rings = B.rings around.new.bell.now;
         }) worked.met) }
+    // A file that is said to have no numbers told none as it was opened.
+    ensures unnumbered { IfOk result (λ worked. IsMetUnnumbered context.entry.settings.now
+        scanned.entry.now.listed.items (F.told around.old.folder.now)
+        (F.told around.new.folder.now) worked.met) }
     // A worker that is called unreachable failed as often in a row as it may, by the outcomes of its wire since the run began, and
     // by the moments that the clock gave from this one on.
     ensures failing { (earlier : ℕ) →

@@ -5,6 +5,7 @@ use Rattle.run_steps.specs.FolderSeen.{folder_words}
 use Rattle.run_steps.specs.Telling.{TellMoments, TellSomeMoments}
 use Rattle.wire_base.specs.declared.row.Row.{Row}
 use Rattle.run_steps.proofs.BeginningLists.{all_keep, all_so, ends_told, files_end, files_keep, memory_ends, rows_kept, some_told_keep}
+use Rattle.run_steps.proofs.Unnumbered.{begun_unnumbered, memory_unnumbered}
 use Rattle.run_steps.proofs.beginning.begin_all.Goals as goal
 
 pub returns-in_err-tell_moments-clause-ended : goal.returns-in_err-tell_moments-clause-ended
@@ -70,4 +71,16 @@ returns-in_err-tell_moments-clause-ends g c =
     memory_ends (tail_words g.F.Tail.Tail.numbers g.F.Tail.Tail.told g.F.Tail.Tail.faults) c.args.context.settings.now c.args.keeper.now.store.rows c.args.scanned.now.now c.args.scanned.now.listed.items
     (beginning (folder_words g.F.Folder.told g.F.Folder.states g.F.Folder.present g.F.Folder.open_tails g.F.Folder.faults) c.args.folder.now c.args.crew.now c.args.keeper.now)
     (beginning (folder_words g.F.Folder.told g.F.Folder.states g.F.Folder.present g.F.Folder.open_tails g.F.Folder.faults) c.begin_files.new.folder c.begin_files.new.crew c.tell_moments.new.keeper)
+    c.from_residual-in_err-tell_moments.result c.from_residual-in_err-tell_moments.ensures.1
+
+pub returns-in_err-passed-clause-unnumbered : goal.returns-in_err-passed-clause-unnumbered
+returns-in_err-passed-clause-unnumbered g c =
+    begun_unnumbered (tail_words g.F.Tail.Tail.numbers g.F.Tail.Tail.told g.F.Tail.Tail.faults) c.args.context.settings.now c.args.keeper.now.store.rows c.args.scanned.now.now c.args.scanned.now.listed.items
+    (beginning (folder_words g.F.Folder.told g.F.Folder.states g.F.Folder.present g.F.Folder.open_tails g.F.Folder.faults) c.args.folder.now c.args.crew.now c.args.keeper.now)
+    (beginning (folder_words g.F.Folder.told g.F.Folder.states g.F.Folder.present g.F.Folder.open_tails g.F.Folder.faults) c.begin_files.new.folder c.begin_files.new.crew c.begin_files.new.keeper)
+    c.from_residual.result c.in_err-passed.field-0.0 c.from_residual.ensures.1 c.in_err-passed.ensures.ended
+
+pub returns-in_err-tell_moments-clause-unnumbered : goal.returns-in_err-tell_moments-clause-unnumbered
+returns-in_err-tell_moments-clause-unnumbered g c =
+    memory_unnumbered c.args.context.settings.now c.args.scanned.now.listed.items (g.F.Folder.told c.args.folder.now) (g.F.Folder.told c.begin_files.new.folder)
     c.from_residual-in_err-tell_moments.result c.from_residual-in_err-tell_moments.ensures.1

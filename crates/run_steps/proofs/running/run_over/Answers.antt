@@ -16,6 +16,7 @@ use Rattle.run_steps.proofs.PassedOver.{passed_over}
 use Rattle.run_steps.proofs.RunCauses.{met_by_run, no_slots}
 use Rattle.run_steps.proofs.RunTails.{none_begun}
 use Rattle.run_steps.proofs.SettingOut.{accounted, first_ready, further, rests, wires_fit, wires_left}
+use Rattle.run_steps.proofs.Unnumbered.{met_unnumbered}
 use Rattle.run_steps.proofs.Unreached.{begun_fails, none_failed_begun}
 use Rattle.run_steps.proofs.running.run_over.Goals as goal
 
@@ -54,16 +55,17 @@ returns-clause-ends g c earlier sets =
     let names = folder_words g.F.Folder.told g.F.Folder.states g.F.Folder.present g.F.Folder.open_tails g.F.Folder.faults in
     let old = beginning names c.args.around.now.folder.now c.in_ok-crew.crew c.args.storing.now.keeper.now in
     let new = beginning names c.begin_all-begun.new.folder c.begin_all-begun.new.crew c.begin_all-begun.new.keeper in
-    let stood = further all c.disk_images_are_counted.ensures.reads c.disk_images_are_counted.ensures.counts queue desk c.args.context.settings.now c.args.scanned.now.listed.items c.args.scanned.now.now
+    let stood = further all c.disk_images_are_counted.ensures.reads c.disk_images_are_counted.ensures.counts queue desk c.args.context.settings.now c.args.scanned.now.listed.items c.args.scanned.now.doubled.items c.args.scanned.now.now
     (g.K.Clock.moments c.args.around.now.clock.now) c.args.around.now.wires.now.items c.crew_of.new.wires.items c.args.storing.now.a.now c.args.storing.now.b.now old earlier
     c.in_ok-crew.ensures.begun c.requires.keeper sets c.begin_all-begun.result new c.begin_all-begun.ensures.begun c.begin_all-begun.ensures.ended in
-    let at_rest = rests all c.disk_images_are_counted.ensures.reads c.disk_images_are_counted.ensures.counts queue desk c.args.context.settings.now c.args.scanned.now.listed.items c.args.scanned.now.now
+    let at_rest = rests all c.disk_images_are_counted.ensures.reads c.disk_images_are_counted.ensures.counts queue desk c.args.context.settings.now c.args.scanned.now.listed.items c.args.scanned.now.doubled.items c.args.scanned.now.now
     (g.K.Clock.moments c.args.around.now.clock.now) c.args.around.now.wires.now.items c.crew_of.new.wires.items c.args.storing.now.a.now c.args.storing.now.b.now old earlier
     c.in_ok-crew.ensures.begun c.requires.keeper sets c.begin_all-begun.result new c.begin_all-begun.ensures.begun c.begin_all-begun.ensures.ended in
     let left = wires_left g.L.Link.told queue desk c.args.context.settings.now c.args.around.now.wires.now.items c.crew_of.new.wires.items c.in_ok-crew.crew c.in_ok-crew.ensures.begun in
     let start = began_with all.wires (record {
       settings = c.args.context.settings.now;
       listed = c.args.scanned.now.listed.items;
+      doubled = c.args.scanned.now.doubled.items;
       moment = c.args.scanned.now.now.0;
       shown = g.F.Folder.told c.args.around.now.folder.now;
       moments = g.K.Clock.moments c.args.around.now.clock.now;
@@ -95,15 +97,16 @@ returns-clause-accounted g c earlier folder sets has clock_tells wires_tell =
     let names = folder_words g.F.Folder.told g.F.Folder.states g.F.Folder.present g.F.Folder.open_tails g.F.Folder.faults in
     let old = beginning names c.args.around.now.folder.now c.in_ok-crew.crew c.args.storing.now.keeper.now in
     let new = beginning names c.begin_all-begun.new.folder c.begin_all-begun.new.crew c.begin_all-begun.new.keeper in
-    let stood = further all c.disk_images_are_counted.ensures.reads c.disk_images_are_counted.ensures.counts queue desk c.args.context.settings.now c.args.scanned.now.listed.items c.args.scanned.now.now
+    let stood = further all c.disk_images_are_counted.ensures.reads c.disk_images_are_counted.ensures.counts queue desk c.args.context.settings.now c.args.scanned.now.listed.items c.args.scanned.now.doubled.items c.args.scanned.now.now
     (g.K.Clock.moments c.args.around.now.clock.now) c.args.around.now.wires.now.items c.crew_of.new.wires.items c.args.storing.now.a.now c.args.storing.now.b.now old earlier
     c.in_ok-crew.ensures.begun c.requires.keeper sets c.begin_all-begun.result new c.begin_all-begun.ensures.begun c.begin_all-begun.ensures.ended in
-    let at_rest = rests all c.disk_images_are_counted.ensures.reads c.disk_images_are_counted.ensures.counts queue desk c.args.context.settings.now c.args.scanned.now.listed.items c.args.scanned.now.now
+    let at_rest = rests all c.disk_images_are_counted.ensures.reads c.disk_images_are_counted.ensures.counts queue desk c.args.context.settings.now c.args.scanned.now.listed.items c.args.scanned.now.doubled.items c.args.scanned.now.now
     (g.K.Clock.moments c.args.around.now.clock.now) c.args.around.now.wires.now.items c.crew_of.new.wires.items c.args.storing.now.a.now c.args.storing.now.b.now old earlier
     c.in_ok-crew.ensures.begun c.requires.keeper sets c.begin_all-begun.result new c.begin_all-begun.ensures.begun c.begin_all-begun.ensures.ended in
     let start = began_with all.wires (record {
       settings = c.args.context.settings.now;
       listed = c.args.scanned.now.listed.items;
+      doubled = c.args.scanned.now.doubled.items;
       moment = c.args.scanned.now.now.0;
       shown = g.F.Folder.told c.args.around.now.folder.now;
       moments = g.K.Clock.moments c.args.around.now.clock.now;
@@ -113,7 +116,7 @@ returns-clause-accounted g c earlier folder sets has clock_tells wires_tell =
       b = c.args.storing.now.b.now;
     }) earlier in
     let is = c.work.ensures.ends start stood.so_far stood.stands at_rest in
-    accounted all c.disk_images_are_counted.ensures.reads c.disk_images_are_counted.ensures.counts queue desk c.args.context.settings.now c.args.scanned.now.listed.items c.args.scanned.now.now
+    accounted all c.disk_images_are_counted.ensures.reads c.disk_images_are_counted.ensures.counts queue desk c.args.context.settings.now c.args.scanned.now.listed.items c.args.scanned.now.doubled.items c.args.scanned.now.now
     (g.K.Clock.moments c.args.around.now.clock.now) c.args.around.now.wires.now.items c.crew_of.new.wires.items c.args.storing.now.a.now c.args.storing.now.b.now old earlier
     c.in_ok-crew.ensures.begun c.requires.keeper sets c.begin_all-begun.result new c.begin_all-begun.ensures.begun c.begin_all-begun.ensures.ended
     (record {
@@ -196,3 +199,8 @@ returns-clause-same_a g c = c.work.ensures.same_objects.a
 
 pub returns-clause-same_b : goal.returns-clause-same_b
 returns-clause-same_b g c = c.work.ensures.same_objects.b
+
+pub returns-clause-unnumbered : goal.returns-clause-unnumbered
+returns-clause-unnumbered g c =
+    met_unnumbered c.args.context.settings.now c.args.scanned.now.listed.items (g.F.Folder.told c.args.around.now.folder.now) (g.F.Folder.told c.begin_all-begun.new.folder) (g.F.Folder.told c.work.new.around.folder.now)
+    c.begin_all-begun.result c.work.result.met c.begin_all-begun.ensures.unnumbered c.work.ensures.told.0 c.work.ensures.told.1 c.begin_all-begun.new.crew _ _ c.work.ensures.cause

@@ -1,14 +1,13 @@
--- Inputs within the ranges of the settings, all by path, tell their files' keys apart.
+-- Inputs within the ranges of the settings that do not read their files to know them tell their files' keys apart.
 use Rattle.std.proofs.Common.{◌≡◌, ◌≢◌, ℕ, suc, true, false, All, AllPairs, List, [], ◌∷◌, map, IsTrue, sym, ap, subst, ◌∙◌, arith}
 use Rattle.std.specs.List.{AllByRecursion}
 use Rattle.accounts.proofs.Grounded.{of_map}
-use Rattle.accounts.specs.OneScan.{AreByPath, IsByPath}
+use Rattle.accounts.specs.OneScan.{AreNamed, IsNamed}
 use Rattle.beat_config.specs.InRange.{AreInRange, IsInputInRange}
 use Rattle.beat_config.specs.Name.{is_name_byte}
-use Rattle.event_tree.specs.declared.input_rule.IdentityRule.TheVariants.{Path}
 use Rattle.event_tree.specs.declared.input_rule.InputRule.{InputRule}
 use Rattle.event_tree.specs.declared.settings.Settings.{Settings}
-use Rattle.kept_rows.specs.Scans.{AreDistinct}
+use Rattle.kept_rows.specs.Scans.{AreDistinct, IsNoFingerprint}
 
 -- of each item what is said of all
 pub each_of : {A : Type 0} (P : A → Type 0) (xs : List A) → All P xs → AllByRecursion P xs
@@ -23,11 +22,11 @@ no_colon_there (byte ∷ bytes) each = (
   no_colon_there bytes each.1,
 )
 
-are_by_path : (inputs : List InputRule) → AllByRecursion IsInputInRange inputs → AllByRecursion (λ (input : InputRule). input.file_identity ≡ Path) inputs → AllByRecursion IsByPath inputs
-are_by_path [] each paths = tt
-are_by_path (input ∷ inputs) each paths = (
-  record { identity = paths.0; no_colon = no_colon_there input.id (each_of (λ byte. IsTrue (is_name_byte byte)) input.id each.0.id.bytes) },
-  are_by_path inputs each.1 paths.1,
+are_named : (inputs : List InputRule) → AllByRecursion IsInputInRange inputs → AllByRecursion (λ (input : InputRule). IsNoFingerprint input.file_identity) inputs → AllByRecursion IsNamed inputs
+are_named [] each named = tt
+are_named (input ∷ inputs) each named = (
+  record { identity = named.0; no_colon = no_colon_there input.id (each_of (λ byte. IsTrue (is_name_byte byte)) input.id each.0.id.bytes) },
+  are_named inputs each.1 named.1,
 )
 
 ids_apart : (inputs : List InputRule) → AllPairs (λ (earlier later : InputRule). earlier.id ≢ later.id) inputs → AreDistinct (map (λ (input : InputRule). input.id) inputs)
@@ -39,8 +38,8 @@ ids_apart (input ∷ inputs) differ = (
   ids_apart inputs (λ i j d before within. differ (suc i) (suc j) d (omega (arith, before)) (omega (arith, within))),
 )
 
-pub inputs_are_by_path : (settings : Settings) → AreInRange settings → All (λ (input : InputRule). input.file_identity ≡ Path) settings.inputs → AreByPath settings.inputs
-inputs_are_by_path settings in_range paths = record {
-  each = are_by_path settings.inputs (each_of IsInputInRange settings.inputs in_range.inputs) (each_of (λ (input : InputRule). input.file_identity ≡ Path) settings.inputs paths);
+pub inputs_are_named : (settings : Settings) → AreInRange settings → All (λ (input : InputRule). IsNoFingerprint input.file_identity) settings.inputs → AreNamed settings.inputs
+inputs_are_named settings in_range named = record {
+  each = are_named settings.inputs (each_of IsInputInRange settings.inputs in_range.inputs) (each_of (λ (input : InputRule). IsNoFingerprint input.file_identity) settings.inputs named);
   ids_apart = ids_apart settings.inputs in_range.ids_differ;
 }

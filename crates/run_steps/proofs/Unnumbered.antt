@@ -1,0 +1,135 @@
+-- A run that ends since a file has no numbers opened one that told none.
+use Rattle.std.proofs.Common.{◌≡◌, ◌⊎◌, inl, inr, ℕ, List, [], ◌∷◌, ◌++◌, length, take, Option, None, Some, IfSome, IfErr, IsErrAnd, Result, Ok, Err, Vec, Global, refl, sym, ap, subst, ◌∙◌, arith}
+use Rattle.std.proofs.lemmas.List.{length-append}
+use Rattle.std.specs.Prelude.{slice_get}
+use Rattle.event_tree.specs.declared.settings.Settings.{Settings}
+use Rattle.outside.specs.Files.{sight_of}
+use Rattle.outside.specs.Folders.{Closed, Event, FolderHistory, Opened}
+use Rattle.prospect.specs.declared.listed.Listed.{Listed}
+use Rattle.report.specs.declared.passing.Passing.{Passing}
+use Rattle.rounds.specs.Words.{TailWords}
+use Rattle.rounds.specs.declared.crew.Crew.{Crew}
+use Rattle.wire_base.specs.declared.numbers.Moment.{Moment}
+use Rattle.wire_base.specs.declared.numbers.Slot.{Slot}
+use Rattle.wire_base.specs.declared.row.Row.{Row}
+use Rattle.run_steps.specs.Beginning.{Beginning, ClosesFile, HasNoNumbers}
+use Rattle.run_steps.specs.BeginsAll.{EndsInFiles, file_at}
+use Rattle.run_steps.specs.Releasing.{with_events}
+use Rattle.run_steps.specs.Unnumbered.{IsMetUnnumbered, WasOpenedUnnumbered}
+use Rattle.run_steps.specs.Worked.{IsBegunWith, IsWorkedBy, Tolls}
+use Rattle.run_steps.specs.declared.met.Met.{Met}
+use Rattle.run_steps.specs.declared.met.Met.TheVariants.{DiskFault, Done, Epochs, FolderFault, NoMemory, NoNative, Stopped, Unreachable}
+use Rattle.run_steps.proofs.Serving.{ServesFrom, closed_told, got_at_end, got_still, opened_file, serves_from, with_more}
+
+-- ---- as files are begun
+
+module _ {T W L : Type 0} (tails : TailWords T) (settings : Settings) (rows : List Row) (now : Moment) (listed : List Listed) (old new : Beginning T W L) where
+  was_opened : (place : ℕ) (one : Listed) (mid : Beginning T W L) (before : FolderHistory) → old.folder.told ≡ Some before → ServesFrom tails settings rows now 0 (take place listed) before old mid →
+      ClosesFile tails (file_at rows place one now) (HasNoNumbers tails settings (file_at rows place one now)) mid new → IfSome new.folder.told (λ later. WasOpenedUnnumbered one.path before later)
+  was_opened place one mid before is serves closed =
+      let between = with_more before serves.events in
+      let opens = opened_file tails one.path closed.tail between mid.folder.told closed.mid.folder.told mid.folder.states mid.folder.present serves.told closed.opened.opens.told in
+      let told = closed_told tails settings rows now (file_at rows place one now) (HasNoNumbers tails settings (file_at rows place one now)) between mid new closed opens in
+      subst (λ (o : Option FolderHistory). IfSome o (λ later. WasOpenedUnnumbered one.path before later)) (sym told) (record {
+        opening = length between.events;
+        since = let long = length-append before.events serves.events in omega (arith, long);
+        number = opens.one.file;
+        begun = sight_of opens.one;
+        is = got_at_end between.events (Opened one.path opens.one.file (sight_of opens.one)) (Closed (length between.events) [] (tails.faults closed.tail) ∷ []) (length between.events) refl;
+        file = opens.file;
+        file_is = opens.file_is;
+        none = sym opens.numbers ∙ closed.why.none;
+      })
+
+  where_told : (P : FolderHistory → Type 0) (o : Option FolderHistory) → ((before : FolderHistory) → o ≡ Some before → P before) → IfSome o P
+  where_told P None each = tt
+  where_told P (Some before) each = each before refl
+
+  files_unnumbered : (met : Met) → EndsInFiles tails settings rows now listed met old new → IsMetUnnumbered settings listed old.folder.told new.folder.told met
+  files_unnumbered (NoNative slot) (inl is) =
+      let closed = is.ended.1 in
+      record {
+        one = is.one;
+        listed_there = ap (λ (s : Slot). slice_get listed s.0) is.ended.0 ∙ is.is;
+        rule = closed.why.rule;
+        rule_is = closed.why.rule_is;
+        by_numbers = closed.why.by_numbers;
+        opened = where_told (λ before. IfSome new.folder.told (λ later. WasOpenedUnnumbered is.one.path before later)) old.folder.told
+            (λ before told. was_opened is.count is.one is.mid before told (serves_from tails settings rows now 0 (take is.count listed) is.passed before old is.mid told is.begins) closed);
+      }
+  files_unnumbered (NoNative slot) (inr is) = absurd (let q : NoNative slot ≡ NoMemory = is.0 in cc)
+  files_unnumbered Done is = tt
+  files_unnumbered Stopped is = tt
+  files_unnumbered NoMemory is = tt
+  files_unnumbered DiskFault is = tt
+  files_unnumbered FolderFault is = tt
+  files_unnumbered (Unreachable worker) is = tt
+  files_unnumbered (Epochs slot) is = tt
+
+  pub begun_unnumbered : {A : Type 0} (result : Result A Met) (what : Met) → IsErrAnd result (λ other. other ≡ what) → EndsInFiles tails settings rows now listed what old new →
+      IfErr result (IsMetUnnumbered settings listed old.folder.told new.folder.told)
+  begun_unnumbered (Ok value) what is ended = tt
+  begun_unnumbered (Err other) what is ended = subst (IsMetUnnumbered settings listed old.folder.told new.folder.told) (sym is) (files_unnumbered what ended)
+
+-- out of memory is not that
+pub memory_unnumbered : {A : Type 0} (settings : Settings) (listed : List Listed) (before after : Option FolderHistory) (result : Result A Met) → IsErrAnd result (λ other. other ≡ NoMemory) →
+    IfErr result (IsMetUnnumbered settings listed before after)
+memory_unnumbered settings listed before after (Ok value) is = tt
+memory_unnumbered settings listed before after (Err other) is = subst (IsMetUnnumbered settings listed before after) (sym is) tt
+
+-- ---- at the end of the run
+
+module _ (settings : Settings) (listed : List Listed) (before mid after : Option FolderHistory) where
+  still_opened : (path : List ℕ) (earlier later : FolderHistory) (events : List Event) → WasOpenedUnnumbered path earlier later → WasOpenedUnnumbered path earlier (record later { events = later.events ++ events })
+  still_opened path earlier later events was = record {
+    opening = was.opening;
+    since = was.since;
+    number = was.number;
+    begun = was.begun;
+    is = got_still later.events events was.opening (Opened path was.number was.begun) was.is;
+    file = was.file;
+    file_is = was.file_is;
+    none = was.none;
+  }
+
+  on : (path : List ℕ) (earlier : FolderHistory) (o : Option FolderHistory) (events : List Event) → IfSome o (λ later. WasOpenedUnnumbered path earlier later) → IfSome (with_events events o) (λ later. WasOpenedUnnumbered path earlier later)
+  on path earlier None events was = tt
+  on path earlier (Some later) events was = still_opened path earlier later events was
+
+  both_on : (path : List ℕ) (o : Option FolderHistory) (events : List Event) → after ≡ with_events events mid → IfSome o (λ earlier. IfSome mid (λ later. WasOpenedUnnumbered path earlier later)) →
+      IfSome o (λ earlier. IfSome after (λ later. WasOpenedUnnumbered path earlier later))
+  both_on path None events is was = tt
+  both_on path (Some earlier) events is was = subst (λ (o : Option FolderHistory). IfSome o (λ later. WasOpenedUnnumbered path earlier later)) (sym is) (on path earlier mid events was)
+
+  unnumbered_on : (met : Met) (events : List Event) → after ≡ with_events events mid → IsMetUnnumbered settings listed before mid met → IsMetUnnumbered settings listed before after met
+  unnumbered_on (NoNative slot) events is was = record {
+    one = was.one;
+    listed_there = was.listed_there;
+    rule = was.rule;
+    rule_is = was.rule_is;
+    by_numbers = was.by_numbers;
+    opened = both_on was.one.path before events is was.opened;
+  }
+  unnumbered_on Done events is was = tt
+  unnumbered_on Stopped events is was = tt
+  unnumbered_on NoMemory events is was = tt
+  unnumbered_on DiskFault events is was = tt
+  unnumbered_on FolderFault events is was = tt
+  unnumbered_on (Unreachable worker) events is was = tt
+  unnumbered_on (Epochs slot) events is was = tt
+
+  none_worked : {T W L : Type 0} (crew : Crew T W L) (was now : Tolls) (met : Met) → IsWorkedBy crew was now met → IsMetUnnumbered settings listed before after met
+  none_worked crew was now (NoNative slot) by = absurd by
+  none_worked crew was now Done by = tt
+  none_worked crew was now Stopped by = tt
+  none_worked crew was now NoMemory by = tt
+  none_worked crew was now DiskFault by = tt
+  none_worked crew was now FolderFault by = tt
+  none_worked crew was now (Unreachable worker) by = tt
+  none_worked crew was now (Epochs slot) by = tt
+
+  pub met_unnumbered : {T W L : Type 0} (begun : Result (Vec Passing Global) Met) (met : Met) → IfErr begun (IsMetUnnumbered settings listed before mid) → (events : List Event) → after ≡ with_events events mid →
+      (crew : Crew T W L) (was now : Tolls) → IsBegunWith begun met ⊎ IsWorkedBy crew was now met → IsMetUnnumbered settings listed before after met
+  met_unnumbered (Ok passed) met unnumbered events is crew was now (inl of) = absurd of
+  met_unnumbered (Err first) met unnumbered events is crew was now (inl of) = subst (IsMetUnnumbered settings listed before after) (sym of) (unnumbered_on first events is unnumbered)
+  met_unnumbered begun met unnumbered events is crew was now (inr by) = none_worked crew was now met by
