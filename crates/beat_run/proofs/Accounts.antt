@@ -1,18 +1,20 @@
 -- A run that ended before it opened a file is accounted for by what its scan listed, or by nothing; one that opened files by its account.
-use Rattle.std.proofs.Common.{◌≡◌, ◌≢◌, ◌≤◌, ◌⊎◌, inl, inr, ℕ, true, false, List, [], ◌∷◌, ◌++◌, length, map, All, Option, Some, None, IfSome, IsSome, Result, Ok, Err, IfErr, refl, sym, ap, subst, ◌∙◌}
+use Rattle.std.proofs.Common.{◌≡◌, ◌≢◌, ◌≤◌, ◌⊎◌, inl, inr, ℕ, true, false, List, [], ◌∷◌, ◌++◌, length, map, All, Option, Some, None, IfSome, IsSome, Result, Ok, Err, IfErr, IfOk, refl, sym, ap, subst, ◌∙◌, arith}
 use Rattle.std.specs.List.{AllByRecursion}
 use Rattle.batch_worker.specs.Seen.{Seen}
 use Rattle.accounts.specs.Numbers.{AreAllCounted, AreNumbersOf, ArePlacedIn}
 use Rattle.beat_config.specs.InRange.{AreInRange}
-use Rattle.event_tree.specs.declared.input_rule.IdentityRule.TheVariants.{Path}
 use Rattle.event_tree.specs.declared.input_rule.InputRule.{InputRule}
 use Rattle.event_tree.specs.declared.settings.Settings.{Settings as SettingsOf}
 use Rattle.kept_rows.specs.Account.{SlotAccount}
+use Rattle.kept_rows.specs.Scans.{IsNoFingerprint}
 use Rattle.kept_rows.specs.Trace.{WireTold}
 use Rattle.outside.specs.Folders.{FolderHistory}
 use Rattle.outside.specs.Times.{GivesMoment}
 use Rattle.outside.specs.Wires.{Outcome}
-use Rattle.prospect.specs.ListedFiles.{ScansFiles}
+use Rattle.prospect.proofs.Doubled.{each_file, lengths_add}
+use Rattle.prospect.specs.Doubled.{PartsDoubled}
+use Rattle.prospect.specs.ListedFiles.{IsKeyed, ScansFiles}
 use Rattle.prospect.specs.Members.{globs_of}
 use Rattle.prospect.specs.Unfinished.{ListsSome}
 use Rattle.prospect.specs.declared.listed.Listed.{Listed}
@@ -30,6 +32,7 @@ use Rattle.run_steps.specs.Began.{Began}
 use Rattle.run_steps.specs.Met.{IsMetOf}
 use Rattle.run_steps.specs.RunOf.{FolderTold}
 use Rattle.run_steps.specs.Scanned.{HasScanned}
+use Rattle.run_steps.specs.declared.beginning.Scanned.{Scanned}
 use Rattle.wire_base.specs.declared.limits.Full.TheVariants.{Epochs, Files, Slots}
 use Rattle.wire_base.specs.declared.row.Row.{Row}
 use Rattle.run_steps.specs.declared.met.Met.{Met}
@@ -43,8 +46,9 @@ use Rattle.run_steps.proofs.Members.{some_is}
 use Rattle.run_steps.proofs.RunRows.{OneChoice}
 use Rattle.beat_run.specs.Accounted.{HasNoRoom, IsAccounted, IsAccountedByNamed, IsFullFor, IsMetFor, IsOpenedFrom, LeavesNoRemoved, RunLent, TellRows}
 use Rattle.beat_run.specs.Ended.{IsTelling, StandsForMet, StandsForRegistry}
-use Rattle.beat_run.specs.Ends.{FindsNoRoom, IsPreparingEnd, IsPrintingEnd, IsReportEnd, IsRunEnd, IsStartEnd, ShowsScanEnd}
+use Rattle.beat_run.specs.Ends.{FindsNoRoom, IsPartedEnd, IsPreparingEnd, IsPrintingEnd, IsReportEnd, IsRunEnd, IsStartEnd, ShowsScanEnd}
 use Rattle.beat_run.specs.Printed.{IsReportOver}
+use Rattle.beat_run.specs.Scanning.{ScansParted}
 use Rattle.beat_run.proofs.Causes.{named_so}
 use Rattle.beat_run.proofs.PrintedEnds.{never_reported}
 
@@ -59,6 +63,7 @@ abbrev early_met : Status → Met
 early_met FolderFault = met.FolderFault
 early_met (Unreachable worker failures) = met.Unreachable worker
 early_met (TooMany full path) = met.FolderFault
+early_met (NoNative path) = met.FolderFault
 early_met _ = met.NoMemory
 
 early_met_for : (status : Status) → IsRunEnd status → IsMetFor status (early_met status)
@@ -104,7 +109,8 @@ met_for listed attempts met.NoMemory status of stands = subst (λ (s : Status). 
 met_for listed attempts met.DiskFault status of stands = subst (λ (s : Status). IsMetFor s met.DiskFault) (sym stands) tt
 met_for listed attempts met.FolderFault status of stands = subst (λ (s : Status). IsMetFor s met.FolderFault) (sym stands) refl
 met_for listed attempts (met.Unreachable worker) status of stands = subst (λ (s : Status). IsMetFor s (met.Unreachable worker)) (sym stands) refl
-met_for listed attempts (met.Epochs slot) status of stands = named_so listed slot.0 status (λ s. IsMetFor s (met.Epochs slot)) of stands tt (λ one is. tt)
+met_for listed attempts (met.Epochs slot) status of stands = named_so listed slot.0 status (TooMany Epochs) (λ s. IsMetFor s (met.Epochs slot)) of stands tt (λ one is. tt)
+met_for listed attempts (met.NoNative slot) status of stands = named_so listed slot.0 status NoNative (λ s. IsMetFor s (met.NoNative slot)) of stands tt (λ one is. tt)
 
 pub met_for_end : (listed : List Listed) (attempts : ℕ) (what : Met) (status : Status) → IsMetOf (length listed) what → (status ≡ NoMemory) ⊎ StandsForMet listed attempts what status → IsMetFor status what
 met_for_end listed attempts what status of (inl memory) = subst (λ (s : Status). IsMetFor s what) (sym memory) tt
@@ -126,7 +132,8 @@ full_for_met {D} disks settings objects listed attempts what status of ends = by
     by_met met.DiskFault of_it stands = subst IsFull (sym stands) tt
     by_met met.FolderFault of_it stands = subst IsFull (sym stands) tt
     by_met (met.Unreachable worker) of_it stands = subst IsFull (sym stands) tt
-    by_met (met.Epochs slot) of_it stands = named_so listed slot.0 status IsFull of_it stands tt (λ one is. tt)
+    by_met (met.Epochs slot) of_it stands = named_so listed slot.0 status (TooMany Epochs) IsFull of_it stands tt (λ one is. tt)
+    by_met (met.NoNative slot) of_it stands = named_so listed slot.0 status NoNative IsFull of_it stands tt (λ one is. tt)
 
     by_end : (status ≡ NoMemory) ⊎ StandsForMet listed attempts what status → IsFullFor disks settings objects status
     by_end (inl memory) = subst IsFull (sym memory) tt
@@ -190,38 +197,83 @@ some_listed inputs told rows after (Unreachable worker failures) shows = absurd 
 some_listed inputs told rows after OutFault shows = absurd shows
 some_listed inputs told rows after SourceFault shows = absurd shows
 some_listed inputs told rows after (TooMany Files path) (inl shows) = listed_all (globs_of inputs) told shows.listings after shows.listed_is
-some_listed inputs told rows after (TooMany Files path) (inr shows) = listed_all (globs_of inputs) told shows.scans.listings after shows.scans.listed_is
-some_listed inputs told rows after (TooMany Epochs path) shows = listed_all (globs_of inputs) told shows.scans.listings after shows.scans.listed_is
+some_listed inputs told rows after (TooMany Files path) (inr shows) = listed_all (globs_of inputs) told shows.scans.scans.listings after shows.scans.scans.listed_is
+some_listed inputs told rows after (TooMany Epochs path) shows = listed_all (globs_of inputs) told shows.scans.scans.listings after shows.scans.scans.listed_is
 some_listed inputs told rows after (TooMany Slots path) shows = absurd shows
-some_listed inputs told rows after (NoNative path) shows = absurd shows
+some_listed inputs told rows after (NoNative path) shows = listed_all (globs_of inputs) told shows.listings after shows.listed_is
 some_listed inputs told rows after NoMemory shows = shows
 some_listed inputs told rows after (Unbuilt what) shows = absurd shows
 
--- files that were listed, and could not all be started
-start_shows_one : (inputs : List InputRule) (told : FolderHistory) (rows : List Row) (after : Option FolderHistory) (listed : List Listed) (few : length listed ≤ 65_536) (status : Status) → ScansFiles inputs told listed after → IsStartEnd rows listed status →
+-- files that were parted, and could not all be started
+start_shows_one : (inputs : List InputRule) (told : FolderHistory) (rows : List Row) (after : Option FolderHistory) (files doubled : List Listed) (scans : ScansParted inputs told files doubled after) → length scans.all ≤ 65_536 → (status : Status) → IsStartEnd rows files status →
     ShowsScanEnd inputs told rows after status
-start_shows_one inputs told rows after listed few Done scans ends = absurd ends
-start_shows_one inputs told rows after listed few Stopped scans ends = absurd ends
-start_shows_one inputs told rows after listed few Usage scans ends = absurd ends
-start_shows_one inputs told rows after listed few (Settings fault) scans ends = absurd ends
-start_shows_one inputs told rows after listed few (RegistryBad area at) scans ends = absurd ends
-start_shows_one inputs told rows after listed few DiskFault scans ends = absurd ends
-start_shows_one inputs told rows after listed few FolderFault scans ends = absurd ends
-start_shows_one inputs told rows after listed few (Unreachable worker failures) scans ends = absurd ends
-start_shows_one inputs told rows after listed few OutFault scans ends = absurd ends
-start_shows_one inputs told rows after listed few SourceFault scans ends = absurd ends
-start_shows_one inputs told rows after listed few (TooMany Files path) scans ends = inr (record { listed = listed; scans = scans; few = few; first = ends })
-start_shows_one inputs told rows after listed few (TooMany Epochs path) scans ends = record { listed = listed; scans = scans; few = few; first = ends }
-start_shows_one inputs told rows after listed few (TooMany Slots path) scans ends = absurd ends
-start_shows_one inputs told rows after listed few (NoNative path) scans ends = absurd ends
-start_shows_one inputs told rows after listed few NoMemory scans ends = listed_all (globs_of inputs) told scans.listings after scans.listed_is
-start_shows_one inputs told rows after listed few (Unbuilt what) scans ends = absurd ends
+start_shows_one inputs told rows after files doubled scans few Done ends = absurd ends
+start_shows_one inputs told rows after files doubled scans few Stopped ends = absurd ends
+start_shows_one inputs told rows after files doubled scans few Usage ends = absurd ends
+start_shows_one inputs told rows after files doubled scans few (Settings fault) ends = absurd ends
+start_shows_one inputs told rows after files doubled scans few (RegistryBad area at) ends = absurd ends
+start_shows_one inputs told rows after files doubled scans few DiskFault ends = absurd ends
+start_shows_one inputs told rows after files doubled scans few FolderFault ends = absurd ends
+start_shows_one inputs told rows after files doubled scans few (Unreachable worker failures) ends = absurd ends
+start_shows_one inputs told rows after files doubled scans few OutFault ends = absurd ends
+start_shows_one inputs told rows after files doubled scans few SourceFault ends = absurd ends
+start_shows_one inputs told rows after files doubled scans few (TooMany Files path) ends = inr (record { files = files; doubled = doubled; scans = scans; few = few; first = ends })
+start_shows_one inputs told rows after files doubled scans few (TooMany Epochs path) ends = record { files = files; doubled = doubled; scans = scans; few = few; first = ends }
+start_shows_one inputs told rows after files doubled scans few (TooMany Slots path) ends = absurd ends
+start_shows_one inputs told rows after files doubled scans few (NoNative path) ends = absurd ends
+start_shows_one inputs told rows after files doubled scans few NoMemory ends = listed_all (globs_of inputs) told scans.scans.listings after scans.scans.listed_is
+start_shows_one inputs told rows after files doubled scans few (Unbuilt what) ends = absurd ends
 
-pub start_shows : {A : Type 0} (inputs : List InputRule) (rows : List Row) (before after : Option FolderHistory) (listed : List Listed) (few : length listed ≤ 65_536) (result : Result A Status) → IfSome before (λ told. ScansFiles inputs told listed after) →
-    IfErr result (IsStartEnd rows listed) → IfErr result (λ status. IfSome before (λ told. ShowsScanEnd inputs told rows after status))
-start_shows inputs rows before after listed few (Ok scanned) scans ends = tt
-start_shows inputs rows None after listed few (Err status) scans ends = tt
-start_shows inputs rows (Some told) after listed few (Err status) scans ends = start_shows_one inputs told rows after listed few status scans ends
+-- or could not be parted
+parted_shows_one : (inputs : List InputRule) (told : FolderHistory) (rows : List Row) (after : Option FolderHistory) (listed : List Listed) → length listed ≤ 65_536 → (scans : ScansFiles inputs told listed after) → All (IsKeyed inputs) listed → (status : Status) →
+    IsPartedEnd rows listed status → ShowsScanEnd inputs told rows after status
+parted_shows_one inputs told rows after listed few scans keyed status (inl memory) = subst (ShowsScanEnd inputs told rows after) (sym memory) (listed_all (globs_of inputs) told scans.listings after scans.listed_is)
+parted_shows_one inputs told rows after listed few scans keyed status (inr end) =
+    start_shows_one inputs told rows after end.files end.doubled (record { all = listed; scans = scans; keyed = keyed; parts = end.parts }) few status end.ends
+
+pub parted_shows : {A : Type 0} (inputs : List InputRule) (rows : List Row) (before after : Option FolderHistory) (listed : List Listed) → length listed ≤ 65_536 → (result : Result A Status) → IfSome before (λ told. ScansFiles inputs told listed after) →
+    All (IsKeyed inputs) listed → IfErr result (IsPartedEnd rows listed) → IfErr result (λ status. IfSome before (λ told. ShowsScanEnd inputs told rows after status))
+parted_shows inputs rows before after listed few (Ok scanned) scans keyed ends = tt
+parted_shows inputs rows None after listed few (Err status) scans keyed ends = tt
+parted_shows inputs rows (Some told) after listed few (Err status) scans keyed ends = parted_shows_one inputs told rows after listed few scans keyed status ends
+
+-- ---- what is known of parted files
+
+pub files_are_few : (listed files doubled : List Listed) → PartsDoubled listed files doubled → length listed ≤ 65_536 → length files ≤ 65_536
+files_are_few listed files doubled parts few = omega (arith, few, lengths_add listed files doubled parts)
+
+pub refused_parted : {A : Type 0} (rows : List Row) (listed files doubled : List Listed) → PartsDoubled listed files doubled → (result : Result A Status) → IfErr result (IsStartEnd rows files) → IfErr result (IsPartedEnd rows listed)
+refused_parted rows listed files doubled parts (Ok scanned) ends = tt
+refused_parted rows listed files doubled parts (Err status) ends = inr (record { files = files; doubled = doubled; parts = parts; ends = ends })
+
+module _ (inputs : List InputRule) (before after : Option FolderHistory) (listed : List Listed) (result : Result Scanned Status)
+    (parts : IfOk result (λ scanned. PartsDoubled listed scanned.listed.items scanned.doubled.items)) where
+  pub scanned_parts : IfSome before (λ told. ScansFiles inputs told listed after) → All (IsKeyed inputs) listed →
+      IfOk result (λ scanned. IfSome before (λ told. ScansParted inputs told scanned.listed.items scanned.doubled.items after))
+  scanned_parts scans keyed = by_result result parts
+    where
+      by_result : (r : Result Scanned Status) → IfOk r (λ scanned. PartsDoubled listed scanned.listed.items scanned.doubled.items) →
+          IfOk r (λ scanned. IfSome before (λ told. ScansParted inputs told scanned.listed.items scanned.doubled.items after))
+      by_result (Ok scanned) parted =
+          each_some before (λ told. ScansFiles inputs told listed after) (λ told. ScansParted inputs told scanned.listed.items scanned.doubled.items after)
+          (λ told is. record { all = listed; scans = is; keyed = keyed; parts = parted }) scans
+      by_result (Err status) parted = tt
+
+  pub parted_each : (P : Listed → Type 0) → All P listed → IfOk result (λ scanned. All P scanned.listed.items)
+  parted_each P each = by_result result parts
+    where
+      by_result : (r : Result Scanned Status) → IfOk r (λ scanned. PartsDoubled listed scanned.listed.items scanned.doubled.items) → IfOk r (λ scanned. All P scanned.listed.items)
+      by_result (Ok scanned) parted = each_file listed scanned.listed.items scanned.doubled.items parted P each
+      by_result (Err status) parted = tt
+
+  pub parted_few : length listed ≤ 65_536 → IfOk result (λ scanned. length scanned.listed.items ≤ 65_536)
+  parted_few few = by_result result parts
+    where
+      by_result : (r : Result Scanned Status) → IfOk r (λ scanned. PartsDoubled listed scanned.listed.items scanned.doubled.items) → IfOk r (λ scanned. length scanned.listed.items ≤ 65_536)
+      by_result (Ok scanned) parted = files_are_few listed scanned.listed.items scanned.doubled.items parted few
+      by_result (Err status) parted = tt
+
+-- ---- a run that opened no file
 
 nothing : (A : Type 0) → IsSome {T = A} None → ⊥
 nothing A some = let never : false ≡ true = some in cc
@@ -231,7 +283,7 @@ later_tells None later moment gives some = absurd (nothing (List ℕ) some)
 later_tells (Some moments) later moment (inl same) some = subst (λ (o : Option (List ℕ)). IsSome o) (sym same.1) refl
 later_tells (Some moments) later moment (inr grows) some = subst (λ (o : Option (List ℕ)). IsSome o) (sym grows.1) refl
 
-module _ {D : Type 0} (disks : DiskWords D) (one : OneChoice) (settings : SettingsOf) (in_range : AreInRange settings) (paths : All (λ (input : InputRule). input.file_identity ≡ Path) settings.inputs)
+module _ {D : Type 0} (disks : DiskWords D) (one : OneChoice) (settings : SettingsOf) (in_range : AreInRange settings) (named : All (λ (input : InputRule). IsNoFingerprint input.file_identity) settings.inputs)
     (opening : List Row) (from_a from_b a b : D) (gave : GiveTheRows disks from_a from_b opening)
     (held : AreAtRest disks.contents disks.images from_a from_b → HaveHeldFronts disks opening [] from_a from_b a b) (outcomes : List (Option (List Outcome))) where
   -- what all told before it, and behind it
@@ -249,14 +301,14 @@ module _ {D : Type 0} (disks : DiskWords D) (one : OneChoice) (settings : Settin
   early (Some history) after before later moment status some clock gives lists ends full =
       let scanned : FolderHistory = record history { events = history.events ++ lists.more } in
       let first = first_given moment before later gives in
-      let start : Began D = record { settings = settings; opening = opening; listed = []; moment = moment; shown = Some scanned; moments = before; heard = []; a = from_a; b = from_b } in
+      let start : Began D = record { settings = settings; opening = opening; listed = []; doubled = []; moment = moment; shown = Some scanned; moments = before; heard = []; a = from_a; b = from_b } in
       let folder : FolderTold = record { earlier = history; scanned = scanned; ended = scanned } in
       record {
         what = early_met status;
         met_for = early_met_for status ends;
         accounted = subst (λ (o : Option FolderHistory). AccountedFor disks settings (early_run (Some history) o before later) (early_met status)) (sym lists.kept)
             (early_is_accounted_for disks start folder
-            (record { in_range = in_range; by_path = paths; lists = record { more = lists.more; in_order = lists.in_order; kept = refl } })
+            (record { in_range = in_range; named = named; lists = record { more = lists.more; in_order = lists.in_order; kept = refl } })
             first.since later first.given (later_tells before later moment gives clock) outcomes a b one gave held (early_met status) (early_not_done status));
         cleaned = λ rest telling. absurd (early_not_telling status telling);
         numbers = λ end. absurd (never_reported status ends end);
@@ -309,20 +361,28 @@ pub record IsWorked {D : Type 0} (disks : DiskWords D) (settings : SettingsOf) (
   pub counted : what ≡ met.Done → AreAllCounted accounted.account
 
 -- with what the folder told, where it tells
-module _ {D : Type 0} (disks : DiskWords D) (start : Began D) (in_range : AreInRange start.settings) (paths : All (λ (input : InputRule). input.file_identity ≡ Path) start.settings.inputs)
+module _ {D : Type 0} (disks : DiskWords D) (start : Began D) (in_range : AreInRange start.settings) (named : All (λ (input : InputRule). IsNoFingerprint input.file_identity) start.settings.inputs)
     (outcomes : List (Option (List Outcome))) (after : Objects D) (what : Met) (shipped dropped : ℕ) where
   abbrev pub worked_run : Option FolderHistory → RunObjects D
   worked_run told = record { before = record { folder = told; moments = start.moments; outcomes = outcomes; a = start.a; b = start.b }; after = after }
 
-  pub worked : {tells : List ℕ → Type 0} (told : Option FolderHistory) (status : Status) → IsSome told → IfSome told (λ history. ScansFiles start.settings.inputs history start.listed start.shown) → IsMetFor status what → IsFullFor disks start.settings (worked_run told) status →
+  pub worked : {tells : List ℕ → Type 0} (told : Option FolderHistory) (status : Status) → IsSome told → IfSome told (λ history. ScansParted start.settings.inputs history start.listed start.doubled start.shown) → IsMetFor status what → IsFullFor disks start.settings (worked_run told) status →
       ((account : List SlotAccount) (wires : List WireTold) → ArePlacedIn account wires → (IsTelling what → AreNumbersOf account shipped dropped) → IsReportEnd status → (text : List ℕ) → tells text → IsReportOver account wires status text) →
       ((folder : FolderTold) → HasScanned start folder → IsWorked disks start.settings what shipped dropped (worked_run (Some folder.earlier))) →
       IsAccounted disks start.settings (worked_run told) status tells
   worked None status some scans is full reports accounted = absurd (nothing FolderHistory some)
   worked (Some history) status some scans is full reports accounted =
-      let scanned : FolderHistory = record history { events = history.events ++ map event_of scans.listings } in
+      let scanned : FolderHistory = record history { events = history.events ++ map event_of scans.scans.listings } in
       let folder : FolderTold = record { earlier = history; scanned = scanned; ended = scanned } in
-      let worked_so = accounted folder (record { in_range = in_range; by_path = paths; shown = scans.listed_is.kept; scans = scans }) in
+      let worked_so = accounted folder (record {
+        in_range = in_range;
+        named = named;
+        shown = scans.scans.listed_is.kept;
+        all = scans.all;
+        scans = scans.scans;
+        keyed = scans.keyed;
+        parts = scans.parts;
+      }) in
       record {
         what = what;
         met_for = is;

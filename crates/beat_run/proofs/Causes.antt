@@ -2,16 +2,17 @@
 use Rattle.std.proofs.Common.{◌≡◌, ◌⊎◌, inl, inr, ℕ, zero, suc, ◌<◌, ◌≤◌, List, [], ◌∷◌, ◌++◌, length, drop, map, Any, Contains, Option, Some, None, IfSome, IsSome, refl, sym, ap, subst, ◌∙◌, arith, append-nil, length-append}
 use Rattle.std.proofs.Math.Seq.{drop-append_seam}
 use Rattle.std.proofs.lemmas.List.{drop-append-le}
-use Rattle.std.proofs.lemmas.List.Elements.{Contains-append_left, recursion_from_All}
+use Rattle.std.proofs.lemmas.List.Elements.{All-contains, Contains-append_left}
 use Rattle.std.specs.Prelude.{slice_get}
-use Rattle.std.specs.List.{AllByRecursion}
 use Rattle.accounts.proofs.Ground.{item_of}
 use Rattle.event_tree.specs.declared.input_rule.InputRule.{InputRule}
 use Rattle.event_tree.specs.declared.settings.Settings.{Settings as SettingsOf}
 use Rattle.outside.specs.Counts.{Rose}
 use Rattle.outside.specs.Files.{File}
 use Rattle.outside.specs.Folders.{Event, FolderHistory}
-use Rattle.prospect.specs.ListedFiles.{FindsOneMore, IsListedBy, ScansFiles, shown_in}
+use Rattle.prospect.proofs.Doubled.{file_is_listed}
+use Rattle.prospect.specs.ListedFiles.{FindsNoNumbers, FindsOneMore, IsListedBy, shown_in}
+use Rattle.prospect.specs.Members.{IsCovered}
 use Rattle.prospect.specs.Scan.{Listing, event_of}
 use Rattle.prospect.specs.declared.listed.Listed.{Listed}
 use Rattle.registry_store.specs.Choice.{GivesRows, IsChoice}
@@ -23,6 +24,8 @@ use Rattle.rounds.specs.Words.{DiskWords}
 use Rattle.run_steps.specs.Met.{AreLeft, IsMetOf}
 use Rattle.run_steps.specs.Shown.{HasShown}
 use Rattle.run_steps.specs.SoFar.{SoFar}
+use Rattle.run_steps.proofs.Members.{some_is}
+use Rattle.run_steps.specs.Unnumbered.{IsMetUnnumbered, IsUnnumbered, WasOpenedUnnumbered}
 use Rattle.run_steps.specs.Worked.{IsMetByRun, Tolls}
 use Rattle.run_steps.specs.declared.met.Met.{Met}
 use Rattle.run_steps.specs.declared.met.Met.TheVariants as met
@@ -32,10 +35,11 @@ use Rattle.ship_core.proofs.Members.{first_there, later_there, none_there, there
 use Rattle.wire_base.specs.declared.limits.Full.{Full}
 use Rattle.wire_base.specs.declared.limits.Full.TheVariants.{Epochs, Files, Slots}
 use Rattle.wire_base.specs.declared.row.Row.{Row}
-use Rattle.beat_run.specs.Cause.{AllSigns, Cause, CauseBy, HasAreaFailed, HasFailedAt, Signs, WasListed, without_sink}
+use Rattle.beat_run.specs.Cause.{AllSigns, Cause, CauseBy, HasAreaFailed, HasFailedAt, LacksNumbers, Signs, WasListed, WasUnnumbered, without_sink}
 use Rattle.beat_run.specs.Ended.{IsTelling, StandsForMet, StandsForRegistry}
 use Rattle.beat_run.specs.Ends.{IsBehindOpening, IsBehindSettings, IsPreparingEnd, IsReportEnd, IsRunEnd, IsScanEnd, IsScannedEnd, FindsNoRoom, ListsTooMany, ShowsScanEnd}
 use Rattle.beat_run.specs.Named.{IsNamed}
+use Rattle.beat_run.specs.Scanning.{ScansParted}
 
 pub rose_since : (before mid now : ℕ) → before ≤ mid → Rose mid now → Rose before now
 rose_since before mid now no_less (inl more) = inl (omega (arith, no_less, more))
@@ -44,17 +48,17 @@ rose_since before mid now no_less (inr ended) = inr ended
 -- ---- the status
 
 -- what is so of `NoMemory`, and of the path of each file, is so of the status that names a file's path
-pub named_so : (listed : List Listed) (place : ℕ) (status : Status) (P : Status → Type 0) → place < length listed → (status ≡ NoMemory) ⊎ IfSome (slice_get listed place) (λ one. status ≡ TooMany Epochs one.path) →
-    P NoMemory → ((one : Listed) → slice_get listed place ≡ Some one → P (TooMany Epochs one.path)) → P status
-named_so listed place status P within (inl memory) wanting each = subst P (sym memory) wanting
-named_so listed place status P within (inr full) wanting each = of_file (slice_get listed place) refl full
+pub named_so : (listed : List Listed) (place : ℕ) (status : Status) (names : List ℕ → Status) (P : Status → Type 0) → place < length listed → (status ≡ NoMemory) ⊎ IfSome (slice_get listed place) (λ one. status ≡ names one.path) →
+    P NoMemory → ((one : Listed) → slice_get listed place ≡ Some one → P (names one.path)) → P status
+named_so listed place status names P within (inl memory) wanting each = subst P (sym memory) wanting
+named_so listed place status names P within (inr full) wanting each = of_file (slice_get listed place) refl full
   where
     past : (xs : List Listed) (k : ℕ) → k < length xs → slice_get xs k ≡ None → ⊥
     past [] k inside none = omega (arith, inside)
     past (x ∷ xs) zero inside none = cc
     past (x ∷ xs) (suc k) inside none = past xs k (omega (arith, inside)) none
 
-    of_file : (one : Option Listed) → slice_get listed place ≡ one → IfSome one (λ file. status ≡ TooMany Epochs file.path) → P status
+    of_file : (one : Option Listed) → slice_get listed place ≡ one → IfSome one (λ file. status ≡ names file.path) → P status
     of_file None none is = absurd (past listed place within none)
     of_file (Some file) some is = subst P (sym is) (each file some)
 
@@ -90,28 +94,69 @@ map_there {A} {B} f (y ∷ xs) x there = by_case (there_cases y x xs there) (λ 
     by_case (inl here) others = subst (λ (z : A). Contains (f y ∷ map f xs) (f z)) here (first_there (f y) (map f xs))
     by_case (inr later) others = later_there (f y) (f x) (map f xs) (others later)
 
-module _ (inputs : List InputRule) (told : FolderHistory) (listed : List Listed) (scanned after : Option FolderHistory) (scans : ScansFiles inputs told listed scanned) (goes : GoesFurther scanned after) where
-  was_listed : (slot : ℕ) (one : Listed) → slice_get listed slot ≡ Some one → WasListed one.path told after
-  was_listed slot one is =
-      let by = shown_at listed slot one (recursion_from_All (λ (file : Listed). Any (λ shown. IsListedBy inputs file shown) (shown_in scans.listings)) listed scans.only) is in
-      let of = item_of (λ (listing : Listing). listing.shown) scans.listings by.1 (by.0, by.2, by.3) in
-      let history : FolderHistory = record told { events = told.events ++ map event_of scans.listings } in
-      let further = goes.more history scans.listed_is.kept in
+pub got_there : {A : Type 0} (xs : List A) (k : ℕ) (x : A) → slice_get xs k ≡ Some x → Contains xs x
+got_there [] k x is = absurd (let q : None ≡ Some x = is in cc)
+got_there {A} (first ∷ xs) zero x is = subst (λ (y : A). Contains (first ∷ xs) y) (some_is first x is) (first_there first xs)
+got_there (first ∷ xs) (suc k) x is = later_there first x xs (got_there xs k x is)
+
+module _ (inputs : List InputRule) (told : FolderHistory) (files doubled : List Listed) (scanned after : Option FolderHistory) (scans : ScansParted inputs told files doubled scanned) (goes : GoesFurther scanned after)
+    (slot : ℕ) (one : Listed) (at : slice_get files slot ≡ Some one) where
+  abbrev behind_scan : FolderHistory
+  behind_scan = record told { events = told.events ++ map event_of scans.scans.listings }
+
+  listed_by : Any (λ shown. IsListedBy inputs one shown) (shown_in scans.scans.listings)
+  listed_by =
+      All-contains (λ (file : Listed). Any (λ shown. IsListedBy inputs file shown) (shown_in scans.scans.listings)) scans.all one scans.scans.only
+      (file_is_listed scans.all files doubled scans.parts one (got_there files slot one at))
+
+  was_listed : WasListed one.path told after
+  was_listed =
+      let by = listed_by in
+      let of = item_of (λ (listing : Listing). listing.shown) scans.scans.listings by.1 (by.0, by.2, by.3) in
+      let further = goes.more behind_scan scans.scans.listed_is.kept in
       record {
-        now = record history { events = history.events ++ further.0 };
+        now = record behind_scan { events = behind_scan.events ++ further.0 };
         tells = further.1;
         root = _;
         depth = _;
         shown = of.item.shown;
-        among = in_rest told.events (map event_of scans.listings) further.0 (event_of of.item) (map_there event_of scans.listings of.item of.among);
+        among = in_rest told.events (map event_of scans.scans.listings) further.0 (event_of of.item) (map_there event_of scans.scans.listings of.item of.among);
         shows = (of.there.0, by.1, of.there.1, of.there.2, sym by.4.path_is);
       }
-    where
-      shown_at : (files : List Listed) (k : ℕ) (file : Listed) → AllByRecursion (λ (f : Listed). Any (λ shown. IsListedBy inputs f shown) (shown_in scans.listings)) files → slice_get files k ≡ Some file →
-          Any (λ shown. IsListedBy inputs file shown) (shown_in scans.listings)
-      shown_at [] k file each is = absurd cc
-      shown_at (f ∷ files) zero file each is = let same : f ≡ file = cc in subst (λ (g : Listed). Any (λ shown. IsListedBy inputs g shown) (shown_in scans.listings)) same each.0
-      shown_at (f ∷ files) (suc k) file each is = shown_at files k file each.1 is
+
+  -- it told no numbers as it was opened
+  was_unnumbered : (settings : SettingsOf) → settings.inputs ≡ inputs → IsUnnumbered settings files slot scanned after → WasUnnumbered inputs one.path told after
+  was_unnumbered settings inputs_are is =
+      let by = listed_by in
+      let further = goes.more behind_scan scans.scans.listed_is.kept in
+      let now : FolderHistory = record behind_scan { events = behind_scan.events ++ further.0 } in
+      let same : is.one ≡ one = some_is is.one one (sym is.listed_there ∙ at) in
+      let rule_is : slice_get inputs one.input ≡ Some is.rule = ap (λ (l : List InputRule). slice_get l one.input) (sym inputs_are) ∙ ap (λ (f : Listed). slice_get settings.inputs f.input) (sym same) ∙ is.rule_is in
+      let rules : by.4.rule ≡ is.rule = some_is by.4.rule is.rule (sym by.4.rule_is ∙ rule_is) in
+      let told_then : IfSome (Some behind_scan) (λ earlier. IfSome (Some now) (λ later. WasOpenedUnnumbered is.one.path earlier later)) =
+      subst (λ (o : Option FolderHistory). IfSome (Some behind_scan) (λ earlier. IfSome o (λ later. WasOpenedUnnumbered is.one.path earlier later))) further.1
+      (subst (λ (o : Option FolderHistory). IfSome o (λ earlier. IfSome after (λ later. WasOpenedUnnumbered is.one.path earlier later))) scans.scans.listed_is.kept is.opened) in
+      let opened : WasOpenedUnnumbered one.path behind_scan now = subst (λ (f : Listed). WasOpenedUnnumbered f.path behind_scan now) same told_then in
+      let longer = length-append told.events (map event_of scans.scans.listings) in
+      record {
+        now = now;
+        tells = further.1;
+        input = one.input;
+        rule = is.rule;
+        rule_is = rule_is;
+        covered = subst (λ (r : InputRule). IsCovered r.paths one.path) rules by.4.covered;
+        by_numbers = is.by_numbers;
+        opened = record {
+          opening = opened.opening;
+          since = omega (arith, opened.since, longer);
+          number = opened.number;
+          begun = opened.begun;
+          is = opened.is;
+          file = opened.file;
+          file_is = opened.file_is;
+          none = opened.none;
+        };
+      }
 
 -- ---- its cause
 
@@ -120,26 +165,35 @@ abbrev pub FailedIn : SettingsOf → Signs → Signs → Met → Type 0
 FailedIn settings before now (met.Unreachable worker) = HasFailedAt settings worker before now
 FailedIn settings before now _ = Unit {0}
 
-module _ (settings : SettingsOf) (listed : List Listed) (before now : Signs) (scanned : Option FolderHistory) (faults : ℕ) (no_less : before.counts.folder_faults ≤ faults)
-    (scans : IfSome before.folder (λ history. ScansFiles settings.inputs history listed scanned)) (goes : IsSome before.folder → GoesFurther scanned now.folder) where
-  listed_by : (history : Option FolderHistory) → (IsSome history → GoesFurther scanned now.folder) → IfSome history (λ one. ScansFiles settings.inputs one listed scanned) → (place : ℕ) (one : Listed) → slice_get listed place ≡ Some one → IfSome history (λ h. WasListed one.path h now.folder)
-  listed_by None further by place one is = tt
-  listed_by (Some history) further by place one is = was_listed settings.inputs history listed scanned now.folder by (further refl) place one is
+module _ (settings : SettingsOf) (files doubled : List Listed) (before now : Signs) (scanned : Option FolderHistory) (faults : ℕ) (no_less : before.counts.folder_faults ≤ faults)
+    (scans : IfSome before.folder (λ history. ScansParted settings.inputs history files doubled scanned)) (goes : IsSome before.folder → GoesFurther scanned now.folder) where
+  listed_there : (history : Option FolderHistory) → (IsSome history → GoesFurther scanned now.folder) → IfSome history (λ one. ScansParted settings.inputs one files doubled scanned) → (place : ℕ) (one : Listed) → slice_get files place ≡ Some one →
+      IfSome history (λ h. WasListed one.path h now.folder)
+  listed_there None further by place one is = tt
+  listed_there (Some history) further by place one is = was_listed settings.inputs history files doubled scanned now.folder by (further refl) place one is
 
-  pub caused : (what : Met) (status : Status) → IsMetByRun settings.output.workers (length listed) (record before.counts { folder_faults = faults }) now.counts what → FailedIn settings before now what → StandsForMet listed settings.output.attempts what status →
-      CauseBy settings before now status
-  caused met.Done status by failed stands = subst (CauseBy settings before now) (sym stands) tt
-  caused met.Stopped status by failed stands = subst (CauseBy settings before now) (sym stands) by
-  caused met.NoMemory status by failed stands = subst (CauseBy settings before now) (sym stands) tt
-  caused met.DiskFault status by failed stands = subst (CauseBy settings before now) (sym stands) by
-  caused met.FolderFault status by failed stands = subst (CauseBy settings before now) (sym stands) (rose_since before.counts.folder_faults faults now.counts.folder_faults no_less by)
-  caused (met.Unreachable worker) status by failed stands = subst (CauseBy settings before now) (sym stands) (record { number = refl; worker_is = by; failed = failed })
-  caused (met.Epochs slot) status by failed stands = named_so listed slot.0 status (CauseBy settings before now) by stands tt (λ one is. listed_by before.folder goes scans slot.0 one is)
+  unnumbered_there : (history : Option FolderHistory) → (IsSome history → GoesFurther scanned now.folder) → IfSome history (λ one. ScansParted settings.inputs one files doubled scanned) → (place : ℕ) → IsUnnumbered settings files place scanned now.folder →
+      (one : Listed) → slice_get files place ≡ Some one → IfSome history (λ h. LacksNumbers settings.inputs one.path h now.folder)
+  unnumbered_there None further by place unnumbered one is = tt
+  unnumbered_there (Some history) further by place unnumbered one is = inr (was_unnumbered settings.inputs history files doubled scanned now.folder by (further refl) place one is settings refl unnumbered)
 
-  pub caused_at_end : (what : Met) (status : Status) → IsMetByRun settings.output.workers (length listed) (record before.counts { folder_faults = faults }) now.counts what → FailedIn settings before now what →
-      (status ≡ NoMemory) ⊎ StandsForMet listed settings.output.attempts what status → CauseBy settings before now status
-  caused_at_end what status by failed (inl memory) = subst (CauseBy settings before now) (sym memory) tt
-  caused_at_end what status by failed (inr stands) = caused what status by failed stands
+  pub caused : (what : Met) (status : Status) → IsMetByRun settings.output.workers (length files) (record before.counts { folder_faults = faults }) now.counts what → IsMetUnnumbered settings files scanned now.folder what → FailedIn settings before now what →
+      StandsForMet files settings.output.attempts what status → CauseBy settings before now status
+  caused met.Done status by unnumbered failed stands = subst (CauseBy settings before now) (sym stands) tt
+  caused met.Stopped status by unnumbered failed stands = subst (CauseBy settings before now) (sym stands) by
+  caused met.NoMemory status by unnumbered failed stands = subst (CauseBy settings before now) (sym stands) tt
+  caused met.DiskFault status by unnumbered failed stands = subst (CauseBy settings before now) (sym stands) by
+  caused met.FolderFault status by unnumbered failed stands = subst (CauseBy settings before now) (sym stands) (rose_since before.counts.folder_faults faults now.counts.folder_faults no_less by)
+  caused (met.Unreachable worker) status by unnumbered failed stands = subst (CauseBy settings before now) (sym stands) (record { number = refl; worker_is = by; failed = failed })
+  caused (met.Epochs slot) status by unnumbered failed stands =
+      named_so files slot.0 status (TooMany Epochs) (CauseBy settings before now) by stands tt (λ one is. listed_there before.folder goes scans slot.0 one is)
+  caused (met.NoNative slot) status by unnumbered failed stands =
+      named_so files slot.0 status NoNative (CauseBy settings before now) by stands tt (λ one is. unnumbered_there before.folder goes scans slot.0 unnumbered one is)
+
+  pub caused_at_end : (what : Met) (status : Status) → IsMetByRun settings.output.workers (length files) (record before.counts { folder_faults = faults }) now.counts what → IsMetUnnumbered settings files scanned now.folder what → FailedIn settings before now what →
+      (status ≡ NoMemory) ⊎ StandsForMet files settings.output.attempts what status → CauseBy settings before now status
+  caused_at_end what status by unnumbered failed (inl memory) = subst (CauseBy settings before now) (sym memory) tt
+  caused_at_end what status by unnumbered failed (inr stands) = caused what status by unnumbered failed stands
 
 -- a slot that was met is one of the listed files
 pub is_met_of : (workers files : ℕ) (before after : Tolls) (what : Met) → IsMetByRun workers files before after what → IsMetOf files what
@@ -150,6 +204,7 @@ is_met_of workers files before after met.DiskFault by = tt
 is_met_of workers files before after met.FolderFault by = tt
 is_met_of workers files before after (met.Unreachable worker) by = tt
 is_met_of workers files before after (met.Epochs slot) by = by
+is_met_of workers files before after (met.NoNative slot) by = by
 
 -- ---- how it ended
 
@@ -163,7 +218,8 @@ module _ (listed : List Listed) (attempts : ℕ) where
   scanned_end met.DiskFault status of (inr stands) ends = subst IsScannedEnd (sym stands) tt
   scanned_end met.FolderFault status of (inr stands) ends = subst IsScannedEnd (sym stands) tt
   scanned_end (met.Unreachable worker) status of (inr stands) ends = subst IsScannedEnd (sym stands) tt
-  scanned_end (met.Epochs slot) status of (inr stands) ends = named_so listed slot.0 status IsScannedEnd of stands tt (λ one is. tt)
+  scanned_end (met.Epochs slot) status of (inr stands) ends = named_so listed slot.0 status (TooMany Epochs) IsScannedEnd of stands tt (λ one is. tt)
+  scanned_end (met.NoNative slot) status of (inr stands) ends = named_so listed slot.0 status NoNative IsScannedEnd of stands tt (λ one is. tt)
 
   -- a run that followed its files made the last steps
   pub left_by : (what : Met) (status : Status) → (status ≡ NoMemory) ⊎ StandsForMet listed attempts what status → IsBehindOpening status → AreLeft what
@@ -175,6 +231,7 @@ module _ (listed : List Listed) (attempts : ℕ) where
   left_by met.FolderFault status (inr stands) followed = tt
   left_by (met.Unreachable worker) status (inr stands) followed = tt
   left_by (met.Epochs slot) status (inr stands) followed = tt
+  left_by (met.NoNative slot) status (inr stands) followed = tt
 
 pub left_telling : (what : Met) → IsTelling what → AreLeft what
 left_telling met.Done telling = tt
@@ -184,6 +241,7 @@ left_telling met.DiskFault telling = absurd telling
 left_telling met.FolderFault telling = absurd telling
 left_telling (met.Unreachable worker) telling = absurd telling
 left_telling (met.Epochs slot) telling = absurd telling
+left_telling (met.NoNative slot) telling = absurd telling
 
 -- ---- its areas
 
@@ -215,7 +273,7 @@ stays_so shown = record { more = λ history is. ([], is ∙ ap (λ (l : List Eve
 path_was_listed : (inputs : List InputRule) (rows : List Row) (what : Full) (path : List ℕ) (told : FolderHistory) (after : Option FolderHistory) → ListsTooMany inputs told rows what path after → WasListed path told after
 path_was_listed inputs rows what path told after lists =
     subst (λ (p : List ℕ). WasListed p told after) (sym lists.first.path_is)
-    (was_listed inputs told lists.listed after after lists.scans (stays_so after) lists.first.place lists.first.one lists.first.listed_there)
+    (was_listed inputs told lists.files lists.doubled after after lists.scans (stays_so after) lists.first.place lists.first.one lists.first.listed_there)
 
 path_listed : (inputs : List InputRule) (rows : List Row) (what : Full) (path : List ℕ) (told after : Option FolderHistory) → IfSome told (λ history. ListsTooMany inputs history rows what path after) →
     IfSome told (λ history. WasListed path history after)
@@ -243,7 +301,11 @@ scan_caused settings rows before now SourceFault ends shows = absurd ends
 scan_caused settings rows before now (TooMany Files path) ends shows = too_many settings.inputs rows path before.folder now.folder shows
 scan_caused settings rows before now (TooMany Epochs path) ends shows = path_listed settings.inputs rows Epochs path before.folder now.folder shows
 scan_caused settings rows before now (TooMany Slots path) ends shows = absurd ends
-scan_caused settings rows before now (NoNative path) ends shows = absurd ends
+scan_caused settings rows before now (NoNative path) ends shows = each_finds before.folder shows
+  where
+    each_finds : (told : Option FolderHistory) → IfSome told (λ history. FindsNoNumbers settings.inputs history path now.folder) → IfSome told (λ history. LacksNumbers settings.inputs path history now.folder)
+    each_finds None finds = tt
+    each_finds (Some history) finds = inl finds
 scan_caused settings rows before now NoMemory ends shows = tt
 scan_caused settings rows before now (Unbuilt what) ends shows = absurd ends
 
@@ -261,7 +323,7 @@ scan_ended before now SourceFault ends = absurd ends
 scan_ended before now (TooMany Files path) ends = tt
 scan_ended before now (TooMany Epochs path) ends = tt
 scan_ended before now (TooMany Slots path) ends = absurd ends
-scan_ended before now (NoNative path) ends = absurd ends
+scan_ended before now (NoNative path) ends = tt
 scan_ended before now NoMemory ends = tt
 scan_ended before now (Unbuilt what) ends = absurd ends
 
@@ -278,7 +340,7 @@ ends_without_report (Unreachable worker failures) ends = tt
 ends_without_report OutFault ends = absurd ends
 ends_without_report SourceFault ends = absurd ends
 ends_without_report (TooMany full path) ends = tt
-ends_without_report (NoNative path) ends = absurd ends
+ends_without_report (NoNative path) ends = tt
 ends_without_report NoMemory ends = tt
 ends_without_report (Unbuilt what) ends = absurd ends
 
@@ -322,7 +384,7 @@ module _ (settings : SettingsOf) (before now : Signs) (a_faults b_faults : ℕ) 
   caused_earlier (TooMany Files path) cause = cause
   caused_earlier (TooMany Epochs path) cause = cause
   caused_earlier (TooMany Slots path) cause = absurd cause
-  caused_earlier (NoNative path) cause = absurd cause
+  caused_earlier (NoNative path) cause = cause
   caused_earlier NoMemory cause = tt
   caused_earlier (Unbuilt what) cause = absurd cause
 
@@ -372,7 +434,7 @@ prepare_not_followed before now (RegistryBad area at) ends followed = followed
 prepare_not_followed before now DiskFault ends followed = followed
 prepare_not_followed before now OutFault ends followed = followed
 prepare_not_followed before now SourceFault ends followed = followed
-prepare_not_followed before now (NoNative path) ends followed = followed
+prepare_not_followed before now (NoNative path) ends followed = ends
 prepare_not_followed before now NoMemory ends followed = followed
 prepare_not_followed before now (Unbuilt what) ends followed = followed
 
@@ -388,7 +450,7 @@ prepare_not_named before now (Unreachable worker failures) ends behind = ends
 prepare_not_named before now OutFault ends behind = behind
 prepare_not_named before now SourceFault ends behind = behind
 prepare_not_named before now (TooMany full path) ends behind = ends
-prepare_not_named before now (NoNative path) ends behind = behind
+prepare_not_named before now (NoNative path) ends behind = ends
 prepare_not_named before now NoMemory ends behind = behind
 prepare_not_named before now (Unbuilt what) ends behind = behind
 
@@ -405,7 +467,7 @@ caused_by_named source settings before now first last (Unreachable worker failur
 caused_by_named source settings before now first last OutFault named cause = absurd cause
 caused_by_named source settings before now first last SourceFault named cause = absurd cause
 caused_by_named source settings before now first last (TooMany full path) named cause = record { settings = settings; named = named; by = cause }
-caused_by_named source settings before now first last (NoNative path) named cause = absurd cause
+caused_by_named source settings before now first last (NoNative path) named cause = record { settings = settings; named = named; by = cause }
 caused_by_named source settings before now first last NoMemory named cause = tt
 caused_by_named source settings before now first last (Unbuilt what) named cause = tt
 
@@ -432,6 +494,6 @@ module _ (source : Option (List ℕ)) (before now : Signs) (first last sink sink
   caused_with_sink OutFault (inr ends) cause = absurd ends
   caused_with_sink SourceFault ends cause = cause
   caused_with_sink (TooMany full path) ends cause = cause
-  caused_with_sink (NoNative path) ends cause = absurd cause
+  caused_with_sink (NoNative path) ends cause = cause
   caused_with_sink NoMemory ends cause = tt
   caused_with_sink (Unbuilt what) ends cause = tt

@@ -1,23 +1,24 @@
 -- A run over listed files that was accounted for is so still once rows of removed files were taken out of the registry.
-use Rattle.std.proofs.Common.{◌≡◌, ◌≢◌, ◌⊎◌, inl, inr, ⊎_elim, ℕ, zero, suc, ◌≤◌, true, All, Any, Contains, IfSome, IsSome, List, [], ◌∷◌, map, Option, Some, None, refl, sym, ap, subst, ◌∙◌, arith}
-use Rattle.std.proofs.lemmas.List.Elements.{All-from_recursion, recursion_from_All}
+use Rattle.std.proofs.Common.{◌≡◌, ◌≢◌, ◌⊎◌, inl, inr, ⊎_elim, ℕ, zero, suc, ◌≤◌, true, All, Any, Contains, IfSome, IsSome, List, [], ◌∷◌, Option, Some, None, refl, sym, ap, subst, ◌∙◌, arith}
+use Rattle.std.proofs.lemmas.List.Elements.{All-contains, All-from_recursion, recursion_from_All}
 use Rattle.std.specs.Prelude.{slice_get}
 use Rattle.std.specs.List.{AllByRecursion}
-use Rattle.accounts.proofs.Grounded.{of_map}
-use Rattle.accounts.proofs.Lists.{each_then}
 use Rattle.accounts.specs.AccountedFor.{HasItsRow, followings_in}
-use Rattle.event_tree.specs.declared.input_rule.IdentityRule.TheVariants.{Path}
+use Rattle.event_tree.specs.declared.input_rule.IdentityRule.{IdentityRule}
+use Rattle.event_tree.specs.declared.input_rule.IdentityRule.TheVariants.{Fingerprint, Native, Path}
 use Rattle.event_tree.specs.declared.input_rule.InputRule.{InputRule}
 use Rattle.event_tree.specs.declared.settings.Settings.{Settings}
-use Rattle.file_identity.specs.Key.{named_key}
 use Rattle.kept_rows.specs.Account.{SlotAccount, key_of}
 use Rattle.kept_rows.specs.Drained.{IsDrained}
 use Rattle.kept_rows.specs.Followed.{IsKeyOf}
 use Rattle.kept_rows.specs.Kept.{IsKept, IsKeptInImage}
 use Rattle.kept_rows.specs.Premises.{Premises}
-use Rattle.kept_rows.specs.Run.{Asking, Run, Scan}
-use Rattle.kept_rows.specs.Scans.{Gave, ShowsKey, ShowsFileTo}
+use Rattle.kept_rows.specs.Run.{Run, Scan}
+use Rattle.kept_rows.specs.Scans.{IsNoFingerprint, ShowsKey}
 use Rattle.outside.specs.Counts.{Rose}
+use Rattle.outside.specs.Folders.{FolderHistory}
+use Rattle.prospect.proofs.Doubled.{each_file}
+use Rattle.prospect.specs.ListedFiles.{IsKeyed, IsListedBy, KeyIsTold, shown_in}
 use Rattle.prospect.specs.declared.listed.Listed.{Listed}
 use Rattle.registry_store.specs.Choice.{GivesRows}
 use Rattle.registry_store.specs.Standing.{chosen_by}
@@ -30,27 +31,29 @@ use Rattle.removed_rows.proofs.GoneRows.{each_is_gone_of, each_there, gones, may
 use Rattle.removed_rows.proofs.GoneSlots.{has_with_gone}
 use Rattle.removed_rows.specs.Gone.{Gone, IsApartFrom, MayAllGo, gone_key, with_gone}
 use Rattle.removed_rows.specs.Leaving.{MayHoldLeft}
-use Rattle.removed_rows.specs.Removed.{IsListedKey, IsRemoved, LeavesRows, RemovesRows}
+use Rattle.removed_rows.specs.Removed.{IsRemoved, LeavesRows, RemovesRows}
 use Rattle.rounds.specs.Words.{DiskWords}
 use Rattle.run_steps.proofs.Members.{member_is, some_is}
 use Rattle.run_steps.proofs.RunRows.{OneChoice, not_shut, opened_rows, rows_of_store, same_rows}
 use Rattle.run_steps.proofs.Whole.{left_or_not}
 use Rattle.run_steps.specs.AccountedFor.{AccountedFor, AreImageRows, FitsObjects, GiveRows, HasRowOf, HoldKeptRows, LostKey, NoKey, RowsBy, RunObjects, WereAtRest}
 use Rattle.run_steps.specs.AccountedOver.{AccountedOver}
-use Rattle.run_steps.specs.BeginsAll.{IsOfPathInput}
+use Rattle.run_steps.specs.Began.{Began}
 use Rattle.run_steps.specs.Met.{AreLeft, IsMetOf}
-use Rattle.run_steps.specs.RunOf.{asking_of}
+use Rattle.run_steps.specs.RunOf.{FolderTold}
+use Rattle.run_steps.specs.Scanned.{HasScanned}
 use Rattle.run_steps.specs.Settling.{IsMetByStoring}
+use Rattle.run_steps.specs.Unnumbered.{IsMetUnnumbered}
 use Rattle.run_steps.specs.Worked.{IsMetByRun, Tolls}
 use Rattle.run_steps.specs.declared.met.Met.{Met}
-use Rattle.run_steps.specs.declared.met.Met.TheVariants.{DiskFault, Done, Epochs, FolderFault, NoMemory, Stopped, Unreachable}
+use Rattle.run_steps.specs.declared.met.Met.TheVariants.{DiskFault, Done, Epochs, FolderFault, NoMemory, NoNative, Stopped, Unreachable}
 use Rattle.ship_core.specs.Rows.{IsInOrder}
 use Rattle.wire_base.specs.declared.row.Row.{Row}
 use Rattle.beat_run.specs.Accounted.{IsOfRemovedFile, LeavesNoRemoved}
 use Rattle.beat_run.specs.Cause.{Signs}
 use Rattle.beat_run.specs.Cleaning.{Cleaning, Cleans, HeldOnlyLeft, IsAtRestIn}
 use Rattle.beat_run.proofs.Accounts.{IsWorked}
-use Rattle.beat_run.proofs.Causes.{FailedIn, left_telling}
+use Rattle.beat_run.proofs.Causes.{FailedIn, got_there, left_telling}
 use Rattle.beat_run.proofs.GoneNumbers.{counted_with_gone, numbers_with_gone, placed_with_gone}
 
 -- ---- what is met
@@ -82,6 +85,7 @@ module _ {D : Type 0} (disks : DiskWords D) (inputs : List InputRule) (listed : 
       by_storing FolderFault by = absurd by
       by_storing (Unreachable worker) by = absurd by
       by_storing (Epochs slot) by = absurd by
+      by_storing (NoNative slot) by = absurd by
 
       by_case : (new.met ≡ old.met) ⊎ IsMetByStoring disks (record { a = old.a; b = old.b; new_a = new.a; new_b = new.b }) new.met → P new.met
       by_case (inl same) = subst P (sym same) was
@@ -89,6 +93,9 @@ module _ {D : Type 0} (disks : DiskWords D) (inputs : List InputRule) (listed : 
 
   pub of_these_after_cleaning : (files : ℕ) → IsMetOf files old.met → IsMetOf files new.met
   of_these_after_cleaning files of = other_met (IsMetOf files) tt tt of
+
+  pub unnumbered_after_cleaning : (settings : Settings) (before now : Option FolderHistory) → IsMetUnnumbered settings listed before now old.met → IsMetUnnumbered settings listed before now new.met
+  unnumbered_after_cleaning settings before now unnumbered = other_met (IsMetUnnumbered settings listed before now) tt tt unnumbered
 
   pub failed_after_cleaning : (settings : Settings) (before now : Signs) → FailedIn settings before now old.met → FailedIn settings before now new.met
   failed_after_cleaning settings before now failed = other_met (FailedIn settings before now) tt tt failed
@@ -112,6 +119,7 @@ module _ {D : Type 0} (disks : DiskWords D) (inputs : List InputRule) (listed : 
       later FolderFault was = was
       later (Unreachable worker) was = was
       later (Epochs slot) was = was
+      later (NoNative slot) was = was
 
       by_storing : (m : Met) → IsMetByStoring disks (record { a = old.a; b = old.b; new_a = new.a; new_b = new.b }) m → IsMetByRun workers files before (tolls_of new folder rings) m
       by_storing NoMemory fault = tt
@@ -123,6 +131,7 @@ module _ {D : Type 0} (disks : DiskWords D) (inputs : List InputRule) (listed : 
       by_storing FolderFault fault = absurd fault
       by_storing (Unreachable worker) fault = absurd fault
       by_storing (Epochs slot) fault = absurd fault
+      by_storing (NoNative slot) fault = absurd fault
 
       by_case : (new.met ≡ old.met) ⊎ IsMetByStoring disks (record { a = old.a; b = old.b; new_a = new.a; new_b = new.b }) new.met → IsMetByRun workers files before (tolls_of new folder rings) new.met
       by_case (inl same) = subst (IsMetByRun workers files before (tolls_of new folder rings)) (sym same) (later old.met by)
@@ -136,40 +145,25 @@ any_got P [] i x at is = absurd (let q : None ≡ Some x = at in cc)
 any_got P (first ∷ xs) zero x at is = (0, x, omega arith, some_is first x at, is)
 any_got P (first ∷ xs) (suc i) x at is = let later = any_got P xs i x at is in (suc later.0, later.1, omega (arith, later.2), later.3, later.4)
 
--- where the folder tells, each listed file is keyed by its path
-pub keyed_where_told : (settings : Settings) (told : Type 0) (listed : List Listed) → told → AllByRecursion (IsOfPathInput settings told) listed → AllByRecursion (IsOfPathInput settings (Unit {0})) listed
-keyed_where_told settings told [] tells each = tt
-keyed_where_told settings told (one ∷ listed) tells each = (
-  record { rule = each.0.rule; rule_is = each.0.rule_is; by_path = each.0.by_path; in_range = each.0.in_range; keyed = λ _. each.0.keyed tells },
-  keyed_where_told settings told listed tells each.1,
-)
+-- ---- the key of each file that is followed is known
 
-module _ (run : Run) (scan : Scan) (listed : List Listed) (asked : scan.askings ≡ map asking_of listed) (of_inputs : AllByRecursion (IsOfPathInput run.settings (Unit {0})) listed) where
-  listed_key : (key : List ℕ) → ShowsKey run scan key → IsListedKey listed key
-  listed_key key shows = by_asking shows.shows.shows.0 shows.shows.shows.1
-    where
-      by_asking : (input : ℕ) → ShowsFileTo run scan input key shows.number shows.shows.shown → IsListedKey listed key
-      by_asking input to =
-          let of = of_map asking_of listed to.asking (subst (λ (l : List Asking). Contains l to.asking) asked to.asks.of_scan) in
-          by_listed of.item of.among of.is
-        where
-          by_listed : (one : Listed) → Contains listed one → asking_of one ≡ to.asking → IsListedKey listed key
-          by_listed one among is =
-              let of_input = member_is (IsOfPathInput run.settings (Unit {0})) listed one of_inputs among in
-              let input_same : one.input ≡ input = ap (λ (a : Asking). a.input) is ∙ to.asks.input_is in
-              let path_same : one.path ≡ shows.shows.shown.entry.path = ap (λ (a : Asking). a.path) is ∙ to.asks.path_is in
-              let opening_same : None ≡ to.asking.opening = ap (λ (a : Asking). a.opening) is in
-              let rule_same : of_input.rule ≡ to.rule =
-              some_is of_input.rule to.rule (sym of_input.rule_is ∙ ap (slice_get run.settings.inputs) input_same ∙ to.rule_is) in
-              let gave = subst (λ (o : Option ℕ). Gave run.trace to.rule shows.shows.shown o (Some key) shows.number) (sym opening_same) to.gave in
-              let by_path : to.rule.file_identity ≡ Path = ap (λ (r : InputRule). r.file_identity) (sym rule_same) ∙ of_input.by_path in
-              let keyed = of_input.keyed tt in
-              let key_is : one.key ≡ Some key =
-              keyed.1
-              ∙ ap (λ (r : InputRule). named_key r.id Path one.path keyed.0) rule_same
-              ∙ ap (λ (p : List ℕ). named_key to.rule.id Path p keyed.0) path_same
-              ∙ sym (gave.gave ∙ ap (λ (i : _). named_key to.rule.id i shows.shows.shown.entry.path shows.shows.shown.entry.native) by_path) in
-              (among.0, one, among.1, among.2, key_is)
+known_by : (identity : IdentityRule) (key : Option (List ℕ)) → IsNoFingerprint identity → KeyIsTold identity key → IsSome key
+known_by (Fingerprint offset count) key named told = absurd named
+known_by Native key named told = told
+known_by Path key named told = told
+
+pub keys_are_known : {D : Type 0} (start : Began D) (folder : FolderTold) → HasScanned start folder → All (λ (one : Listed). IsSome one.key) start.listed
+keys_are_known start folder has =
+    each_file has.all start.listed start.doubled has.parts (λ (one : Listed). IsSome one.key)
+    (All-from_recursion (λ (one : Listed). IsSome one.key) has.all (each_there (λ (one : Listed). IsSome one.key) has.all is_known))
+  where
+    is_known : (one : Listed) → Contains has.all one → IsSome one.key
+    is_known one there =
+        let by = All-contains (λ (file : Listed). Any (λ shown. IsListedBy start.settings.inputs file shown) (shown_in has.scans.listings)) has.all one has.scans.only there in
+        let rule : InputRule = by.4.rule in
+        known_by rule.file_identity one.key
+        (All-contains (λ (r : InputRule). IsNoFingerprint r.file_identity) start.settings.inputs rule has.named (got_there start.settings.inputs one.input rule by.4.rule_is))
+        (All-contains (IsKeyed start.settings.inputs) has.all one has.keyed there rule by.4.rule_is)
 
 -- ---- the run, with other areas behind it
 
@@ -178,7 +172,7 @@ with_areas objects a b = record { before = objects.before; after = record object
 
 module _ {D : Type 0} (disks : DiskWords D) (reads : (disk : D) → IfSome (disks.contents disk) (disks.images disk))
     (counts : (disk : D) (since : ℕ) (image : List ℕ) → since ≤ disks.moment disk → disks.images disk image → disks.images_since disk since image) (one : OneChoice)
-    (settings : Settings) (opening : List Row) (ordered : IsInOrder opening) (listed : List Listed) (of_inputs : AllByRecursion (IsOfPathInput settings (Unit {0})) listed)
+    (settings : Settings) (opening : List Row) (ordered : IsInOrder opening) (listed : List Listed) (known : All (λ (listing : Listed). IsSome listing.key) listed)
     (objects : RunObjects D) (old new : Cleaning D) (shipped dropped : ℕ) (over : AccountedOver disks settings opening listed (with_areas objects old.a old.b) old.met shipped dropped)
     (cleans : Cleans disks settings.inputs listed old new) (later_a : WereAtRest disks objects → disks.moment objects.before.a ≤ disks.moment old.a)
     (later_b : WereAtRest disks objects → disks.moment objects.before.b ≤ disks.moment old.b)
@@ -197,9 +191,7 @@ module _ {D : Type 0} (disks : DiskWords D) (reads : (disk : D) → IfSome (disk
   cleaned = subst (λ (l : List InputRule). Cleans disks l listed old new) inputs_are cleans
 
   hidden : (key : List ℕ) → IsRemoved inputs listed key → ¬ (ShowsKey run over.scan key)
-  hidden key removed shows =
-      removed.unlisted
-      (listed_key run over.scan listed over.asked (subst (λ (s : Settings). AllByRecursion (IsOfPathInput s (Unit {0})) listed) (sym over.accounted.by_settings) of_inputs) key shows)
+  hidden key removed shows = removed.unlisted (over.only_listed key shows)
 
   in_order : IsInOrder run.opening
   in_order = subst IsInOrder (sym over.opening_is) ordered
@@ -415,12 +407,6 @@ module _ {D : Type 0} (disks : DiskWords D) (reads : (disk : D) → IfSome (disk
   }
 
   -- ---- none of a removed file is left
-
-  known : All (λ (listing : Listed). IsSome listing.key) listed
-  known = All-from_recursion (λ (listing : Listed). IsSome listing.key) listed (each_then (IsOfPathInput settings (Unit {0})) (λ (listing : Listed). IsSome listing.key) listed is_known of_inputs)
-    where
-      is_known : (listing : Listed) → IsOfPathInput settings (Unit {0}) listing → IsSome listing.key
-      is_known listing of = subst (λ (o : Option (List ℕ)). IsSome o) (sym (of.keyed tt).1) refl
 
   is_removed : (row : Row) → IsOfRemovedFile run row → IsRemoved inputs listed row.key
   is_removed row of = record {

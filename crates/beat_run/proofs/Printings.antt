@@ -23,7 +23,7 @@ status_printed (Some written) (Unreachable worker failures) after ends writes = 
 status_printed (Some written) OutFault after ends writes = absurd ends
 status_printed (Some written) SourceFault after ends writes = writes
 status_printed (Some written) (TooMany what path) after ends writes = writes
-status_printed (Some written) (NoNative path) after ends writes = absurd ends
+status_printed (Some written) (NoNative path) after ends writes = writes
 status_printed (Some written) NoMemory after ends writes = writes
 status_printed (Some written) (Unbuilt what) after ends writes = writes
 

@@ -5,7 +5,6 @@ use Rattle.event_tree.specs.declared.settings.Settings.{Settings as SettingsOf}
 use Rattle.kept_rows.specs.Account.{SlotAccount}
 use Rattle.kept_rows.specs.Trace.{WireTold}
 use Rattle.outside.specs.Folders.{FolderHistory}
-use Rattle.prospect.specs.ListedFiles.{ScansFiles}
 use Rattle.prospect.specs.declared.listed.Listed.{Listed}
 use Rattle.registry_store.specs.Settled.{AreSettled}
 use Rattle.registry_store.specs.Standing.{Standing, chosen_by}
@@ -16,6 +15,7 @@ use Rattle.report.specs.declared.status.Status.TheVariants.{NoMemory}
 use Rattle.rounds.specs.Words.{DiskWords}
 use Rattle.run_steps.specs.AccountedFor.{RunObjects}
 use Rattle.run_steps.specs.Met.{AreLeft, IsMetOf}
+use Rattle.run_steps.specs.Unnumbered.{IsMetUnnumbered}
 use Rattle.run_steps.specs.Worked.{IsMetByRun}
 use Rattle.run_steps.specs.declared.met.Met.{Met}
 use Rattle.wire_base.specs.declared.row.Row.{Row}
@@ -24,6 +24,7 @@ use Rattle.beat_run.specs.Cause.{CauseBy, Signs}
 use Rattle.beat_run.specs.Ended.{IsTelling, StandsForMet, ended}
 use Rattle.beat_run.specs.Ends.{IsBehindOpening, IsReportEnd, IsRunEnd, IsScannedEnd}
 use Rattle.beat_run.specs.Printed.{IsReportOf, IsReportOver, IsToBePrinted, ReportsStored}
+use Rattle.beat_run.specs.Scanning.{ScansParted}
 use Rattle.beat_run.specs.declared.ending.Ending.{Ending}
 use Rattle.beat_run.proofs.Accounts.{full_for_met, met_for_end}
 use Rattle.beat_run.proofs.Causes.{FailedIn, GoesFurther, caused_at_end, gives_its_rows, left_by, left_telling, scanned_end}
@@ -52,12 +53,12 @@ pub scanned_ending : (listed : List Listed) (attempts : ℕ) (what : Met) (resul
 scanned_ending listed attempts what (Ok ending) of refused ends = tt
 scanned_ending listed attempts what (Err status) of refused ends = scanned_end listed attempts what status of refused ends
 
-pub caused_ending : (settings : SettingsOf) (listed : List Listed) (before now : Signs) (scanned : Option FolderHistory) (faults : ℕ) (no_less : before.counts.folder_faults ≤ faults)
-    (scans : IfSome before.folder (λ history. ScansFiles settings.inputs history listed scanned)) (goes : IsSome before.folder → GoesFurther scanned now.folder) (what : Met) (result : Result Ending Status) →
-    IsMetByRun settings.output.workers (length listed) (record before.counts { folder_faults = faults }) now.counts what → FailedIn settings before now what →
-    IfOk result (λ ending. StandsForMet listed settings.output.attempts what ending.status) → IfErr result (EndsBy listed settings.output.attempts what) → CauseBy settings before now (ended result)
-caused_ending settings listed before now scanned faults no_less scans goes what result cause failed stands refused =
-    caused_at_end settings listed before now scanned faults no_less scans goes what (ended result) cause failed (by listed settings.output.attempts what result stands refused)
+pub caused_ending : (settings : SettingsOf) (files doubled : List Listed) (before now : Signs) (scanned : Option FolderHistory) (faults : ℕ) (no_less : before.counts.folder_faults ≤ faults)
+    (scans : IfSome before.folder (λ history. ScansParted settings.inputs history files doubled scanned)) (goes : IsSome before.folder → GoesFurther scanned now.folder) (what : Met) (result : Result Ending Status) →
+    IsMetByRun settings.output.workers (length files) (record before.counts { folder_faults = faults }) now.counts what → IsMetUnnumbered settings files scanned now.folder what → FailedIn settings before now what →
+    IfOk result (λ ending. StandsForMet files settings.output.attempts what ending.status) → IfErr result (EndsBy files settings.output.attempts what) → CauseBy settings before now (ended result)
+caused_ending settings files doubled before now scanned faults no_less scans goes what result cause unnumbered failed stands refused =
+    caused_at_end settings files doubled before now scanned faults no_less scans goes what (ended result) cause unnumbered failed (by files settings.output.attempts what result stands refused)
 
 pub reports_stored : {D : Type 0} (disks : DiskWords D) (a b : D) (store : Standing) (passed : List Passing) (shipped dropped : ℕ) (what : Met) (result : Result Ending Status) → IfOk result (λ _. IsTelling what) →
     IfOk result (λ ending. IsReport store.rows passed shipped dropped ending.status ending.report) → (AreLeft what → AreSettled disks.contents disks.images a b (chosen_by store)) →

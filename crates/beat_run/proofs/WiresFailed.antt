@@ -84,3 +84,4 @@ module _ {W : Type 0} (wires : WireWords W) (settings : Settings) (old new : Lis
     failed_by files counts later_counts met.FolderFault by fails = tt
     failed_by files counts later_counts (met.Unreachable worker) by fails = by_moments before.moments now.moments worker gives by fails
     failed_by files counts later_counts (met.Epochs slot) by fails = tt
+    failed_by files counts later_counts (met.NoNative slot) by fails = tt

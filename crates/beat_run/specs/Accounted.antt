@@ -14,7 +14,7 @@ use Rattle.registry_store.specs.Choice.{GivesRows}
 use Rattle.registry_store.specs.Settled.{AreAtRest, AreSettled}
 use Rattle.registry_store.specs.Standing.{Standing, chosen_by}
 use Rattle.report.specs.declared.status.Status.{Status}
-use Rattle.report.specs.declared.status.Status.TheVariants.{Done, FolderFault, Stopped, TooMany, Unreachable}
+use Rattle.report.specs.declared.status.Status.TheVariants.{Done, FolderFault, NoNative, Stopped, TooMany, Unreachable}
 use Rattle.rounds.specs.Words.{DiskWords}
 use Rattle.wire_base.specs.declared.limits.Full.TheVariants.{Files}
 use Rattle.wire_base.specs.declared.row.Row.{Row}
@@ -35,6 +35,7 @@ IsMetFor Stopped what = what ≡ met.Stopped
 IsMetFor FolderFault what = what ≡ met.FolderFault
 IsMetFor (Unreachable worker failures) what = what ≡ met.Unreachable worker
 IsMetFor (TooMany full path) what = AreLeft what
+IsMetFor (NoNative path) what = AreLeft what
 IsMetFor _ what = Unit {0}
 
 -- beside the rows that its areas gave as it began

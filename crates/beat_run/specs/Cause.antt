@@ -2,15 +2,19 @@
 -- before the run and as it is now.
 use Rattle.std.specs.Prelude.{◌≡◌, ◌⊎◌, ◌-◌, ◌<◌, ℕ, List, Any, Contains, drop, length, slice_get, Option, Some, IfSome}
 use Rattle.batch_worker.specs.Seen.{Seen}
+use Rattle.event_tree.specs.declared.input_rule.IdentityRule.TheVariants.{Native}
+use Rattle.event_tree.specs.declared.input_rule.InputRule.{InputRule}
 use Rattle.event_tree.specs.declared.settings.Settings.{Settings as SettingsOf}
 use Rattle.kept_rows.specs.Failures.{HasLastFailures}
 use Rattle.outside.specs.Counts.{IsAtEnd, Rose}
 use Rattle.outside.specs.Folders.{FolderHistory, Listed}
 use Rattle.outside.specs.Wires.{Outcome}
 use Rattle.outside.specs.declared.history.Shown.{Shown}
-use Rattle.prospect.specs.ListedFiles.{FindsOneMore}
+use Rattle.prospect.specs.ListedFiles.{FindsNoNumbers, FindsOneMore}
+use Rattle.prospect.specs.Members.{IsCovered}
 use Rattle.report.specs.declared.status.Status.{Status}
 use Rattle.report.specs.declared.status.Status.TheVariants.{Done, Stopped, Usage, Settings, RegistryBad, DiskFault, FolderFault, Unreachable, OutFault, SourceFault, TooMany, NoNative, NoMemory, Unbuilt}
+use Rattle.run_steps.specs.Unnumbered.{WasOpenedUnnumbered}
 use Rattle.run_steps.specs.Worked.{Tolls}
 use Rattle.wire_base.specs.declared.limits.Full.TheVariants.{Epochs, Files, Slots}
 use Rattle.beat_run.specs.Named.{IsNamed}
@@ -65,6 +69,21 @@ pub record WasListed (path : List ℕ) (told : FolderHistory) (after : Option Fo
   pub among : Contains (drop (length told.events) now.events) (Listed root depth shown)
   pub shows : Any (λ one. one.entry.path ≡ path) shown
 
+-- a file of this path was opened since and told no native numbers, while an input that covers the path knows its files by these
+pub record WasUnnumbered (inputs : List InputRule) (path : List ℕ) (told : FolderHistory) (after : Option FolderHistory) : Type 0 where
+  pub now : FolderHistory
+  pub tells : after ≡ Some now
+  pub input : ℕ
+  pub rule : InputRule
+  pub rule_is : slice_get inputs input ≡ Some rule
+  pub covered : IsCovered rule.paths path
+  pub by_numbers : rule.file_identity ≡ Native
+  pub opened : WasOpenedUnnumbered path told now
+
+-- or the scan showed such a path without them
+abbrev pub LacksNumbers : List InputRule → List ℕ → FolderHistory → Option FolderHistory → Type 0
+LacksNumbers inputs path told after = FindsNoNumbers inputs told path after ⊎ WasUnnumbered inputs path told after
+
 -- ---- once the settings are known
 
 abbrev pub CauseBy : SettingsOf → Signs → Signs → Status → Type 0
@@ -81,7 +100,7 @@ CauseBy settings before now SourceFault = ⊥
 CauseBy settings before now (TooMany Files path) = IfSome before.folder (λ told. FindsOneMore settings.inputs told path now.folder ⊎ WasListed path told now.folder)
 CauseBy settings before now (TooMany Epochs path) = IfSome before.folder (λ told. WasListed path told now.folder)
 CauseBy settings before now (TooMany Slots path) = ⊥
-CauseBy settings before now (NoNative path) = ⊥
+CauseBy settings before now (NoNative path) = IfSome before.folder (λ told. LacksNumbers settings.inputs path told now.folder)
 CauseBy settings before now NoMemory = Unit {0}
 CauseBy settings before now (Unbuilt what) = ⊥
 
@@ -106,6 +125,6 @@ Cause source before now (Unreachable worker failures) = HasCauseByNamed source b
 Cause source before now OutFault = Rose before.sink_faults now.sink_faults
 Cause source before now SourceFault = Rose before.source_faults now.source_faults
 Cause source before now (TooMany what path) = HasCauseByNamed source before.signs now.signs (TooMany what path)
-Cause source before now (NoNative path) = ⊥
+Cause source before now (NoNative path) = HasCauseByNamed source before.signs now.signs (NoNative path)
 Cause source before now NoMemory = Unit {0}
 Cause source before now (Unbuilt what) = Unit {0}

@@ -3,11 +3,11 @@
 use Rattle.std.specs.Prelude.{◌≡◌, ◌⊎◌, ℕ, List, slice_get, IfSome, Result, Ok, Err}
 use Rattle.prospect.specs.declared.listed.Listed.{Listed}
 use Rattle.prospect.specs.declared.scan_error.ScanError.{ScanError}
-use Rattle.prospect.specs.declared.scan_error.ScanError.TheVariants.{Failed as ScanFailed, NoMemory as ScanNoMemory, TooMany as ScanTooMany}
+use Rattle.prospect.specs.declared.scan_error.ScanError.TheVariants.{Failed as ScanFailed, NoMemory as ScanNoMemory, NoNative as ScanNoNative, TooMany as ScanTooMany}
 use Rattle.report.specs.declared.status.Status.{Status}
 use Rattle.restart_join.specs.declared.join_error.JoinError.{JoinError}
 use Rattle.restart_join.specs.declared.join_error.JoinError.TheVariants.{NoMemory as JoinNoMemory, TooMany as JoinTooMany}
-use Rattle.report.specs.declared.status.Status.TheVariants.{DiskFault, Done, FolderFault, NoMemory, RegistryBad, Stopped, TooMany, Unreachable}
+use Rattle.report.specs.declared.status.Status.TheVariants.{DiskFault, Done, FolderFault, NoMemory, NoNative, RegistryBad, Stopped, TooMany, Unreachable}
 use Rattle.run_steps.specs.declared.met.Met.{Met}
 use Rattle.run_steps.specs.declared.met.Met.TheVariants as met
 use Rattle.run_steps.specs.declared.registry_error.RegistryError.{RegistryError}
@@ -29,6 +29,8 @@ StandsForMet listed attempts met.FolderFault status = status ≡ FolderFault
 StandsForMet listed attempts (met.Unreachable worker) status = status ≡ Unreachable worker attempts
 StandsForMet listed attempts (met.Epochs slot) status =
     (status ≡ NoMemory) ⊎ IfSome (slice_get listed slot.0) (λ one. status ≡ TooMany Epochs one.path)
+StandsForMet listed attempts (met.NoNative slot) status =
+    (status ≡ NoMemory) ⊎ IfSome (slice_get listed slot.0) (λ one. status ≡ NoNative one.path)
 
 -- a run that met it tells a report
 abbrev pub IsTelling : Met → Type 0
@@ -39,6 +41,7 @@ IsTelling met.DiskFault = ⊥
 IsTelling met.FolderFault = ⊥
 IsTelling (met.Unreachable worker) = ⊥
 IsTelling (met.Epochs slot) = ⊥
+IsTelling (met.NoNative slot) = ⊥
 
 abbrev pub StandsForRegistry : RegistryError → Status → Type 0
 StandsForRegistry (registry.Bad area at) status = status ≡ RegistryBad area at
@@ -48,6 +51,7 @@ StandsForRegistry registry.NoMemory status = status ≡ NoMemory
 abbrev pub StandsForScan : ScanError → Status → Type 0
 StandsForScan ScanFailed status = status ≡ FolderFault
 StandsForScan ScanNoMemory status = status ≡ NoMemory
+StandsForScan (ScanNoNative path) status = status ≡ NoNative path
 StandsForScan (ScanTooMany path) status = status ≡ TooMany Files path
 
 abbrev pub StandsForJoin : JoinError → Status → Type 0

@@ -4,7 +4,8 @@ use Rattle.std.specs.Prelude.{◌≡◌, ◌≤◌, ◌⊎◌, ℕ, List, length
 use Rattle.beat_config.specs.declared.settings_error.SettingsError.{SettingsError}
 use Rattle.event_tree.specs.declared.input_rule.InputRule.{InputRule}
 use Rattle.outside.specs.Folders.{FolderHistory}
-use Rattle.prospect.specs.ListedFiles.{FindsOneMore, ScansFiles}
+use Rattle.prospect.specs.Doubled.{PartsDoubled}
+use Rattle.prospect.specs.ListedFiles.{FindsNoNumbers, FindsOneMore}
 use Rattle.prospect.specs.Members.{globs_of}
 use Rattle.prospect.specs.Unfinished.{ListsSome}
 use Rattle.prospect.specs.declared.listed.Listed.{Listed}
@@ -17,6 +18,7 @@ use Rattle.report.specs.declared.status.Lack.TheVariants.{Key, Follow, Generate}
 use Rattle.report.specs.declared.status.Lack.{Lack}
 use Rattle.report.specs.declared.status.Status.{Status}
 use Rattle.report.specs.declared.status.Status.TheVariants.{Done, Stopped, Usage, Settings, RegistryBad, DiskFault, FolderFault, Unreachable, OutFault, SourceFault, TooMany, NoNative, NoMemory, Unbuilt}
+use Rattle.beat_run.specs.Scanning.{ScansParted}
 
 -- reading the arguments
 abbrev pub IsWordsEnd : Status → Type 0
@@ -62,26 +64,29 @@ IsScanEnd before now FolderFault = Rose before now
 IsScanEnd before now NoMemory = Unit {0}
 IsScanEnd before now (TooMany Files path) = Unit {0}
 IsScanEnd before now (TooMany Epochs path) = Unit {0}
+IsScanEnd before now (NoNative path) = Unit {0}
 IsScanEnd before now _ = ⊥
 
--- all was listed, no more than a run may list, and the first file that is too much for these rows has this path
+-- all was listed, no more than a run may list, and of the files that are followed the first that is too much for these rows has this path
 pub record ListsTooMany (inputs : List InputRule) (told : FolderHistory) (rows : List Row) (what : Full) (path : List ℕ) (after : Option FolderHistory) : Type 0 where
-  pub listed : List Listed
-  pub scans : ScansFiles inputs told listed after
-  pub few : length listed ≤ 65_536
-  pub first : IsFirstTooMany rows listed what path
+  pub files : List Listed
+  pub doubled : List Listed
+  pub scans : ScansParted inputs told files doubled after
+  pub few : length scans.all ≤ 65_536
+  pub first : IsFirstTooMany rows files what path
 
 -- there is no room for the file of this path: it is the first behind as many as a run may list, whatever rows there are; or, of no more,
 -- the first that is too many beside these rows
 abbrev pub FindsNoRoom : List InputRule → FolderHistory → List Row → List ℕ → Option FolderHistory → Type 0
 FindsNoRoom inputs told rows path after = FindsOneMore inputs told path after ⊎ ListsTooMany inputs told rows Files path after
 
--- what its listings show then: those that were made, or what is too much for these rows
+-- what its listings show then: those that were made, what is too much for these rows, or a path without the numbers that its input wants
 abbrev pub ShowsScanEnd : List InputRule → FolderHistory → List Row → Option FolderHistory → Status → Type 0
 ShowsScanEnd inputs told rows after FolderFault = ListsSome (globs_of inputs) told after
 ShowsScanEnd inputs told rows after NoMemory = ListsSome (globs_of inputs) told after
 ShowsScanEnd inputs told rows after (TooMany Files path) = FindsNoRoom inputs told rows path after
 ShowsScanEnd inputs told rows after (TooMany Epochs path) = ListsTooMany inputs told rows Epochs path after
+ShowsScanEnd inputs told rows after (NoNative path) = FindsNoNumbers inputs told path after
 ShowsScanEnd inputs told rows after _ = ⊥
 
 -- files that could not all be started beside these rows
@@ -90,6 +95,17 @@ IsStartEnd rows listed NoMemory = Unit {0}
 IsStartEnd rows listed (TooMany Files path) = IsFirstTooMany rows listed Files path
 IsStartEnd rows listed (TooMany Epochs path) = IsFirstTooMany rows listed Epochs path
 IsStartEnd rows listed _ = ⊥
+
+-- listed files of which those that are followed could not all be started
+pub record HasPartedEnd (rows : List Row) (listed : List Listed) (status : Status) : Type 0 where
+  pub files : List Listed
+  pub doubled : List Listed
+  pub parts : PartsDoubled listed files doubled
+  pub ends : IsStartEnd rows files status
+
+-- or that could not be parted
+abbrev pub IsPartedEnd : List Row → List Listed → Status → Type 0
+IsPartedEnd rows listed status = (status ≡ NoMemory) ⊎ HasPartedEnd rows listed status
 
 -- a run that tells a report
 abbrev pub IsReportEnd : Status → Type 0
@@ -101,7 +117,6 @@ IsReportEnd _ = ⊥
 abbrev pub IsRunEnd : Status → Type 0
 IsRunEnd Done = ⊥
 IsRunEnd Stopped = ⊥
-IsRunEnd (NoNative path) = ⊥
 IsRunEnd OutFault = ⊥
 IsRunEnd _ = Unit {0}
 
@@ -112,6 +127,7 @@ IsWorkedEnd DiskFault = Unit {0}
 IsWorkedEnd FolderFault = Unit {0}
 IsWorkedEnd (Unreachable worker failures) = Unit {0}
 IsWorkedEnd (TooMany Epochs path) = Unit {0}
+IsWorkedEnd (NoNative path) = Unit {0}
 IsWorkedEnd _ = ⊥
 
 -- the scan and all that comes behind it, where no report is told
@@ -204,6 +220,7 @@ IsBehindOpening Done = Unit {0}
 IsBehindOpening Stopped = Unit {0}
 IsBehindOpening FolderFault = Unit {0}
 IsBehindOpening (TooMany what path) = Unit {0}
+IsBehindOpening (NoNative path) = Unit {0}
 IsBehindOpening (Unreachable worker failures) = Unit {0}
 IsBehindOpening _ = ⊥
 

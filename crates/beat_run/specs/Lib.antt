@@ -2,10 +2,13 @@ pub mod Accounted
 pub mod Asked
 pub mod Cause
 pub mod Cleaning
+pub mod Completeness
 pub mod Ended
 pub mod Ends
 pub mod Handed
 pub mod Named
 pub mod NextRun
 pub mod Printed
+pub mod Scanning
+pub mod Skipped
 pub mod Untouched

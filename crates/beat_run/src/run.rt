@@ -19,6 +19,7 @@ ghost use Rattle.beat_run.specs.Ended.{ended};
 ghost use Rattle.beat_run.specs.Ends.{IsBehindOpening, IsRefusal, IsReportEnd, IsRunEnd, IsScannedEnd, IsSettledEnd, IsUnprepared, RefusesArea, RefusesKey, RefusesLack, RefusesSettings, RefusesWords};
 ghost use Rattle.beat_run.specs.Handed.{CausedIn, GoesOn, lent_of, objects_of, outside_words, signs_of};
 ghost use Rattle.beat_run.specs.Printed.{IsReportOf, IsToBePrinted, ReportsStored};
+ghost use Rattle.beat_run.specs.Skipped.{all_skipped};
 ghost use Rattle.beat_run.specs.Untouched.{IsRefused};
 ghost use Rattle.beat_run.specs.declared.settings.TheConstants.{LIMIT};
 
@@ -35,11 +36,12 @@ use event_tree::Settings;
 use keeper::Keeper;
 use lanes::Outlets;
 use outside::{Bell, Clock, Disk, Folder, Link, Source, Wire};
-use prospect::Listed;
 use registry_store::{Store, one_choice};
 use report::{Lack, Status};
 use rounds::{Stored, Storing};
-use run_steps::{Context, Surroundings, Worked, disk_images_are_counted, open_registry, run_over};
+use run_steps::{
+    Context, Scanned, Surroundings, Worked, disk_images_are_counted, open_registry, run_over,
+};
 use std::alloc::Global;
 use std::sync::Wait;
 use std::thread::Threads;
@@ -409,30 +411,24 @@ where
         };
         run_over(rt, context, passes, &scanned, &mut storing, &mut around)?
     };
-    finish(
-        context,
-        scanned.listed.as_slice(),
-        worked,
-        keeper,
-        outside.a,
-        outside.b,
-    )
+    finish(context, &scanned, worked, keeper, outside.a, outside.b)
 }
 
 /// Takes the rows of removed files out of the registry, and makes what is told of the run.
 fn finish<D: Disk>(
     context: Context<'_, '_>,
-    listed: &[Listed],
+    scanned: &Scanned,
     worked: Worked,
     keeper: Keeper,
     a: &mut D,
     b: &mut D,
 ) -> Result<Ending, Status>
-    requires of_these { IsMetOf (length listed.now) worked.met }
+    requires of_these { IsMetOf (length scanned.now.listed.items) worked.met }
     requires open { AreLeft worked.met → keeper.store.closed ≡ false }
     ensures finished { (now : Met) × (store : Standing) ×
         Finishes (disk_words D.contents D.images D.moment D.images_since D.faults)
-        context.entry.settings.now listed.now worked.passed.items keeper
+        context.entry.settings.now scanned.entry.now.listed.items
+        (all_skipped worked.passed.items scanned.entry.now.doubled.items) keeper
         (record { met = worked.met; store = keeper.store; a = a.old; b = b.old })
         (record { met = now; store = store; a = a.new; b = b.new }) result }
     ensures with_report { IfOk result (λ ending. IsReportEnd ending.status) }
@@ -444,6 +440,7 @@ fn finish<D: Disk>(
     };
     let (mut store, _) = keeper.end();
     let Worked { passed, met } = worked;
+    let listed = scanned.listed.as_slice();
     let met = clean(context, listed, met, &mut store, a, b);
     let attempts = context.settings.output.attempts;
     ending_of(
@@ -451,7 +448,7 @@ fn finish<D: Disk>(
         Worked { passed, met },
         &store,
         totals,
-        listed,
+        scanned,
         attempts,
     )
 }

@@ -1,24 +1,26 @@
-ghost use Rattle.std.specs.Prelude.{◌<◌, ◌≡◌, ◌≤◌, ℕ, length, map, All, IfErr, IfOk, IfSome, OnErr, OnOk};
-ghost use Rattle.std.specs.List.Sorted.{IsStrictlySortedBy};
+ghost use Rattle.std.specs.Prelude.{◌<◌, ◌≡◌, ◌≤◌, ℕ, length, All, IfErr, IfOk, IfSome, OnErr};
 ghost use Rattle.outside.specs.Times.{GivesMoment};
-ghost use Rattle.prospect.specs.ListedFiles.{IsListedInRange, ScansFiles, place_of, place_order};
+ghost use Rattle.prospect.specs.Doubled.{PartsDoubled};
+ghost use Rattle.prospect.specs.ListedFiles.{IsListedInRange};
 ghost use Rattle.prospect.specs.Members.{HaveGlobs, HaveShortIds};
 ghost use Rattle.wire_base.specs.Ranges.{IsMoment};
 ghost use Rattle.run_steps.specs.Starting.{AreFewFiles, starts_among};
-ghost use Rattle.beat_run.specs.Ends.{IsScanEnd, IsStartEnd, ShowsScanEnd};
+ghost use Rattle.beat_run.specs.Ends.{IsPartedEnd, IsScanEnd, IsStartEnd, ShowsScanEnd};
+ghost use Rattle.beat_run.specs.Scanning.{ScansParted};
 ghost use Rattle.run_steps.specs.ClockOn.{MomentsGoOn};
 
 use crate::status::{status_of_join, status_of_scan};
 use event_tree::InputRule;
 use outside::{Clock, Folder};
-use prospect::{Listed, list_files};
+use prospect::{Listed, Parted, list_files, part_doubled};
 use report::Status;
 use run_steps::{Scanned, starts_of};
 use ship_core::Rows;
 use std::alloc::Global;
 use wire_base::Moment;
 
-/// The files that the folder shows, at the moment before the scan, and where each starts by its row.
+/// The files that the folder shows, at the moment before the scan, parted into the first of each key and the others, and where each of
+/// the first starts by its row.
 pub fn scan<F: Folder, K: Clock>(
     alloc: Global,
     inputs: &[InputRule],
@@ -30,13 +32,12 @@ pub fn scan<F: Folder, K: Clock>(
     requires short_ids { HaveShortIds inputs.now }
     requires few_rows { length rows.now ≤ 65_536 }
     ensures scanned { IfOk result (λ scanned. IfSome (F.told folder.old) (λ told.
-        ScansFiles inputs.now told scanned.listed.items (F.told folder.new))) }
+        ScansParted inputs.now told scanned.listed.items scanned.doubled.items
+        (F.told folder.new))) }
     ensures few_listed { IfOk result (λ scanned. length scanned.listed.items ≤ 65_536) }
     ensures few { IfOk result (λ scanned. AreFewFiles rows.now scanned.listed.items) }
     ensures starts { IfOk result (λ scanned.
         scanned.starts.items ≡ starts_among rows.now scanned.listed.items) }
-    ensures in_order { IfOk result (λ scanned.
-        IsStrictlySortedBy place_order (map place_of scanned.listed.items)) }
     ensures of_inputs { IfOk result (λ scanned.
         All (λ one. one.input < length inputs.now) scanned.listed.items) }
     ensures in_range { IfOk result (λ scanned. All IsListedInRange scanned.listed.items) }
@@ -55,13 +56,13 @@ pub fn scan<F: Folder, K: Clock>(
 {
     let now = clock.now();
     match list_files(alloc, folder, inputs) {
-        Ok(listed) => start_files(alloc, rows, listed, now),
+        Ok(listed) => part_files(alloc, rows, listed, now),
         Err(error) => Err(status_of_scan(error)),
     }
 }
 
-/// The listed files, with where each starts.
-fn start_files(
+/// The listed files, parted, with where each of the first starts.
+fn part_files(
     alloc: Global,
     rows: &Rows,
     listed: Vec<Listed>,
@@ -69,16 +70,36 @@ fn start_files(
 ) -> Result<Scanned, Status>
     requires few_rows { length rows.now ≤ 65_536 }
     requires few_listed { length listed.items ≤ 65_536 }
-    ensures listed { IfOk result (λ scanned. scanned.listed.items ≡ listed.items) }
+    ensures parts { IfOk result (λ scanned.
+        PartsDoubled listed.items scanned.listed.items scanned.doubled.items) }
     ensures now { IfOk result (λ scanned. scanned.now ≡ now) }
-    ensures few { OnOk result (AreFewFiles rows.now listed.items) }
+    ensures few { IfOk result (λ scanned. AreFewFiles rows.now scanned.listed.items) }
     ensures starts { IfOk result (λ scanned.
-        scanned.starts.items ≡ starts_among rows.now listed.items) }
-    ensures refused { IfErr result (IsStartEnd rows.now listed.items) }
+        scanned.starts.items ≡ starts_among rows.now scanned.listed.items) }
+    ensures refused { IfErr result (IsPartedEnd rows.now listed.items) }
 {
-    match starts_of(alloc, rows, listed.as_slice()) {
+    match part_doubled(alloc, listed) {
+        Ok(parted) => start_files(alloc, rows, parted, now),
+        Err(_) => Err(Status::NoMemory),
+    }
+}
+
+/// The parted files, with where each of the first starts.
+fn start_files(alloc: Global, rows: &Rows, parted: Parted, now: Moment) -> Result<Scanned, Status>
+    requires few_rows { length rows.now ≤ 65_536 }
+    requires few_files { length parted.files.items ≤ 65_536 }
+    ensures files { IfOk result (λ scanned. scanned.listed ≡ parted.files) }
+    ensures doubled { IfOk result (λ scanned. scanned.doubled ≡ parted.doubled) }
+    ensures now { IfOk result (λ scanned. scanned.now ≡ now) }
+    ensures few { IfOk result (λ scanned. AreFewFiles rows.now scanned.listed.items) }
+    ensures starts { IfOk result (λ scanned.
+        scanned.starts.items ≡ starts_among rows.now scanned.listed.items) }
+    ensures refused { IfErr result (IsStartEnd rows.now parted.files.items) }
+{
+    match starts_of(alloc, rows, parted.files.as_slice()) {
         Ok(starts) => Ok(Scanned {
-            listed,
+            listed: parted.files,
+            doubled: parted.doubled,
             starts,
             now,
         }),

@@ -14,6 +14,7 @@ ghost use Rattle.run_steps.specs.Registry.{AreRefusedAt};
 ghost use Rattle.beat_run.specs.Accounted.{IsAccountedWhereTold};
 ghost use Rattle.beat_run.specs.Asked.{AskFor, AskForOnce, IsAsked};
 ghost use Rattle.beat_run.specs.Cause.{Cause};
+ghost use Rattle.beat_run.specs.Completeness.{IsUntroubled, IsUntroubledEnd};
 ghost use Rattle.beat_run.specs.Ends.{IsBehindOpening, IsPrintingEnd, IsRefusal, IsReportEnd, IsRunEnd, IsUnprepared, RefusesArea, RefusesKey, RefusesLack, RefusesSettings, RefusesWords};
 ghost use Rattle.beat_run.specs.Printed.{IsPrinted, IsReportOf, Prints, ReportsStored, StandsBehind};
 ghost use Rattle.beat_run.specs.Untouched.{IsRefused};
@@ -24,6 +25,7 @@ use crate::objects::Outside;
 use crate::run::run;
 use beat_config::SettingsError;
 use outside::{Bell, Clock, Disk, Folder, Sink, Source, Wire};
+use registry_store::one_choice;
 use report::{Lack, Status, status_line, write_all};
 use std::alloc::Global;
 use std::sync::Wait;
@@ -197,12 +199,54 @@ where
         })
         result }
 
+    // When it has to be done.
+    ensures what_an_untroubled_run_ends_with { IsUntroubled
+        (disk_words D.contents D.images D.moment D.images_since D.faults)
+        (record {
+          words = words.now;
+          source = R.left settings.old;
+          a = area_a.old;
+          b = area_b.old;
+        })
+        (record {
+          signs = record {
+            folder = F.told folder.old;
+            moments = K.moments clock.old;
+            wires = all_seen (wire_words W.outcomes W.open_links W.faults W.idles) wires.old.items;
+            counts = record {
+              a_faults = D.faults area_a.old;
+              b_faults = D.faults area_b.old;
+              folder_faults = F.faults folder.old;
+              rings = B.rings bell.old;
+            };
+          };
+          source_faults = R.faults settings.old;
+          sink_faults = S.faults out.old;
+        })
+        (record {
+          signs = record {
+            folder = F.told folder.new;
+            moments = K.moments clock.new;
+            wires = all_seen (wire_words W.outcomes W.open_links W.faults W.idles) wires.new.items;
+            counts = record {
+              a_faults = D.faults area_a.new;
+              b_faults = D.faults area_b.new;
+              folder_faults = F.faults folder.new;
+              rings = B.rings bell.new;
+            };
+          };
+          source_faults = R.faults settings.new;
+          sink_faults = S.faults out.new;
+        }) →
+        IsUntroubledEnd (F.told folder.old) (F.told folder.new) result }
+
     // What is closed, and what goes on.
     ensures clock_goes_on { MomentsGoOn (K.moments clock.old) (K.moments clock.new) }
     ensures as_many_wires { vec_len wires.new ≡ vec_len wires.old }
     ensures tails_closed { F.open_tails folder.old + 65_536 < 2 ^ 64 - 1 →
         F.open_tails folder.new ≡ F.open_tails folder.old }
 {
+    one_choice();
     let mut outside = Outside {
         folder: &mut *folder,
         wires: &mut *wires,

@@ -30,6 +30,7 @@ pub fn status_of(alloc: Global, met: Met, listed: &[Listed], attempts: u32) -> S
             failures: attempts,
         },
         Met::Epochs(slot) => too_many_epochs(alloc, &listed[slot.0 as usize].path),
+        Met::NoNative(slot) => no_native(alloc, &listed[slot.0 as usize].path),
     }
 }
 
@@ -41,6 +42,15 @@ fn too_many_epochs(alloc: Global, path: &Text) -> Status
             what: Full::Epochs,
             path,
         },
+        Err(_) => Status::NoMemory,
+    }
+}
+
+fn no_native(alloc: Global, path: &Text) -> Status
+    ensures { (result ≡ Status.NoMemory) ⊎ (result ≡ Status.NoNative path.now) }
+{
+    match path.copy(alloc) {
+        Ok(path) => Status::NoNative { path },
         Err(_) => Status::NoMemory,
     }
 }
@@ -63,6 +73,7 @@ pub fn status_of_scan(error: ScanError) -> Status
     match error {
         ScanError::Failed => Status::FolderFault,
         ScanError::NoMemory => Status::NoMemory,
+        ScanError::NoNative { path } => Status::NoNative { path },
         ScanError::TooMany { path } => Status::TooMany {
             what: Full::Files,
             path,

@@ -1,6 +1,6 @@
-use Rattle.accounts.proofs.InARow.{by_path_have_own_ids}
-use Rattle.prospect.proofs.LacksNone.{inputs_are_by_path_where_nothing_lacks}
-use Rattle.run_steps.proofs.ByPath.{inputs_are_by_path}
+use Rattle.accounts.proofs.InARow.{named_have_own_ids}
+use Rattle.run_steps.proofs.NamedInputs.{inputs_are_named as are_named}
+use Rattle.beat_run.proofs.ReadsNoFiles.{inputs_are_named}
 use Rattle.beat_run.proofs.laws.next_run_opens_kept_rows.Goals as goal
 
 pub returns-clause-opening : goal.returns-clause-opening
@@ -15,4 +15,4 @@ returns-clause-opening_behind_last_steps g c = λ earlier later as_left are_left
 
 pub returns-clause-own_ids : goal.returns-clause-own_ids
 returns-clause-own_ids g c = λ settings in_range supported.
-    by_path_have_own_ids settings.inputs (inputs_are_by_path settings in_range (inputs_are_by_path_where_nothing_lacks settings supported))
+    named_have_own_ids settings.inputs (are_named settings in_range (inputs_are_named settings supported))

@@ -1,8 +1,6 @@
-use Rattle.std.proofs.Common.{◌≡◌, ◌∙◌, ℕ, ◌+◌, ◌-◌, ◌^◌, ◌<◌, ◌≤◌, IsSome, Option, Some, ap, length, map, refl, subst, sym, arith}
+use Rattle.std.proofs.Common.{◌≡◌, ◌∙◌, ℕ, ◌+◌, ◌-◌, ◌^◌, ◌<◌, ◌≤◌, Some, ap, length, map, refl, subst, sym, arith}
 use Rattle.std.proofs.lemmas.Result.{err_from_is_err_and}
 use Rattle.keeper.specs.Keeping.{Keeping}
-use Rattle.outside.specs.Folders.{FolderHistory}
-use Rattle.prospect.proofs.LacksNone.{inputs_are_by_path_where_nothing_lacks}
 use Rattle.prospect.specs.Members.{globs_of}
 use Rattle.report.specs.declared.status.Status.TheVariants.{NoMemory}
 use Rattle.rounds.specs.Making.{all_seen}
@@ -15,8 +13,10 @@ use Rattle.beat_run.proofs.Accounts.{each_some, early, full_for_scan, outcomes_s
 use Rattle.ship_core.specs.Rows.{IsInOrder}
 use Rattle.beat_run.specs.Cause.{Signs}
 use Rattle.beat_run.specs.Ended.{ended}
+use Rattle.beat_run.specs.Skipped.{all_skipped}
 use Rattle.beat_run.proofs.Causes.{at_rest, ends_without_report, is_met_of, scan_caused, scan_ended, shown_goes_further}
-use Rattle.beat_run.proofs.Cleaned.{accounted_and_cleaned, failed_after_cleaning, keyed_where_told, left_before_cleaning, met_after_cleaning, of_these_after_cleaning}
+use Rattle.beat_run.proofs.Cleaned.{accounted_and_cleaned, failed_after_cleaning, keys_are_known, left_before_cleaning, met_after_cleaning, of_these_after_cleaning, unnumbered_after_cleaning}
+use Rattle.beat_run.proofs.ReadsNoFiles.{inputs_are_named}
 use Rattle.beat_run.proofs.ReportEnds.{caused_ending, full_for_ending, left_by_ending, met_for_ending, report_of, report_over, reports_stored, scanned_ending}
 use Rattle.beat_run.proofs.SettingOut.{earlier, outset, set_out}
 use Rattle.beat_run.proofs.WiresFailed.{failed_by}
@@ -37,7 +37,7 @@ returns-in_err-scanned-clause-accounted g c = λ from opened tells.
     let p = err_from_is_err_and c.from_residual.result c.from_residual.ensures.1 in
     let disks = disk_words g.D.Disk.contents g.D.Disk.images g.D.Disk.moment g.D.Disk.images_since g.D.Disk.faults in
     rw (p.1, p.2)
-    (early disks c.one_choice.ensures c.args.settings.now c.requires.in_range (inputs_are_by_path_where_nothing_lacks c.args.settings.now c.requires.nothing_lacks)
+    (early disks c.one_choice.ensures c.args.settings.now c.requires.in_range (inputs_are_named c.args.settings.now c.requires.nothing_lacks)
     c.args.store.rows from.a from.b c.args.outside.now.a.now c.args.outside.now.b.now opened.gave opened.held (map g.W.Wire.outcomes c.args.outside.now.wires.now.items)
     (g.F.Folder.told c.args.outside.now.folder.now) (g.F.Folder.told c.scan.new.folder) (g.K.Clock.moments c.args.outside.now.clock.now) (g.K.Clock.moments c.scan.new.clock)
     c.in_err-scanned.ensures.moment_given_first.0 _ tells.folder tells.moments c.in_err-scanned.ensures.moment_given_first.1
@@ -53,11 +53,11 @@ returns-in_err-parts-clause-accounted g c = λ from opened tells.
     let p = err_from_is_err_and c.from_residual-in_err-parts.result c.from_residual-in_err-parts.ensures.1 in
     let disks = disk_words g.D.Disk.contents g.D.Disk.images g.D.Disk.moment g.D.Disk.images_since g.D.Disk.faults in
     rw (p.1, p.2)
-    (early disks c.one_choice.ensures c.args.settings.now c.requires.in_range (inputs_are_by_path_where_nothing_lacks c.args.settings.now c.requires.nothing_lacks)
+    (early disks c.one_choice.ensures c.args.settings.now c.requires.in_range (inputs_are_named c.args.settings.now c.requires.nothing_lacks)
     c.args.store.rows from.a from.b c.args.outside.now.a.now c.args.outside.now.b.now opened.gave opened.held (map g.W.Wire.outcomes c.args.outside.now.wires.now.items)
     (g.F.Folder.told c.args.outside.now.folder.now) (g.F.Folder.told c.scan.new.folder) (g.K.Clock.moments c.args.outside.now.clock.now) (g.K.Clock.moments c.scan.new.clock)
     c.in_ok-scanned.scanned.now.0 NoMemory tells.folder tells.moments c.in_ok-scanned.ensures.moment_given
-    (each_some (g.F.Folder.told c.args.outside.now.folder.now) _ _ (λ history scans. listed_all (globs_of c.args.settings.now.inputs) history scans.listings (g.F.Folder.told c.scan.new.folder) scans.listed_is) (rw inputs at c.in_ok-scanned.ensures.scanned)) tt tt)
+    (each_some (g.F.Folder.told c.args.outside.now.folder.now) _ _ (λ history scans. listed_all (globs_of c.args.settings.now.inputs) history scans.scans.listings (g.F.Folder.told c.scan.new.folder) scans.scans.listed_is) (rw inputs at c.in_ok-scanned.ensures.scanned)) tt tt)
 
 -- ---- or for a crew
 
@@ -71,18 +71,17 @@ returns-in_err-worked-clause-accounted g c = λ from opened tells.
     let a_same : c.run_over.new.storing.a.now ≡ c.args.outside.now.a.now = ap (λ (s : Storing g.row.D.Denot). s.a.now) c.in_err-worked.ensures.untouched.0 in
     let b_same : c.run_over.new.storing.b.now ≡ c.args.outside.now.b.now = ap (λ (s : Storing g.row.D.Denot). s.b.now) c.in_err-worked.ensures.untouched.0 in
     rw (p.1, p.2, a_same, b_same, c.in_err-worked.ensures.untouched.1, c.in_err-worked.ensures.untouched.2, back)
-    (early disks c.one_choice.ensures c.args.settings.now c.requires.in_range (inputs_are_by_path_where_nothing_lacks c.args.settings.now c.requires.nothing_lacks)
+    (early disks c.one_choice.ensures c.args.settings.now c.requires.in_range (inputs_are_named c.args.settings.now c.requires.nothing_lacks)
     c.args.store.rows from.a from.b c.args.outside.now.a.now c.args.outside.now.b.now opened.gave opened.held (map g.W.Wire.outcomes c.args.outside.now.wires.now.items)
     (g.F.Folder.told c.args.outside.now.folder.now) (g.F.Folder.told c.scan.new.folder) (g.K.Clock.moments c.args.outside.now.clock.now) (g.K.Clock.moments c.scan.new.clock)
     c.in_ok-scanned.scanned.now.0 NoMemory tells.folder tells.moments c.in_ok-scanned.ensures.moment_given
-    (each_some (g.F.Folder.told c.args.outside.now.folder.now) _ _ (λ history scans. listed_all (globs_of c.args.settings.now.inputs) history scans.listings (g.F.Folder.told c.scan.new.folder) scans.listed_is) (rw inputs at c.in_ok-scanned.ensures.scanned)) tt tt)
+    (each_some (g.F.Folder.told c.args.outside.now.folder.now) _ _ (λ history scans. listed_all (globs_of c.args.settings.now.inputs) history scans.scans.listings (g.F.Folder.told c.scan.new.folder) scans.scans.listed_is) (rw inputs at c.in_ok-scanned.ensures.scanned)) tt tt)
 
 -- ---- files were followed
 
 pub returns-clause-cause : goal.returns-clause-cause
 returns-clause-cause g c = λ from opened.
     let inputs : c.as_slice.result.now ≡ c.args.settings.now.inputs = c.as_slice.ensures in
-    let files : c.as_slice-2.result.now ≡ c.in_ok-scanned.scanned.listed.items = c.as_slice-2.ensures.value in
     let fin = c.finish.ensures.finished in
     let disks = disk_words g.D.Disk.contents g.D.Disk.images g.D.Disk.moment g.D.Disk.images_since g.D.Disk.faults in
     let wires = wire_words g.W.Wire.outcomes g.W.Wire.open_links g.W.Wire.faults g.W.Wire.idles in
@@ -98,59 +97,59 @@ returns-clause-cause g c = λ from opened.
       wires = all_seen wires c.run_over.new.around.wires.now.items;
       counts = record { a_faults = g.D.Disk.faults c.finish.new.a; b_faults = g.D.Disk.faults c.finish.new.b; folder_faults = g.F.Folder.faults c.run_over.new.around.folder.now; rings = g.B.Bell.rings c.run_over.new.around.bell.now };
     } in
-    (caused_ending c.args.settings.now c.in_ok-scanned.scanned.listed.items before now (g.F.Folder.told c.scan.new.folder) (g.F.Folder.faults c.scan.new.folder) c.scan.ensures.folder_faults_never_fall
+    (caused_ending c.args.settings.now c.in_ok-scanned.scanned.listed.items c.in_ok-scanned.scanned.doubled.items before now (g.F.Folder.told c.scan.new.folder) (g.F.Folder.faults c.scan.new.folder) c.scan.ensures.folder_faults_never_fall
     (rw inputs at c.in_ok-scanned.ensures.scanned)
     (λ some. shown_goes_further (g.F.Folder.told c.scan.new.folder) _ _
     (c.in_ok-worked.ensures.ends
-    (earlier disks wires c.args.settings.now c.requires.in_range (inputs_are_by_path_where_nothing_lacks c.args.settings.now c.requires.nothing_lacks)
+    (earlier disks wires c.args.settings.now c.requires.in_range (inputs_are_named c.args.settings.now c.requires.nothing_lacks)
     c.in_ok-parts.parts.desk.id c.in_ok-parts.parts.keeper c.args.store c.in_ok-parts.ensures.keeper c.in_ok-parts.ensures.store c.args.outside.now.wires.now.items from
-    c.args.outside.now.a.now c.args.outside.now.b.now opened c.in_ok-scanned.scanned.listed.items c.in_ok-scanned.scanned.now.0
-    (g.K.Clock.moments c.args.outside.now.clock.now) (g.K.Clock.moments c.scan.new.clock) c.in_ok-scanned.ensures.moment_given (g.F.Folder.told c.args.outside.now.folder.now) (g.F.Folder.told c.scan.new.folder) some (rw inputs at c.in_ok-scanned.ensures.of_inputs) (rw inputs at c.in_ok-scanned.ensures.scanned))
-    (set_out disks wires c.args.settings.now c.requires.in_range (inputs_are_by_path_where_nothing_lacks c.args.settings.now c.requires.nothing_lacks)
+    c.args.outside.now.a.now c.args.outside.now.b.now opened c.in_ok-scanned.scanned.listed.items c.in_ok-scanned.scanned.doubled.items c.in_ok-scanned.scanned.now.0
+    (g.K.Clock.moments c.args.outside.now.clock.now) (g.K.Clock.moments c.scan.new.clock) c.in_ok-scanned.ensures.moment_given (g.F.Folder.told c.scan.new.folder) (rw inputs at c.in_ok-scanned.ensures.of_inputs))
+    (set_out disks wires c.args.settings.now c.requires.in_range (inputs_are_named c.args.settings.now c.requires.nothing_lacks)
     c.in_ok-parts.parts.desk.id c.in_ok-parts.parts.keeper c.args.store c.in_ok-parts.ensures.keeper c.in_ok-parts.ensures.store c.args.outside.now.wires.now.items from
-    c.args.outside.now.a.now c.args.outside.now.b.now opened c.in_ok-scanned.scanned.listed.items c.in_ok-scanned.scanned.now.0
-    (g.K.Clock.moments c.args.outside.now.clock.now) (g.K.Clock.moments c.scan.new.clock) c.in_ok-scanned.ensures.moment_given (g.F.Folder.told c.args.outside.now.folder.now) (g.F.Folder.told c.scan.new.folder) some (rw inputs at c.in_ok-scanned.ensures.of_inputs) (rw inputs at c.in_ok-scanned.ensures.scanned))).1.ends.stands.shown)
+    c.args.outside.now.a.now c.args.outside.now.b.now opened c.in_ok-scanned.scanned.listed.items c.in_ok-scanned.scanned.doubled.items c.in_ok-scanned.scanned.now.0
+    (g.K.Clock.moments c.args.outside.now.clock.now) (g.K.Clock.moments c.scan.new.clock) c.in_ok-scanned.ensures.moment_given (g.F.Folder.told c.scan.new.folder) (rw inputs at c.in_ok-scanned.ensures.of_inputs))).1.ends.stands.shown)
     fin.0 c.finish.result
     (met_after_cleaning disks _ _ _ _ fin.2.cleans c.args.settings.now.output.workers (length c.in_ok-scanned.scanned.listed.items) _ _ _ c.run_over.ensures.a_faults_never_fall c.run_over.ensures.b_faults_never_fall
     c.in_ok-worked.ensures.cause)
+    (unnumbered_after_cleaning disks _ _ _ _ fin.2.cleans c.args.settings.now (g.F.Folder.told c.scan.new.folder) (g.F.Folder.told c.run_over.new.around.folder.now) c.in_ok-worked.ensures.unnumbered)
     (failed_after_cleaning disks _ _ _ _ fin.2.cleans c.args.settings.now before now
     (failed_by wires c.args.settings.now c.args.outside.now.wires.now.items c.run_over.new.around.wires.now.items before now refl refl c.in_ok-scanned.scanned.now.0 (g.K.Clock.moments c.scan.new.clock)
     c.in_ok-scanned.ensures.moment_given _ _ _ c.in_ok-worked.worked.met c.in_ok-worked.ensures.cause c.in_ok-worked.ensures.failing))
-    (rw files at fin.2.stands) (rw files at fin.2.refused))
+    fin.2.stands fin.2.refused)
 
 pub returns-clause-accounted : goal.returns-clause-accounted
 returns-clause-accounted g c = λ from opened tells.
     let inputs : c.as_slice.result.now ≡ c.args.settings.now.inputs = c.as_slice.ensures in
-    let files : c.as_slice-2.result.now ≡ c.in_ok-scanned.scanned.listed.items = c.as_slice-2.ensures.value in
     let fin = c.finish.ensures.finished in
-    let cleans = rw files at fin.2.cleans in
+    let cleans = fin.2.cleans in
     let disks = disk_words g.D.Disk.contents g.D.Disk.images g.D.Disk.moment g.D.Disk.images_since g.D.Disk.faults in
     let wires = wire_words g.W.Wire.outcomes g.W.Wire.open_links g.W.Wire.faults g.W.Wire.idles in
     let of = of_these_after_cleaning disks _ _ _ _ cleans (length c.in_ok-scanned.scanned.listed.items) (is_met_of c.args.settings.now.output.workers _ _ _ c.in_ok-worked.worked.met c.in_ok-worked.ensures.cause) in
-    let before = earlier disks wires c.args.settings.now c.requires.in_range (inputs_are_by_path_where_nothing_lacks c.args.settings.now c.requires.nothing_lacks)
+    let before = earlier disks wires c.args.settings.now c.requires.in_range (inputs_are_named c.args.settings.now c.requires.nothing_lacks)
     c.in_ok-parts.parts.desk.id c.in_ok-parts.parts.keeper c.args.store c.in_ok-parts.ensures.keeper c.in_ok-parts.ensures.store c.args.outside.now.wires.now.items from
-    c.args.outside.now.a.now c.args.outside.now.b.now opened c.in_ok-scanned.scanned.listed.items c.in_ok-scanned.scanned.now.0
-    (g.K.Clock.moments c.args.outside.now.clock.now) (g.K.Clock.moments c.scan.new.clock) c.in_ok-scanned.ensures.moment_given (g.F.Folder.told c.args.outside.now.folder.now) (g.F.Folder.told c.scan.new.folder) tells.folder (rw inputs at c.in_ok-scanned.ensures.of_inputs) (rw inputs at c.in_ok-scanned.ensures.scanned) in
-    let sets = set_out disks wires c.args.settings.now c.requires.in_range (inputs_are_by_path_where_nothing_lacks c.args.settings.now c.requires.nothing_lacks)
+    c.args.outside.now.a.now c.args.outside.now.b.now opened c.in_ok-scanned.scanned.listed.items c.in_ok-scanned.scanned.doubled.items c.in_ok-scanned.scanned.now.0
+    (g.K.Clock.moments c.args.outside.now.clock.now) (g.K.Clock.moments c.scan.new.clock) c.in_ok-scanned.ensures.moment_given (g.F.Folder.told c.scan.new.folder) (rw inputs at c.in_ok-scanned.ensures.of_inputs) in
+    let sets = set_out disks wires c.args.settings.now c.requires.in_range (inputs_are_named c.args.settings.now c.requires.nothing_lacks)
     c.in_ok-parts.parts.desk.id c.in_ok-parts.parts.keeper c.args.store c.in_ok-parts.ensures.keeper c.in_ok-parts.ensures.store c.args.outside.now.wires.now.items from
-    c.args.outside.now.a.now c.args.outside.now.b.now opened c.in_ok-scanned.scanned.listed.items c.in_ok-scanned.scanned.now.0
-    (g.K.Clock.moments c.args.outside.now.clock.now) (g.K.Clock.moments c.scan.new.clock) c.in_ok-scanned.ensures.moment_given (g.F.Folder.told c.args.outside.now.folder.now) (g.F.Folder.told c.scan.new.folder) tells.folder (rw inputs at c.in_ok-scanned.ensures.of_inputs) (rw inputs at c.in_ok-scanned.ensures.scanned) in
-    let start = began_with wires (outset disks wires c.args.settings.now c.requires.in_range (inputs_are_by_path_where_nothing_lacks c.args.settings.now c.requires.nothing_lacks)
+    c.args.outside.now.a.now c.args.outside.now.b.now opened c.in_ok-scanned.scanned.listed.items c.in_ok-scanned.scanned.doubled.items c.in_ok-scanned.scanned.now.0
+    (g.K.Clock.moments c.args.outside.now.clock.now) (g.K.Clock.moments c.scan.new.clock) c.in_ok-scanned.ensures.moment_given (g.F.Folder.told c.scan.new.folder) (rw inputs at c.in_ok-scanned.ensures.of_inputs) in
+    let start = began_with wires (outset disks wires c.args.settings.now c.requires.in_range (inputs_are_named c.args.settings.now c.requires.nothing_lacks)
     c.in_ok-parts.parts.desk.id c.in_ok-parts.parts.keeper c.args.store c.in_ok-parts.ensures.keeper c.in_ok-parts.ensures.store c.args.outside.now.wires.now.items from
-    c.args.outside.now.a.now c.args.outside.now.b.now opened c.in_ok-scanned.scanned.listed.items c.in_ok-scanned.scanned.now.0
-    (g.K.Clock.moments c.args.outside.now.clock.now) (g.K.Clock.moments c.scan.new.clock) c.in_ok-scanned.ensures.moment_given (g.F.Folder.told c.args.outside.now.folder.now) (g.F.Folder.told c.scan.new.folder) tells.folder (rw inputs at c.in_ok-scanned.ensures.of_inputs) (rw inputs at c.in_ok-scanned.ensures.scanned)) before in
+    c.args.outside.now.a.now c.args.outside.now.b.now opened c.in_ok-scanned.scanned.listed.items c.in_ok-scanned.scanned.doubled.items c.in_ok-scanned.scanned.now.0
+    (g.K.Clock.moments c.args.outside.now.clock.now) (g.K.Clock.moments c.scan.new.clock) c.in_ok-scanned.ensures.moment_given (g.F.Folder.told c.scan.new.folder) (rw inputs at c.in_ok-scanned.ensures.of_inputs)) before in
     let ends = c.in_ok-worked.ensures.ends before sets in
     let keeper = c.in_ok-parts.ensures.keeper in
     let keeper_is : c.keeper-2-1.given.0 ≡ c.run_over.new.storing.keeper.now = c.keeper-2-1.given.1 (sym c.run_over.ensures.same_keeper) in
-    (worked disks start c.requires.in_range (inputs_are_by_path_where_nothing_lacks c.args.settings.now c.requires.nothing_lacks) (map g.W.Wire.outcomes c.args.outside.now.wires.now.items) _ fin.0 c.keeper-2-1.given.0.shipped c.keeper-2-1.given.0.dropped
+    (worked disks start c.requires.in_range (inputs_are_named c.args.settings.now c.requires.nothing_lacks) (map g.W.Wire.outcomes c.args.outside.now.wires.now.items) _ fin.0 c.keeper-2-1.given.0.shipped c.keeper-2-1.given.0.dropped
     (g.F.Folder.told c.args.outside.now.folder.now) (ended c.finish.result) tells.folder
-    (rw inputs at c.in_ok-scanned.ensures.scanned) (met_for_ending c.in_ok-scanned.scanned.listed.items c.args.settings.now.output.attempts fin.0 c.finish.result of (rw files at fin.2.stands) (rw files at fin.2.refused))
-    (full_for_ending disks c.args.settings.now _ c.in_ok-scanned.scanned.listed.items c.args.settings.now.output.attempts fin.0 c.finish.result of (rw files at fin.2.stands) (rw files at fin.2.refused))
-    (report_over fin.1.rows c.in_ok-worked.worked.passed.items c.keeper-2-1.given.0.shipped c.keeper-2-1.given.0.dropped fin.0 c.finish.result fin.2.telling fin.2.report)
+    (rw inputs at c.in_ok-scanned.ensures.scanned) (met_for_ending c.in_ok-scanned.scanned.listed.items c.args.settings.now.output.attempts fin.0 c.finish.result of fin.2.stands fin.2.refused)
+    (full_for_ending disks c.args.settings.now _ c.in_ok-scanned.scanned.listed.items c.args.settings.now.output.attempts fin.0 c.finish.result of fin.2.stands fin.2.refused)
+    (report_over fin.1.rows (all_skipped c.in_ok-worked.worked.passed.items c.in_ok-scanned.scanned.doubled.items) c.keeper-2-1.given.0.shipped c.keeper-2-1.given.0.dropped fin.0 c.finish.result fin.2.telling fin.2.report)
     (λ folder has.
     accounted_and_cleaned disks c.disk_images_are_counted.ensures.reads c.disk_images_are_counted.ensures.counts c.one_choice.ensures c.args.settings.now c.in_ok-parts.parts.keeper.store.rows
     (subst (λ (k : Keeping). IsInOrder k.store.rows) (sym keeper.is) keeper.in_order) c.in_ok-scanned.scanned.listed.items
-    (keyed_where_told c.args.settings.now _ c.in_ok-scanned.scanned.listed.items (subst (λ (o : Option FolderHistory). IsSome o) (sym has.shown) refl) sets.of_inputs)
+    (keys_are_known start folder has)
     (record {
       before = record { folder = Some folder.earlier; moments = g.K.Clock.moments c.args.outside.now.clock.now; outcomes = map g.W.Wire.outcomes c.args.outside.now.wires.now.items; a = from.a; b = from.b };
       after = record {
@@ -167,20 +166,19 @@ returns-clause-accounted g c = λ from opened tells.
 pub returns-clause-at_rest : goal.returns-clause-at_rest
 returns-clause-at_rest g c = λ from opened some rest followed.
     let inputs : c.as_slice.result.now ≡ c.args.settings.now.inputs = c.as_slice.ensures in
-    let files : c.as_slice-2.result.now ≡ c.in_ok-scanned.scanned.listed.items = c.as_slice-2.ensures.value in
     let fin = c.finish.ensures.finished in
     let disks = disk_words g.D.Disk.contents g.D.Disk.images g.D.Disk.moment g.D.Disk.images_since g.D.Disk.faults in
     let wires = wire_words g.W.Wire.outcomes g.W.Wire.open_links g.W.Wire.faults g.W.Wire.idles in
     let ends = c.in_ok-worked.ensures.ends
-    (earlier disks wires c.args.settings.now c.requires.in_range (inputs_are_by_path_where_nothing_lacks c.args.settings.now c.requires.nothing_lacks)
+    (earlier disks wires c.args.settings.now c.requires.in_range (inputs_are_named c.args.settings.now c.requires.nothing_lacks)
     c.in_ok-parts.parts.desk.id c.in_ok-parts.parts.keeper c.args.store c.in_ok-parts.ensures.keeper c.in_ok-parts.ensures.store c.args.outside.now.wires.now.items from
-    c.args.outside.now.a.now c.args.outside.now.b.now opened c.in_ok-scanned.scanned.listed.items c.in_ok-scanned.scanned.now.0
-    (g.K.Clock.moments c.args.outside.now.clock.now) (g.K.Clock.moments c.scan.new.clock) c.in_ok-scanned.ensures.moment_given (g.F.Folder.told c.args.outside.now.folder.now) (g.F.Folder.told c.scan.new.folder) some (rw inputs at c.in_ok-scanned.ensures.of_inputs) (rw inputs at c.in_ok-scanned.ensures.scanned))
-    (set_out disks wires c.args.settings.now c.requires.in_range (inputs_are_by_path_where_nothing_lacks c.args.settings.now c.requires.nothing_lacks)
+    c.args.outside.now.a.now c.args.outside.now.b.now opened c.in_ok-scanned.scanned.listed.items c.in_ok-scanned.scanned.doubled.items c.in_ok-scanned.scanned.now.0
+    (g.K.Clock.moments c.args.outside.now.clock.now) (g.K.Clock.moments c.scan.new.clock) c.in_ok-scanned.ensures.moment_given (g.F.Folder.told c.scan.new.folder) (rw inputs at c.in_ok-scanned.ensures.of_inputs))
+    (set_out disks wires c.args.settings.now c.requires.in_range (inputs_are_named c.args.settings.now c.requires.nothing_lacks)
     c.in_ok-parts.parts.desk.id c.in_ok-parts.parts.keeper c.args.store c.in_ok-parts.ensures.keeper c.in_ok-parts.ensures.store c.args.outside.now.wires.now.items from
-    c.args.outside.now.a.now c.args.outside.now.b.now opened c.in_ok-scanned.scanned.listed.items c.in_ok-scanned.scanned.now.0
-    (g.K.Clock.moments c.args.outside.now.clock.now) (g.K.Clock.moments c.scan.new.clock) c.in_ok-scanned.ensures.moment_given (g.F.Folder.told c.args.outside.now.folder.now) (g.F.Folder.told c.scan.new.folder) some (rw inputs at c.in_ok-scanned.ensures.of_inputs) (rw inputs at c.in_ok-scanned.ensures.scanned)) in
-    let left = left_by_ending c.in_ok-scanned.scanned.listed.items c.args.settings.now.output.attempts fin.0 c.finish.result (rw files at fin.2.stands) (rw files at fin.2.refused) followed in
+    c.args.outside.now.a.now c.args.outside.now.b.now opened c.in_ok-scanned.scanned.listed.items c.in_ok-scanned.scanned.doubled.items c.in_ok-scanned.scanned.now.0
+    (g.K.Clock.moments c.args.outside.now.clock.now) (g.K.Clock.moments c.scan.new.clock) c.in_ok-scanned.ensures.moment_given (g.F.Folder.told c.scan.new.folder) (rw inputs at c.in_ok-scanned.ensures.of_inputs)) in
+    let left = left_by_ending c.in_ok-scanned.scanned.listed.items c.args.settings.now.output.attempts fin.0 c.finish.result fin.2.stands fin.2.refused followed in
     let before = left_before_cleaning disks _ _ _ _ fin.2.cleans left in
     let keeper_is : c.keeper-2-1.given.0 ≡ c.run_over.new.storing.keeper.now = c.keeper-2-1.given.1 (sym c.run_over.ensures.same_keeper) in
     (at_rest disks c.finish.new.a c.finish.new.b fin.1 (fin.2.cleans.at_rest left (rw (← keeper_is) at (ends.1.left.at_rest before rest).settled)))
@@ -192,27 +190,26 @@ returns-clause-reported g c = λ from opened some rest.
     let disks = disk_words g.D.Disk.contents g.D.Disk.images g.D.Disk.moment g.D.Disk.images_since g.D.Disk.faults in
     let wires = wire_words g.W.Wire.outcomes g.W.Wire.open_links g.W.Wire.faults g.W.Wire.idles in
     let ends = c.in_ok-worked.ensures.ends
-    (earlier disks wires c.args.settings.now c.requires.in_range (inputs_are_by_path_where_nothing_lacks c.args.settings.now c.requires.nothing_lacks)
+    (earlier disks wires c.args.settings.now c.requires.in_range (inputs_are_named c.args.settings.now c.requires.nothing_lacks)
     c.in_ok-parts.parts.desk.id c.in_ok-parts.parts.keeper c.args.store c.in_ok-parts.ensures.keeper c.in_ok-parts.ensures.store c.args.outside.now.wires.now.items from
-    c.args.outside.now.a.now c.args.outside.now.b.now opened c.in_ok-scanned.scanned.listed.items c.in_ok-scanned.scanned.now.0
-    (g.K.Clock.moments c.args.outside.now.clock.now) (g.K.Clock.moments c.scan.new.clock) c.in_ok-scanned.ensures.moment_given (g.F.Folder.told c.args.outside.now.folder.now) (g.F.Folder.told c.scan.new.folder) some (rw inputs at c.in_ok-scanned.ensures.of_inputs) (rw inputs at c.in_ok-scanned.ensures.scanned))
-    (set_out disks wires c.args.settings.now c.requires.in_range (inputs_are_by_path_where_nothing_lacks c.args.settings.now c.requires.nothing_lacks)
+    c.args.outside.now.a.now c.args.outside.now.b.now opened c.in_ok-scanned.scanned.listed.items c.in_ok-scanned.scanned.doubled.items c.in_ok-scanned.scanned.now.0
+    (g.K.Clock.moments c.args.outside.now.clock.now) (g.K.Clock.moments c.scan.new.clock) c.in_ok-scanned.ensures.moment_given (g.F.Folder.told c.scan.new.folder) (rw inputs at c.in_ok-scanned.ensures.of_inputs))
+    (set_out disks wires c.args.settings.now c.requires.in_range (inputs_are_named c.args.settings.now c.requires.nothing_lacks)
     c.in_ok-parts.parts.desk.id c.in_ok-parts.parts.keeper c.args.store c.in_ok-parts.ensures.keeper c.in_ok-parts.ensures.store c.args.outside.now.wires.now.items from
-    c.args.outside.now.a.now c.args.outside.now.b.now opened c.in_ok-scanned.scanned.listed.items c.in_ok-scanned.scanned.now.0
-    (g.K.Clock.moments c.args.outside.now.clock.now) (g.K.Clock.moments c.scan.new.clock) c.in_ok-scanned.ensures.moment_given (g.F.Folder.told c.args.outside.now.folder.now) (g.F.Folder.told c.scan.new.folder) some (rw inputs at c.in_ok-scanned.ensures.of_inputs) (rw inputs at c.in_ok-scanned.ensures.scanned)) in
+    c.args.outside.now.a.now c.args.outside.now.b.now opened c.in_ok-scanned.scanned.listed.items c.in_ok-scanned.scanned.doubled.items c.in_ok-scanned.scanned.now.0
+    (g.K.Clock.moments c.args.outside.now.clock.now) (g.K.Clock.moments c.scan.new.clock) c.in_ok-scanned.ensures.moment_given (g.F.Folder.told c.scan.new.folder) (rw inputs at c.in_ok-scanned.ensures.of_inputs)) in
     let keeper = c.keeper-2-1.given.0 in
     let keeper_is : keeper ≡ c.run_over.new.storing.keeper.now = c.keeper-2-1.given.1 (sym c.run_over.ensures.same_keeper) in
-    (reports_stored disks c.finish.new.a c.finish.new.b fin.1 c.in_ok-worked.worked.passed.items keeper.shipped keeper.dropped fin.0 c.finish.result fin.2.telling fin.2.report
+    (reports_stored disks c.finish.new.a c.finish.new.b fin.1 (all_skipped c.in_ok-worked.worked.passed.items c.in_ok-scanned.scanned.doubled.items) keeper.shipped keeper.dropped fin.0 c.finish.result fin.2.telling fin.2.report
     (λ left. fin.2.cleans.at_rest left (rw (← keeper_is) at (ends.1.left.at_rest (left_before_cleaning disks _ _ _ _ fin.2.cleans left) rest).settled)))
 
 pub returns-clause-ends : goal.returns-clause-ends
 returns-clause-ends g c =
-    let files : c.as_slice-2.result.now ≡ c.in_ok-scanned.scanned.listed.items = c.as_slice-2.ensures.value in
     let fin = c.finish.ensures.finished in
     let disks = disk_words g.D.Disk.contents g.D.Disk.images g.D.Disk.moment g.D.Disk.images_since g.D.Disk.faults in
     let of = is_met_of c.args.settings.now.output.workers _ _ _ c.in_ok-worked.worked.met c.in_ok-worked.ensures.cause in
     scanned_ending c.in_ok-scanned.scanned.listed.items c.args.settings.now.output.attempts fin.0 c.finish.result (of_these_after_cleaning disks _ _ _ _ fin.2.cleans (length c.in_ok-scanned.scanned.listed.items) of)
-    (rw files at fin.2.refused) c.finish.ensures.without_report
+    fin.2.refused c.finish.ensures.without_report
 
 -- ---- what goes on
 
@@ -262,4 +259,4 @@ returns-clause-goes_on g c =
 pub returns-clause-report : goal.returns-clause-report
 returns-clause-report g c =
     let fin = c.finish.ensures.finished in
-    report_of fin.1.rows c.in_ok-worked.worked.passed.items c.keeper-2-1.given.0.shipped c.keeper-2-1.given.0.dropped c.finish.result fin.2.report
+    report_of fin.1.rows (all_skipped c.in_ok-worked.worked.passed.items c.in_ok-scanned.scanned.doubled.items) c.keeper-2-1.given.0.shipped c.keeper-2-1.given.0.dropped c.finish.result fin.2.report

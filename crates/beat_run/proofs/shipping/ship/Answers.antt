@@ -1,14 +1,15 @@
-use Rattle.std.proofs.Common.{◌≡◌, ◌∙◌, ap, take, Err, sym}
+use Rattle.std.proofs.Common.{◌≡◌, ◌∙◌, ap, length, take, Err, refl, sym, arith}
 use Rattle.beat_config.specs.Document.{AreSettingsOf, IsFirstFault}
 use Rattle.prospect.specs.Lacks.{IsFirstLack}
 use Rattle.report.specs.declared.status.Status.{Status}
-use Rattle.report.specs.declared.status.Status.TheVariants.{RegistryBad, Usage}
+use Rattle.report.specs.declared.status.Status.TheVariants.{RegistryBad, Settings, Unbuilt, Usage}
 use Rattle.beat_run.specs.Ends.{IsReportEnd, RefusesArea, RefusesKey, RefusesLack, RefusesSettings}
 use Rattle.beat_run.specs.declared.settings.TheConstants.{LIMIT}
-use Rattle.rounds.specs.Words.{disk_words}
+use Rattle.rounds.specs.Words.{disk_words, wire_words}
 use Rattle.beat_run.proofs.Accounts.{report_printed, status_printed}
 use Rattle.beat_run.proofs.Endings.{followed_still, printed_so, told_never, told_printed, two_never, two_printed, was_met}
 use Rattle.beat_run.proofs.PrintedEnds.{followed_before, line_caused, never_reported, printed_behind, report_caused, report_stored}
+use Rattle.beat_run.proofs.Untroubled.{line_untroubled, report_untroubled}
 use Rattle.beat_run.proofs.shipping.ship.Goals as goal
 
 -- ---- a run with a report was not refused
@@ -62,6 +63,11 @@ returns-in-Ok-clause-each_status_only_for_its_cause g c =
     let bell_is : c.bell-1.given.0 ≡ c.run.new.outside.bell.now = c.bell-1.given.1 (sym c.run.ensures.same_bell) in
     rw (folder_is, clock_is, wires_is, a_is, b_is, bell_is)
     (report_caused _ _ _ _ _ (g.S.Sink.faults c.args.out.now) (g.S.Sink.faults c.print_report.new.out) c.in-Ok.ending.status c.print_report.result (rw c.in-Ok.is at c.run.ensures.with_report) c.print_report.ensures.ends (rw c.in-Ok.is at c.run.ensures.cause))
+
+pub returns-in-Ok-clause-what_an_untroubled_run_ends_with : goal.returns-in-Ok-clause-what_an_untroubled_run_ends_with
+returns-in-Ok-clause-what_an_untroubled_run_ends_with g c = λ untroubled.
+    report_untroubled _ _ _ _ untroubled (g.S.Sink.faults c.args.out.now) (g.S.Sink.faults c.print_report.new.out) c.in-Ok.ending.status c.print_report.result (rw c.in-Ok.is at c.run.ensures.with_report) c.print_report.ensures.ends
+    (returns-in-Ok-clause-each_status_only_for_its_cause g c)
 
 -- ---- one that was refused
 
@@ -121,6 +127,19 @@ returns-in-Err-clause-each_status_only_for_its_cause g c =
     let bell_is : c.bell-1.given.0 ≡ c.run.new.outside.bell.now = c.bell-1.given.1 (sym c.run.ensures.same_bell) in
     rw (folder_is, clock_is, wires_is, a_is, b_is, bell_is)
     (line_caused _ _ _ _ _ (g.S.Sink.faults c.args.out.now) (g.S.Sink.faults c.print_status.new.out) c.in-Err.status c.print_status.result (rw c.in-Err.is at c.run.ensures.ends) c.print_status.ensures.printed (rw c.in-Err.is at c.run.ensures.cause))
+
+pub returns-in-Err-clause-what_an_untroubled_run_ends_with : goal.returns-in-Err-clause-what_an_untroubled_run_ends_with
+returns-in-Err-clause-what_an_untroubled_run_ends_with g c = λ untroubled.
+    let wires_is : c.wires-1.given.0 ≡ c.run.new.outside.wires.now = c.wires-1.given.1 (sym c.run.ensures.same_wires) in
+    let sixteen : length c.args.wires.now.items ≡ 16 = omega (arith, c.requires, c.args.wires.now.ok) in
+    line_untroubled _ (wire_words g.W.Wire.outcomes g.W.Wire.open_links g.W.Wire.faults g.W.Wire.idles) _ _ _ untroubled c.args.wires.now.items c.wires-1.given.0.items _ _ _ _ _ c.print_status.result refl refl sixteen
+    (ap (λ v. length v.items) wires_is ∙ c.run.ensures.goes_on.wires) c.one_choice.ensures
+    (returns-in-Err-clause-usage_only_for_other_words g c)
+    (λ lack is. c.run.ensures.unbuilt_only lack (c.in-Err.is ∙ ap (λ (s : Status). Err s) (was_met _ c.in-Err.status c.print_status.result (Unbuilt lack) c.print_status.ensures.printed (λ same. absurd cc) is)))
+    (λ fault is. c.run.ensures.fault_only fault (c.in-Err.is ∙ ap (λ (s : Status). Err s) (was_met _ c.in-Err.status c.print_status.result (Settings fault) c.print_status.ensures.printed (λ same. absurd cc) is)))
+    (returns-in-Err-clause-registry_bad_only_where_the_areas_are_refused g c)
+    (returns-in-Err-clause-each_status_only_for_its_cause g c)
+    (returns-in-Err-clause-accounted_for_where_all_tell g c)
 
 -- ---- what a refused run keeps
 
