@@ -99,9 +99,13 @@ fn are_listed(files: &[Listed], rows: &[Row]) -> bool {
             .all(|(file, row)| is_listed(file, row))
 }
 
-/// What each input asks of identities, and the files.
-const FILES: [(&[(usize, Ask)], &[Row]); 2] = [
+/// Another file takes the path of the `.old` one before each listing.
+const EXCHANGED: [&str; 2] = ["/w/b.log", "/w/a.old"];
+
+/// The paths, what each input asks of identities, and the files.
+const FILES: [(&[&str], &[(usize, Ask)], &[Row]); 4] = [
     (
+        &PATHS,
         &[],
         &[
             (0, Some("filestream::w::path::/w/a.log"), "/w/a.log", 8, 8),
@@ -118,27 +122,81 @@ const FILES: [(&[(usize, Ask)], &[Row]); 2] = [
         ],
     ),
     (
-        &[(0, Ask::Native), (1, Ask::Fingerprint)],
+        &PATHS,
+        &[(0, Ask::Fingerprint), (1, Ask::Native)],
         &[
-            (0, Some("filestream::w::native::8-1"), "/w/a.log", 8, 8),
-            (1, None, "/w/a.log", 8, 8),
+            (0, None, "/w/a.log", 8, 8),
+            (1, Some("filestream::w-x::native::8-1"), "/w/a.log", 8, 8),
             (0, None, "/w/a.txt", 8, 8),
-            (0, Some("filestream::w::native::8-1"), "/w/b.log", 8, 8),
-            (1, None, "/w/x/a.log", 10, 10),
+            (0, None, "/w/b.log", 8, 8),
+            (
+                1,
+                Some("filestream::w-x::native::10-1"),
+                "/w/x/a.log",
+                10,
+                10,
+            ),
         ],
+    ),
+    (
+        &EXCHANGED,
+        &[(0, Ask::Native)],
+        &[
+            (0, Some("filestream::w::native::8-0"), "/w/a.old", 8, 8),
+            (0, Some("filestream::w::native::8-1"), "/w/a.old", 8, 8),
+            (0, Some("filestream::w::native::8-2"), "/w/a.old", 8, 8),
+            (0, Some("filestream::w::native::8-1"), "/w/b.log", 8, 8),
+        ],
+    ),
+    (
+        &EXCHANGED,
+        &[(0, Ask::Fingerprint)],
+        &[(0, None, "/w/a.old", 8, 8), (0, None, "/w/b.log", 8, 8)],
     ),
 ];
 
 #[test]
 fn each_covered_path_is_told_for_each_input_by_path_and_input(rt: HostRuntime) -> Result<(), Fail> {
     let alloc = rt.alloc();
-    for (asks, rows) in &FILES {
+    for (paths, asks, rows) in &FILES {
         let inputs = inputs(alloc, &INPUTS, asks)?;
-        let mut folder = folder(alloc, &PATHS, usize::MAX)?;
+        let mut folder = folder(alloc, paths, usize::MAX)?;
         let files = scan(alloc, &mut folder, &inputs)?;
         assert!(rt; are_listed(&files, rows));
         assert!(rt; folder.listings.as_str() == "/w 1\n/w 1\n/w 9\n/none 1\n");
     }
+    Ok(())
+}
+
+/// The scan is refused for the native numbers of this path.
+fn is_untold_at(listed: &Result<Vec<Listed>, ScanError>, wanted: &str) -> bool {
+    match listed {
+        Err(ScanError::NoNative { path }) => path.as_str() == wanted,
+        _ => false,
+    }
+}
+
+#[test]
+fn first_path_without_numbers_is_told(rt: HostRuntime) -> Result<(), Fail> {
+    let alloc = rt.alloc();
+    let inputs = inputs(alloc, &INPUTS, &[(0, Ask::Native)])?;
+    let mut folder = folder(alloc, &PATHS, usize::MAX)?;
+    folder.paths.push(text(alloc, "/w/a-b.txt")?)?;
+    let listed = scan(alloc, &mut folder, &inputs);
+    assert!(rt; is_untold_at(&listed, "/w/a-b.txt"));
+    Ok(())
+}
+
+/// The file under the second path has the key that one listing of the first path told.
+#[test]
+fn file_of_an_earlier_key_is_doubled(rt: HostRuntime) -> Result<(), Fail> {
+    let alloc = rt.alloc();
+    let (paths, asks, rows) = &FILES[2];
+    let inputs = inputs(alloc, &INPUTS, asks)?;
+    let mut folder = folder(alloc, paths, usize::MAX)?;
+    let parted = part_doubled(alloc, scan(alloc, &mut folder, &inputs)?)?;
+    assert!(rt; are_listed(&parted.files, &rows[..3]));
+    assert!(rt; are_listed(&parted.doubled, &rows[3..]));
     Ok(())
 }
 
@@ -178,7 +236,7 @@ fn first_file_too_many_is_told_by_its_path(rt: HostRuntime) -> Result<(), Fail> 
 const LACKS: [(usize, &[(usize, Ask)], Option<&str>); 11] = [
     (1, &[], None),
     (1, &[(0, Ask::Fingerprint)], Some("inputs.0.file_identity")),
-    (1, &[(0, Ask::Native)], Some("inputs.0.file_identity")),
+    (1, &[(0, Ask::Native)], None),
     (
         1,
         &[(0, Ask::Older), (0, Ask::Include)],
@@ -196,17 +254,17 @@ const LACKS: [(usize, &[(usize, Ask)], Option<&str>); 11] = [
     ),
     (
         2,
-        &[(0, Ask::Older), (1, Ask::Native)],
+        &[(0, Ask::Older), (1, Ask::Fingerprint)],
         Some("inputs.0.ignore_older"),
     ),
     (
         11,
-        &[(2, Ask::Native), (10, Ask::Older)],
+        &[(2, Ask::Fingerprint), (10, Ask::Older)],
         Some("inputs.10.ignore_older"),
     ),
     (
         11,
-        &[(1, Ask::Older), (10, Ask::Native)],
+        &[(1, Ask::Older), (10, Ask::Fingerprint)],
         Some("inputs.1.ignore_older"),
     ),
     (

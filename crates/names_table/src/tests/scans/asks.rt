@@ -9,7 +9,7 @@ use std::alloc::Global;
 use std::test::Fail;
 use wire_base::Text;
 
-/// What a setting asks for that is not built.
+/// What a setting asks for.
 #[derive(Clone, Copy, PartialEq, Eq)]
 pub enum Ask {
     Fingerprint,

@@ -34,7 +34,8 @@ impl Tail for NoTail {
 }
 
 /// A folder of these paths that tells nothing, and writes down each listing. Sizes, inodes and
-/// moments of change are the lengths of the paths; a `.txt` has no inode.
+/// moments of change are the lengths of the paths; a `.txt` has no inode, and a `.old` is of another
+/// device in each listing.
 #[derive(Drop)]
 pub struct ListedFolder {
     pub paths: Vec<Text>,
@@ -54,16 +55,24 @@ fn is_below(path: &str, root: &str, depth: u32) -> bool {
     }
 }
 
-fn entry(alloc: Global, path: &Text) -> Result<Entry, NoMemory>
+/// Inode and device, in the listing of this number.
+fn native(path: &str, listing: usize) -> Option<(u64, u64)> {
+    let inode = path.len() as u64;
+    if path.ends_with(".txt") {
+        return None;
+    }
+    if path.ends_with(".old") {
+        return Some((inode, listing as u64));
+    }
+    Some((inode, 1))
+}
+
+fn entry(alloc: Global, path: &Text, listing: usize) -> Result<Entry, NoMemory>
     requires { IsPath path.now }
     ensures { IfOk result IsListable }
 {
     let size = path.bytes().len() as u64;
-    let native = if path.as_str().ends_with(".txt") {
-        None
-    } else {
-        Some((size, 1))
-    };
+    let native = native(path.as_str(), listing);
     Ok(Entry {
         path: path.copy(alloc)?,
         size,
@@ -101,7 +110,7 @@ impl Folder for ListedFolder {
         let mut entries = Vec::new(alloc);
         for path in &self.paths {
             if path.bytes().len() <= MAX_PATH && is_below(path.as_str(), root, depth) {
-                entries.push(entry(alloc, path)?)?;
+                entries.push(entry(alloc, path, number)?)?;
             }
         }
         Ok(entries)
