@@ -1,7 +1,7 @@
 //! Worked runs over what an earlier run left, by their names.
 
 use crate::tests::wanted::{Sent, Wanted, check_left, check_number, check_text};
-use crate::tests::world::{Object, PLAIN, Peer, Ran, Start, run, run_over};
+use crate::tests::world::{NATIVE, Object, PLAIN, Peer, Ran, Start, run, run_over};
 use std::process::Abort;
 use std::sync::Wait;
 use std::test::Fail;
@@ -126,6 +126,20 @@ const ROW_OF_NO_INPUT_STAYS: Restart = Restart {
     ..SAME_FILE
 };
 
+/// It keeps its inode and device.
+const RENAMED_FILE: Restart = Restart {
+    name: "renamed_file",
+    first: NATIVE,
+    second: Start {
+        files: &[("/w/b.log", b"a\nb\n", &[])],
+        ..NATIVE
+    },
+    wanted: Wanted {
+        rows: Some("file \"filestream::w::native::7-1\" 0 4 \"/w/b.log\"\n"),
+        ..NOTHING_MORE
+    },
+};
+
 const UNREACHABLE_BEFORE: Restart = Restart {
     name: "unreachable_before",
     first: Start {
@@ -165,6 +179,7 @@ const RESTARTS: &[Restart] = &[
     OTHER_FILE,
     ROW_IS_KEPT,
     ROW_OF_NO_INPUT_STAYS,
+    RENAMED_FILE,
     UNREACHABLE_BEFORE,
     PARTLY_ACKNOWLEDGED_BEFORE,
 ];

@@ -1,7 +1,7 @@
 //! Worked runs over one file, by their names.
 
 use crate::tests::wanted::{Case, Sent, Wanted, check_each};
-use crate::tests::world::{Later, Object, PLAIN, Peer, Start};
+use crate::tests::world::{Later, NATIVE, Object, PLAIN, Peer, Start};
 use std::test::Fail;
 
 const ROW_AT_0: &str = "file \"filestream::w::path::/w/a.log\" 0 0 \"/w/a.log\"\n";
@@ -264,6 +264,55 @@ const ABSENT_FILE: Case = Case {
     },
 };
 
+const NATIVE_WITHOUT_NUMBERS: Case = Case {
+    name: "native_without_numbers",
+    start: Start {
+        numbers: &[],
+        ..NATIVE
+    },
+    wanted: Wanted {
+        status: 11,
+        rows: Some(""),
+        printed: "status 11 no native numbers \"/w/a.log\"\n",
+        sent: Sent::Events(0),
+        ..BOTH
+    },
+};
+
+/// Another file has the path, once it was listed.
+const MOVED_BEFORE_OPENING: Case = Case {
+    name: "moved_before_opening",
+    start: Start {
+        files: &[
+            ("/w/a.log", b"a\nb\n", &[Later::Renamed(1, "/w/a.old")]),
+            ("/w/a.new", b"c\n", &[Later::Renamed(1, "/w/a.log")]),
+        ],
+        numbers: &[(7, 1), (8, 1)],
+        ..NATIVE
+    },
+    wanted: Wanted {
+        rows: Some(""),
+        printed: "passed \"/w/a.log\" moved\nshipped 0 dropped 0\nstatus 0 done\n",
+        sent: Sent::Events(0),
+        ..BOTH
+    },
+};
+
+/// Two paths of one inode and device.
+const SECOND_PATH_OF_A_FILE: Case = Case {
+    name: "second_path_of_a_file",
+    start: Start {
+        files: &[("/w/a.log", b"a\nb\n", &[]), ("/w/b.log", b"a\nb\n", &[])],
+        numbers: &[(7, 1), (7, 1)],
+        ..NATIVE
+    },
+    wanted: Wanted {
+        rows: Some("file \"filestream::w::native::7-1\" 0 4 \"/w/a.log\"\n"),
+        printed: "passed \"/w/b.log\" doubled\nshipped 2 dropped 0\nstatus 0 done\n",
+        ..BOTH
+    },
+};
+
 const CLOSED_AREA: Case = Case {
     name: "closed_area",
     start: Start { area: ".", ..PLAIN },
@@ -276,7 +325,7 @@ const OPEN_AREA_OF_ONE_BYTE: Case = Case {
     wanted: BOTH,
 };
 
-const CASES: &[Case] = &[
+const CASES_OF_EVENTS: &[Case] = &[
     TWO_PLAIN_LINES,
     EMPTY_FILE,
     UNTERMINATED_REST_WAITS,
@@ -285,21 +334,32 @@ const CASES: &[Case] = &[
     MULTILINE_BEFORE,
     MAX_LINES_CUTS_MESSAGE,
     ALL_LINES_EXCLUDED,
-    TWO_WORKERS_MEET,
-    UNREACHABLE_AFTER_RESTS,
     INVALID_UTF8_IS_REPLACED,
     EMPTY_LINES_ARE_DROPPED,
     PROCESSORS_IN_ORDER,
     RANGE_OF_ABSENT_FIELD,
+];
+
+const CASES_OF_RUNS: &[Case] = &[
+    TWO_WORKERS_MEET,
+    UNREACHABLE_AFTER_RESTS,
     TRUNCATED_BETWEEN_READS,
     PARTIAL_ACKNOWLEDGEMENT_THEN_AGAIN,
     BELL_AT_THE_FIRST_QUESTION,
     ABSENT_FILE,
+    NATIVE_WITHOUT_NUMBERS,
+    MOVED_BEFORE_OPENING,
+    SECOND_PATH_OF_A_FILE,
     CLOSED_AREA,
     OPEN_AREA_OF_ONE_BYTE,
 ];
 
 #[test]
-fn worked_rows(rt: HostRuntime) -> Result<(), Fail> {
-    check_each(&rt, CASES)
+fn worked_events(rt: HostRuntime) -> Result<(), Fail> {
+    check_each(&rt, CASES_OF_EVENTS)
+}
+
+#[test]
+fn worked_runs(rt: HostRuntime) -> Result<(), Fail> {
+    check_each(&rt, CASES_OF_RUNS)
 }

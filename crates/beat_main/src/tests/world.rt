@@ -40,6 +40,8 @@ pub enum Later<'a> {
     Grows(u64, &'a [u8]),
     /// It is removed, once so many listings were made.
     Removed(u64),
+    /// It has this path, once so many listings were made.
+    Renamed(u64, &'a str),
 }
 
 /// The path and the bytes of a file, and what becomes of it.
@@ -70,6 +72,8 @@ pub struct Start<'a> {
     pub output: &'a str,
     /// The files in the order in which a listing shows them.
     pub files: &'a [File<'a>],
+    /// The inodes and devices of the first files; the others have none.
+    pub numbers: &'a [(u64, u64)],
     pub area: &'a str,
     pub peer: Peer<'a>,
     /// How often the bell may be asked before it rings.
@@ -89,11 +93,21 @@ pub const PLAIN: Start = Start {
     input: "",
     output: "",
     files: &[("/w/a.log", b"a\nb\n", &[])],
+    numbers: &[],
     area: "",
     peer: Peer::Acknowledges,
     quiet: u64::MAX,
     failing: &[],
     stop_after: None,
+};
+
+/// Its input knows files by inode and device.
+pub const NATIVE: Start = Start {
+    settings: Some(
+        "[[inputs]]\nid = 'w'\npaths = ['/w/*.log']\nfile_identity = 'native'\n[output]\nhosts = ['h:5044']\n",
+    ),
+    numbers: &[(7, 1)],
+    ..PLAIN
 };
 
 /// What a run is given, and what it leaves of that.
@@ -116,7 +130,7 @@ impl Objects {
         let text = settings_of(alloc, start)?;
         Ok(Objects {
             settings: MemSource::new(alloc, text.as_bytes())?,
-            folder: folder_of(alloc, start.files)?,
+            folder: folder_of(alloc, start.files, start.numbers)?,
             wires: wires_of(alloc, start.peer)?,
             area,
             other_area,
@@ -232,19 +246,19 @@ fn settings_of(alloc: Global, start: Start) -> Result<String, Fail> {
     }
 }
 
-fn folder_of(alloc: Global, files: &[File]) -> Result<MemFolder, Fail> {
+fn folder_of(alloc: Global, files: &[File], numbers: &[(u64, u64)]) -> Result<MemFolder, Fail> {
     let mut listed = Vec::new(alloc);
-    for (path, bytes, later) in files {
+    for (place, (path, bytes, later)) in files.iter().enumerate() {
         listed.push(MemFile {
             path: Text::from_bytes(alloc, path.as_bytes())?,
-            native: None,
+            native: numbers.get(place).copied(),
             steps: steps_of(alloc, bytes, later)?,
         })?;
     }
     Ok(MemFolder::new(alloc, listed)?)
 }
 
-fn steps_of(alloc: Global, bytes: &[u8], later: &[Later]) -> Result<Vec<MemStep>, NoMemory> {
+fn steps_of(alloc: Global, bytes: &[u8], later: &[Later]) -> Result<Vec<MemStep>, Fail> {
     let mut steps = Vec::new(alloc);
     steps.push(MemStep {
         due: Due::Listings(0),
@@ -256,7 +270,7 @@ fn steps_of(alloc: Global, bytes: &[u8], later: &[Later]) -> Result<Vec<MemStep>
     Ok(steps)
 }
 
-fn step_of(alloc: Global, change: Later) -> Result<MemStep, NoMemory> {
+fn step_of(alloc: Global, change: Later) -> Result<MemStep, Fail> {
     let (due, change) = match change {
         Later::Cut(calls) => (Due::TailCalls(calls), MemChange::Truncate(0)),
         Later::Grows(calls, bytes) => {
@@ -264,6 +278,10 @@ fn step_of(alloc: Global, change: Later) -> Result<MemStep, NoMemory> {
             (Due::TailCalls(calls), MemChange::Append(bytes))
         }
         Later::Removed(listings) => (Due::Listings(listings), MemChange::Remove),
+        Later::Renamed(listings, path) => {
+            let path = Text::from_bytes(alloc, path.as_bytes())?;
+            (Due::Listings(listings), MemChange::Rename(path))
+        }
     };
     Ok(MemStep { due, change })
 }
