@@ -16,6 +16,12 @@ def row(path, offset, input_id="w"):
     return {"epoch": 0, "key": key_of(path, input_id), "offset": offset, "path": path}
 
 
+def native_row(path, offset):
+    """The row of a file that is known by its inode and device."""
+    told = os.stat(path)
+    return {**row(str(path), offset), "key": f"filestream::w::native::{told.st_ino}-{told.st_dev}"}
+
+
 def changed(it):
     """The row with the moment, in milliseconds, at which its file was last changed."""
     return {**it, "changed": os.stat(it["path"]).st_mtime_ns // 1_000_000}

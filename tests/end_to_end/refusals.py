@@ -60,7 +60,6 @@ SETTINGS_REFUSED = (
         "status 13 unbuilt key inputs.0.clean_inactive",
     ),
     (lambda valid: valid.replace("file_identity", "# file_identity"), "status 13 unbuilt key inputs.0.file_identity"),
-    (lambda valid: valid.replace('"path"', '"native"'), "status 13 unbuilt key inputs.0.file_identity"),
 )
 
 # the example with every key: what it says of its user's machine, and the one default that is not built
@@ -70,7 +69,6 @@ HOST = '"127.0.0.1:5044"'
 IDENTITY = 'file_identity = "fingerprint"'
 # what it says, and what may stand there that is not built; each has to be named
 EVERY_KEY_UNBUILT = (
-    (IDENTITY, 'file_identity = "native"', "inputs.0.file_identity"),
     ('ignore_older = "0ms"', 'ignore_older = "1m"', "inputs.0.ignore_older"),
     ('clean_inactive = "0ms"', 'clean_inactive = "1m"', "inputs.0.clean_inactive"),
 )
@@ -144,7 +142,7 @@ class Refusals(Shipping):
             built = self.replaced(settings, IDENTITY, 'file_identity = "path"')
             for said, asked, key in EVERY_KEY_UNBUILT:
                 with self.subTest(key=key):
-                    asking = self.replaced(settings if said == IDENTITY else built, said, asked)
+                    asking = self.replaced(built, said, asked)
                     self.assert_wrote(self.run_settings(asking), f"status 13 unbuilt key {key}")
             self.assertEqual(peer.connections, 0)
             self.assertFalse(self.area.exists())

@@ -7,7 +7,7 @@ import subprocess
 from pathlib import Path
 
 import program
-from area import changed, row
+from area import changed, native_row, row
 from peer import CUT_OFF, Behaviour, Peer
 from shipping import Shipping, end_of, numbered_lines, places_of
 
@@ -30,8 +30,9 @@ class Restarts(Shipping):
         self.logs = self.folder / "logs"
         self.logs.mkdir()
 
-    def ship_logs(self, peer):
-        self.write_settings(program.settings_text(self.logs / "*.log", peer.host))
+    def ship_logs(self, peer, identity="path"):
+        settings = program.settings_text(self.logs / "*.log", peer.host)
+        self.write_settings(settings.replace('"path"', f'"{identity}"'))
         return program.finish(self.start_prepared(), PATIENCE)
 
     def assert_shipped(self, ran, peer, rows, events):
@@ -93,6 +94,33 @@ class Restarts(Shipping):
                 self.write_settings(text.replace("[output]", f"clean_removed = {clean}\n[output]"))
                 ran = program.finish(self.start_prepared(), PATIENCE)
                 self.assert_shipped(ran, peer, rows, [])
+
+    def test_rotated_file_goes_on_by_native_numbers(self):
+        """Its row goes with it to the new name, and the new file under the old name is sent from its start."""
+        path = self.logs / "a.log"
+        path.write_text("first\nsecond\n")
+        with Peer() as peer:
+            ran = self.ship_logs(peer, "native")
+        self.assert_shipped(ran, peer, [changed(native_row(path, 13))], [(str(path), 0, "first"), (str(path), 6, "second")])
+
+        rotated = path.rename(self.logs / "a.1.log")
+        with rotated.open("a") as file:
+            file.write("third\n")
+        path.write_text("anew\n")
+        with Peer() as peer:
+            ran = self.ship_logs(peer, "native")
+        rows = [changed(native_row(rotated, 19)), changed(native_row(path, 5))]
+        self.assert_shipped(ran, peer, rows, [(str(rotated), 13, "third"), (str(path), 0, "anew")])
+
+    def test_file_of_two_paths_by_native_numbers(self):
+        """It is sent once, by the first path in byte order; the other is told as doubled."""
+        path, link = self.logs / "a.log", self.logs / "b.log"
+        path.write_text("first\n")
+        os.link(path, link)
+        with Peer() as peer:
+            ran = self.ship_logs(peer, "native")
+        self.assert_shipped(ran, peer, [changed(native_row(path, 6))], [(str(path), 0, "first")])
+        self.assertIn(f'passed "{link}" doubled\n'.encode(), ran.stdout)
 
     def run_and_kill(self, peer, seconds):
         """A run over the logs, killed after so many seconds where it has not ended by then."""
