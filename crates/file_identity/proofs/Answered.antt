@@ -13,13 +13,13 @@ use Rattle.sha2.specs.Sha256.{sha256}
 use Rattle.file_identity.proofs.OneLife.{no_key, some_key}
 use Rattle.file_identity.specs.declared.fingerprint.Printed.TheVariants.{Whole, Short}
 use Rattle.file_identity.specs.declared.identity.Identity.TheVariants.{Key, TooSmall}
-use Rattle.file_identity.specs.declared.identity_error.IdentityError.{IdentityError}
+use Rattle.file_identity.specs.declared.identity_error.IdentityError.TheVariants.{NoNative, ReadFault, NoMemory}
 use Rattle.file_identity.specs.Answers.{IsAnswer, IsAsked, with_numbers}
 use Rattle.file_identity.specs.Asking.{ArePartReads, AreReads, ReadsOn, given, key_if_all}
 use Rattle.file_identity.specs.Key.{fingerprint_key, key_of_digest, named_key}
 use Rattle.file_identity.specs.Reading.{Adds, FailedReading, GivesBytes, GivesNone, IsPrinted}
 
-fingerprint_is : (id bytes digest key : List ℕ) → digest ≡ sha256 bytes → key ≡ key_of_digest id digest → key ≡ fingerprint_key id bytes
+pub fingerprint_is : (id bytes digest key : List ℕ) → digest ≡ sha256 bytes → key ≡ key_of_digest id digest → key ≡ fingerprint_key id bytes
 unfolding fingerprint_key
 fingerprint_is id bytes digest key is named = named ∙ ap (key_of_digest id) is
 
@@ -28,7 +28,7 @@ bytes_same : (numbers : Option (ℕ × ℕ)) (file : File) (question : Question)
 bytes_same numbers file Length sight = refl
 bytes_same numbers file (ReadAt at count) sight = refl
 
-given_same : (numbers : Option (ℕ × ℕ)) (file : File) (looks : List Look) → given (with_numbers numbers file) looks ≡ given file looks
+pub given_same : (numbers : Option (ℕ × ℕ)) (file : File) (looks : List Look) → given (with_numbers numbers file) looks ≡ given file looks
 given_same numbers file [] = refl
 given_same numbers file (look ∷ looks) = λ k. bytes_same numbers file look.question look.sight k ++ given_same numbers file looks k
 
@@ -80,22 +80,22 @@ part_on looks place wanted later Length reads = reads
 part_on looks place wanted later (ReadAt at zero) reads = reads
 part_on looks place wanted later (ReadAt at (suc more)) reads = (reads.0, reads.1, later (place + suc more) (wanted - suc more) reads.2)
 
-part_of_all : (looks : List Look) (place wanted : ℕ) → AreReads looks place wanted → ArePartReads looks place wanted
+pub part_of_all : (looks : List Look) (place wanted : ℕ) → AreReads looks place wanted → ArePartReads looks place wanted
 part_of_all [] place wanted reads = tt
 part_of_all (look ∷ looks) place wanted reads = (reads.0, part_on looks place wanted (λ next left later. part_of_all looks next left later) look.question reads.1)
 
-pub whole_refused : (id path : List ℕ) (numbers : Option (ℕ × ℕ)) (offset count : ℕ) (told after : Option TailHistory) (digest : List ℕ) (error : IdentityError) →
-    IsPrinted offset count told (Whole digest) after → IfSome told (λ before. IsAsked id (Fingerprint offset count) path numbers before (Err error) after)
-whole_refused id path numbers offset count told after digest error printed = by_told told printed.3
+pub whole_refused : (id path : List ℕ) (numbers : Option (ℕ × ℕ)) (offset count : ℕ) (told after : Option TailHistory) (digest : List ℕ) →
+    IsPrinted offset count told (Whole digest) after → IfSome told (λ before. IsAsked id (Fingerprint offset count) path numbers before (Err NoMemory) after)
+whole_refused id path numbers offset count told after digest printed = by_told told printed.3
   where
-    by_told : (o : Option TailHistory) → IfSome o (λ before. GivesBytes offset count before printed.0 after) → IfSome o (λ before. IsAsked id (Fingerprint offset count) path numbers before (Err error) after)
+    by_told : (o : Option TailHistory) → IfSome o (λ before. GivesBytes offset count before printed.0 after) → IfSome o (λ before. IsAsked id (Fingerprint offset count) path numbers before (Err NoMemory) after)
     by_told None gives = tt
     by_told (Some before) gives = record { looks = gives.looks; added = gives.added; gave = part_of_all gives.looks offset count gives.reads }
 
-pub failed_asked : (id path : List ℕ) (numbers : Option (ℕ × ℕ)) (offset count : ℕ) (told after : Option TailHistory) (error : IdentityError) →
-    IfSome told (λ before. FailedReading offset count before after) → IfSome told (λ before. IsAsked id (Fingerprint offset count) path numbers before (Err error) after)
-failed_asked id path numbers offset count None after error failed = tt
-failed_asked id path numbers offset count (Some before) after error failed = record { looks = failed.looks; added = failed.added; gave = failed.reads }
+pub failed_asked : (id path : List ℕ) (numbers : Option (ℕ × ℕ)) (offset count : ℕ) (told after : Option TailHistory) →
+    IfSome told (λ before. FailedReading offset count before after) → IfSome told (λ before. IsAsked id (Fingerprint offset count) path numbers before (Err ReadFault) after)
+failed_asked id path numbers offset count None after failed = tt
+failed_asked id path numbers offset count (Some before) after failed = record { looks = failed.looks; added = failed.added; gave = failed.reads }
 
 -- ---- without a look
 
@@ -112,10 +112,14 @@ pub path_asked : (id path : List ℕ) (numbers : Option (ℕ × ℕ)) (told : Op
 path_asked id path numbers None key named = tt
 path_asked id path numbers (Some before) key named = record { looks = []; added = no_looks before; gave = (refl, named) }
 
-pub native_refused : (id path : List ℕ) (numbers : Option (ℕ × ℕ)) (told : Option TailHistory) (error : IdentityError) → IfSome told (λ before. IsAsked id Native path numbers before (Err error) told)
-native_refused id path numbers None error = tt
-native_refused id path numbers (Some before) error = record { looks = []; added = no_looks before; gave = refl }
+pub native_unknown : (id path : List ℕ) (numbers : Option (ℕ × ℕ)) (told : Option TailHistory) → IfSome told (λ before. IsAsked id Native path numbers before (Err NoNative) told)
+native_unknown id path numbers None = tt
+native_unknown id path numbers (Some before) = record { looks = []; added = no_looks before; gave = refl }
 
-pub path_refused : (id path : List ℕ) (numbers : Option (ℕ × ℕ)) (told : Option TailHistory) (error : IdentityError) → IfSome told (λ before. IsAsked id Path path numbers before (Err error) told)
-path_refused id path numbers None error = tt
-path_refused id path numbers (Some before) error = record { looks = []; added = no_looks before; gave = refl }
+pub native_refused : (id path : List ℕ) (numbers : Option (ℕ × ℕ)) (told : Option TailHistory) → IfSome told (λ before. IsAsked id Native path numbers before (Err NoMemory) told)
+native_refused id path numbers None = tt
+native_refused id path numbers (Some before) = record { looks = []; added = no_looks before; gave = refl }
+
+pub path_refused : (id path : List ℕ) (numbers : Option (ℕ × ℕ)) (told : Option TailHistory) → IfSome told (λ before. IsAsked id Path path numbers before (Err NoMemory) told)
+path_refused id path numbers None = tt
+path_refused id path numbers (Some before) = record { looks = []; added = no_looks before; gave = refl }

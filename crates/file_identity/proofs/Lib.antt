@@ -1,4 +1,6 @@
 mod Answered
+pub mod AskedOnce
+mod Compared
 mod OneLife
 pub mod Pieces
 mod Worked

@@ -15,7 +15,7 @@ use Rattle.sha2.specs.declared.Sha256.{Sha256}
 use Rattle.sha2.specs.Hashers.{Holds256}
 use Rattle.sha2.specs.Sha256.{sha256}
 use Rattle.file_identity.specs.declared.fingerprint.Printed.TheVariants.{Whole, Short}
-use Rattle.file_identity.specs.Asking.{ArePartReads, AreReads, ReadsOn, given}
+use Rattle.file_identity.specs.Asking.{AreCutReads, AreReads, ReadsOn, given}
 use Rattle.file_identity.specs.Reading.{Adds, FailedReading, GivesBytes, GivesNone, IsPrinted}
 
 -- these bytes came so far, and what further reads make of it
@@ -24,7 +24,7 @@ pub record SoFar (told : TailHistory) (offset count : ℕ) (bytes : List ℕ) (a
   pub added : Adds told looks after
   pub bytes_are : given told.file looks ≡ bytes
   pub more : (rest : List Look) → AreReads rest (offset + length bytes) (count - length bytes) → AreReads (looks ++ rest) offset count
-  pub part : (rest : List Look) → ArePartReads rest (offset + length bytes) (count - length bytes) → ArePartReads (looks ++ rest) offset count
+  pub cut : (rest : List Look) → AreCutReads rest (offset + length bytes) (count - length bytes) → AreCutReads (looks ++ rest) offset count
 
 -- the hasher has them
 pub record HasRead (told : Option TailHistory) (offset count done : ℕ) (hasher : Sha256) (after : Option TailHistory) : Type 0 where
@@ -39,7 +39,7 @@ none_so_far told offset count = record {
   added = record { kept = ap (λ (l : List Look). Some (record told { looks = l })) (sym (append-nil told.looks)); shown = tt };
   bytes_are = refl;
   more = λ rest reads. subst (λ (n : ℕ). AreReads rest n count) start (subst (λ (n : ℕ). AreReads rest (offset + 0) n) all reads);
-  part = λ rest reads. subst (λ (n : ℕ). ArePartReads rest n count) start (subst (λ (n : ℕ). ArePartReads rest (offset + 0) n) all reads);
+  cut = λ rest reads. subst (λ (n : ℕ). AreCutReads rest n count) start (subst (λ (n : ℕ). AreCutReads rest (offset + 0) n) all reads);
 }
   where
     start : offset + 0 ≡ offset
@@ -115,11 +115,11 @@ module _ (told : TailHistory) (offset count : ℕ) (bytes piece : List ℕ) (num
           reads_on (offset + length bytes) (count - length bytes) number (λ next left. AreReads rest next left) (rest ≡ []) looked.look.question looked.asked came (omega (arith, fits, within))
               (subst (λ (n : ℕ). AreReads rest n (count - length bytes - number)) place (subst (λ (n : ℕ). AreReads rest (offset + length (bytes ++ take number piece)) n) left reads)),
         ));
-    part = λ rest reads. subst (λ (l : List Look). ArePartReads l offset count) (sym (append_assoc so.looks (looked.look ∷ []) rest))
-        (so.part (looked.look ∷ rest) (
+    cut = λ rest reads. subst (λ (l : List Look). AreCutReads l offset count) (sym (append_assoc so.looks (looked.look ∷ []) rest))
+        (so.cut (looked.look ∷ rest) (
           omega (arith, came, fits, within),
-          reads_on (offset + length bytes) (count - length bytes) number (λ next left. ArePartReads rest next left) (rest ≡ []) looked.look.question looked.asked came (omega (arith, fits, within))
-              (subst (λ (n : ℕ). ArePartReads rest n (count - length bytes - number)) place (subst (λ (n : ℕ). ArePartReads rest (offset + length (bytes ++ take number piece)) n) left reads)),
+          reads_on (offset + length bytes) (count - length bytes) number (λ next left. AreCutReads rest next left) ⊥ looked.look.question looked.asked came (omega (arith, fits, within))
+              (subst (λ (n : ℕ). AreCutReads rest n (count - length bytes - number)) place (subst (λ (n : ℕ). AreCutReads rest (offset + length (bytes ++ take number piece)) n) left reads)),
         ));
   }
     where
@@ -198,15 +198,15 @@ read_whole told offset count done digest hasher after has all digests = (has.byt
     by_told (Some t) so = all_came t offset count has.bytes after so (has.long ∙ all)
 
 pub read_failed : (told : Option TailHistory) (offset count done at : ℕ) (piece : List ℕ) (failed : Failed) (hasher : Sha256) (before after : Option TailHistory) →
-    HasRead told offset count done hasher before → TellsRead before at piece (Err failed) after → IfSome told (λ t. FailedReading offset count t after)
-read_failed told offset count done at piece failed hasher before after has tells = by_told told has.so_far
+    HasRead told offset count done hasher before → done < count → TellsRead before at piece (Err failed) after → IfSome told (λ t. FailedReading offset count t after)
+read_failed told offset count done at piece failed hasher before after has fewer tells = by_told told has.so_far
   where
     by_told : (o : Option TailHistory) → IfSome o (λ t. SoFar t offset count has.bytes before) → IfSome o (λ t. FailedReading offset count t after)
     by_told None so = tt
     by_told (Some t) so = record {
       looks = so.looks;
       added = record { kept = subst (λ (o : Option TailHistory). TellsRead o at piece (Err failed) after) so.added.kept tells; shown = so.added.shown };
-      reads = subst (λ (l : List Look). ArePartReads l offset count) (append-nil so.looks) (so.part [] tt);
+      reads = subst (λ (l : List Look). AreCutReads l offset count) (append-nil so.looks) (so.cut [] (let long = has.long in omega (arith, long, fewer)));
     }
 
 pub still_told : (told : Option TailHistory) (offset count done : ℕ) (hasher : Sha256) (after : Option TailHistory) → HasRead told offset count done hasher after → IsSome told → IsSome after

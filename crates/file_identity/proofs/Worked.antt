@@ -1,5 +1,5 @@
 -- Worked keys, computed by the definitions.
-use Rattle.std.proofs.Common.{◌≡◌, ℕ, List, [], ◌∷◌, Some, None, codes, refl, lit<, lit≤}
+use Rattle.std.proofs.Common.{◌≡◌, ℕ, ◌<◌, List, [], ◌∷◌, Some, None, codes, refl, lit<, lit≤, arith}
 use Rattle.std.specs.Fmt.{digits}
 use Rattle.event_tree.specs.declared.input_rule.IdentityRule.{IdentityRule}
 use Rattle.event_tree.specs.declared.input_rule.IdentityRule.TheVariants.{Fingerprint, Native, Path}
@@ -9,7 +9,7 @@ use Rattle.outside.specs.declared.history.Question.{Question}
 use Rattle.outside.specs.declared.history.Question.TheVariants.{ReadAt}
 use Rattle.outside.specs.Files.{File}
 use Rattle.sha2.specs.Sha256.{compress, digest_bytes, first_words, hash_after, rounds, schedule, sha256}
-use Rattle.file_identity.specs.Asking.{IsAsking, given_key}
+use Rattle.file_identity.specs.Asking.{IsAsking, IsCutAsking, given_key}
 use Rattle.file_identity.specs.Key.{fingerprint_key, key_of, named_key}
 
 -- of a path
@@ -70,6 +70,17 @@ ended_before = (lit< tt, (refl, lit≤ tt, (lit< tt, (refl, refl))))
 
 none_given : given_key (codes "w") (Fingerprint 1 3) (codes "/w/a.log") file (look (ReadAt 1 2) 1 3 ∷ look (ReadAt 3 0) 1 3 ∷ []) ≡ None
 none_given = refl
+
+-- a fault behind the first read: some bytes came, and one is still wanted
+cut_by_a_fault : IsCutAsking (Fingerprint 1 3) (look (ReadAt 1 2) 0 4 ∷ [])
+cut_by_a_fault = (lit< tt, (refl, lit≤ tt, lit< tt))
+
+-- no fault cuts an asking where all came, or where a read gave nothing
+all_came : IsCutAsking (Fingerprint 1 3) two_reads → ⊥
+all_came (some, (same, fits, (other, (next, all, left)))) = let q : 0 < 0 = left in omega (arith, q)
+
+ended : IsCutAsking (Fingerprint 1 3) (look (ReadAt 1 0) 1 0 ∷ []) → ⊥
+ended (some, (same, never)) = never
 
 -- no asking ends before all came, or goes on behind the end
 cut_off : IsAsking (Fingerprint 1 3) (look (ReadAt 1 2) 0 4 ∷ []) → ⊥

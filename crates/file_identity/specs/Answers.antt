@@ -1,7 +1,8 @@
 -- What asking for a key answers, and when it is refused (Filebeat reference, file identity; this project's profile).
-use Rattle.std.specs.Prelude.{◌≡◌, ℕ, ◌+◌, ◌<◌, ◌≤◌, List, length, Option, Some, None, Result, Ok, Err}
+use Rattle.std.specs.Prelude.{◌≡◌, ◌≢◌, ℕ, ◌+◌, ◌<◌, ◌≤◌, Bool, true, false, List, length, Option, Some, None, Result, Ok, Err}
 use Rattle.event_tree.specs.declared.input_rule.IdentityRule.{IdentityRule}
 use Rattle.event_tree.specs.declared.input_rule.IdentityRule.TheVariants.{Fingerprint, Native, Path}
+use Rattle.outside.specs.declared.failed.Failed.{Failed}
 use Rattle.outside.specs.declared.history.Look.{Look}
 use Rattle.outside.specs.Files.{File}
 use Rattle.outside.specs.Tails.{TailHistory}
@@ -9,7 +10,7 @@ use Rattle.file_identity.specs.declared.identity.Identity.{Identity}
 use Rattle.file_identity.specs.declared.identity.Identity.TheVariants.{Key, TooSmall}
 use Rattle.file_identity.specs.declared.identity_error.IdentityError.{IdentityError}
 use Rattle.file_identity.specs.declared.identity_error.IdentityError.TheVariants.{NoNative, ReadFault, NoMemory}
-use Rattle.file_identity.specs.Asking.{IsAsking, IsPartOfAsking, given_key}
+use Rattle.file_identity.specs.Asking.{IsAsking, IsCutAsking, IsPartOfAsking, given_key}
 use Rattle.file_identity.specs.Key.{fingerprint_key, named_key}
 use Rattle.file_identity.specs.Reading.{Adds, EndsWithNone}
 use Rattle.wire_base.specs.Ranges.{IsPlace}
@@ -54,16 +55,30 @@ IsAnswer id rule path numbers (TooSmall place) = IsWithin rule place
 abbrev pub with_numbers : Option (ℕ × ℕ) → File → File
 with_numbers numbers file = record file { numbers = numbers }
 
--- the key that the looks gave, or none, where the last of them got nothing
+-- the key that the looks gave, or none, where the last of them got nothing; a fault cut them
 abbrev pub IsGiven : List ℕ → IdentityRule → List ℕ → File → List Look → Result Identity IdentityError → Type 0
 IsGiven id rule path file looks (Ok (Key key)) = IsAsking rule looks × (given_key id rule path file looks ≡ Some key)
 IsGiven id rule path file looks (Ok (TooSmall place)) = IsAsking rule looks × (given_key id rule path file looks ≡ None) × EndsWithNone place looks
-IsGiven id rule path file looks (Err error) = IsPartOfAsking rule looks
+IsGiven id rule path file looks (Err ReadFault) = IsCutAsking rule looks
+IsGiven id rule path file looks (Err NoNative) = IsPartOfAsking rule looks
+IsGiven id rule path file looks (Err NoMemory) = IsPartOfAsking rule looks
 
 pub record IsAsked (id : List ℕ) (rule : IdentityRule) (path : List ℕ) (numbers : Option (ℕ × ℕ)) (told : TailHistory) (result : Result Identity IdentityError) (after : Option TailHistory) : Type 0 where
   pub looks : List Look
   pub added : Adds told looks after
   pub gave : IsGiven id rule path (with_numbers numbers told.file) looks result
+
+-- whether the looks gave this key; a fault cut them
+abbrev pub IsSameKey : List ℕ → IdentityRule → List ℕ → List ℕ → File → List Look → Result Bool Failed → Type 0
+IsSameKey id rule path key file looks (Ok true) = IsAsking rule looks × (given_key id rule path file looks ≡ Some key)
+IsSameKey id rule path key file looks (Ok false) = IsAsking rule looks × (given_key id rule path file looks ≢ Some key)
+IsSameKey id rule path key file looks (Err failed) = IsCutAsking rule looks
+
+-- by whichever path the file was opened
+pub record IsCompared (id : List ℕ) (rule : IdentityRule) (key : List ℕ) (numbers : Option (ℕ × ℕ)) (told : TailHistory) (result : Result Bool Failed) (after : Option TailHistory) : Type 0 where
+  pub looks : List Look
+  pub added : Adds told looks after
+  pub same : (path : List ℕ) → IsSameKey id rule path key (with_numbers numbers told.file) looks result
 
 -- ---- refusals; out of memory may come with any
 

@@ -27,16 +27,28 @@ AreReads [] place wanted = wanted ≡ 0
 AreReads (look ∷ looks) place wanted =
     (0 < wanted) × ReadsOn place wanted (λ next left. AreReads looks next left) (looks ≡ []) look.question
 
--- the first of them, as far as an asking came that met a fault
+-- the first of them, as far as an asking came
 abbrev pub ArePartReads : List Look → ℕ → ℕ → Type 0
 ArePartReads [] place wanted = Unit {0}
 ArePartReads (look ∷ looks) place wanted =
     (0 < wanted) × ReadsOn place wanted (λ next left. ArePartReads looks next left) (looks ≡ []) look.question
 
+-- those of an asking that a fault cut: each gave bytes, and behind the last some byte is still wanted
+abbrev pub AreCutReads : List Look → ℕ → ℕ → Type 0
+AreCutReads [] place wanted = 0 < wanted
+AreCutReads (look ∷ looks) place wanted =
+    (0 < wanted) × ReadsOn place wanted (λ next left. AreCutReads looks next left) ⊥ look.question
+
 abbrev pub IsPartOfAsking : IdentityRule → List Look → Type 0
 IsPartOfAsking (Fingerprint offset count) looks = ArePartReads looks offset count
 IsPartOfAsking Native looks = looks ≡ []
 IsPartOfAsking Path looks = looks ≡ []
+
+-- the looks of one asking that a fault cut: none of a key for which nothing is read
+abbrev pub IsCutAsking : IdentityRule → List Look → Type 0
+IsCutAsking (Fingerprint offset count) looks = AreCutReads looks offset count
+IsCutAsking Native looks = ⊥
+IsCutAsking Path looks = ⊥
 
 -- the looks of one asking that met no fault
 abbrev pub IsAsking : IdentityRule → List Look → Type 0

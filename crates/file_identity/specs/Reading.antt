@@ -7,7 +7,7 @@ use Rattle.file_looks.specs.Looks.{AreLooks}
 use Rattle.sha2.specs.Sha256.{sha256}
 use Rattle.file_identity.specs.declared.fingerprint.Printed.{Printed}
 use Rattle.file_identity.specs.declared.fingerprint.Printed.TheVariants.{Whole, Short}
-use Rattle.file_identity.specs.Asking.{AreReads, ArePartReads, given}
+use Rattle.file_identity.specs.Asking.{AreCutReads, AreReads, given}
 
 -- the tail told these looks in addition
 pub record Adds (told : TailHistory) (looks : List Look) (after : Option TailHistory) : Type 0 where
@@ -42,8 +42,8 @@ IsPrinted offset count told (Whole digest) after =
 IsPrinted offset count told (Short place) after =
     (bytes : List ℕ) × (length bytes < count) × (place ≡ offset + length bytes) × IfSome told (λ before. GivesNone offset count before place bytes after)
 
--- a read failed after some others
+-- a read failed after some others, which gave fewer bytes than are wanted
 pub record FailedReading (offset count : ℕ) (told : TailHistory) (after : Option TailHistory) : Type 0 where
   pub looks : List Look
   pub added : Adds told looks after
-  pub reads : ArePartReads looks offset count
+  pub reads : AreCutReads looks offset count

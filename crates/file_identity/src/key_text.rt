@@ -1,4 +1,5 @@
-ghost use Rattle.std.specs.Prelude.{◌≡◌, ◌++◌, IfOk, codes, decimal, string_bytes};
+ghost use Rattle.std.specs.Prelude.{◌≡◌, ◌↔◌, ◌++◌, IfOk, IsTrue, codes, decimal, string_bytes};
+ghost use Rattle.hex.specs.Hex.{encode_lower};
 ghost use Rattle.file_identity.specs.Key.{key_by, key_of_digest, native_key, path_key};
 
 use std::alloc::{AllocError, Global};
@@ -39,4 +40,29 @@ pub fn key_of_digest(alloc: Global, id: &Text, digest: [u8; 32]) -> Result<Text,
 {
     let digits = hex::encode(alloc, digest)?;
     key_by(alloc, id, "fingerprint", digits.as_str())
+}
+
+/// Whether the key is of this digest. It takes no memory.
+pub fn is_key_of_digest(id: &Text, digest: [u8; 32], key: &Text) -> bool
+    ensures { IsTrue result ↔ (key.now ≡ key_of_digest id.now digest) }
+{
+    let Some(behind) = key.bytes().strip_prefix(b"filestream::") else {
+        return false;
+    };
+    let Some(rest) = behind.strip_prefix(id.bytes()) else {
+        return false;
+    };
+    let Some(digits) = rest.strip_prefix(b"::fingerprint::") else {
+        return false;
+    };
+    digits == digits_of(digest).as_slice()
+}
+
+/// The hex digits of a digest.
+fn digits_of(digest: [u8; 32]) -> [u8; 64]
+    ensures { result ≡ encode_lower digest }
+{
+    let mut digits = [0u8; 64];
+    let _ = hex::encode_to_slice(digest, &mut digits);
+    digits
 }

@@ -1,13 +1,15 @@
-ghost use Rattle.std.specs.Prelude.{◌≡◌, ◌≤◌, ◌↔◌, IfErr, IfOk, IfSome, IsErrOf, IsNone, IsSome, OnErr, OnOk};
+ghost use Rattle.std.specs.Prelude.{◌≡◌, ◌+◌, ◌<◌, ◌≤◌, ◌↔◌, IfErr, IfOk, IfSome, IsErrOf, IsNone, IsSome, OnErr, OnOk, true};
 ghost use Rattle.outside.specs.Counts.{Rose};
-ghost use Rattle.file_identity.specs.Answers.{IsAnswer, IsAsked, IsAskable, IsFingerprint, IsRefusedListed, IsRefusedOpened};
+ghost use Rattle.file_identity.specs.Answers.{IsAnswer, IsAsked, IsAskable, IsCompared, IsFingerprint, IsOfBytes, IsRefusedListed, IsRefusedOpened};
 ghost use Rattle.file_identity.specs.Key.{listed_key};
+ghost use Rattle.event_tree.specs.declared.input_rule.IdentityRule.TheVariants.{Fingerprint};
+ghost use Rattle.wire_base.specs.Ranges.{IsPlace};
 
 use crate::fingerprint::{Printed, read_fingerprint};
-use crate::key_text::{key_of_digest, native_key, path_key};
+use crate::key_text::{is_key_of_digest, key_of_digest, native_key, path_key};
 use crate::{Identity, IdentityError};
 use event_tree::IdentityRule;
-use outside::{Entry, Tail};
+use outside::{Entry, Failed, Tail};
 use std::alloc::Global;
 use wire_base::Text;
 
@@ -68,5 +70,37 @@ pub fn opened_key<T: Tail>(
             None => Err(IdentityError::NoNative),
         },
         IdentityRule::Path => Ok(Identity::Key(path_key(alloc, input, path)?)),
+    }
+}
+
+/// Whether an open file has this key by its fingerprint, for the input of this id.
+///
+/// It takes no memory: an asking whose reads all succeed gives its answer.
+pub fn has_fingerprint<T: Tail>(
+    input: &Text,
+    offset: u64,
+    length: u64,
+    key: &Text,
+    tail: &mut T,
+) -> Result<bool, Failed>
+    requires some { 0 < length }
+    requires in_range { IsPlace (offset + length) }
+
+    // Whether the asking gave this key, by its own looks where the tail tells them.
+    ensures has { result ≡ Ok true → IsOfBytes input.now length key.now }
+    ensures asked { IfSome (T.told tail.old) (λ told. IsCompared input.now
+        (Fingerprint offset length) key.now (T.numbers tail.old) told result (T.told tail.new)) }
+
+    ensures untold { IsNone (T.told tail.old) → IsNone (T.told tail.new) }
+    ensures numbers_kept { T.numbers tail.new ≡ T.numbers tail.old }
+    ensures faults_never_fall { T.faults tail.old ≤ T.faults tail.new }
+    ensures failed_only_where_faults_rose { OnErr result
+        (Rose (T.faults tail.old) (T.faults tail.new)) }
+    ensures faults_told_only_by_failures { IsSome (T.told tail.old) →
+        OnOk result (T.faults tail.new ≡ T.faults tail.old) }
+{
+    match read_fingerprint(tail, offset, length)? {
+        Printed::Whole(digest) => Ok(is_key_of_digest(input, digest, key)),
+        Printed::Short(_) => Ok(false),
     }
 }

@@ -7,7 +7,8 @@
 //!
 //! `listed_key` asks an entry of a listing, and `opened_key` an open file, which it reads in pieces. It keeps no byte
 //! of the file, however long the fingerprint is. Whether a file that was opened is the one that was listed is the
-//! caller's to see, by both keys.
+//! caller's to see, by both keys. `has_fingerprint` asks an open file again, whether it has the key
+//! that is known. It takes no memory: only a fault of a read keeps an asking from its answer.
 #![tactic(auto)]
 
 mod fingerprint;
@@ -19,5 +20,5 @@ mod laws;
 
 pub use identity::Identity;
 pub use identity_error::IdentityError;
-pub use keys::{listed_key, opened_key};
+pub use keys::{has_fingerprint, listed_key, opened_key};
 pub use laws::an_asking_of_one_life;

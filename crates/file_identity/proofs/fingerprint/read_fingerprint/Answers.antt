@@ -6,7 +6,7 @@ use Rattle.file_identity.proofs.fingerprint.read_fingerprint.Goals as goal
 pub returns-in_err-count-clause-failed : goal.returns-in_err-count-clause-failed
 returns-in_err-count-clause-failed g c =
     let p = err_from_is_err_and c.from_residual.result c.from_residual.ensures.1 in
-    rw p.1 (read_failed _ _ _ c.loop-done.done _ _ _ c.loop-done.hasher _ _ c.loop-done.invariant.has_read c.in_err-count.ensures.told)
+    rw p.1 (read_failed _ _ _ c.loop-done.done _ _ _ c.loop-done.hasher _ _ c.loop-done.invariant.has_read c.loop-done-test.true c.in_err-count.ensures.told)
 
 pub returns-then-count-eq0-clause-printed : goal.returns-then-count-eq0-clause-printed
 returns-then-count-eq0-clause-printed g c =

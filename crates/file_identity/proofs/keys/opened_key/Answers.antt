@@ -6,7 +6,7 @@ pub returns-in_err-key_of_digest-in-Whole-clause-asked : goal.returns-in_err-key
 returns-in_err-key_of_digest-in-Whole-clause-asked g c =
     let p = err_from_is_err_and c.from_residual-in_err-key_of_digest-in-Whole.result c.from_residual-in_err-key_of_digest-in-Whole.ensures.1 in
     let printed = rw c.in-Whole.is at c.in_ok-digest-in-Fingerprint.ensures.printed in
-    rw (c.in-Fingerprint.is, p.1) (whole_refused _ _ _ _ _ _ _ c.in-Whole.digest _ printed)
+    rw (c.in-Fingerprint.is, p.1, p.2) (whole_refused _ _ _ _ _ _ _ c.in-Whole.digest printed)
 
 pub returns-in_ok-key_of_digest-in-Whole-clause-answer : goal.returns-in_ok-key_of_digest-in-Whole-clause-answer
 returns-in_ok-key_of_digest-in-Whole-clause-answer g c =
