@@ -1,3 +1,4 @@
+pub mod AskedBefore
 pub mod Cutting
 pub mod Going
 pub mod OneLife

@@ -96,6 +96,19 @@ nothing_read_behind_a_fall = refl
 second_of_two_reads : read_to (segment 0 (look Length 0 4 ∷ look (ReadAt 0 1) 0 4 ∷ look (ReadAt 1 1) 0 4 ∷ [])) ≡ 1
 second_of_two_reads = refl
 
+-- such reads before all looks stand before those of the first segment, and change nothing else
+abbrev asked : List Look
+asked = look (ReadAt 0 2) 0 4 ∷ look (ReadAt 2 1) 0 4 ∷ []
+
+asked_first : segments_of 0 (asked ++ looks) ≡ segment 0 (asked ++ first_looks) ∷ second_segment ∷ []
+asked_first = refl
+
+read_the_same : bytes_read truncated (segment 0 (asked ++ first_looks)) ≡ codes "a\nb\n"
+read_the_same = refl
+
+stands_at_the_same : read_to (segment 2 (asked ++ look Length 0 4 ∷ look (ReadAt 2 2) 0 4 ∷ [])) ≡ 4
+stands_at_the_same = refl
+
 -- ---- a tail goes on from a later place
 
 goes_on_at_two : bytes_read truncated (segment 2 (look Length 0 4 ∷ look (ReadAt 2 2) 0 4 ∷ [])) ≡ codes "b\n"
