@@ -19,6 +19,7 @@ use Rattle.harvester.specs.declared.turn.Turn.{Turn}
 use Rattle.harvester.specs.declared.turn.Turn.TheVariants as turn
 use Rattle.harvester.specs.declared.turn_error.TurnError.{TurnError}
 use Rattle.harvester.specs.declared.turn_error.TurnError.TheVariants as error
+use Rattle.harvester.proofs.Unanswered.{refused_is_part}
 use Rattle.harvester.specs.Asked.{IsGivenKey, WasAsked}
 use Rattle.harvester.specs.Held.{Held}
 use Rattle.harvester.specs.TurnLooks.{AddsSome, AreOfLook, AreOfReading, AreOfTurn, AskForKey, HasGivenKey, HasReached, HasRead, IsRefused, LooksOn}
@@ -225,8 +226,8 @@ module _ (held : Held) (numbers : Option (ℕ × ℕ)) (before after : Option Ta
   pub asking_refused : (cause : TurnError) (result : Result Turn TurnError) → IsErr result → IfSome before (λ told. WasAsked held numbers told (Err cause) after) →
       LooksOn (AskForKey held (answer_of result)) numbers before after
   asking_refused cause (Ok answer) err asked = absurd (let no : false ≡ true = err in cc)
-  asking_refused cause (Err error.ReadFault) err asked = asked_as (Err cause) turn.ReadFault (λ file looks gave. gave) asked
-  asking_refused cause (Err error.NoMemory) err asked = asked_as (Err cause) turn.NoMemory (λ file looks gave. gave) asked
+  asking_refused cause (Err error.ReadFault) err asked = asked_as (Err cause) turn.ReadFault (λ file looks gave. refused_is_part held file looks cause gave) asked
+  asking_refused cause (Err error.NoMemory) err asked = asked_as (Err cause) turn.NoMemory (λ file looks gave. refused_is_part held file looks cause gave) asked
 
 -- ---- a whole turn
 

@@ -3,6 +3,7 @@ use Rattle.std.proofs.Common.{◌≡◌, ◌≢◌, ℕ, zero, suc, ◌+◌, ◌
 use Rattle.std.specs.List.{AllByRecursion}
 use Rattle.event_tree.specs.declared.input_rule.IdentityRule.{IdentityRule}
 use Rattle.event_tree.specs.declared.input_rule.IdentityRule.TheVariants.{Fingerprint, Native, Path}
+use Rattle.file_identity.proofs.AskedOnce.{none_by_other}
 use Rattle.file_identity.specs.Answers.{with_numbers}
 use Rattle.file_identity.specs.AskedAgain.{GivesKey, HasOtherKey, IsRead, StillHasKey}
 use Rattle.file_identity.specs.Asking.{ArePartReads, AreReads, IsAsking, IsPartOfAsking, ReadsOn, given_key}
@@ -27,7 +28,8 @@ use Rattle.harvester.specs.Held.{Held}
 use Rattle.harvester.specs.History.{Asks, Changed, History, Over, rules_in, with_epoch, with_stage}
 use Rattle.harvester.specs.Looked.{AreLookedAt, IsLookedAt}
 use Rattle.harvester.specs.Standing.{StandsFor, stage_of}
-use Rattle.harvester.proofs.LookingOn.{asks_on, begins_epoch, changes, is_over, was, with_looks}
+use Rattle.harvester.proofs.Unanswered.{refused_is_part, still_unknown, wants_bytes}
+use Rattle.harvester.proofs.LookingOn.{asks_on, begins_epoch, changes, is_over, was, was_unknown, with_looks}
 
 -- ---- the looks of an asking are reads
 
@@ -149,13 +151,21 @@ module _ {T : Type 0} (numbers : T → Option (ℕ × ℕ)) (told : T → Option
       IsGivenKey old.reader (with_numbers (numbers old.tail) before.file) looks (Ok false) → IsLookedAt (numbers old.tail) (with_stage Changed h) (with_looks before looks)
   other_step before looked looks gave =
       let only = asking_reads old.reader.identity looks gave.0 in
-      changes (numbers old.tail) h before looked asks looks only
-      (other before looked looks only (subst (λ (r : IdentityRule). IsAsking r looks) has.held.holds.follows.identity gave.0)
-      (key_is_other (with_numbers (numbers old.tail) before.file) looks gave.1))
+      let file = with_numbers (numbers old.tail) before.file in
+      let whole = subst (λ (r : IdentityRule). IsAsking r looks) has.held.holds.follows.identity gave.0 in
+      let differs = key_is_other file looks gave.1 in
+      changes (numbers old.tail) h before looked asks looks only (other before looked looks only whole differs)
+      (none_by_other h.rule h.begin.key h.begin.path file (was (numbers old.tail) h before looked asks looks only).later looks (wants_bytes h old.reader has.held)
+      (was_unknown (numbers old.tail) h before looked asks looks only) whole differs)
 
   fault_step : (error : TurnError) (before : TailHistory) → IsLookedAt (numbers old.tail) h before → (looks : List Look) →
       IsGivenKey old.reader (with_numbers (numbers old.tail) before.file) looks (Err error) → IsLookedAt (numbers old.tail) h (with_looks before looks)
-  fault_step error before looked looks gave = asks_on (numbers old.tail) h before looked asks looks (part_reads old.reader.identity looks gave)
+  fault_step error before looked looks gave =
+      let file = with_numbers (numbers old.tail) before.file in
+      let only = part_reads old.reader.identity looks (refused_is_part old.reader file looks error gave) in
+      asks_on (numbers old.tail) h before looked asks looks only
+      (still_unknown h old.reader has.held file file (was (numbers old.tail) h before looked asks looks only).later looks error gave
+      (was_unknown (numbers old.tail) h before looked asks looks only))
 
   module _ (tail : T) (same : numbers tail ≡ numbers old.tail) (untold : IsNone (told old.tail) → IsNone (told tail)) (reader : Held) where
     now_has : (g : History) → rules_in g ≡ rules_in h → StandsFor g reader → AreLookedAt (numbers old.tail) g (told tail) →

@@ -15,3 +15,4 @@ pub mod Standings
 pub mod Telling
 pub mod TellsGiven
 pub mod TurnsGiven
+pub mod Unanswered

@@ -2,6 +2,7 @@
 use Rattle.std.proofs.Common.{◌≡◌, ℕ, ◌+◌, ◌<◌, ◌≤◌, List, [], ◌∷◌, length, take, drop, Option, Some, None, IfSome, Ok, Err, refl, sym, ap, subst, ◌∙◌, append_assoc, append-nil, arith}
 use Rattle.std.proofs.lemmas.List.{length-take-le}
 use Rattle.file_identity.specs.Answers.{with_numbers}
+use Rattle.file_identity.specs.Key.{WantsBytes}
 use Rattle.file_looks.specs.Segment.{Segment}
 use Rattle.file_looks.specs.Segment as segment
 use Rattle.outside.specs.declared.failed.Failed.{Failed}
@@ -33,12 +34,12 @@ module _ (numbers : Option (ℕ × ℕ)) (h : History) (reads : h.stage ≡ Read
       go (Some told) looked tells = subst (λ (o : Option TailHistory). AreLookedAt numbers h o) (sym tells) looked
 
   -- the length is below what was read
-  pub length_below : (before after : Option TailHistory) (answer : ℕ) → AreLookedAt numbers h before → TellsLength before (Ok answer) after →
+  pub length_below : WantsBytes h.rule.file_identity → (before after : Option TailHistory) (answer : ℕ) → AreLookedAt numbers h before → TellsLength before (Ok answer) after →
       answer < read_to h.present → AreLookedAt numbers (with_stage Asks h) after
-  length_below None after answer looked tells below = subst (λ (o : Option TailHistory). AreLookedAt numbers (with_stage Asks h) o) (sym tells) tt
-  length_below (Some told) after answer looked tells below =
+  length_below wants None after answer looked tells below = subst (λ (o : Option TailHistory). AreLookedAt numbers (with_stage Asks h) o) (sym tells) tt
+  length_below wants (Some told) after answer looked tells below =
       subst (λ (o : Option TailHistory). AreLookedAt numbers (with_stage Asks h) o) (sym tells.kept)
-      (falls numbers h told looked reads tells.look tells.asked (subst (λ (n : ℕ). n < read_to h.present) (sym tells.answered) below))
+      (falls numbers h told looked reads wants tells.look tells.asked (subst (λ (n : ℕ). n < read_to h.present) (sym tells.answered) below))
 
   -- it is not, and nothing was read
   pub length_alone : (before after : Option TailHistory) (answer : ℕ) → AreLookedAt numbers h before → TellsLength before (Ok answer) after →

@@ -1,8 +1,10 @@
 -- The looks of a harvester's tail, step by step.
 use Rattle.std.proofs.Common.{◌≡◌, ◌⊎◌, inl, inr, ℕ, ◌+◌, ◌<◌, Bool, true, List, [], ◌∷◌, ◌++◌, length, Option, Some, refl, sym, ap, subst, ◌∙◌, append_assoc, append-nil}
 use Rattle.std.specs.List.{AllByRecursion}
-use Rattle.file_identity.specs.Answers.{with_numbers}
+use Rattle.file_identity.specs.Answers.{IsFingerprint, with_numbers}
+use Rattle.file_identity.proofs.AskedOnce.{none_asked}
 use Rattle.file_identity.specs.AskedAgain.{HasOtherKey, IsRead, StillHasKey}
+use Rattle.file_identity.specs.Key.{WantsBytes}
 use Rattle.file_looks.proofs.Going.{had_read_all}
 use Rattle.file_looks.specs.EndLook.{HadReadTo, HasEndLook}
 use Rattle.file_looks.specs.Segment.{Segment, segments_of}
@@ -18,7 +20,7 @@ use Rattle.told_events.specs.Told.{ToldEvent}
 use Rattle.harvester.specs.Found.{FoundEnd}
 use Rattle.harvester.specs.History.{Asks, Changed, Ended, History, Over, Reads, Stage, Telling, beginning, with_bytes, with_epoch, with_events, with_licences, with_present, with_stage}
 use Rattle.harvester.specs.History as history
-use Rattle.harvester.specs.Looked.{AreReadBy, HasFallen, IsLicensedIn, IsLookedAt, IsReadBy, StandBehind}
+use Rattle.harvester.specs.Looked.{AreReadBy, HasFallen, IsLicensedIn, IsLookedAt, IsReadBy, IsUnanswered, StandBehind}
 use Rattle.harvester.specs.Standing.{EndsLines}
 use Rattle.harvester.proofs.Looking.{GoesOnAs, all_stay, read_stays, reads_on}
 use Rattle.harvester.proofs.Segments.{ReadsMore, begins_segment, last_goes_on, reads_nothing}
@@ -73,9 +75,9 @@ module _ (numbers : Option (ℕ × ℕ)) (h : History) (told : TailHistory) (l :
       behind : (stage : Stage) (looks : List Look) → StandBehind h (with_numbers numbers told.file) stage looks →
           StandBehind (turned_as path moments last_line ends may_end forgets h) (with_numbers numbers told.file) stage looks
       behind Reads looks is = is
-      behind Asks looks is = fallen looks is
+      behind Asks looks is = record { fallen = fallen looks is.fallen; unknown = is.unknown }
       behind Ended looks is = is
-      behind Changed looks is = record { fallen = fallen looks is.fallen; other = is.other }
+      behind Changed looks is = record { fallen = fallen looks is.fallen; other = is.other; lost = is.lost }
       behind Over looks is = record { fallen = fallen looks is.fallen; same = is.same }
 
   -- ---- while it is read
@@ -141,9 +143,9 @@ module _ (numbers : Option (ℕ × ℕ)) (h : History) (told : TailHistory) (l :
         }
 
     -- the length is below what was read
-    pub falls : (fall : Look) → fall.question ≡ Length → fall.sight.length < history.read_to h.present →
+    pub falls : WantsBytes h.rule.file_identity → (fall : Look) → fall.question ≡ Length → fall.sight.length < history.read_to h.present →
         IsLookedAt numbers (with_stage Asks h) (with_looks told (fall ∷ []))
-    falls fall asks below =
+    falls wants fall asks below =
         let file = with_numbers numbers told.file in
         let new = with_stage Asks h in
         let on = same_history h new refl refl (λ may. may) refl in
@@ -156,7 +158,10 @@ module _ (numbers : Option (ℕ × ℕ)) (h : History) (told : TailHistory) (l :
           segments = l.segments;
           past = all_stay h new on file h.past l.front l.past;
           present = read_stays h new on file h.present l.last l.present;
-          stand_behind = record { fall = fall; later = []; looks_are = refl; asks = asks; below = below; only_reads = tt };
+          stand_behind = record {
+            fallen = record { fall = fall; later = []; looks_are = refl; asks = asks; below = below; only_reads = tt };
+            unknown = λ is. none_asked h.rule h.begin.key h.begin.path file is wants;
+          };
           end_look = λ ended. absurd (let no : Asks ≡ Ended = ended in cc);
         }
 
@@ -172,9 +177,9 @@ module _ (numbers : Option (ℕ × ℕ)) (h : History) (told : TailHistory) (l :
       behind : (stage : Stage) (looks : List Look) → StandBehind h (with_numbers numbers told.file) stage looks →
           StandBehind (with_present present h) (with_numbers numbers told.file) stage looks
       behind Reads looks is = is
-      behind Asks looks is = fallen looks is
+      behind Asks looks is = record { fallen = fallen looks is.fallen; unknown = is.unknown }
       behind Ended looks is = is
-      behind Changed looks is = record { fallen = fallen looks is.fallen; other = is.other }
+      behind Changed looks is = record { fallen = fallen looks is.fallen; other = is.other; lost = is.lost }
       behind Over looks is = record { fallen = fallen looks is.fallen; same = is.same }
 
   pub tells_more : (events : List ToldEvent) → IsLookedAt numbers (with_present (with_events events h.present) h) told
@@ -225,16 +230,22 @@ module _ (numbers : Option (ℕ × ℕ)) (h : History) (told : TailHistory) (l :
 
   -- ---- while its key is asked
 
-  fallen_in : (stage : Stage) → stage ≡ Asks → StandBehind h (with_numbers numbers told.file) stage l.beyond → HasFallen h l.beyond
-  fallen_in Reads asks is = absurd cc
-  fallen_in Asks asks is = is
-  fallen_in Ended asks is = absurd cc
-  fallen_in Changed asks is = absurd cc
-  fallen_in Over asks is = absurd cc
+  unanswered_in : (stage : Stage) → stage ≡ Asks → StandBehind h (with_numbers numbers told.file) stage l.beyond →
+      IsUnanswered h (with_numbers numbers told.file) l.beyond
+  unanswered_in Reads asks is = absurd cc
+  unanswered_in Asks asks is = is
+  unanswered_in Ended asks is = absurd cc
+  unanswered_in Changed asks is = absurd cc
+  unanswered_in Over asks is = absurd cc
 
   module _ (asks : h.stage ≡ Asks) (more : List Look) (only : AllByRecursion (λ look. IsRead look.question) more) where
     pub was : HasFallen h l.beyond
-    was = fallen_in h.stage asks l.stand_behind
+    was = (unanswered_in h.stage asks l.stand_behind).fallen
+
+    -- by these looks the key was not told
+    pub was_unknown : IsFingerprint h.rule.file_identity → ¬ (StillHasKey h.rule h.begin.key h.begin.path (with_numbers numbers told.file) was.later)
+    unfolding was
+    was_unknown = (unanswered_in h.stage asks l.stand_behind).unknown
 
     now : HasFallen h (l.beyond ++ more)
     now = record {
@@ -252,8 +263,10 @@ module _ (numbers : Option (ℕ × ℕ)) (h : History) (told : TailHistory) (l :
         ∙ ap (λ (b : List Look). h.before ++ b) (append_assoc l.since l.beyond more)
 
     -- the asking met a fault
-    pub asks_on : IsLookedAt numbers h (with_looks told more)
-    asks_on = record {
+    pub asks_on : (IsFingerprint h.rule.file_identity → ¬ (StillHasKey h.rule h.begin.key h.begin.path (with_numbers numbers told.file) (was.later ++ more))) →
+        IsLookedAt numbers h (with_looks told more)
+    unfolding now was
+    asks_on unknown = record {
       since = l.since;
       beyond = l.beyond ++ more;
       looks_are = looks_now;
@@ -262,15 +275,16 @@ module _ (numbers : Option (ℕ × ℕ)) (h : History) (told : TailHistory) (l :
       segments = l.segments;
       past = l.past;
       present = l.present;
-      stand_behind = subst (λ (s : Stage). StandBehind h (with_numbers numbers told.file) s (l.beyond ++ more)) (sym asks) now;
+      stand_behind = subst (λ (s : Stage). StandBehind h (with_numbers numbers told.file) s (l.beyond ++ more)) (sym asks) (record { fallen = now; unknown = unknown });
       end_look = λ ended. absurd (let no : Asks ≡ Ended = sym asks ∙ ended in cc);
     }
 
     -- it has another key
     pub changes : HasOtherKey h.rule h.begin.key h.begin.path (with_numbers numbers told.file) (was.later ++ more) →
+        ¬ (StillHasKey h.rule h.begin.key h.begin.path (with_numbers numbers told.file) (was.later ++ more)) →
         IsLookedAt numbers (with_stage Changed h) (with_looks told more)
     unfolding now was
-    changes key =
+    changes key lost =
         let file = with_numbers numbers told.file in
         let new = with_stage Changed h in
         let on = same_history h new refl refl (λ may. may) refl in
@@ -286,6 +300,7 @@ module _ (numbers : Option (ℕ × ℕ)) (h : History) (told : TailHistory) (l :
           stand_behind = record {
             fallen = record { fall = now.fall; later = now.later; looks_are = now.looks_are; asks = now.asks; below = now.below; only_reads = now.only_reads };
             other = key;
+            lost = lost;
           };
           end_look = λ ended. absurd (let no : Changed ≡ Ended = ended in cc);
         }

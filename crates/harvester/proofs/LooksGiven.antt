@@ -16,6 +16,7 @@ use Rattle.harvester.specs.Looked.{AreLookedAt}
 use Rattle.harvester.specs.Standing.{StandsFor, stage_of}
 use Rattle.harvester.proofs.Lasting.{same_read}
 use Rattle.harvester.proofs.LookingOn.{found_as_well, other_turn}
+use Rattle.harvester.proofs.Unanswered.{wants_bytes}
 use Rattle.harvester.proofs.LookSteps.{both_end, both_looked, length_alone, length_below, length_failed, read_failed, same_bytes}
 
 module _ {T : Type 0} (numbers : T → Option (ℕ × ℕ)) (told : T → Option TailHistory) (most now : ℕ) (h : History) (old : Harvester T)
@@ -30,7 +31,7 @@ module _ {T : Type 0} (numbers : T → Option (ℕ × ℕ)) (told : T → Option
     pub less : (answer : ℕ) → TellsLength (told old.tail) (Ok answer) (told tail) → answer < old.reader.position → StandsFor (with_stage Asks h) reader →
         HasLooked numbers told most now h old (Ok Less) (record old { tail = tail; reader = reader })
     less answer tells below stands =
-        let looked = length_below (numbers old.tail) h reads (told old.tail) (told tail) answer has.looked tells (omega (arith, below, has.held.holds.position.position)) in
+        let looked = length_below (numbers old.tail) h reads (wants_bytes h old.reader has.held) (told old.tail) (told tail) answer has.looked tells (omega (arith, below, has.held.holds.position.position)) in
         record {
           bytes = [];
           gave = refl;

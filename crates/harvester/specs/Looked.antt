@@ -1,9 +1,9 @@
 -- What the looks of a harvester's tail have to do with its history (Filebeat reference, filestream input; this project's
 -- profile): each epoch was read through one segment of the looks since the opening. Behind these stand the looks from where
--- the length was below what was read and the key was not told, or was another.
+-- the length was below what was read and the key was not told, or was another; no asking among these gave it.
 use Rattle.std.specs.Prelude.{◌≡◌, ℕ, ◌<◌, true, List, [], ◌∷◌, ◌++◌, Option, IfSome}
 use Rattle.std.specs.List.{AllByRecursion}
-use Rattle.file_identity.specs.Answers.{with_numbers}
+use Rattle.file_identity.specs.Answers.{IsFingerprint, with_numbers}
 use Rattle.file_identity.specs.AskedAgain.{HasOtherKey, IsRead, KeepsKey, StillHasKey}
 use Rattle.file_looks.specs.EndLook.{HasEndLook}
 use Rattle.file_looks.specs.Reading.{ReadOn, bytes_read}
@@ -45,10 +45,16 @@ pub record HasFallen (h : History) (looks : List Look) : Type 0 where
   pub below : fall.sight.length < history.read_to h.present
   pub only_reads : AllByRecursion (λ look. IsRead look.question) later
 
--- and it was another
+-- and it was not told yet: no asking for a fingerprint gave the key
+pub record IsUnanswered (h : History) (file : File) (looks : List Look) : Type 0 where
+  pub fallen : HasFallen h looks
+  pub unknown : IsFingerprint h.rule.file_identity → ¬ (StillHasKey h.rule h.begin.key h.begin.path file fallen.later)
+
+-- and it was another: no asking gave the key
 pub record HasChanged (h : History) (file : File) (looks : List Look) : Type 0 where
   pub fallen : HasFallen h looks
   pub other : HasOtherKey h.rule h.begin.key h.begin.path file fallen.later
+  pub lost : ¬ (StillHasKey h.rule h.begin.key h.begin.path file fallen.later)
 
 -- or the same, where no epoch is left
 pub record IsOver (h : History) (file : File) (looks : List Look) : Type 0 where
@@ -57,7 +63,7 @@ pub record IsOver (h : History) (file : File) (looks : List Look) : Type 0 where
 
 abbrev pub StandBehind : History → File → Stage → List Look → Type 0
 StandBehind h file Reads looks = looks ≡ []
-StandBehind h file Asks looks = HasFallen h looks
+StandBehind h file Asks looks = IsUnanswered h file looks
 StandBehind h file Ended looks = looks ≡ []
 StandBehind h file Changed looks = HasChanged h file looks
 StandBehind h file Over looks = IsOver h file looks

@@ -12,7 +12,8 @@ use crate::reader::Reader;
 use crate::stage::Stage;
 use crate::turn::Turn;
 use crate::turn_error::TurnError;
-use file_identity::{Identity, IdentityError, opened_key};
+use event_tree::IdentityRule;
+use file_identity::{Identity, IdentityError, has_fingerprint, opened_key};
 use outside::Tail;
 use std::alloc::Global;
 use wire_base::{Epoch, Text};
@@ -48,7 +49,8 @@ impl<T: Tail> Harvester<T> {
     }
 }
 
-/// Whether the file has the key with which it was opened.
+/// Whether the file has the key with which it was opened. For a fingerprint it takes no memory, so
+/// that an asking whose reads all succeed is never made again.
 fn ask<T: Tail>(alloc: Global, reader: &Reader, tail: &mut T) -> Result<bool, TurnError>
     ensures asked { IfSome (T.told tail.old) (λ told.
         WasAsked reader.now (T.numbers tail.old) told result (T.told tail.new)) }
@@ -58,6 +60,10 @@ fn ask<T: Tail>(alloc: Global, reader: &Reader, tail: &mut T) -> Result<bool, Tu
     ensures read_fault_only_where_faults_rose { IsErrOf result TurnError.ReadFault →
         Rose (T.faults tail.old) (T.faults tail.new) }
 {
+    if let IdentityRule::Fingerprint { offset, length } = &reader.identity {
+        let key = &reader.begin.key;
+        return Ok(has_fingerprint(&reader.input, *offset, *length, key, tail)?);
+    }
     match opened_key(
         alloc,
         &reader.input,
