@@ -82,11 +82,13 @@ no_other_stays before now input opening on within none =
     subst (λ (l : List Scan). AllByRecursion P l) (sym on.scans)
     (both P before.scans on.more_scans none (none_by_scans input opening (length before.trace.events) within on.more_scans on.made_later))
 
-opened_with_stays : (before now : Run) (rule : InputRule) (input : ℕ) (path : List ℕ) (key : Option (List ℕ)) → RunGoesOn before now → WasOpenedWith before rule input path key → WasOpenedWith now rule input path key
-opened_with_stays before now rule input path key on opened =
+opened_with_stays : (before now : Run) (rule : InputRule) (scan : Scan) (input : ℕ) (path : List ℕ) (key : Option (List ℕ)) → RunGoesOn before now → WasOpenedWith before rule scan input path key →
+    WasOpenedWith now rule scan input path key
+opened_with_stays before now rule scan input path key on opened =
     let tail = tail_stays before.trace now.trace opened.opening path opened.number opened.looks on.trace opened.tail in
     record {
       opening = opened.opening;
+      since = opened.since;
       of_input = no_other_stays before now input opened.opening on
           (slice_get_within before.trace.events opened.opening (Opened path opened.number opened.tail.begun) opened.tail.opened) opened.of_input;
       number = opened.number;
@@ -116,6 +118,7 @@ passed_over_stays before now rule scan shown input on whole rule_is (inr (inl ol
 passed_over_stays before now rule scan shown input on whole rule_is (inr (inr (inl gone))) =
     inr (inr (inl (record {
       opening = gone.opening;
+      since = gone.since;
       of_input = no_other_stays before now input gone.opening on (slice_get_within before.trace.events gone.opening (NotThere shown.entry.path) gone.was.not_there) gone.of_input;
       was = gone_stays before.trace now.trace gone.opening shown.entry.path on.trace gone.was;
     })))
@@ -124,7 +127,7 @@ passed_over_stays before now rule scan shown input on whole rule_is (inr (inr (i
   number = moved.number;
   shows = shows_to_stays before now scan input moved.key moved.number shown on whole moved.shows;
   other = moved.other;
-  opened = opened_with_stays before now rule input shown.entry.path (Some moved.other) on moved.opened;
+  opened = opened_with_stays before now rule scan input shown.entry.path (Some moved.other) on moved.opened;
   other_key = moved.other_key;
 }))))
 passed_over_stays before now rule scan shown input on whole rule_is (inr (inr (inr (inr small)))) = inr (inr (inr (inr (record {
@@ -135,7 +138,7 @@ passed_over_stays before now rule scan shown input on whole rule_is (inr (inr (i
     number = none.number;
     gave = gave_stays before.trace now.trace rule shown none.asking.opening None none.number on.trace
         (asked_well before scan shown input none.asking rule whole none.asks rule_is) none.gave;
-  })) (λ opened. inr (opened_with_stays before now rule input shown.entry.path None on opened)) small.gave_none;
+  })) (λ opened. inr (opened_with_stays before now rule scan input shown.entry.path None on opened)) small.gave_none;
 }))))
 
 other_key_stays : (rule : InputRule) (key path : List ℕ) (file : File) (looks more : List Look) → HasOtherKey rule key path file looks → HasOtherKey rule key path file (looks ++ more)

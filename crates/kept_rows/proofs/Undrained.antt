@@ -42,7 +42,7 @@ listed_key_is other number shows =
     let named : Some key ≡ Some other = ap (λ (r : InputRule). named_key r.id r.file_identity a_log None) rule ∙ sym by_entry.gave in
     cc
 
-opened_with_key : (found : Option (List ℕ)) → WasOpenedWith run input 0 a_log found → found ≡ Some key
+opened_with_key : (found : Option (List ℕ)) → WasOpenedWith run input scan 0 a_log found → found ≡ Some key
 opened_with_key found opened = opened.gave
 
 none_gone : (opening : ℕ) → slice_get trace.events opening ≡ Some (NotThere a_log) → ⊥

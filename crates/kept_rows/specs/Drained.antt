@@ -17,7 +17,7 @@ use Rattle.kept_rows.specs.Account.{EpochAccount, FollowedTail, Reading, SlotAcc
 use Rattle.file_identity.specs.AskedAgain.{HasOtherKey}
 use Rattle.file_identity.specs.Answers.{IsFingerprint}
 use Rattle.kept_rows.specs.Run.{Asking, Run, Scan}
-use Rattle.kept_rows.specs.Scans.{AsksFor, Gave, IsCovered, IsOld, IsWhole, ShowsEntry, ShowsFile, ShowsFileTo, moment_in}
+use Rattle.kept_rows.specs.Scans.{AsksFor, Gave, IsBefore, IsCovered, IsOld, IsWhole, ShowsEntry, ShowsFile, ShowsFileTo, moment_in}
 use Rattle.kept_rows.specs.Telling.{opening_moment}
 use Rattle.kept_rows.specs.Trace.{IsTail, WasGone}
 
@@ -38,15 +38,17 @@ abbrev pub IsOfNoOther : Run → ℕ → ℕ → Type 0
 IsOfNoOther run input opening =
     AllByRecursion (λ scan. AllByRecursion (λ asking. asking.opening ≡ Some opening → asking.input ≡ input) scan.askings) run.scans
 
--- nothing was there by the path as it was to be opened
-pub record IsGone (run : Run) (path : List ℕ) (input : ℕ) : Type 0 where
+-- nothing was there by the path as it was to be opened, behind the listings of the scan
+pub record IsGone (run : Run) (scan : Scan) (path : List ℕ) (input : ℕ) : Type 0 where
   pub opening : ℕ
+  pub since : IsBefore opening scan
   pub of_input : IsOfNoOther run input opening
   pub was : WasGone run.trace opening path
 
--- a tail was opened by the path, and its asking gave this key, or none
-pub record WasOpenedWith (run : Run) (rule : InputRule) (input : ℕ) (path : List ℕ) (key : Option (List ℕ)) : Type 0 where
+-- a tail was opened by the path, behind the listings of the scan, and its asking gave this key, or none
+pub record WasOpenedWith (run : Run) (rule : InputRule) (scan : Scan) (input : ℕ) (path : List ℕ) (key : Option (List ℕ)) : Type 0 where
   pub opening : ℕ
+  pub since : IsBefore opening scan
   pub of_input : IsOfNoOther run input opening
   pub number : ℕ
   pub looks : List Look
@@ -65,7 +67,7 @@ pub record IsMoved (run : Run) (rule : InputRule) (scan : Scan) (shown : Shown) 
   pub number : ℕ
   pub shows : ShowsFileTo run scan input key number shown
   pub other : List ℕ
-  pub opened : WasOpenedWith run rule input shown.entry.path (Some other)
+  pub opened : WasOpenedWith run rule scan input shown.entry.path (Some other)
   pub other_key : other ≢ key
 
 -- the asking of the scan told no key
@@ -78,7 +80,7 @@ pub record GaveNoKey (run : Run) (rule : InputRule) (scan : Scan) (shown : Shown
 -- not all bytes of the fingerprint were there as the scan asked, or as the file was opened
 pub record IsSmall (run : Run) (rule : InputRule) (scan : Scan) (shown : Shown) (input : ℕ) : Type 0 where
   pub by_bytes : IsFingerprint rule.file_identity
-  pub gave_none : GaveNoKey run rule scan shown input ⊎ WasOpenedWith run rule input shown.entry.path None
+  pub gave_none : GaveNoKey run rule scan shown input ⊎ WasOpenedWith run rule scan input shown.entry.path None
 
 -- ---- or else
 
@@ -138,7 +140,7 @@ abbrev pub IsPassedOver : Run → InputRule → Scan → Shown → ℕ → Type 
 IsPassedOver run rule scan shown input =
     IsDoubled run scan shown input
     ⊎ (IsOld rule scan shown
-    ⊎ (IsGone run shown.entry.path input
+    ⊎ (IsGone run scan shown.entry.path input
     ⊎ (IsMoved run rule scan shown input
     ⊎ IsSmall run rule scan shown input)))
 

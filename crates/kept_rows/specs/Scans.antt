@@ -122,12 +122,12 @@ abbrev pub Gave : Trace → InputRule → Shown → Option ℕ → Option (List 
 Gave trace rule shown None key number = GaveByEntry rule shown key number
 Gave trace rule shown (Some opening) key number = GaveByTail trace rule shown.entry.path opening key number
 
--- the opening was made for the scan: behind some listing of it, and before the next scan
+-- the opening was made for the scan: behind its listings, and before the next scan
 pub record IsMadeFor (run : Run) (scan : Scan) (opening : ℕ) : Type 0 where
   pub before : List Scan
   pub behind : List Scan
   pub scans_are : run.scans ≡ before ++ scan ∷ behind
-  pub since : Any (λ listing. listing < opening) scan.listings
+  pub since : IsBefore opening scan
   pub until : AllByRecursion (IsBehind opening) behind
 
 abbrev pub IsAskedIn : Run → Scan → Option ℕ → Type 0
