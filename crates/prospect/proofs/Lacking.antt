@@ -23,5 +23,5 @@ of_next lacks before after inputs i input within is before_is after_is =
     ∙ ap (λ (x : InputRule). lacks ++ lacks_of_inputs 0 (take i inputs ++ x ∷ [])) is
     ∙ ap (λ (l : List InputRule). lacks ++ lacks_of_inputs 0 l) (sym (take_more inputs i input within))
 
-pub three_more : (old first second third a b c : List (List ℕ)) → first ≡ old ++ a → second ≡ first ++ b → third ≡ second ++ c → third ≡ old ++ (a ++ b ++ c)
-three_more old first second third a b c one two three = rw (three, two, one) (simp append_assoc)
+pub two_more : (old first second a b : List (List ℕ)) → first ≡ old ++ a → second ≡ first ++ b → second ≡ old ++ (a ++ b)
+two_more old first second a b one two = rw (two, one) (append_assoc old a b)

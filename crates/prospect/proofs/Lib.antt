@@ -1,8 +1,8 @@
 pub mod Adding
+pub mod AskedFiles
 pub mod Covering
 pub mod Doubled
 pub mod Lacking
-pub mod LacksNone
 pub mod Lists
 pub mod NativeKeys
 pub mod Numbering
@@ -11,4 +11,5 @@ pub mod Telling
 pub mod Unfinished
 mod Worked
 mod WorkedDoubles
+mod WorkedFingerprints
 mod WorkedNumbers

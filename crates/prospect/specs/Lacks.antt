@@ -1,16 +1,9 @@
 -- Which keys of valid settings ask for what is not built (this project's profile).
 use Rattle.std.specs.Prelude.{◌≡◌, ℕ, ◌+◌, Bool, true, false, ◌==◌, List, [], ◌∷◌, ◌++◌, All, Contains, codes, decimal}
 use Rattle.std.specs.Ordering.{is_lt}
-use Rattle.event_tree.specs.declared.input_rule.IdentityRule.{IdentityRule}
-use Rattle.event_tree.specs.declared.input_rule.IdentityRule.TheVariants.{Fingerprint, Native, Path}
 use Rattle.event_tree.specs.declared.input_rule.InputRule.{InputRule}
 use Rattle.event_tree.specs.declared.settings.Settings.{Settings}
 use Rattle.wire_base.specs.KeyOrder.{compare}
-
-abbrev pub is_no_fingerprint : IdentityRule → Bool
-is_no_fingerprint (Fingerprint offset length) = false
-is_no_fingerprint Native = true
-is_no_fingerprint Path = true
 
 -- the key, where what it asks for is not built
 abbrev pub unless_built : Bool → List ℕ → List (List ℕ)
@@ -23,8 +16,7 @@ input_key number name = codes "inputs." ++ decimal number ++ codes "." ++ name
 
 abbrev pub lacks_of_input : ℕ → InputRule → List (List ℕ)
 lacks_of_input number input =
-    unless_built (is_no_fingerprint input.file_identity) (input_key number (codes "file_identity"))
-    ++ unless_built (input.ignore_older == 0) (input_key number (codes "ignore_older"))
+    unless_built (input.ignore_older == 0) (input_key number (codes "ignore_older"))
     ++ unless_built (input.clean_inactive == 0) (input_key number (codes "clean_inactive"))
 
 -- those of the inputs from this number on

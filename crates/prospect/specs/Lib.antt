@@ -1,3 +1,5 @@
+pub mod AskedFiles
+pub mod Asking
 pub mod Covered
 pub mod Doubled
 pub mod Entries

@@ -1,12 +1,12 @@
 ghost use Rattle.std.specs.Prelude.{◌≡◌, ◌++◌, [], IfOk, MatchOption, OnOk};
-ghost use Rattle.prospect.specs.Lacks.{IsFirstLack, input_key, is_no_fingerprint, lacks_of, lacks_of_input, lacks_of_inputs, unless_built};
+ghost use Rattle.prospect.specs.Lacks.{IsFirstLack, input_key, lacks_of, lacks_of_input, lacks_of_inputs, unless_built};
 
-use event_tree::{IdentityRule, InputRule, Settings};
+use event_tree::{InputRule, Settings};
 use std::alloc::Global;
 use wire_base::{NoMemory, Text};
 
 /// The first key in byte order by which valid settings ask for what is not built, as
-/// `inputs.0.file_identity` or `inputs.1.ignore_older`.
+/// `inputs.0.ignore_older` or `inputs.1.clean_inactive`.
 pub fn first_lack(alloc: Global, settings: &Settings) -> Result<Option<Text>, NoMemory>
     ensures first { IfOk result (λ found. MatchOption found (lacks_of settings.now ≡ []) (IsFirstLack settings.now)) }
 {
@@ -40,19 +40,11 @@ fn add_input(
 ) -> Result<(), NoMemory>
     ensures { OnOk result (lacks.new.items ≡ lacks.old.items ++ lacks_of_input number input.now) }
 {
-    let reads_no_file = is_no_fingerprint(input.file_identity);
-    add_of(alloc, lacks, number, reads_no_file, "file_identity")?;
     let takes_old = input.ignore_older == 0;
     add_of(alloc, lacks, number, takes_old, "ignore_older")?;
     let keeps_inactive = input.clean_inactive == 0;
     add_of(alloc, lacks, number, keeps_inactive, "clean_inactive")?;
     Ok(())
-}
-
-fn is_no_fingerprint(rule: IdentityRule) -> bool
-    ensures { result ≡ is_no_fingerprint rule }
-{
-    !matches!(rule, IdentityRule::Fingerprint { .. })
 }
 
 /// Adds the key of a setting of an input, unless what it asks for is built.

@@ -2,12 +2,15 @@
 //! what is not built.
 //!
 //! A scan lists once for each glob of the settings. What it tells, and what of the settings is
-//! unsupported, are definitions of `specs/`. Nothing here opens a file.
+//! unsupported, are definitions of `specs/`.
 //!
-//! `list_files` tells files by their paths, each with what the listing showed of it. To an input
-//! that knows files by native numbers, two numbers that one path had are two files.
+//! `list_files` tells files by their paths, each with what the listing showed of it, and opens
+//! none. To an input that knows files by native numbers, two numbers that one path had are two
+//! files. `ask_files` opens those that are known by fingerprints, one behind the other, for their
+//! keys.
 #![tactic(auto)]
 
+mod asking;
 mod by_path;
 mod entries;
 mod files;
@@ -18,6 +21,7 @@ mod scan_error;
 mod scan_input;
 mod showing;
 
+pub use asking::{Keyed, ask_files};
 pub use files::{MAX_FILES, list_files};
 pub use lack::first_lack;
 pub use listed::Listed;
