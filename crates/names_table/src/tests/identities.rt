@@ -68,7 +68,7 @@ impl Tail for BytesTail {
     }
 }
 
-const LETTERS: &str =
+pub const LETTERS: &str =
     "abcdefghbcdefghicdefghijdefghijkefghijklfghijklmghijklmnhijklmnoijklmnopjklmnopqklmnopqrlmnopqrsmnopqrstnopqrstu";
 
 /// What an open file of the input `w` answers.
@@ -111,7 +111,7 @@ fn letters(alloc: Global, count: usize, most: usize) -> Result<Identity, Fail> {
     printed(alloc, bytes, most, 112)
 }
 
-const LETTERS_KEY: &str =
+pub const LETTERS_KEY: &str =
     "filestream::w::fingerprint::cf5b16a778af8380036ce59e7b0492370b249b11e8f07a51afac45037afee9d1";
 
 #[test]

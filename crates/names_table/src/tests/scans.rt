@@ -2,6 +2,7 @@ ghost use Rattle.std.specs.Prelude.{IfOk};
 ghost use Rattle.prospect.specs.Members.{HaveGlobs};
 
 mod asks;
+mod fingerprints;
 mod listed_folder;
 
 use crate::tests::parts::{text, texts};
@@ -71,7 +72,7 @@ fn failed_listing_ends_the_scan(rt: HostRuntime) -> Result<(), Fail> {
 }
 
 /// A file: the input, its key, the path, its size and its moment of change.
-type Row = (u32, Option<&'static str>, &'static str, u64, u64);
+pub type Row = (u32, Option<&'static str>, &'static str, u64, u64);
 
 /// The key is this, or neither is there.
 fn is_key(found: &Option<Text>, wanted: Option<&str>) -> bool {
@@ -91,7 +92,7 @@ fn is_listed(file: &Listed, row: &Row) -> bool {
 }
 
 /// The files are those of the rows, one for each.
-fn are_listed(files: &[Listed], rows: &[Row]) -> bool {
+pub fn are_listed(files: &[Listed], rows: &[Row]) -> bool {
     files.len() == rows.len()
         && files
             .iter()
@@ -233,10 +234,11 @@ fn first_file_too_many_is_told_by_its_path(rt: HostRuntime) -> Result<(), Fail> 
     Ok(())
 }
 
-const LACKS: [(usize, &[(usize, Ask)], Option<&str>); 11] = [
+const LACKS: [(usize, &[(usize, Ask)], Option<&str>); 12] = [
     (1, &[], None),
-    (1, &[(0, Ask::Fingerprint)], Some("inputs.0.file_identity")),
+    (1, &[(0, Ask::Fingerprint)], None),
     (1, &[(0, Ask::Native)], None),
+    (1, &[(0, Ask::Older)], Some("inputs.0.ignore_older")),
     (
         1,
         &[(0, Ask::Older), (0, Ask::Include)],
@@ -254,17 +256,17 @@ const LACKS: [(usize, &[(usize, Ask)], Option<&str>); 11] = [
     ),
     (
         2,
-        &[(0, Ask::Older), (1, Ask::Fingerprint)],
+        &[(0, Ask::Older), (1, Ask::Inactive)],
         Some("inputs.0.ignore_older"),
     ),
     (
         11,
-        &[(2, Ask::Fingerprint), (10, Ask::Older)],
+        &[(2, Ask::Inactive), (10, Ask::Older)],
         Some("inputs.10.ignore_older"),
     ),
     (
         11,
-        &[(1, Ask::Older), (10, Ask::Fingerprint)],
+        &[(1, Ask::Older), (10, Ask::Inactive)],
         Some("inputs.1.ignore_older"),
     ),
     (
