@@ -1,24 +1,18 @@
 -- What follows of the account of a file by how it is made alone: how its epochs are numbered, that what is read in them is what
 -- its tail read, that each reading tells in its turn, and of which lives they are.
-use Rattle.std.proofs.Common.{◌≡◌, ◌≢◌, inl, inr, ℕ, suc, ◌+◌, ◌≤◌, List, [], ◌∷◌, ◌++◌, map, length, Option, Some, None, refl, sym, ap, subst, ◌∙◌, append-nil, arith}
+use Rattle.std.proofs.Common.{◌≡◌, ◌≢◌, inl, inr, ℕ, suc, ◌+◌, ◌≤◌, List, [], ◌∷◌, map, length, Option, Some, None, refl, sym, ap, subst, ◌∙◌, append-nil, arith}
 use Rattle.std.specs.List.{AllByRecursion, flat_map}
 use Rattle.std.specs.Option.{option_map_or}
-use Rattle.std.proofs.lemmas.List.{length_push}
-use Rattle.file_identity.specs.Answers.{with_numbers}
 use Rattle.file_looks.proofs.Cutting.{segments_are}
-use Rattle.file_looks.proofs.Going.{segments_on}
-use Rattle.file_looks.specs.Going.{GoOn}
 use Rattle.file_looks.specs.Segment.{AreSegments, FollowOn, Segment, segments_of}
 use Rattle.harvester.specs.History.{History, Telling}
 use Rattle.kept_rows.specs.Account.{AccountedEvent, EpochAccount, Place, Reading, SlotAccount, readings_of, spans_of}
 use Rattle.kept_rows.specs.Epochs.{AreEpochs, AreNumbered, AreReadInOrder, EachRises, GoOnWithin, GoesOnFrom, IsLifeOf, Rises, WasListedWith, life_read, first_sight_of, told_before}
 use Rattle.kept_rows.specs.Epochs as epochs
 use Rattle.kept_rows.specs.Run.{Run}
-use Rattle.harvester.specs.Looked.{AreReadBy, IsLookedAt}
+use Rattle.harvester.specs.Looked.{AreReadBy}
 use Rattle.outside.specs.Files.{File}
-use Rattle.outside.specs.Tails.{TailHistory}
 use Rattle.ship_core.specs.CoveredEnd.{last_end}
-use Rattle.wire_base.specs.declared.note.Begin.{Begin}
 use Rattle.outside.specs.declared.history.Look.{Look}
 use Rattle.outside.specs.declared.history.Sight.{Sight}
 use Rattle.told_events.specs.Told.{ToldEvent}
@@ -26,6 +20,7 @@ use Rattle.wire_base.specs.declared.numbers.Slot.{Slot}
 use Rattle.wire_base.specs.declared.parcel.Parcel.{Parcel}
 use Rattle.accounts.specs.Accounted.{accounted, epoch_account, epoch_accounts, life_by, readings_by, slot_account, untold_epoch, untold_epochs}
 use Rattle.accounts.specs.Opened.{Opened}
+use Rattle.accounts.specs.Parted.{kept_looks}
 use Rattle.accounts.specs.ToldFile.{AreEpochsFrom, AreNumberedFrom}
 use Rattle.accounts.specs.Turned.{tellings_in}
 
@@ -114,27 +109,27 @@ module _ (opened : Opened) (placed : Parcel → Option Place) where
     }
 
     pub are_numbered : AreEpochsFrom opened.begin.epoch.0 opened.begin.base (tellings_in history) → AreNumbered (slot_account opened changed looks placed history)
-    are_numbered are = by_segments (segments_of opened.begin.base looks) refl
+    are_numbered are = by_segments (segments_of opened.begin.base (kept_looks history looks)) refl
       where
-        by_segments : (segments : List Segment) → segments_of opened.begin.base looks ≡ segments → AreNumbered (slot_account opened changed looks placed history)
+        by_segments : (segments : List Segment) → segments_of opened.begin.base (kept_looks history looks) ≡ segments → AreNumbered (slot_account opened changed looks placed history)
         by_segments [] is = absurd cc
         by_segments (first ∷ later) is =
             numbers_of opened.begin.epoch.0 opened.begin.base (tellings_in history) first later refl refl are
             (slot_account opened changed looks placed history).epochs
             (ap (epoch_accounts opened placed opened.begin.epoch.0 (tellings_in history)) (sym is))
 
-    pub reads_together : length (tellings_in history) ≤ length (segments_of opened.begin.base looks) →
+    pub reads_together : length (tellings_in history) ≤ length (segments_of opened.begin.base (kept_looks history looks)) →
         flat_map (λ (e : EpochAccount). e.readings) (slot_account opened changed looks placed history).epochs
         ≡ flat_map readings_of (slot_account opened changed looks placed history).following.tails
     reads_together few =
-        readings_are opened.begin.epoch.0 (tellings_in history) (segments_of opened.begin.base looks) few
-        ∙ sym (append-nil (map (λ (segment : Segment). record { opening = opened.opening; segment = segment }) (segments_of opened.begin.base looks)))
+        readings_are opened.begin.epoch.0 (tellings_in history) (segments_of opened.begin.base (kept_looks history looks)) few
+        ∙ sym (append-nil (map (λ (segment : Segment). record { opening = opened.opening; segment = segment }) (segments_of opened.begin.base (kept_looks history looks))))
 
     pub tell_in_order : AllByRecursion (λ (e : EpochAccount). AreReadInOrder 0 e.told) (slot_account opened changed looks placed history).epochs
-    tell_in_order = each_in_order opened.begin.epoch.0 (tellings_in history) (segments_of opened.begin.base looks)
+    tell_in_order = each_in_order opened.begin.epoch.0 (tellings_in history) (segments_of opened.begin.base (kept_looks history looks))
 
     pub are_of_lives : AllByRecursion IsLifeOf (slot_account opened changed looks placed history).epochs
-    are_of_lives = each_life opened.begin.epoch.0 (tellings_in history) (segments_of opened.begin.base looks)
+    are_of_lives = each_life opened.begin.epoch.0 (tellings_in history) (segments_of opened.begin.base (kept_looks history looks))
 
 -- ---- why its epochs rise
 
@@ -204,12 +199,12 @@ module _ (run : Run) (key : List ℕ) (opened : Opened) (placed : Parcel → Opt
   module _ (changed : ℕ) (looks : List Look) (history : History) (key_is : key ≡ opened.begin.key)
       (was_listed : WasListedWith run key opened.opening (λ size. opened.begin.base ≤ size))
       (numbered : AreEpochsFrom opened.begin.epoch.0 opened.begin.base (tellings_in history))
-      (few : length (tellings_in history) ≤ length (segments_of opened.begin.base looks)) where
+      (few : length (tellings_in history) ≤ length (segments_of opened.begin.base (kept_looks history looks))) where
     abbrev one : SlotAccount
     one = slot_account opened changed looks placed history
 
     rises_and_goes_on : (tellings : List Telling) (segments : List Segment) → AreEpochsFrom opened.begin.epoch.0 opened.begin.base tellings →
-        AreSegments opened.begin.base looks segments →
+        AreSegments opened.begin.base (kept_looks history looks) segments →
         EachRises run key (epoch_accounts opened placed opened.begin.epoch.0 tellings segments)
         × AllByRecursion (λ (e : EpochAccount). GoOnWithin run key e e.readings) (epoch_accounts opened placed opened.begin.epoch.0 tellings segments)
     rises_and_goes_on [] segments are cut = absurd are
@@ -228,7 +223,7 @@ module _ (run : Run) (key : List ℕ) (opened : Opened) (placed : Parcel → Opt
     -- the epochs of the account are those of the slot
     pub are_epochs : AreEpochs run (slot_account opened changed looks placed history)
     are_epochs =
-        let both = rises_and_goes_on (tellings_in history) (segments_of opened.begin.base looks) numbered (segments_are opened.begin.base looks) in
+        let both = rises_and_goes_on (tellings_in history) (segments_of opened.begin.base (kept_looks history looks)) numbered (segments_are opened.begin.base (kept_looks history looks)) in
         record {
           numbered = are_numbered opened placed changed looks history numbered;
           rises = subst (λ (k : List ℕ). EachRises run k one.epochs) key_is both.0;
@@ -238,35 +233,10 @@ module _ (run : Run) (key : List ℕ) (opened : Opened) (placed : Parcel → Opt
           together = reads_together opened placed changed looks history few;
         }
 
--- ---- no epoch is without its segment
-
-more_segments : (before now : List Segment) → GoOn before now → length before ≤ length now
-more_segments [] now on = omega arith
-more_segments (segment ∷ before) [] on = absurd (no before on)
-  where
-    no : (before : List Segment) → GoOn (segment ∷ before) [] → ⊥
-    no [] on = on
-    no (other ∷ before) on = on
-more_segments (segment ∷ []) (grown ∷ now) on = omega arith
-more_segments (segment ∷ other ∷ before) (same ∷ now) on = omega (arith, more_segments (other ∷ before) now on.1)
+-- ---- as many epochs as segments that read them
 
 pub as_many : (h : History) (file : File) (tellings : List Telling) (segments : List Segment) → AreReadBy h file tellings segments → length tellings ≡ length segments
 as_many h file [] [] are = refl
 as_many h file [] (segment ∷ segments) are = absurd are
 as_many h file (telling ∷ tellings) [] are = absurd are
 as_many h file (telling ∷ tellings) (segment ∷ segments) are = ap suc (as_many h file tellings segments are.1)
-
-pub epochs_have_segments : (numbers : Option (ℕ × ℕ)) (opened : Opened) (h : History) (told : TailHistory) → h.begin ≡ opened.begin → h.before ≡ [] → IsLookedAt numbers h told →
-    length (tellings_in h) ≤ length (segments_of opened.begin.base told.looks)
-epochs_have_segments numbers opened h told begin none looked =
-    let file = with_numbers numbers told.file in
-    let base : h.begin.base ≡ opened.begin.base = ap (λ (b : Begin). b.base) begin in
-    let looks : told.looks ≡ looked.since ++ looked.beyond = looked.looks_are ∙ ap (λ (l : List Look). l ++ (looked.since ++ looked.beyond)) none in
-    let on = more_segments (segments_of h.begin.base looked.since) (segments_of h.begin.base (looked.since ++ looked.beyond)) (segments_on h.begin.base looked.since looked.beyond) in
-    let past = as_many h file h.past looked.front looked.past in
-    let parts : length (segments_of h.begin.base looked.since) ≡ length (looked.front ++ looked.last ∷ []) = ap (λ (l : List Segment). length l) looked.segments in
-    let front = length_push looked.front looked.last in
-    let own = length_push h.past h.present in
-    let most : length (tellings_in h) ≤ length (segments_of h.begin.base (looked.since ++ looked.beyond)) = omega (arith, on, past, parts, front, own) in
-    subst (λ (l : List Look). length (tellings_in h) ≤ length (segments_of opened.begin.base l)) (sym looks)
-    (subst (λ (n : ℕ). length (tellings_in h) ≤ length (segments_of n (looked.since ++ looked.beyond))) base most)

@@ -20,14 +20,15 @@ use Rattle.accounts.specs.Filed.{Filed, HasItsSlot, IsFiled, account_of, account
 use Rattle.accounts.specs.FollowedFile.{AreFollowedFiles, IsFollowedFile, IsMomentOf, tail_of}
 use Rattle.accounts.specs.Once.{AreOnce}
 use Rattle.accounts.specs.OneScan.{IsByOneScan}
+use Rattle.accounts.specs.Parted.{kept_looks}
 use Rattle.accounts.specs.Same.{same_parcel}
 use Rattle.accounts.specs.Turned.{parcels_told}
 use Rattle.accounts.proofs.Apart.{IsInEpochs, parcels_are_once}
 use Rattle.accounts.proofs.Ends.{is_filed, is_in_epochs}
-use Rattle.accounts.proofs.Following.{are_followed, followings_of, is_named}
+use Rattle.accounts.proofs.Following.{are_followed, followings_of, opens_with_key}
 use Rattle.accounts.proofs.Ordered.{turned_apart}
 use Rattle.accounts.proofs.Placing.{places_apart}
-use Rattle.accounts.proofs.Slots.{is_slot_account, listed_is_opened, still_has_name}
+use Rattle.accounts.proofs.Slots.{is_slot_account, listed_is_opened}
 
 -- ---- numbers
 
@@ -47,7 +48,7 @@ begins_within (Some row) size = by_case (nat_le row.offset size) refl
 
 module _ (run : Run) (scan : Scan) where
   pub file_is_filed : (file : Filed) → IsFollowedFile run scan file → IsFiled file
-  file_is_filed file is = is_filed run.settings.processors file.opened run.trace.moments file.turned is.in_range (tail_of file) file.changed is.told
+  file_is_filed file is = is_filed run.settings.processors file.opened run.trace.moments file.turned is.in_range (tail_of file) file.changed is.gave is.told
 
   pub are_filed : (files : List Filed) → AllByRecursion (IsFollowedFile run scan) files → AllByRecursion IsFiled files
   are_filed [] each = tt
@@ -97,7 +98,7 @@ module _ (run : Run) (scan : Scan) where
       same_number : KeepsIdentity run following → is.listed.number ≡ file.opened.number
       same_number keeps =
           listed_is_opened run file.opened file.looks placed file.changed file.turned.history scan is.listed.number file.opened.begin.path is.rule_is is.file_is is.tail
-          (still_has_name file.opened.rule file.opened.begin.key file.opened.begin.path file.opened.file file.looks (is_named run scan by file is).identity is.key_is)
+          (opens_with_key run scan file is)
           by.only is.listed.first.shows keeps
 
       is_file_of : KeepsIdentity run following → IsFileOf run file.opened file.looks
@@ -137,9 +138,8 @@ module _ (run : Run) (scan : Scan) where
 
       slot_is_account : KeepsIdentity run following → SeesTruncationsOf following → IsSlotAccount run (account_of placed file)
       slot_is_account keeps sees =
-          is_slot_account run file.opened file.turned (tail_of file) placed file.changed sees.last_read is.told (is_file_of keeps) by.once is.in_range
-          (is_named run scan by file is).identity is.key_is
-          (subst (SeesTruncations sees.last_read) (append-nil (segments_of file.opened.begin.base file.looks)) sees.seen) is_noted_moment
+          is_slot_account run file.opened file.turned (tail_of file) placed file.changed sees.last_read is.told is.gave (is_file_of keeps) by.once is.in_range
+          (subst (SeesTruncations sees.last_read) (append-nil (segments_of file.opened.begin.base (kept_looks file.turned.history file.looks))) sees.seen) is_noted_moment
 
     slots_are_accounts : (files : List Filed) → AllByRecursion (IsFollowedFile run scan) files → AllByRecursion (KeepsIdentity run) (followings_of placed files) →
         AllByRecursion SeesTruncationsOf (followings_of placed files) → AllByRecursion (IsSlotAccount run) (accounts_of placed files)

@@ -25,6 +25,7 @@ use Rattle.accounts.specs.Accounted.{accounted, epoch_account, epoch_accounts, p
 use Rattle.accounts.specs.Filed.{Filed, IsFiled, account_of, accounts_of, slot_in}
 use Rattle.accounts.specs.Ground.{IsSettlementOf}
 use Rattle.accounts.specs.Opened.{Opened}
+use Rattle.accounts.specs.Parted.{kept_looks}
 use Rattle.accounts.specs.Turned.{tellings_in}
 use Rattle.accounts.proofs.Apart.{epochs_apart, numbers_of}
 
@@ -96,7 +97,7 @@ module _ (placed : Parcel → Option Place) where
     pub epoch_in : (telling : Telling) → Contains (tellings_in file.turned.history) telling → HasEpoch file.opened telling (epoch_of account file.turned.slot.0 telling.epoch)
     epoch_in telling there =
         let numbers = epochs_apart file.opened.begin.epoch.0 file.opened.begin.base (tellings_in file.turned.history) filed.epochs in
-        let found = epoch_found file.opened file.opened.begin.epoch.0 (tellings_in file.turned.history) (segments_of file.opened.begin.base file.looks) telling there numbers filed.few in
+        let found = epoch_found file.opened file.opened.begin.epoch.0 (tellings_in file.turned.history) (segments_of file.opened.begin.base (kept_looks file.turned.history file.looks)) telling there numbers filed.few in
         record {
           segment = found.segment;
           is = ap (λ (n : ℕ). epoch_of account n telling.epoch) slot_is

@@ -1,19 +1,21 @@
--- A run that is done drained its folder: each entry that an input covers was skipped, or its file has a row that stands at the end
--- of its last complete line.
-use Rattle.std.proofs.Common.{◌≡◌, ◌⊎◌, inl, inr, ℕ, List, [], ◌∷◌, ◌++◌, Contains, Option, None, Some, refl, sym, ap, subst, ◌∙◌, append-nil}
+-- A run that is done drained its folder: each entry that an input covers was skipped, or its file was found with another key, or it has a
+-- row that stands at the end of its last complete line.
+use Rattle.std.proofs.Common.{◌≡◌, ◌⊎◌, inl, inr, ℕ, List, [], ◌∷◌, ◌++◌, Contains, Option, Some, refl, sym, ap, subst, ◌∙◌, append-nil}
 use Rattle.std.specs.Prelude.{slice_get}
-use Rattle.std.specs.List.{AllByRecursion}
 use Rattle.event_tree.specs.declared.input_rule.InputRule.{InputRule}
-use Rattle.file_identity.specs.Key.{named_key}
+use Rattle.file_identity.specs.AskedAgain.{HasOtherKey}
 use Rattle.file_looks.specs.Segment.{segments_of}
 use Rattle.file_looks.specs.Truncation.{SeesTruncations}
-use Rattle.harvester.specs.History.{Telling, told_to}
+use Rattle.harvester.specs.History.{Changed, Telling, told_to}
 use Rattle.kept_rows.specs.Account.{Place, SlotAccount}
-use Rattle.kept_rows.specs.Drained.{HasRow, IsDoneWith, IsDrained, IsOfNoOther, IsPassedOver, IsReadToItsEnd}
+use Rattle.kept_rows.specs.Drained.{HasRow, IsChanged, IsDoneWith, IsDrained, IsPassedOver, IsReadToItsEnd}
 use Rattle.kept_rows.specs.Premises.{Premises, SeesTruncationsOf}
-use Rattle.kept_rows.specs.Run.{Asking, Run, Scan}
-use Rattle.kept_rows.specs.Scans.{Gave, IsAskedIn, IsCovered, IsWhole, MetNoFault, ShowsEntry, ShowsFileTo, WasAskedWell}
+use Rattle.kept_rows.specs.Run.{Run, Scan}
+use Rattle.kept_rows.specs.Scans.{IsCovered, IsWhole, ShowsEntry, ShowsFileTo}
+use Rattle.kept_rows.specs.Trace.{IsTail}
+use Rattle.outside.specs.declared.history.Look.{Look}
 use Rattle.outside.specs.declared.history.Shown.{Shown}
+use Rattle.ship_core.proofs.Members.{first_there}
 use Rattle.ship_core.specs.CoveredEnd.{Adjoin}
 use Rattle.ship_core.specs.RowOver.{notes_of, standing_row}
 use Rattle.ship_core.specs.RowsOver.{AreRowsOver}
@@ -22,67 +24,47 @@ use Rattle.wire_base.specs.declared.note.Note.{Note}
 use Rattle.wire_base.specs.declared.parcel.Parcel.{Parcel}
 use Rattle.wire_base.specs.declared.row.Row.{Row}
 use Rattle.accounts.specs.RunDone.{IsAmongFiles, IsFullScan, RunDone, IsToldWhole}
+use Rattle.accounts.specs.Accounted.{followed_tail}
 use Rattle.accounts.specs.Filed.{Filed, IsNoted, account_of, accounts_of, slot_in}
 use Rattle.accounts.specs.FollowedFile.{IsFollowedFile, key_in, tail_of}
-use Rattle.accounts.specs.OneScan.{IsAskedByEntry, IsByOneScan, IsNamed}
+use Rattle.accounts.specs.OneScan.{IsByOneScan}
+use Rattle.accounts.specs.Parted.{kept_looks}
 use Rattle.accounts.specs.RunTold.{RunTold}
 use Rattle.accounts.specs.Taken.{Taken, acknowledged_in}
+use Rattle.accounts.specs.ToldFile.{IsReadThrough, IsToldToItsEnd}
 use Rattle.accounts.proofs.Accounts.{are_in_epochs, have_slots}
 use Rattle.accounts.proofs.Backed.{are_noted}
 use Rattle.accounts.proofs.BegunRows.{begun_row, have_ground}
-use Rattle.accounts.proofs.Backing.{mapped_there}
+use Rattle.accounts.proofs.Backing.{mapped_there, slot_found}
 use Rattle.accounts.proofs.Ends.{is_in_epochs, is_read_to_its_end}
-use Rattle.accounts.proofs.Following.{followings_of, got_each}
+use Rattle.accounts.proofs.Following.{followings_of}
 use Rattle.accounts.proofs.LastEpoch.{epoch_is, offset_is}
 use Rattle.accounts.proofs.LastNotes.{moment_is}
 use Rattle.accounts.proofs.Lists.{last_of_each}
 use Rattle.accounts.proofs.Ordered.{first_notes_settle_nothing, slots_apart, turned_apart}
 use Rattle.accounts.proofs.Orderly.{member_is}
+use Rattle.accounts.proofs.Segmented.{is_lost}
+use Rattle.accounts.proofs.Slots.{tells_both}
 
 -- ---- the scan
 
-module _ (run : Run) (scan : Scan) (by : IsByOneScan run scan) where
-  asked_well : (asking : Asking) → IsAskedByEntry run.settings.inputs asking → WasAskedWell run scan asking
-  asked_well asking is =
-      let named = got_each IsNamed run.settings.inputs asking.input is.rule by.inputs.each is.rule_is in
-      record {
-        asked_in = subst (IsAskedIn run scan) (sym is.no_tail) tt;
-        rule = is.rule;
-        rule_is = is.rule_is;
-        well = subst (MetNoFault run.trace is.rule.file_identity asking.path) (sym is.no_tail) named.identity;
-      }
-
-  each_asked_well : (askings : List Asking) → AllByRecursion (IsAskedByEntry run.settings.inputs) askings → AllByRecursion (WasAskedWell run scan) askings
-  each_asked_well [] each = tt
-  each_asked_well (asking ∷ askings) each = (asked_well asking each.0, each_asked_well askings each.1)
-
-  -- a full scan met no fault, since it asked no tail
-  pub whole_by_entries : IsFullScan run scan → IsWhole run scan
-  whole_by_entries full = record {
-    not_cut_off = full.not_cut_off;
-    none_failed = full.none_failed;
-    each_asked = full.each_asked;
-    none_faulty = each_asked_well scan.askings by.askings;
-  }
-
--- no tail was opened to ask for a key
-none_of_others : (inputs : List InputRule) (askings : List Asking) (input opening : ℕ) → AllByRecursion (IsAskedByEntry inputs) askings →
-    AllByRecursion (λ (asking : Asking). asking.opening ≡ Some opening → asking.input ≡ input) askings
-none_of_others inputs [] input opening each = tt
-none_of_others inputs (asking ∷ askings) input opening each =
-    ((λ is. absurd (let q : None ≡ Some opening = sym each.0.no_tail ∙ is in cc)), none_of_others inputs askings input opening each.1)
-
--- so no opening was made for another input
-pub of_no_other : (run : Run) (scan : Scan) → run.scans ≡ scan ∷ [] → AllByRecursion (IsAskedByEntry run.settings.inputs) scan.askings → (input opening : ℕ) → IsOfNoOther run input opening
-of_no_other run scan only askings input opening =
-    subst (AllByRecursion (λ (s : Scan). AllByRecursion (λ (asking : Asking). asking.opening ≡ Some opening → asking.input ≡ input) s.askings)) (sym only)
-    (none_of_others run.settings.inputs scan.askings input opening askings, tt)
+-- a full scan met no fault
+pub whole_by_entries : (run : Run) (scan : Scan) → IsByOneScan run scan → IsFullScan run scan → IsWhole run scan
+whole_by_entries run scan by full = record {
+  not_cut_off = full.not_cut_off;
+  none_failed = full.none_failed;
+  each_asked = full.each_asked;
+  none_faulty = by.asked_well;
+}
 
 -- ---- its files
 
 same_rule : (rules : List InputRule) (input other : ℕ) (rule another : InputRule) → slice_get rules input ≡ Some rule → slice_get rules other ≡ Some another → input ≡ other → rule ≡ another
 same_rule rules input other rule another is and same =
     let q : Some rule ≡ Some another = sym is ∙ ap (slice_get rules) same ∙ and in cc
+
+no_look : (fall : Look) (later : List Look) → fall ∷ later ≡ [] → ⊥
+no_look fall later none = cc
 
 module _ (run : Run) (scan : Scan) (files : List Filed) (workers : List Taken) (first collected : List Note) (told : RunTold run scan files workers first collected)
     (done : RunDone run scan files workers first collected) (placed : Parcel → Option Place) (premises : Premises run (followings_of placed files))
@@ -145,47 +127,27 @@ module _ (run : Run) (scan : Scan) (files : List Filed) (workers : List Taken) (
           },
         )
 
-    row_is_read : (row : Row) → IsItsRow row → IsReadToItsEnd run file.opened.rule (accounts_of placed files) row
-    row_is_read row is =
-        is_read_to_its_end run placed files file.opened file.turned (tail_of file) file.changed sees.last_read (slots_apart 0 files told.followed.slots) among followed.told
+    row_is_read : IsToldToItsEnd file.turned.history → (row : Row) → IsItsRow row → IsReadToItsEnd run file.opened.rule (accounts_of placed files) row
+    row_is_read ended row is =
+        is_read_to_its_end run placed files file.opened file.turned (tail_of file) file.changed sees.last_read (slots_apart 0 files told.followed.slots) among followed.told followed.gave
         followed.in_range followed.file_is
-        (subst (SeesTruncations sees.last_read) (append-nil (segments_of file.opened.begin.base file.looks)) sees.seen)
-        whole.to_its_end row (sym is.key_is) is.epoch_so is.offset_so
+        (subst (SeesTruncations sees.last_read) (append-nil (segments_of file.opened.begin.base (kept_looks file.turned.history file.looks))) sees.seen)
+        ended row (sym is.key_is) is.epoch_so is.offset_so
 
-    -- the entry that an input covers has it
-    module _ (shown : Shown) (input : ℕ) (rule : InputRule) (entry : ShowsEntry run.trace scan shown) (rule_is : slice_get run.settings.inputs input ≡ Some rule)
-        (covered : IsCovered rule.paths shown.entry.path) (input_is : file.opened.begin.input ≡ input) (path_is : file.opened.begin.path ≡ shown.entry.path)
-        (key_is : named_key rule.id rule.file_identity shown.entry.path shown.entry.native ≡ Some (key_in file)) where
+    -- the entry that an input covers shows it
+    module _ (shown : Shown) (input : ℕ) (rule : InputRule) (rule_is : slice_get run.settings.inputs input ≡ Some rule) (input_is : file.opened.begin.input ≡ input)
+        (path_is : file.opened.begin.path ≡ shown.entry.path) (number : ℕ) (shows : ShowsFileTo run scan input (key_in file) number shown) where
       rule_same : file.opened.rule ≡ rule
       rule_same = same_rule run.settings.inputs file.opened.begin.input input file.opened.rule rule followed.rule_is rule_is input_is
 
-      shows_it : ShowsFileTo run scan input (key_in file) shown.file shown
-      shows_it =
-          let asked = done.full.each_asked shown input rule entry rule_is covered in
-          let by_entry = member_is (IsAskedByEntry run.settings.inputs) scan.askings asked.asking told.by.askings asked.asks.of_scan in
-          let named = got_each IsNamed run.settings.inputs input rule told.by.inputs.each rule_is in
-          let gave : Gave run.trace rule shown None (Some (key_in file)) shown.file = record {
-            no_bytes = named.identity;
-            number_is = refl;
-            gave = sym key_is;
-          } in
-          record {
-            asking = asked.asking;
-            asks = asked.asks;
-            rule = rule;
-            rule_is = rule_is;
-            covered = covered;
-            gave = subst (λ (o : Option ℕ). Gave run.trace rule shown o (Some (key_in file)) shown.file) (sym by_entry.no_tail) gave;
-          }
-
-      has_row : HasRow run rule (accounts_of placed files) rows scan shown input
-      has_row =
+      has_row : IsToldToItsEnd file.turned.history → HasRow run rule (accounts_of placed files) rows scan shown input
+      has_row ended =
           let row = has_its_row.0 in
           let is = has_its_row.1 in
           record {
             key = key_in file;
-            number = shown.file;
-            shows = shows_it;
+            number = number;
+            shows = shows;
             row = row;
             of_rows = is.of_rows;
             key_is = is.key_is;
@@ -193,8 +155,36 @@ module _ (run : Run) (scan : Scan) (files : List Filed) (workers : List Taken) (
             lists = whole.moment.entry;
             same_path = whole.moment.path_is ∙ path_is;
             moment_is = is.moment_so ∙ whole.moment.changed_is;
-            read = subst (λ (r : InputRule). IsReadToItsEnd run r (accounts_of placed files) row) rule_same (row_is_read row is);
+            read = subst (λ (r : InputRule). IsReadToItsEnd run r (accounts_of placed files) row) rule_same (row_is_read ended row is);
           }
+
+      is_changed : file.turned.history.stage ≡ Changed → IsChanged run rule (accounts_of placed files) scan shown input
+      is_changed changed =
+          let lost = is_lost file.turned.history file.opened (tail_of file) followed.told.tail.file followed.told.history.begin followed.told.history.rule followed.told.looked changed in
+          record {
+            key = key_in file;
+            number = number;
+            shows = shows;
+            slot = slot_in file;
+            one = account_of placed file;
+            slot_is = slot_found placed files file among (slots_apart 0 files told.followed.slots);
+            key_is = refl;
+            tail = followed_tail file.opened file.looks file.turned.history;
+            of_slot = first_there (followed_tail file.opened file.looks file.turned.history) [];
+            lost = λ none. no_look lost.fall lost.later (sym lost.lost_are ∙ none);
+            path = file.opened.begin.path;
+            file = file.opened.file;
+            file_is = followed.file_is;
+            fall = lost.fall;
+            later = lost.later;
+            told = subst (λ (l : List Look). IsTail run.trace file.opened.opening file.opened.begin.path file.opened.number (kept_looks file.turned.history file.looks ++ l)) lost.lost_are
+                (tells_both run file.opened file.turned.history file.looks followed.tail);
+            other_key = subst (λ (r : InputRule). HasOtherKey r file.opened.begin.key file.opened.begin.path file.opened.file lost.later) rule_same lost.other;
+          }
+
+      is_done_with : IsReadThrough file.turned.history → IsDoneWith run (accounts_of placed files) rows rule scan shown input
+      is_done_with (inl ended) = inr (inr (has_row ended))
+      is_done_with (inr changed) = inr (inl (is_changed changed))
 
   -- ---- all entries
 
@@ -207,7 +197,7 @@ module _ (run : Run) (scan : Scan) (files : List Filed) (workers : List Taken) (
   }
     where
       by_case : (shown : Shown) (input : ℕ) (rule : InputRule) → ShowsEntry run.trace scan shown → slice_get run.settings.inputs input ≡ Some rule →
-          IsCovered rule.paths shown.entry.path → IsAmongFiles files rule shown input ⊎ IsPassedOver run rule scan shown input → IsDoneWith run (accounts_of placed files) rows rule scan shown input
+          IsCovered rule.paths shown.entry.path → IsAmongFiles run scan files shown input ⊎ IsPassedOver run rule scan shown input → IsDoneWith run (accounts_of placed files) rows rule scan shown input
       by_case shown input rule entry rule_is covered (inr passed) = inl passed
       by_case shown input rule entry rule_is covered (inl here) =
-          inr (inr (has_row here.file here.of_files shown input rule entry rule_is covered here.input_is here.path_is here.key_is))
+          is_done_with here.file here.of_files shown input rule rule_is here.input_is here.path_is here.number here.shows (whole here.file here.of_files).read_through

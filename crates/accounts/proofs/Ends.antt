@@ -1,16 +1,16 @@
 -- A file that is told to its end has a row that stands there, where its events are settled.
-use Rattle.std.proofs.Common.{◌≡◌, ◌⊎◌, inl, inr, ℕ, ◌+◌, ◌==◌, List, [], ◌∷◌, ◌++◌, Contains, length, take, drop, map, Option, Some, refl, sym, ap, subst, ◌∙◌, append-nil, arith}
+use Rattle.std.proofs.Common.{◌≡◌, ◌⊎◌, inl, inr, ℕ, ◌+◌, ◌==◌, false, List, [], ◌∷◌, ◌++◌, Contains, length, take, drop, map, Option, Some, refl, sym, ap, subst, ◌∙◌, append-nil, arith}
 use Rattle.std.specs.Prelude.{slice_get}
-use Rattle.std.specs.List.{AllByRecursion}
 use Rattle.std.proofs.lemmas.List.{drop-take}
 use Rattle.std.proofs.lemmas.Bool.{cond-false, cond-true, eq-eqb, ne_eqb}
 use Rattle.event_tree.specs.declared.input_rule.InputRule.{InputRule}
 use Rattle.event_tree.specs.declared.line_rule.LineRule.{LineRule}
 use Rattle.event_tree.specs.declared.processor_rule.ProcessorRule.{ProcessorRule}
 use Rattle.file_identity.specs.Answers.{with_numbers}
+use Rattle.file_identity.specs.AskedAgain.{GivesKey}
 use Rattle.file_looks.proofs.OneLife.{each_reads}
 use Rattle.file_looks.specs.Looks.{AreLooks}
-use Rattle.file_looks.specs.Reading.{EachReadsLife, ReadOn, ReadsLife, last_life}
+use Rattle.file_looks.specs.Reading.{EachReadsLife, ReadsLife, last_life}
 use Rattle.file_looks.specs.Segment.{Segment, segments_of, steps_in}
 use Rattle.file_looks.specs.Truncation.{SeesTruncations}
 use Rattle.harvester.specs.History.{HasBytes, History, IsTelling, Stage, Telling, left_to_tell, read_to, rules_in, told_to}
@@ -35,14 +35,17 @@ use Rattle.wire_base.specs.declared.row.Row.{Row}
 use Rattle.accounts.specs.Accounted.{epoch_account, epoch_accounts, life_by}
 use Rattle.accounts.specs.Filed.{Filed, IsFiled, accounts_of, account_of, slot_in}
 use Rattle.accounts.specs.Opened.{Opened}
+use Rattle.accounts.specs.Parted.{has_lost_key, kept_looks, loses_key_at}
 use Rattle.accounts.specs.ToldFile.{IsToldFile, IsToldToItsEnd}
 use Rattle.accounts.specs.Turned.{Turned, tellings_in}
-use Rattle.accounts.proofs.Accounting.{as_many, epochs_have_segments}
+use Rattle.accounts.proofs.Accounting.{as_many}
 use Rattle.accounts.proofs.Apart.{IsInEpochs, epochs_apart, numbers_of, told_spans_adjoin}
 use Rattle.accounts.proofs.Backing.{mapped_there, slot_found}
+use Rattle.accounts.proofs.JoinedFile.{joined_turned, told_joined}
 use Rattle.accounts.proofs.Lists.{each_then, last_of_each}
 use Rattle.accounts.proofs.Lives.{bytes_or_none}
-use Rattle.accounts.proofs.Slots.{reads_on}
+use Rattle.accounts.proofs.Parting.{all_kept}
+use Rattle.accounts.proofs.Slots.{file_is_read, kept_are_looks}
 use Rattle.accounts.proofs.Within.{ends_at_last_line, none_of_nothing}
 
 -- ---- of what was told of a file
@@ -60,13 +63,10 @@ module _ (processors : List ProcessorRule) (opened : Opened) (moments : List ℕ
         (λ telling tells. told_spans_adjoin (rules_in turned.history) telling (rule_in_range told is) tells) is.epochs;
   }
 
-  pub is_filed : (told : TailHistory) (changed : ℕ) → IsToldFile processors opened moments turned (Some told) →
-      IsFiled (record { opened = opened; turned = turned; looks = told.looks; changed = changed })
-  is_filed told changed is = record {
-    slot = is.slot;
-    epochs = is.history.epochs;
-    few = epochs_have_segments opened.file.numbers opened turned.history told is.history.begin is.history.none_before is.looked;
-  }
+  pub is_filed : (told : TailHistory) (changed : ℕ) → GivesKey opened.rule opened.begin.key opened.begin.path opened.file opened.asked →
+      IsToldFile processors opened moments turned (Some told) → IsFiled (record { opened = opened; turned = turned; looks = told.looks; changed = changed })
+  is_filed told changed gave is =
+      record { slot = is.slot; epochs = is.history.epochs; few = (file_is_read processors opened moments turned told gave is).few }
 
 -- ---- the present epoch in the account
 
@@ -123,26 +123,29 @@ ends_there h opened segment in_range tells all_told read some = by_case (bytes_o
 -- a file that is told to its end
 pub is_read_to_its_end : (run : Run) (placed : Parcel → Option Place) (files : List Filed) (opened : Opened) (turned : Turned) (told : TailHistory) (changed last : ℕ) →
     AreDistinct (map slot_in files) → Contains files (record { opened = opened; turned = turned; looks = told.looks; changed = changed }) →
-    IsToldFile run.settings.processors opened run.trace.moments turned (Some told) → IsGroupRule opened.rule.multiline → slice_get run.trace.files opened.number ≡ Some opened.file →
-    SeesTruncations last (segments_of opened.begin.base told.looks) → IsToldToItsEnd turned.history →
+    IsToldFile run.settings.processors opened run.trace.moments turned (Some told) → GivesKey opened.rule opened.begin.key opened.begin.path opened.file opened.asked →
+    IsGroupRule opened.rule.multiline → slice_get run.trace.files opened.number ≡ Some opened.file →
+    SeesTruncations last (segments_of opened.begin.base (kept_looks turned.history told.looks)) → IsToldToItsEnd turned.history →
     (row : Row) → opened.begin.key ≡ row.key → row.epoch.0 ≡ turned.history.present.epoch → row.offset ≡ told_to turned.history.present →
     IsReadToItsEnd run opened.rule (accounts_of placed files) row
-is_read_to_its_end run placed files opened turned told changed last apart among is in_range file_is seen ended row key epoch offset =
-    let h = turned.history in
-    let looked = is.looked in
+is_read_to_its_end run placed files opened turned told changed last apart among is gave in_range file_is seen ended row key epoch offset =
+    let joined = told_joined run.settings.processors opened run.trace.moments turned told gave.asking is in
+    let h = (joined_turned turned).history in
+    let looked = joined.looked in
+    let kept = kept_looks h told.looks in
     let filed : Filed = record { opened = opened; turned = turned; looks = told.looks; changed = changed } in
     let file : with_numbers opened.file.numbers told.file ≡ opened.file = ap (with_numbers opened.file.numbers) is.tail.file in
     let past : AreReadBy h opened.file h.past looked.front = subst (λ (f : File). AreReadBy h f h.past looked.front) file looked.past in
     let present : IsReadBy h opened.file h.present looked.last = subst (λ (f : File). IsReadBy h f h.present looked.last) file looked.present in
     let nothing : looked.beyond ≡ [] = subst (λ (s : Stage). StandBehind h (with_numbers opened.file.numbers told.file) s looked.beyond) ended.ended looked.stand_behind in
     let base : h.begin.base ≡ opened.begin.base = ap (λ (b : Begin). b.base) is.history.begin in
-    let since : told.looks ≡ looked.since = looked.looks_are ∙ ap (λ (l : List Look). l ++ (looked.since ++ looked.beyond)) is.history.none_before
-    ∙ ap (λ (l : List Look). looked.since ++ l) nothing ∙ append-nil looked.since in
-    let segments : looked.front ++ looked.last ∷ [] ≡ segments_of opened.begin.base told.looks =
+    let keeps : has_lost_key h ≡ false = ap (λ (s : Stage). loses_key_at s h.rule.file_identity) ended.ended in
+    let since : kept ≡ looked.since = all_kept h told.looks keeps ∙ looked.looks_are ∙ ap (λ (l : List Look). looked.since ++ l) nothing ∙ append-nil looked.since in
+    let segments : looked.front ++ looked.last ∷ [] ≡ segments_of opened.begin.base kept =
     sym looked.segments ∙ ap (λ (n : ℕ). segments_of n looked.since) base ∙ ap (segments_of opened.begin.base) (sym since) in
-    let on = subst (AllByRecursion (λ (segment : Segment). ReadOn (steps_in segment))) segments (reads_on h opened.file h.past h.present looked.front looked.last [] past present tt) in
-    let looks : AreLooks opened.file told.begun told.looks = subst (λ (f : File). AreLooks f told.begun told.looks) is.tail.file is.tells in
-    let lives = each_reads opened.file told.begun opened.begin.base last told.looks looks on seen in
+    let on = (file_is_read run.settings.processors opened run.trace.moments turned told gave is).on in
+    let looks : AreLooks opened.file told.begun kept = kept_are_looks h opened.file told.begun told.looks (subst (λ (f : File). AreLooks f told.begun told.looks) is.tail.file is.tells) in
+    let lives = each_reads opened.file told.begun opened.begin.base last kept looks on seen in
     let some = last_reads opened.file last looked.front looked.last [] (subst (EachReadsLife opened.file last) (sym segments) lives) in
     let numbers = epochs_apart opened.begin.epoch.0 opened.begin.base (tellings_in h) is.history.epochs in
     let found = last_epoch opened placed opened.begin.epoch.0 h.past h.present looked.front looked.last [] (as_many h opened.file h.past looked.front past) numbers in

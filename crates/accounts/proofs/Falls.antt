@@ -133,6 +133,10 @@ none_counts place (look ∷ later) reads = (
       (none_counts (place + read_by (step_at false place look)) later reads.1),
 )
 
+-- so it begins one segment
+pub fallen_are : (fall : Look) (later : List Look) → AllByRecursion (λ (look : Look). IsRead look.question) later → fallen fall later ≡ record { place = 0; fall = Some fall; looks = later } ∷ []
+fallen_are fall later reads = ap (λ (c : Cut). record { place = 0; fall = Some fall; looks = c.looks } ∷ c.later) (uncut false 0 later reads)
+
 pub fallen_reads_on : (fall : Look) (later : List Look) → AllByRecursion (λ (look : Look). IsRead look.question) later →
     AllByRecursion (λ (segment : Segment). ReadOn (steps_in segment)) (fallen fall later)
 fallen_reads_on fall later reads =

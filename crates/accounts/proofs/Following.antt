@@ -1,21 +1,21 @@
--- How the files of a run are followed that made one scan and knows them by what listings tell: by their paths or native numbers.
-use Rattle.std.proofs.Common.{◌≡◌, ◌⊎◌, inl, inr, ℕ, zero, suc, ◌+◌, ◌<◌, List, [], ◌∷◌, ◌++◌, Contains, map, Option, Some, None, refl, sym, ap, subst, ◌∙◌, append-nil, arith}
+-- How the files of a run are followed that made one scan.
+use Rattle.std.proofs.Common.{◌≡◌, ◌⊎◌, inl, ℕ, zero, suc, ◌+◌, ◌<◌, List, [], ◌∷◌, ◌++◌, Contains, map, Option, Some, None, refl, sym, ap, subst, arith}
 use Rattle.std.specs.Prelude.{slice_get}
-use Rattle.std.specs.List.{AllByRecursion, filter_map, flat_map}
-use Rattle.file_identity.specs.AskedAgain.{KeepsKey}
-use Rattle.file_looks.specs.Segment.{segments_of}
+use Rattle.std.specs.List.{AllByRecursion}
+use Rattle.file_identity.specs.AskedAgain.{StillHasKey}
 use Rattle.kept_rows.specs.Account.{Following, Place, SlotAccount}
 use Rattle.kept_rows.specs.Followed.{AreFollowed, AreInTurn, AreRising, IsFollowing, IsGoneBefore, IsNewlyKnown, OnlyReads, asked_openings, followed_openings}
-use Rattle.kept_rows.specs.Run.{Asking, Run, Scan}
+use Rattle.kept_rows.specs.Run.{Run, Scan}
 use Rattle.kept_rows.specs.Scans.{AllButTheLast, AreAsked, AreDistinct, IsFirstPath}
-use Rattle.kept_rows.specs.Trace.{IsTail}
 use Rattle.ship_core.proofs.Members.{first_there, later_there}
 use Rattle.wire_base.specs.declared.parcel.Parcel.{Parcel}
 use Rattle.accounts.specs.Filed.{Filed, account_of, accounts_of}
 use Rattle.accounts.specs.FollowedFile.{AreFollowedFiles, AreInSlots, IsFollowedFile, key_in, opening_in, tail_of}
-use Rattle.accounts.specs.OneScan.{IsAskedByEntry, IsByOneScan, IsNamed}
-use Rattle.accounts.proofs.NamedKeys.{named_key_of_input}
-use Rattle.accounts.proofs.Slots.{read_by_name, still_has_name}
+use Rattle.accounts.specs.OneScan.{IsByOneScan}
+use Rattle.accounts.specs.Parted.{kept_looks}
+use Rattle.accounts.proofs.NamedKeys.{given_key_of_input}
+use Rattle.accounts.proofs.Segmented.{opened_with_key}
+use Rattle.accounts.proofs.Slots.{file_is_read, tells_both}
 
 -- ---- lists
 
@@ -38,22 +38,26 @@ all_of P (x ∷ xs) each = (each x, all_of P xs each)
 abbrev pub followings_of : (Parcel → Option Place) → List Filed → List Following
 followings_of placed files = map (λ (one : SlotAccount). one.following) (accounts_of placed files)
 
+-- as its tail was opened, the file gave its key
+pub opens_with_key : (run : Run) (scan : Scan) (file : Filed) → IsFollowedFile run scan file →
+    StillHasKey file.opened.rule file.opened.begin.key file.opened.begin.path file.opened.file (kept_looks file.turned.history file.looks)
+opens_with_key run scan file is =
+    opened_with_key file.turned.history file.opened (tail_of file) is.told.tail.file is.told.history.begin is.told.history.rule is.told.looked
+    file.opened.asked is.told.history.asked_before is.gave
+
 module _ (run : Run) (scan : Scan) (by : IsByOneScan run scan) where
   -- ---- a file
 
   module _ (file : Filed) (is : IsFollowedFile run scan file) where
-    pub is_named : IsNamed file.opened.rule
-    is_named = got_each IsNamed run.settings.inputs file.opened.begin.input file.opened.rule by.inputs.each is.rule_is
-
     pub scan_is : slice_get run.scans 0 ≡ Some scan
     scan_is = ap (λ (l : List Scan). slice_get l 0) by.only
 
     module _ (placed : Parcel → Option Place) where
       pub is_following : IsFollowing run (account_of placed file).following
-      is_following = record {
+      is_following = let read = file_is_read run.settings.processors file.opened run.trace.moments file.turned (tail_of file) is.gave is.told in record {
         rule = file.opened.rule;
         rule_is = is.rule_is;
-        key_of_input = named_key_of_input file.opened.rule.id file.opened.rule.file_identity file.opened.begin.path file.opened.file.numbers file.opened.begin.key is.key_is;
+        key_of_input = given_key_of_input file.opened.rule.id file.opened.rule.file_identity file.opened.begin.path file.opened.file file.opened.asked file.opened.begin.key is.gave.gave;
         begun = record {
           scan = scan;
           scan_is = scan_is;
@@ -71,13 +75,11 @@ module _ (run : Run) (scan : Scan) (by : IsByOneScan run scan) where
             number = file.opened.number;
             file = file.opened.file;
             file_is = is.file_is;
-            told = subst (IsTail run.trace file.opened.opening file.opened.begin.path file.opened.number) (sym (append-nil file.looks)) is.tail;
-            opened_with_key = still_has_name file.opened.rule file.opened.begin.key file.opened.begin.path file.opened.file file.looks is_named.identity is.key_is;
-            kept_key = all_of (KeepsKey file.opened.rule file.opened.begin.key file.opened.begin.path file.opened.file) (segments_of file.opened.begin.base file.looks)
-                (λ segment. inr (still_has_name file.opened.rule file.opened.begin.key file.opened.begin.path file.opened.file segment.looks is_named.identity is.key_is));
-            reads_on = (read_by_name file.turned.history file.opened (tail_of file) refl is.told.history.begin is.told.history.none_before is.told.history.rule
-                is_named.identity is.key_is is.told.looked).on;
-            end = inl refl;
+            told = tells_both run file.opened file.turned.history file.looks is.tail;
+            opened_with_key = opens_with_key run scan file is;
+            kept_key = read.kept;
+            reads_on = read.on;
+            end = read.end;
           },
           tt,
         );
@@ -114,16 +116,6 @@ module _ (run : Run) (scan : Scan) (by : IsByOneScan run scan) where
     openings_are [] = refl
     openings_are (file ∷ files) = ap (λ (l : List ℕ). file.opened.opening ∷ l) (openings_are files)
 
-  no_tails : (askings : List Asking) → AllByRecursion (IsAskedByEntry run.settings.inputs) askings → filter_map (λ (asking : Asking). asking.opening) askings ≡ []
-  no_tails [] each = refl
-  no_tails (asking ∷ askings) each = rw each.0.no_tail (no_tails askings each.1)
-
-  none_asked : asked_openings run ≡ []
-  none_asked =
-      ap (λ (l : List Scan). flat_map (λ (s : Scan). filter_map (λ (asking : Asking). asking.opening) s.askings) l) by.only
-      ∙ append-nil (filter_map (λ (asking : Asking). asking.opening) scan.askings)
-      ∙ no_tails scan.askings by.askings
-
   -- the files of a run are followed so
   pub are_followed : (placed : Parcel → Option Place) (files : List Filed) → AreFollowedFiles run scan files → AreFollowed run (followings_of placed files)
   are_followed placed files are =
@@ -135,7 +127,7 @@ module _ (run : Run) (scan : Scan) (by : IsByOneScan run scan) where
         slots_rise = are_rising placed 0 files are.slots;
         in_turn = are_in_turn placed files are.keys_apart;
         newly_known = are_known_at_once placed (followings_of placed files) files;
-        openings_apart = subst AreDistinct (sym (ap (λ (l : List ℕ). l ++ followed_openings (followings_of placed files)) none_asked ∙ openings)) are.openings_apart;
+        openings_apart = subst AreDistinct (sym (ap (λ (l : List ℕ). asked_openings run ++ l) openings)) are.openings_apart;
         openings_serve = λ opening path number begun since is.
             subst (λ (l : List ℕ). Contains l opening ⊎ OnlyReads run.trace opening) (sym openings) (are.openings_serve opening path number begun since is);
       }

@@ -67,7 +67,7 @@ module _ (processors : List ProcessorRule) (moments : List ℕ) where
     rule = is.rule;
     processors_are = is.processors_are;
     begin = is.begin;
-    none_before = is.none_before;
+    asked_before = is.asked_before;
     path = is.path;
     not_ending = is.not_ending;
     not_forgotten = is.not_forgotten;
@@ -79,7 +79,7 @@ module _ (processors : List ProcessorRule) (moments : List ℕ) where
     rule = is.rule;
     processors_are = is.processors_are;
     begin = is.begin;
-    none_before = is.none_before;
+    asked_before = is.asked_before;
     path = is.path;
     not_ending = is.not_ending;
     not_forgotten = is.not_forgotten;

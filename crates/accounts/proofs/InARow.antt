@@ -1,7 +1,6 @@
 -- Runs in a row adjoin, by their accounts.
 use Rattle.std.proofs.Common.{◌≡◌, ◌⊎◌, inl, inr, ℕ, zero, suc, ◌+◌, ◌<◌, Bool, true, false, cond, eqb, List, [], ◌∷◌, Contains, map, Option, Some, None, refl, sym, ap, ◌∙◌, subst, arith}
 use Rattle.std.specs.Prelude.{nat_le, slice_get}
-use Rattle.std.specs.List.{AllByRecursion}
 use Rattle.std.proofs.lemmas.Bool.{eqb-true}
 use Rattle.event_tree.specs.declared.input_rule.InputRule.{InputRule}
 use Rattle.event_tree.specs.declared.settings.Settings.{Settings}
@@ -22,12 +21,11 @@ use Rattle.told_events.specs.Rules.{Rules, rules_of}
 use Rattle.told_events.specs.Told.{AreTold}
 use Rattle.wire_base.specs.declared.row.Row.{Row}
 use Rattle.accounts.specs.AccountedFor.{followings_in}
-use Rattle.accounts.specs.OneScan.{AreNamed, IsNamed}
 use Rattle.accounts.specs.RunsInARow.{AccountedRun, AdjoinInARow, HaveOwnIds, IsOfLife, IsRowOf, NoneWentBefore, TakesUp, part_of}
 use Rattle.accounts.proofs.Backing.{mapped_there}
 use Rattle.accounts.proofs.Following.{got_each, got_there}
 use Rattle.accounts.proofs.Grounded.{of_map}
-use Rattle.accounts.proofs.NamedKeys.{named_keys_of_one_id, same_id}
+use Rattle.accounts.proofs.NamedKeys.{named_key_of_input, same_id}
 use Rattle.accounts.proofs.Orderly.{member_is, same_item}
 
 -- ---- a key is of one input
@@ -54,22 +52,21 @@ same_place f (first ∷ xs) (suc k) zero x y apart at there same =
     absurd (apart.0 (subst (λ b. Contains (map f xs) b) (same ∙ ap f (sym here)) (mapped_there f xs x (got_there xs k x at))))
 same_place f (first ∷ xs) (suc k) (suc other) x y apart at there same = ap suc (same_place f xs k other x y apart.1 at there same)
 
--- a key that is told without a look is of one place of the settings
-pub input_of_named_key : (inputs : List InputRule) (input other : ℕ) (rule another : InputRule) (path q : List ℕ) (numbers m : Option (ℕ × ℕ)) (key : List ℕ) → AreNamed inputs →
+-- a key is of one place of the settings
+pub input_of_key : (inputs : List InputRule) (input other : ℕ) (rule another : InputRule) (key : List ℕ) → HaveOwnIds inputs →
+    slice_get inputs input ≡ Some rule → slice_get inputs other ≡ Some another → IsKeyOf rule.id key → IsKeyOf another.id key → input ≡ other
+input_of_key inputs input other rule another key own at there of also =
+    same_place (λ (r : InputRule). r.id) inputs input other rule another own.ids_apart at there
+    (same_id rule.id another.id key (got_each (λ (r : InputRule). HasNoColon r.id) inputs input rule own.no_colon at)
+    (got_each (λ (r : InputRule). HasNoColon r.id) inputs other another own.no_colon there) of also)
+
+-- so is one that is told without a look
+pub input_of_named_key : (inputs : List InputRule) (input other : ℕ) (rule another : InputRule) (path q : List ℕ) (numbers m : Option (ℕ × ℕ)) (key : List ℕ) → HaveOwnIds inputs →
     slice_get inputs input ≡ Some rule → slice_get inputs other ≡ Some another → named_key rule.id rule.file_identity path numbers ≡ Some key →
     named_key another.id another.file_identity q m ≡ Some key → input ≡ other
-input_of_named_key inputs input other rule another path q numbers m key named at there is and =
-    same_place (λ (r : InputRule). r.id) inputs input other rule another named.ids_apart at there
-    (named_keys_of_one_id rule.id another.id rule.file_identity another.file_identity path q numbers m key (got_each IsNamed inputs input rule named.each at).no_colon
-    (got_each IsNamed inputs other another named.each there).no_colon is and)
-
--- inputs that know their files without reading them have ids of their own
-pub named_have_own_ids : (inputs : List InputRule) → AreNamed inputs → HaveOwnIds inputs
-named_have_own_ids inputs by = record { no_colon = no_colon inputs by.each; ids_apart = by.ids_apart }
-  where
-    no_colon : (rules : List InputRule) → AllByRecursion IsNamed rules → AllByRecursion (λ (rule : InputRule). HasNoColon rule.id) rules
-    no_colon [] each = tt
-    no_colon (rule ∷ rules) each = (each.0.no_colon, no_colon rules each.1)
+input_of_named_key inputs input other rule another path q numbers m key own at there is and =
+    input_of_key inputs input other rule another key own at there (named_key_of_input rule.id rule.file_identity path numbers key is)
+    (named_key_of_input another.id another.file_identity q m key and)
 
 -- ---- from where the later run tells
 

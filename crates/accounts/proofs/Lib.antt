@@ -2,6 +2,7 @@ pub mod Accounting
 pub mod Accounts
 pub mod AccountingFor
 pub mod Apart
+pub mod Askings
 pub mod Backed
 pub mod Backing
 pub mod Beginning
@@ -18,6 +19,8 @@ pub mod Ground
 pub mod Grounded
 pub mod Histories
 pub mod InARow
+pub mod Joined
+pub mod JoinedFile
 pub mod Joining
 pub mod Keeping
 pub mod LastEpoch
@@ -31,10 +34,12 @@ pub mod Often
 pub mod Onward
 pub mod Ordered
 pub mod Orderly
+pub mod Parting
 pub mod Placed
 pub mod Places
 pub mod Placing
 pub mod Same
+pub mod Segmented
 pub mod Sending
 pub mod Settling
 pub mod Singles
@@ -45,6 +50,7 @@ pub mod Turning
 pub mod Unscanned
 pub mod Within
 pub mod Worked
+pub mod WorkedFingerprint
 pub mod WorkedInARow
 pub mod WorkedNative
 pub mod WorkedNumbers

@@ -1,13 +1,20 @@
--- A key that is told without a look into the file, of its path or of its native numbers, is one of its input: two inputs whose ids
--- have no colon, and that have one key, have one id.
-use Rattle.std.proofs.Common.{◌≡◌, ℕ, List, [], ◌∷◌, ◌++◌, codes, Option, None, Some, refl, sym, ap, subst, ◌∙◌}
+-- A key that an asking gave is one of its input, whether or not it is told without a look into the file: two inputs whose ids have no colon,
+-- and that have one key, have one id.
+use Rattle.std.proofs.Common.{◌≡◌, ℕ, ◌==◌, Bool, true, false, List, [], ◌∷◌, ◌++◌, length, codes, Option, None, Some, if◌then◌else◌, refl, sym, ap, subst, ◌∙◌}
 use Rattle.std.proofs.lemmas.List.{append_cancel_left}
 use Rattle.std.specs.Prelude.{decimal}
 use Rattle.event_tree.specs.declared.input_rule.IdentityRule.{IdentityRule}
 use Rattle.event_tree.specs.declared.input_rule.IdentityRule.TheVariants.{Fingerprint, Native, Path}
-use Rattle.file_identity.specs.Key.{key_by, named_key, native_key, path_key}
+use Rattle.event_tree.specs.declared.input_rule.InputRule.{InputRule}
+use Rattle.file_identity.specs.Asking.{given, given_key}
+use Rattle.file_identity.specs.Key.{fingerprint_key, key_by, named_key, native_key, path_key}
 use Rattle.kept_rows.proofs.Keys.{HasNoColon, path_key_of_input}
 use Rattle.kept_rows.specs.Followed.{IsKeyOf}
+use Rattle.kept_rows.specs.Scans.{Gave}
+use Rattle.kept_rows.specs.Trace.{Trace}
+use Rattle.outside.specs.Files.{File}
+use Rattle.outside.specs.declared.history.Look.{Look}
+use Rattle.outside.specs.declared.history.Shown.{Shown}
 
 -- ---- of one input
 
@@ -61,3 +68,31 @@ pub named_keys_of_one_id : (id other : List ℕ) (rule another : IdentityRule) (
     named_key id rule path numbers ≡ Some key → named_key other another q m ≡ Some key → id ≡ other
 named_keys_of_one_id id other rule another path q numbers m key none none_there is and =
     same_id id other key none none_there (named_key_of_input id rule path numbers key is) (named_key_of_input other another q m key and)
+
+-- ---- keys that are asked of the open file
+
+fingerprint_key_of_input : (id bytes : List ℕ) → IsKeyOf id (fingerprint_key id bytes)
+unfolding fingerprint_key
+fingerprint_key_of_input id bytes = key_of_input id (codes "fingerprint") _
+
+pub given_key_of_input : (id : List ℕ) (rule : IdentityRule) (path : List ℕ) (file : File) (looks : List Look) (key : List ℕ) → given_key id rule path file looks ≡ Some key → IsKeyOf id key
+given_key_of_input id (Fingerprint offset count) path file looks key is = by_case (length (given file looks) == count) is
+  where
+    by_case : (b : Bool) → (if b then Some (fingerprint_key id (given file looks)) else None) ≡ Some key → IsKeyOf id key
+    by_case true gave =
+        let q : Some (fingerprint_key id (given file looks)) ≡ Some key = gave in
+        let same : fingerprint_key id (given file looks) ≡ key = cc in
+        subst (IsKeyOf id) same (fingerprint_key_of_input id (given file looks))
+    by_case false gave = absurd (let q : None ≡ Some key = gave in cc)
+given_key_of_input id Native path file looks key is = named_key_of_input id Native path file.numbers key is
+given_key_of_input id Path path file looks key is = named_key_of_input id Path path file.numbers key is
+
+pub given_keys_of_one_id : (id other : List ℕ) (rule another : IdentityRule) (path q : List ℕ) (file f : File) (looks l : List Look) (key : List ℕ) → HasNoColon id → HasNoColon other →
+    given_key id rule path file looks ≡ Some key → given_key other another q f l ≡ Some key → id ≡ other
+given_keys_of_one_id id other rule another path q file f looks l key none none_there is and =
+    same_id id other key none none_there (given_key_of_input id rule path file looks key is) (given_key_of_input other another q f l key and)
+
+-- a key that was given for an entry, by itself or by a tail that was opened for it
+pub key_of_entry : (trace : Trace) (rule : InputRule) (shown : Shown) (opening : Option ℕ) (key : List ℕ) (number : ℕ) → Gave trace rule shown opening (Some key) number → IsKeyOf rule.id key
+key_of_entry trace rule shown None key number gave = named_key_of_input rule.id rule.file_identity shown.entry.path shown.entry.native key (sym gave.gave)
+key_of_entry trace rule shown (Some opening) key number gave = given_key_of_input rule.id rule.file_identity shown.entry.path gave.file gave.looks key (sym gave.gave)

@@ -27,6 +27,7 @@ use Rattle.accounts.specs.Filed.{Filed, IsFiled, account_of, accounts_of, turned
 use Rattle.accounts.specs.Numbers.{AreAllCounted, AreNumbersOf, IsAcknowledgedOrDropped, acknowledged_count, all_events, dropped_count, is_acknowledged, is_by_rule, is_dropped, told_in_epoch, told_in_slot}
 use Rattle.accounts.specs.Once.{AreOnce, one_where}
 use Rattle.accounts.specs.Opened.{Opened}
+use Rattle.accounts.specs.Parted.{kept_looks}
 use Rattle.accounts.specs.Places.{ArePlaces}
 use Rattle.accounts.specs.Same.{same_parcel}
 use Rattle.accounts.specs.Taken.{FitBooks, Taken, acknowledged_in, carried_in, settles, taken_in}
@@ -142,7 +143,7 @@ module _ (placed : Parcel → Option Place) (h : AccountedEvent → ℕ) (g : Pa
   file_weighs file filed =
       let slot = file.opened.begin.slot in
       let tellings = tellings_in file.turned.history in
-      let all = epochs_weigh file.opened file.opened.begin.epoch.0 tellings (segments_of file.opened.begin.base file.looks) filed.few in
+      let all = epochs_weigh file.opened file.opened.begin.epoch.0 tellings (segments_of file.opened.begin.base (kept_looks file.turned.history file.looks)) filed.few in
       let first = first_weighs slot tellings in
       let parcels : weigh g (parcels_told file.turned) ≡ weigh g (flat_map (parcels_in slot) tellings) = ap (λ (s : Slot). weigh g (flat_map (parcels_in s) tellings)) filed.slot in
       let notes : weigh k (notes_told file.turned) ≡ weigh k (notes_in slot tellings) = ap (λ (s : Slot). weigh k (notes_in s tellings)) filed.slot in

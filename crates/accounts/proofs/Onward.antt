@@ -22,7 +22,7 @@ history_later processors opened moments more h is = record {
   rule = is.rule;
   processors_are = is.processors_are;
   begin = is.begin;
-  none_before = is.none_before;
+  asked_before = is.asked_before;
   path = is.path;
   not_ending = is.not_ending;
   not_forgotten = is.not_forgotten;
@@ -65,19 +65,19 @@ module _ {T : Type 0} (numbers : T → Option (ℕ × ℕ)) (told : T → Option
   each_stands_later others more (turned ∷ ts) (harvester ∷ harvesters) all =
       (stands_later others more turned harvester all.0, each_stands_later others more ts harvesters all.1)
 
-  -- one that was opened at the last of the moments, by a tail that told no looks
+  -- one that was opened at the last of the moments, by a tail that told what it was asked for its key
   pub stands_opened : (opened : Opened) (now : ℕ) (harvester : Harvester T) → Contains files opened → EndsAt moments now →
-      HasTold numbers told (history.opened opened.rule processors opened.begin [] now) harvester → IfSome (told harvester.tail) (IsTailOf opened) →
+      HasTold numbers told (history.opened opened.rule processors opened.begin opened.asked now) harvester → IfSome (told harvester.tail) (IsTailOf opened) →
       IfSome (told harvester.tail) TellsLooks → IfSome (told harvester.tail) (λ tail. numbers harvester.tail ≡ opened.file.numbers) → harvester.rests ≡ false →
       IsTurnedSo numbers told processors files moments
-      (record { slot = opened.begin.slot; history = history.opened opened.rule processors opened.begin [] now }) harvester
+      (record { slot = opened.begin.slot; history = history.opened opened.rule processors opened.begin opened.asked now }) harvester
   stands_opened opened now harvester among ends has tail tells numbers_are at_work =
-      let h = history.opened opened.rule processors opened.begin [] now in
+      let h = history.opened opened.rule processors opened.begin opened.asked now in
       let is : IsHistoryOf processors opened moments h = record {
         rule = refl;
         processors_are = refl;
         begin = refl;
-        none_before = refl;
+        asked_before = refl;
         path = refl;
         not_ending = refl;
         not_forgotten = refl;

@@ -17,6 +17,7 @@ use Rattle.accounts.specs.Accounted.{accounted, epoch_accounts, untold_epochs}
 use Rattle.accounts.specs.Filed.{Filed, IsFiled, account_of, accounts_of}
 use Rattle.accounts.specs.Ground.{IsEpochOf}
 use Rattle.accounts.specs.Opened.{Opened}
+use Rattle.accounts.specs.Parted.{kept_looks}
 use Rattle.accounts.specs.Turned.{Turned, tellings_in}
 use Rattle.accounts.proofs.Accounting.{are_numbered}
 use Rattle.accounts.proofs.Apart.{EachAdjoins, IsInEpochs, epochs_apart}
@@ -109,7 +110,7 @@ module _ (opened : Opened) (placed : Parcel → Option Place) where
 in_one_row : (placed : Parcel → Option Place) (file : Filed) → IsFiled file → EachAdjoins (tellings_in file.turned.history) → IsInOneRow (account_of placed file)
 in_one_row placed file filed adjoin = record {
   numbered = are_numbered file.opened placed file.changed file.looks file.turned.history filed.epochs;
-  adjoin = epochs_adjoin file.opened placed file.opened.begin.epoch.0 (tellings_in file.turned.history) (segments_of file.opened.begin.base file.looks) adjoin;
+  adjoin = epochs_adjoin file.opened placed file.opened.begin.epoch.0 (tellings_in file.turned.history) (segments_of file.opened.begin.base (kept_looks file.turned.history file.looks)) adjoin;
 }
 
 pub are_in_rows : (placed : Parcel → Option Place) (files : List Filed) → AllByRecursion IsFiled files →

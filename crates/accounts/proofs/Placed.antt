@@ -17,6 +17,7 @@ use Rattle.accounts.specs.Filed.{Filed, IsFiled, account_of, accounts_of, turned
 use Rattle.accounts.specs.Numbers.{ArePlacedIn, IsPlacedAs, all_events, told_in_epoch, told_in_slot}
 use Rattle.accounts.specs.Once.{AreOnce}
 use Rattle.accounts.specs.Opened.{Opened}
+use Rattle.accounts.specs.Parted.{kept_looks}
 use Rattle.accounts.specs.Places.{ArePlaces}
 use Rattle.accounts.specs.Same.{same_parcel}
 use Rattle.accounts.specs.Taken.{Taken}
@@ -59,7 +60,7 @@ module _ (placed : Parcel → Option Place) (workers : List Taken) (wires : List
   each_placed [] = tt
   each_placed (file ∷ files) =
       both IsPlaced (told_in_slot (account_of placed file)) (all_events (accounts_of placed files))
-      (epochs_are_placed file.opened file.opened.begin.epoch.0 (tellings_in file.turned.history) (segments_of file.opened.begin.base file.looks)) (each_placed files)
+      (epochs_are_placed file.opened file.opened.begin.epoch.0 (tellings_in file.turned.history) (segments_of file.opened.begin.base (kept_looks file.turned.history file.looks))) (each_placed files)
 
   pub are_placed : (files : List Filed) → AllByRecursion IsFiled files → AreOnce same_parcel (flat_map parcels_told (turned_of files)) → ArePlacedIn (accounts_of placed files) wires
   are_placed files filed once = record { each = each_placed files; apart = places_apart placed places.one_each files filed once }

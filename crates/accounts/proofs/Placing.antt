@@ -15,6 +15,7 @@ use Rattle.accounts.specs.Accounted.{accounted, epoch_accounts, place_by, untold
 use Rattle.accounts.specs.Filed.{Filed, IsFiled, account_of, accounts_of, turned_of}
 use Rattle.accounts.specs.Once.{AreOnce}
 use Rattle.accounts.specs.Opened.{Opened}
+use Rattle.accounts.specs.Parted.{kept_looks}
 use Rattle.accounts.specs.Same.{same_parcel}
 use Rattle.accounts.specs.Turned.{parcels_by, parcels_in, parcels_of, parcels_told, tellings_in}
 use Rattle.accounts.proofs.Often.{once_apart, once_others}
@@ -62,7 +63,7 @@ module _ (placed : Parcel → Option Place) where
   places_are [] filed = refl
   places_are (file ∷ files) filed =
       let own : flat_map places_in_epoch (account_of placed file).epochs ≡ filter_map placed (parcels_told file.turned) =
-      of_epochs file.opened file.opened.begin.epoch.0 (tellings_in file.turned.history) (segments_of file.opened.begin.base file.looks) filed.0.few
+      of_epochs file.opened file.opened.begin.epoch.0 (tellings_in file.turned.history) (segments_of file.opened.begin.base (kept_looks file.turned.history file.looks)) filed.0.few
       ∙ ap (λ (s : Slot). filter_map placed (flat_map (parcels_in s) (tellings_in file.turned.history))) (sym filed.0.slot) in
       ap (λ (l : List Place). l ++ places_in (accounts_of placed files)) own
       ∙ ap (λ (l : List Place). filter_map placed (parcels_told file.turned) ++ l) (places_are files filed.1)

@@ -27,7 +27,7 @@ begin = record {
 }
 
 abbrev pub opened : Opened
-opened = record { begin = begin; rule = worked.input; opening = 2; number = 0; begun = worked.sight; file = worked.file }
+opened = record { begin = begin; rule = worked.input; opening = 2; number = 0; begun = worked.sight; file = worked.file; asked = [] }
 
 abbrev pub telling : Telling
 telling = record {

@@ -20,10 +20,8 @@ use Rattle.told_events.proofs.Worked.{a_log}
 use Rattle.wire_base.specs.KeyOrder.{compare}
 use Rattle.accounts.specs.Filed.{Filed}
 use Rattle.accounts.specs.FollowedFile.{IsFollowedFile}
-use Rattle.accounts.specs.OneScan.{IsNamed}
 use Rattle.accounts.specs.RunDone.{EachEntryIsServed, IsAmongFiles}
-use Rattle.accounts.proofs.Draining.{of_no_other}
-use Rattle.accounts.proofs.WorkedRun.{file_by, told_file}
+use Rattle.accounts.proofs.WorkedRun.{file_by, own_looks, told_file}
 
 -- ---- the run
 
@@ -45,9 +43,6 @@ other_key_is = refl
 abbrev input : InputRule
 input = record worked.input { file_identity = Native; paths = codes "/w/*" ∷ codes "/w/*" ∷ [] }
 
-is_named : IsNamed input
-is_named = record { identity = tt; no_colon = (λ e. cc, tt) }
-
 abbrev file_with : ℕ → File
 file_with inode = record worked.file { numbers = Some (inode, 2049) }
 
@@ -60,15 +55,15 @@ before = shown_with 17 1
 abbrev behind : Shown
 behind = shown_with 18 0
 
-abbrev root_in : Event → List ℕ
+abbrev pub root_in : Event → List ℕ
 root_in (Listed root depth entries) = root
 root_in _ = []
 
-abbrev depth_in : Event → ℕ
+abbrev pub depth_in : Event → ℕ
 depth_in (Listed root depth entries) = depth
 depth_in _ = 0
 
-abbrev entries_in : Event → List Shown
+abbrev pub entries_in : Event → List Shown
 entries_in (Listed root depth entries) = entries
 entries_in _ = []
 
@@ -162,7 +157,7 @@ first_path = record {
 -- ---- the file that was opened
 
 abbrev file : Filed
-file = file_by input.paths Native (Some (18, 2049)) key
+file = file_by input.paths Native (Some (18, 2049)) key 2 []
 
 is_tail : IsTail trace 2 a_log 0 worked.looks
 is_tail = record { in_this_run = lit≤ tt; begun = worked.sight; opened = refl; tells = refl }
@@ -170,11 +165,11 @@ is_tail = record { in_this_run = lit≤ tt; begun = worked.sight; opened = refl;
 pub file_is_followed : IsFollowedFile run scan file
 file_is_followed = record {
   rule_is = refl;
-  key_is = key_is;
+  gave = record { asking = refl; gave = key_is };
   in_range = (lit≤ tt, lit≤ tt);
   file_is = refl;
   tail = is_tail;
-  told = told_file input.paths Native (Some (18, 2049)) key;
+  told = told_file input.paths Native (Some (18, 2049)) key 2 [] (own_looks input.paths Native (Some (18, 2049)) key 2 []);
   shown = behind;
   listed = record { number = 0; shows = shows_behind; path_is = refl; first = first_path; before = (lit≤ tt, (lit≤ tt, tt)); starts = refl };
   moment = inl refl;
@@ -195,7 +190,8 @@ was_moved = record {
   other = key;
   opened = record {
     opening = 2;
-    of_input = of_no_other run scan refl (record { no_tail = refl; rule = input; rule_is = refl }, (record { no_tail = refl; rule = input; rule_is = refl }, tt)) 0 2;
+    since = (lit≤ tt, (lit≤ tt, tt));
+    of_input = ((λ is. refl, (λ is. refl, tt)), tt);
     number = 0;
     looks = worked.looks;
     tail = is_tail;
@@ -210,16 +206,16 @@ was_moved = record {
   other_key = λ same. keys_differ (ap (λ (k : List ℕ). Some k) same);
 }
 
-is_among : IsAmongFiles (file ∷ []) input behind 0
-is_among = record { file = file; of_files = (0, omega arith, refl); input_is = refl; path_is = refl; key_is = key_is }
+is_among : IsAmongFiles run scan (file ∷ []) behind 0
+is_among = record { file = file; of_files = (0, omega arith, refl); input_is = refl; path_is = refl; number = 0; shows = shows_behind }
 
 pub both_are_served : EachEntryIsServed run scan (file ∷ [])
 both_are_served other (suc number) rule shows is covered = absurd (let q : None ≡ Some rule = is in cc)
 both_are_served other zero rule shows is covered =
     let q : Some input ≡ Some rule = is in
     let same : input ≡ rule = cc in
-    subst (λ (r : InputRule). IsAmongFiles (file ∷ []) r other 0 ⊎ IsPassedOver run r scan other 0) same (by_entry other (two_entries other shows))
+    subst (λ (r : InputRule). IsAmongFiles run scan (file ∷ []) other 0 ⊎ IsPassedOver run r scan other 0) same (by_entry other (two_entries other shows))
   where
-    by_entry : (shown : Shown) → (before ≡ shown) ⊎ (behind ≡ shown) → IsAmongFiles (file ∷ []) input shown 0 ⊎ IsPassedOver run input scan shown 0
+    by_entry : (shown : Shown) → (before ≡ shown) ⊎ (behind ≡ shown) → IsAmongFiles run scan (file ∷ []) shown 0 ⊎ IsPassedOver run input scan shown 0
     by_entry shown (inl same) = inr (inr (inr (inr (inl (subst (λ (s : Shown). IsMoved run input scan s 0) same was_moved)))))
-    by_entry shown (inr same) = inl (subst (λ (s : Shown). IsAmongFiles (file ∷ []) input s 0) same is_among)
+    by_entry shown (inr same) = inl (subst (λ (s : Shown). IsAmongFiles run scan (file ∷ []) s 0) same is_among)

@@ -6,13 +6,12 @@ use Rattle.event_tree.specs.declared.group_rule.GroupRule.TheVariants.{Single}
 use Rattle.event_tree.specs.declared.input_rule.IdentityRule.{IdentityRule}
 use Rattle.event_tree.specs.declared.input_rule.IdentityRule.TheVariants.{Path}
 use Rattle.event_tree.specs.declared.input_rule.InputRule.{InputRule}
-use Rattle.file_identity.specs.Key.{named_key}
-use Rattle.file_looks.specs.Looks.{IsAnswered, IsLook}
+use Rattle.file_looks.specs.Looks.{AreLooks, IsAnswered, IsLook}
 use Rattle.harvester.specs.History.{IsTelling, rules_in}
 use Rattle.harvester.specs.Looked.{IsLookedAt}
 use Rattle.kept_rows.proofs.Worked as worked
 use Rattle.kept_rows.specs.Drained.{IsPassedOver}
-use Rattle.kept_rows.specs.Scans.{IsCovered, ShowsEntry}
+use Rattle.kept_rows.specs.Scans.{IsCovered, ShowsEntry, ShowsFileTo}
 use Rattle.line_cutter.specs.declared.line.Line.{Line}
 use Rattle.lumber_frame.proofs.Settling.{none_in_nothing}
 use Rattle.lumber_frame.specs.Acknowledged.{Acknowledges}
@@ -67,23 +66,23 @@ module _ (more : List ℕ) where
     );
   }
 
--- with any globs and any identity, the numbers of its file and its key
-module _ (globs : List (List ℕ)) (identity : IdentityRule) (numbers : Option (ℕ × ℕ)) (key : List ℕ) where
+-- with any globs and any identity, the numbers of its file, its key, the place of its opening, and what its tail told as it was asked for the key
+module _ (globs : List (List ℕ)) (identity : IdentityRule) (numbers : Option (ℕ × ℕ)) (key : List ℕ) (opening : ℕ) (asked : List Look) where
   abbrev rule_by : InputRule
   rule_by = record worked.input { paths = globs; file_identity = identity }
 
   abbrev pub file_by : Filed
   file_by = record {
-    opened = record opened { begin = record begin { key = key }; rule = rule_by; file = record worked.file { numbers = numbers } };
-    turned = record { slot = record { 0 = 0 }; history = record history { rule = rule_by; begin = record begin { key = key } } };
-    looks = worked.looks;
+    opened = record opened { begin = record begin { key = key }; rule = rule_by; opening = opening; file = record worked.file { numbers = numbers }; asked = asked };
+    turned = record { slot = record { 0 = 0 }; history = record history { rule = rule_by; begin = record begin { key = key }; before = asked } };
+    looks = asked ++ worked.looks;
     changed = 0;
   }
 
   is_telling : IsTelling (rules_in file_by.turned.history) telling
   is_telling of has = subst (λ (l : List ℕ). AreTold plain [] l 0 both_events) (sym has.behind) (two_lines_are_told has.more)
 
-  is_look : (look : Look) → look.sight ≡ worked.sight → IsAnswered look.question worked.sight → IsLook file_by.opened.file worked.sight look
+  pub is_look : (look : Look) → look.sight ≡ worked.sight → IsAnswered look.question worked.sight → IsLook file_by.opened.file worked.sight look
   is_look look is answered =
       subst (λ s. IsLook file_by.opened.file worked.sight (record look { sight = s })) (sym is) (record {
         of_file = record { known = lit≤ tt; within = lit≤ tt; in_range = lit≤ tt };
@@ -112,14 +111,27 @@ module _ (globs : List (List ℕ)) (identity : IdentityRule) (numbers : Option (
     end_look = λ ended. worked.end_look;
   }
 
-  pub told_file : IsToldFile [] file_by.opened (0 ∷ []) file_by.turned (Some (tail_of file_by))
-  told_file = record {
+  -- the looks of its harvester
+  pub own_looks : AreLooks file_by.opened.file worked.sight worked.looks
+  own_looks = (
+    is_look (record { question = Length; sight = worked.sight }) refl tt,
+    (
+      is_look (record { question = ReadAt 0 4; sight = worked.sight }) refl (λ some. lit≤ tt, λ none. cc),
+      (
+        is_look (record { question = Length; sight = worked.sight }) refl tt,
+        (is_look (record { question = ReadAt 4 0; sight = worked.sight }) refl (λ some. lit≤ tt, λ none. lit≤ tt), tt),
+      ),
+    ),
+  )
+
+  pub told_file : AreLooks file_by.opened.file worked.sight (asked ++ worked.looks) → IsToldFile [] file_by.opened (0 ∷ []) file_by.turned (Some (tail_of file_by))
+  told_file tells = record {
     slot = refl;
     history = record {
       rule = refl;
       processors_are = refl;
       begin = refl;
-      none_before = refl;
+      asked_before = refl;
       path = refl;
       not_ending = refl;
       not_forgotten = refl;
@@ -133,31 +145,22 @@ module _ (globs : List (List ℕ)) (identity : IdentityRule) (numbers : Option (
     epochs = (is_telling, tt);
     looked = looked;
     tail = record { opening = refl; number = refl; begun = refl; file = refl };
-    tells = (
-      is_look (record { question = Length; sight = worked.sight }) refl tt,
-      (
-        is_look (record { question = ReadAt 0 4; sight = worked.sight }) refl (λ some. lit≤ tt, λ none. cc),
-        (
-          is_look (record { question = Length; sight = worked.sight }) refl tt,
-          (is_look (record { question = ReadAt 4 0; sight = worked.sight }) refl (λ some. lit≤ tt, λ none. lit≤ tt), tt),
-        ),
-      ),
-    );
+    tells = tells;
   }
 
 -- ---- its file, known by its path
 
 abbrev file : Filed
-file = file_by worked.input.paths Path None worked.key
+file = file_by worked.input.paths Path None worked.key 2 []
 
 followed_file : IsFollowedFile worked.run worked.scan file
 followed_file = record {
   rule_is = refl;
-  key_is = refl;
+  gave = record { asking = refl; gave = refl };
   in_range = (lit≤ tt, lit≤ tt);
   file_is = refl;
   tail = record { in_this_run = lit≤ tt; begun = worked.sight; opened = refl; tells = refl };
-  told = told_file worked.input.paths Path None worked.key;
+  told = told_file worked.input.paths Path None worked.key 2 [] (own_looks worked.input.paths Path None worked.key 2 []);
   shown = worked.shown;
   listed = record { number = 0; shows = worked.shows_to; path_is = refl; first = worked.first_path; before = (lit≤ tt, tt); starts = refl };
   moment = inl refl;
@@ -168,19 +171,22 @@ followed_file = record {
 abbrev parcel : ℕ → ℕ → List ℕ → Parcel
 parcel start end text = record { slot = record { 0 = 0 }; epoch = record { 0 = 0 }; span = record { start = start; end = end }; payload = text }
 
-abbrev parcels : List Parcel
+abbrev pub parcels : List Parcel
 parcels =
     parcel 0 2 (payload (codes "0") (codes "a"))
     ∷ parcel 2 4 (payload (codes "2") (codes "b"))
     ∷ []
 
-abbrev worker : Taken
+abbrev pub worker : Taken
 worker = record { acknowledged = parcels; carried = [] }
 
-abbrev first : List Note
-first = Begin (record { 0 = 0 }) worked.key a_log (record { 0 = 0 }) 0 (record { 0 = 0 }) ∷ []
+abbrev pub first_by : List ℕ → List Note
+first_by key = Begin (record { 0 = 0 }) key a_log (record { 0 = 0 }) 0 (record { 0 = 0 }) ∷ []
 
-abbrev collected : List Note
+abbrev first : List Note
+first = first_by worked.key
+
+abbrev pub collected : List Note
 collected =
     Settle (record { 0 = 0 }) (record { 0 = 0 }) (record { start = 0; end = 2 }) Acked
     ∷ Settle (record { 0 = 0 }) (record { 0 = 0 }) (record { start = 2; end = 4 }) Acked
@@ -193,7 +199,7 @@ acknowledged = record {
   are = refl;
 }
 
-has_talks : (idles faults : ℕ) → HasTalks 2048 parcels (parcels ++ []) (Finished worked.talk faults idles ∷ [])
+pub has_talks : (idles faults : ℕ) → HasTalks 2048 parcels (parcels ++ []) (Finished worked.talk faults idles ∷ [])
 has_talks idles faults = record {
   acknowledges = record { first = worked.payloads; rest = []; are = refl; acknowledges = acknowledged; others = refl };
   sent = (
@@ -219,8 +225,8 @@ has_told = record {
     once = refl;
     only = refl;
     scans = worked.is_account.followed.scans;
-    askings = (record { no_tail = refl; rule = worked.input; rule_is = refl }, tt);
-    inputs = record { each = (record { identity = tt; no_colon = (λ e. cc, tt) }, tt); ids_apart = (none_there worked.input.id, tt) };
+    asked_well = worked.whole.none_faulty;
+    own_ids = record { no_colon = ((λ e. cc, tt), tt); ids_apart = (none_there worked.input.id, tt) };
   };
   followed = record {
     each = (followed_file, tt);
@@ -255,7 +261,7 @@ is_done = record {
   served = served;
   whole = (
     record {
-      to_its_end = record { ended = refl; all_told = refl };
+      read_through = inl (record { ended = refl; all_told = refl });
       moment = record {
         shown = worked.shown;
         entry = worked.entry;
@@ -273,16 +279,15 @@ is_done = record {
 }
   where
     served : (other : Shown) (input : ℕ) (rule : InputRule) → ShowsEntry worked.run.trace worked.scan other → slice_get worked.run.settings.inputs input ≡ Some rule →
-        IsCovered rule.paths other.entry.path → IsAmongFiles (file ∷ []) rule other input ⊎ IsPassedOver worked.run rule worked.scan other input
+        IsCovered rule.paths other.entry.path → IsAmongFiles worked.run worked.scan (file ∷ []) other input ⊎ IsPassedOver worked.run rule worked.scan other input
     served other zero rule shows is covered =
-        let q : Some worked.input ≡ Some rule = is in
-        let same_rule : worked.input ≡ rule = cc in
         let same_entry = worked.only_entry other shows in
         inl (record {
           file = file;
           of_files = (0, omega arith, refl);
           input_is = refl;
           path_is = ap (λ (s : Shown). s.entry.path) same_entry;
-          key_is = sym (λ k. named_key (same_rule k).id (same_rule k).file_identity (same_entry k).entry.path (same_entry k).entry.native);
+          number = 0;
+          shows = subst (ShowsFileTo worked.run worked.scan 0 worked.key 0) same_entry worked.shows_to;
         })
     served other (suc input) rule shows is covered = absurd (let q : None ≡ Some rule = is in cc)

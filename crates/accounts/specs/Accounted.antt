@@ -1,13 +1,13 @@
--- The account of a file that was told in a run that reads files once, and knows them by what listings tell (this project's profile):
--- one tail followed it, and each of its epochs was read through one segment of that tail's looks. Behind its last epoch may stand one
--- of which nothing was told, where the length fell at last.
+-- The account of a file that was told in a run that reads files once (this project's profile): one tail followed it, and each of its
+-- epochs was read through one segment of that tail's looks, as far as the file kept its key. Behind its last epoch may stand one of
+-- which nothing was told, where the length fell at last.
 use Rattle.std.specs.Prelude.{◌≡◌, ℕ, ◌+◌, ◌≤◌, List, [], ◌∷◌, map, slice_get, Option, None, Some}
 use Rattle.std.specs.Option.{option_map_or}
 use Rattle.event_tree.specs.declared.group_rule.GroupRule.{GroupRule}
 use Rattle.event_tree.specs.declared.group_rule.GroupRule.TheVariants.{Count, Pattern, Single}
 use Rattle.file_looks.specs.Segment.{Segment, segments_of}
 use Rattle.harvester.specs.History.{History, Telling}
-use Rattle.kept_rows.specs.Account.{AccountedEvent, EpochAccount, Place, Reading, SlotAccount}
+use Rattle.kept_rows.specs.Account.{AccountedEvent, EpochAccount, FollowedTail, Place, Reading, SlotAccount}
 use Rattle.kept_rows.specs.Epochs.{WasListedWith, first_sight_of, life_read}
 use Rattle.kept_rows.specs.Run.{Run, Scan}
 use Rattle.kept_rows.specs.Scans.{IsFirstPath}
@@ -19,6 +19,7 @@ use Rattle.wire_base.specs.Extent.{Extent}
 use Rattle.wire_base.specs.declared.numbers.Slot.{Slot}
 use Rattle.wire_base.specs.declared.parcel.Parcel.{Parcel}
 use Rattle.accounts.specs.Opened.{Opened}
+use Rattle.accounts.specs.Parted.{kept_looks, lost_looks}
 use Rattle.accounts.specs.Turned.{tellings_in}
 
 -- where its parcel was acknowledged
@@ -77,6 +78,11 @@ epoch_accounts opened placed before (telling ∷ tellings) [] = []
 epoch_accounts opened placed before (telling ∷ tellings) (segment ∷ segments) =
     epoch_account opened placed telling segment ∷ epoch_accounts opened placed telling.epoch tellings segments
 
+-- its one tail, by all that this told
+abbrev pub followed_tail : Opened → List Look → History → FollowedTail
+followed_tail opened looks history =
+    record { opening = opened.opening; place = opened.begin.base; looks = kept_looks history looks; beyond = lost_looks history looks }
+
 -- by the looks of its tail; `changed` is the greatest moment that was noted of it
 abbrev pub slot_account : Opened → ℕ → List Look → (Parcel → Option Place) → History → SlotAccount
 slot_account opened changed looks placed history = record {
@@ -88,11 +94,11 @@ slot_account opened changed looks placed history = record {
     base = opened.begin.base;
     known_from = 0;
     gone_after = None;
-    tails = record { opening = opened.opening; place = opened.begin.base; looks = looks; beyond = [] } ∷ [];
+    tails = followed_tail opened looks history ∷ [];
   };
   number = opened.number;
   changed = changed;
-  epochs = epoch_accounts opened placed opened.begin.epoch.0 (tellings_in history) (segments_of opened.begin.base looks);
+  epochs = epoch_accounts opened placed opened.begin.epoch.0 (tellings_in history) (segments_of opened.begin.base (kept_looks history looks));
 }
 
 -- what the run shows of it: of which input it is, what its tail told, and that the one scan showed it, by this path first, with at

@@ -9,6 +9,7 @@ use Rattle.wire_base.specs.declared.numbers.Moment.{Moment}
 use Rattle.wire_base.specs.declared.parcel.Parcel.{Parcel}
 use Rattle.accounts.specs.Accounted.{slot_account}
 use Rattle.accounts.specs.Opened.{Opened}
+use Rattle.accounts.specs.Parted.{kept_looks}
 use Rattle.accounts.specs.ToldFile.{AreEpochsFrom}
 use Rattle.accounts.specs.Turned.{Turned, tellings_in}
 
@@ -39,7 +40,7 @@ HasItsSlot file = file.turned.slot ≡ file.opened.begin.slot
 pub record IsFiled (file : Filed) : Type 0 where
   pub slot : file.turned.slot ≡ file.opened.begin.slot
   pub epochs : AreEpochsFrom file.opened.begin.epoch.0 file.opened.begin.base (tellings_in file.turned.history)
-  pub few : length (tellings_in file.turned.history) ≤ length (segments_of file.opened.begin.base file.looks)
+  pub few : length (tellings_in file.turned.history) ≤ length (segments_of file.opened.begin.base (kept_looks file.turned.history file.looks))
 
 -- its Begin is among the notes
 pub record IsNoted (notes : List Note) (file : Filed) : Type 0 where

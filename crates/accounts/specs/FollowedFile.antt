@@ -1,9 +1,9 @@
 -- The files that a run follows, each by one tail (this project's profile): the one scan listed them, the folder opened them by
 -- their paths and found their keys, and what their tails told stands in the folder's list.
-use Rattle.std.specs.Prelude.{◌≡◌, ◌⊎◌, ℕ, ◌+◌, ◌≤◌, max, List, [], ◌∷◌, Contains, map, slice_get, Some}
+use Rattle.std.specs.Prelude.{◌≡◌, ◌⊎◌, ℕ, ◌+◌, ◌≤◌, max, List, [], ◌∷◌, ◌++◌, Contains, map, slice_get, Some}
 use Rattle.std.specs.List.{AllByRecursion}
-use Rattle.file_identity.specs.Key.{named_key}
-use Rattle.kept_rows.specs.Followed.{OnlyReads, Start, start_by}
+use Rattle.file_identity.specs.AskedAgain.{GivesKey}
+use Rattle.kept_rows.specs.Followed.{OnlyReads, Start, asked_openings, start_by}
 use Rattle.kept_rows.specs.Run.{Run, Scan}
 use Rattle.kept_rows.specs.Scans.{AreDistinct, IsBefore, IsFirstPath, ShowsFileTo, moment_in}
 use Rattle.kept_rows.specs.Telling.{opening_moment}
@@ -59,7 +59,7 @@ IsMomentOf run file shown = (file.changed ≡ opening_moment run.opening file.op
 -- `told` is what outlives its harvester; the others stand in the settings, the scan and the folder's list
 pub record IsFollowedFile (run : Run) (scan : Scan) (file : Filed) : Type 0 where
   pub rule_is : slice_get run.settings.inputs file.opened.begin.input ≡ Some file.opened.rule
-  pub key_is : named_key file.opened.rule.id file.opened.rule.file_identity file.opened.begin.path file.opened.file.numbers ≡ Some file.opened.begin.key
+  pub gave : GivesKey file.opened.rule file.opened.begin.key file.opened.begin.path file.opened.file file.opened.asked
   pub in_range : IsGroupRule file.opened.rule.multiline
   pub file_is : slice_get run.trace.files file.opened.number ≡ Some file.opened.file
   pub tail : IsTail run.trace file.opened.opening file.opened.begin.path file.opened.number file.looks
@@ -79,10 +79,11 @@ EachOpeningIsOne run files = (opening : ℕ) (path : List ℕ) (number : ℕ) (b
     slice_get run.trace.events opening ≡ Some (OpenedAs path number begun) →
     Contains (map opening_in files) opening ⊎ OnlyReads run.trace opening
 
--- in the order of their slots, which is that of the listed files; each key is there once, and each opening
+-- in the order of their slots, which is that of the listed files; each key is there once, and each opening, those that only asked with
+-- them
 pub record AreFollowedFiles (run : Run) (scan : Scan) (files : List Filed) : Type 0 where
   pub each : AllByRecursion (IsFollowedFile run scan) files
   pub slots : AreInSlots 0 files
   pub keys_apart : AreDistinct (map key_in files)
-  pub openings_apart : AreDistinct (map opening_in files)
+  pub openings_apart : AreDistinct (asked_openings run ++ map opening_in files)
   pub openings_serve : EachOpeningIsOne run files

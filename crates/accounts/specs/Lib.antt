@@ -9,6 +9,7 @@ pub mod Numbers
 pub mod Once
 pub mod OneScan
 pub mod Opened
+pub mod Parted
 pub mod Places
 pub mod RunDone
 pub mod RunTold

@@ -1,9 +1,10 @@
 -- A tail that was opened to be followed (this project's profile): with what its harvester began, by the rule of which input, at
--- which place of the folder's list, and which file that found.
-use Rattle.std.specs.Prelude.{◌≡◌, ℕ}
+-- which place of the folder's list, which file that found, and what its tail told as it was asked for its key.
+use Rattle.std.specs.Prelude.{◌≡◌, ℕ, List}
 use Rattle.event_tree.specs.declared.input_rule.InputRule.{InputRule}
 use Rattle.outside.specs.Files.{File}
 use Rattle.outside.specs.Tails.{TailHistory}
+use Rattle.outside.specs.declared.history.Look.{Look}
 use Rattle.outside.specs.declared.history.Sight.{Sight}
 use Rattle.wire_base.specs.declared.note.Begin.{Begin}
 
@@ -16,6 +17,8 @@ pub record Opened : Type 0 where
   pub number : ℕ
   pub begun : Sight
   pub file : File
+  -- before its harvester had it; none where the key is not asked of the open file
+  pub asked : List Look
 
 -- the tail tells that it is this one
 pub record IsTailOf (opened : Opened) (told : TailHistory) : Type 0 where

@@ -1,13 +1,12 @@
 -- What is known besides of a run that ends as done (this project's profile): its scan was whole, each covered entry was followed or
--- skipped for its reason, each file is told to its end, and all that was told is settled and collected.
+-- skipped for its reason, each file is told to its end or has another key, and all that was told is settled and collected.
 use Rattle.std.specs.Prelude.{◌≡◌, ◌⊎◌, ℕ, List, ◌++◌, Contains, length, slice_get, Some}
 use Rattle.std.specs.List.{AllByRecursion, flat_map}
 use Rattle.batch_worker.specs.Held.{notes_of}
 use Rattle.event_tree.specs.declared.input_rule.InputRule.{InputRule}
-use Rattle.file_identity.specs.Key.{named_key}
 use Rattle.kept_rows.specs.Drained.{IsPassedOver}
 use Rattle.kept_rows.specs.Run.{Run, Scan}
-use Rattle.kept_rows.specs.Scans.{AreAsked, IsCovered, IsGoodListing, ShowsEntry, globs_in}
+use Rattle.kept_rows.specs.Scans.{AreAsked, IsCovered, IsGoodListing, ShowsEntry, ShowsFileTo, globs_in}
 use Rattle.outside.specs.declared.history.Shown.{Shown}
 use Rattle.pass_sums.specs.Weight.{AsOften}
 use Rattle.ship_core.specs.RowOver.{moment_of, slot_of}
@@ -15,7 +14,7 @@ use Rattle.wire_base.specs.declared.note.Note.{Note}
 use Rattle.accounts.specs.Filed.{Filed, slot_in, turned_of}
 use Rattle.accounts.specs.FollowedFile.{key_in, moment_by}
 use Rattle.accounts.specs.Taken.{Taken, acknowledged_in}
-use Rattle.accounts.specs.ToldFile.{IsToldToItsEnd}
+use Rattle.accounts.specs.ToldFile.{IsReadThrough}
 use Rattle.accounts.specs.Turned.{Turned, notes_told, parcels_told}
 
 -- ---- the scan
@@ -26,19 +25,20 @@ pub record IsFullScan (run : Run) (scan : Scan) : Type 0 where
   pub none_failed : AllByRecursion (IsGoodListing run.trace) scan.listings
   pub each_asked : AreAsked run scan
 
--- one of the files has the entry's path, its key and the input
-pub record IsAmongFiles (files : List Filed) (rule : InputRule) (shown : Shown) (input : ℕ) : Type 0 where
+-- one of the files has the entry's path and the input, and the entry shows a file with its key
+pub record IsAmongFiles (run : Run) (scan : Scan) (files : List Filed) (shown : Shown) (input : ℕ) : Type 0 where
   pub file : Filed
   pub of_files : Contains files file
   pub input_is : file.opened.begin.input ≡ input
   pub path_is : file.opened.begin.path ≡ shown.entry.path
-  pub key_is : named_key rule.id rule.file_identity shown.entry.path shown.entry.native ≡ Some (key_in file)
+  pub number : ℕ
+  pub shows : ShowsFileTo run scan input (key_in file) number shown
 
 -- each entry that an input covers was listed, and each listed one was begun or skipped
 abbrev pub EachEntryIsServed : Run → Scan → List Filed → Type 0
 EachEntryIsServed run scan files = (shown : Shown) (input : ℕ) (rule : InputRule) → ShowsEntry run.trace scan shown →
     slice_get run.settings.inputs input ≡ Some rule → IsCovered rule.paths shown.entry.path →
-    IsAmongFiles files rule shown input ⊎ IsPassedOver run rule scan shown input
+    IsAmongFiles run scan files shown input ⊎ IsPassedOver run rule scan shown input
 
 -- ---- its files
 
@@ -54,9 +54,9 @@ pub record HasItsMoment (run : Run) (scan : Scan) (first : List Note) (file : Fi
   pub slot_is : slot_of note ≡ slot_in file
   pub carries : moment_of note ≡ Some file.changed
 
--- it was told to its end; where its harvester rests, this is known of it, and stays so once its tail is closed
+-- it was told to its end, or found with another key; where its harvester rests, this is known of it, and stays so once its tail is closed
 pub record IsToldWhole (run : Run) (scan : Scan) (first : List Note) (file : Filed) : Type 0 where
-  pub to_its_end : IsToldToItsEnd file.turned.history
+  pub read_through : IsReadThrough file.turned.history
   pub moment : HasItsMoment run scan first file
 
 -- ---- what was told

@@ -1,5 +1,4 @@
--- What is known of a run as it ends that read its files once, by one scan, and knows them by what listings tell (this project's
--- profile): from this its account is made, and what is said of its rows, its images and what it sent.
+-- What is known of a run as it ends that read its files once, by one scan (this project's profile): from this its account is made, and what is said of its rows, its images and what it sent.
 use Rattle.std.specs.Prelude.{List}
 use Rattle.kept_rows.specs.Run.{Run, Scan}
 use Rattle.wire_base.specs.declared.note.Note.{Note}

@@ -1,11 +1,11 @@
--- What was told of a file in a run that reads files once, and knows them by what listings tell (this project's profile): its history
--- goes on from how it was opened, at moments that the clock gave; its epochs are told by the path by which it was opened; and its
+-- What was told of a file in a run that reads files once (this project's profile): its history goes on from how it was opened and asked
+-- for its key, at moments that the clock gave; its epochs are told by the path by which it was opened; and its
 -- looks are those of its tail. This outlives the harvester.
-use Rattle.std.specs.Prelude.{◌≡◌, ℕ, ◌+◌, false, List, [], ◌∷◌, Contains, Option, IfSome}
+use Rattle.std.specs.Prelude.{◌≡◌, ◌⊎◌, ℕ, ◌+◌, false, List, [], ◌∷◌, Contains, Option, IfSome}
 use Rattle.std.specs.List.{AllByRecursion}
 use Rattle.event_tree.specs.declared.processor_rule.ProcessorRule.{ProcessorRule}
 use Rattle.file_looks.specs.Looks.{TellsLooks}
-use Rattle.harvester.specs.History.{Ended, History, IsTelling, Telling, left_to_tell, rules_in}
+use Rattle.harvester.specs.History.{Changed, Ended, History, IsTelling, Telling, left_to_tell, rules_in}
 use Rattle.harvester.specs.Looked.{AreLookedAt}
 use Rattle.kept_rows.specs.Scans.{StandInOrder}
 use Rattle.outside.specs.Tails.{TailHistory}
@@ -36,7 +36,7 @@ pub record IsHistoryOf (processors : List ProcessorRule) (opened : Opened) (mome
   pub rule : history.rule ≡ opened.rule
   pub processors_are : history.processors ≡ processors
   pub begin : history.begin ≡ opened.begin
-  pub none_before : history.before ≡ []
+  pub asked_before : history.before ≡ opened.asked
   pub path : history.path ≡ opened.begin.path
   pub not_ending : history.ends ≡ false
   pub not_forgotten : history.forgets ≡ false
@@ -48,6 +48,10 @@ pub record IsHistoryOf (processors : List ProcessorRule) (opened : Opened) (mome
 pub record IsToldToItsEnd (history : History) : Type 0 where
   pub ended : history.stage ≡ Ended
   pub all_told : left_to_tell history ≡ []
+
+-- so it is, or it was found to have another key, and is read no further
+abbrev pub IsReadThrough : History → Type 0
+IsReadThrough history = IsToldToItsEnd history ⊎ (history.stage ≡ Changed)
 
 -- of what its tail tells, where that does
 pub record IsToldFile (processors : List ProcessorRule) (opened : Opened) (moments : List ℕ) (turned : Turned) (told : Option TailHistory) : Type 0 where

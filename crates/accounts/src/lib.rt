@@ -1,10 +1,11 @@
-//! What harvesters told in a run that reads files once, and knows them by their paths or native numbers: from what their
-//! lanes gave to the account of the run.
+//! What harvesters told in a run that reads files once: from what their lanes gave to the account of the run. Files are known
+//! by their paths, by native numbers or by fingerprints.
 //!
 //! The history of each file gives a parcel for each event that is shipped, a settlement for each that a rule dropped, and
 //! an announcement for each epoch but the first. A turn of a harvester gives its lane just what its history then has more;
 //! so do turns of several, one behind the other. Nothing is given twice, and what is given has its ground in some event or
-//! epoch. What was told of a file outlives its harvester, and from it and from the looks of its tail its account is made.
+//! epoch. What was told of a file outlives its harvester, and from it and from the looks of its tail its account is made:
+//! those by which it was asked for its key stand first, and where it lost its key the account keeps the looks before that.
 //!
 //! Of a run as it ends `RunTold` says what was told of its files, where that went and what the talks of its wires
 //! acknowledged; then its account is one of the run, rows over its notes are kept, also those that images hold, and only
