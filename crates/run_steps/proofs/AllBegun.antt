@@ -21,7 +21,7 @@ use Rattle.wire_base.specs.declared.numbers.Moment.{Moment}
 use Rattle.wire_base.specs.declared.parcel.Parcel.{Parcel}
 use Rattle.run_steps.specs.Began.{Began}
 use Rattle.run_steps.specs.Beginning.{Beginning}
-use Rattle.run_steps.specs.BeginsAll.{BeginsAll, BeginsFrom, BeginsSome, IsOfNamedInput}
+use Rattle.run_steps.specs.BeginsAll.{BeginsAll, BeginsFrom, BeginsSome, IsOfRuledInput}
 use Rattle.run_steps.specs.Begun.{AreAllSeen, IsSeenOf, noted_begin}
 use Rattle.run_steps.specs.RunState.{Finished, Leaving, Reading}
 use Rattle.run_steps.specs.SoFar.{SoFar, files_in}
@@ -113,14 +113,13 @@ module _ {T W L D : Type 0} (words : Words T W L D) (reads : (disk : D) → IfSo
   AreToBegin slot (one ∷ listed) = IsToBegin words reads counts start moments a b now slot one × AreToBegin (suc slot) listed
 
   -- behind others of the list
-  are_to_begin : (before listed : List Listed) → start.listed ≡ before ++ listed → AllByRecursion (IsOfNamedInput start.settings) listed → AreToBegin (length before) listed
+  are_to_begin : (before listed : List Listed) → start.listed ≡ before ++ listed → AllByRecursion (IsOfRuledInput start.settings) listed → AreToBegin (length before) listed
   are_to_begin before [] are each = tt
   are_to_begin before (one ∷ listed) are each = (
     record {
       there = ap (λ (l : List Listed). slice_get l (length before)) are ∙ got_at_end before one listed;
       rule = each.0.rule;
       rule_is = each.0.rule_is;
-      named = each.0.named;
       in_range = each.0.in_range;
     },
     subst (λ (n : ℕ). AreToBegin n listed) (length-append before (one ∷ []) ∙ one_longer)
@@ -170,7 +169,7 @@ module _ {T W L D : Type 0} (words : Words T W L D) (reads : (disk : D) → IfSo
   front_listed count slot listed to = listed_from slot (take count listed) (front_to_begin count slot listed to)
 
   module _ (old : Beginning T W L) (so_far : SoFar) (stands : Stands words start (at_phase words start moments a b old.folder.told old.crew old.keeper Reading) so_far)
-      (none_opened : so_far.opened ≡ []) (ends : EndsAt so_far.moments now.0) (of_inputs : AllByRecursion (IsOfNamedInput start.settings) start.listed) where
+      (none_opened : so_far.opened ≡ []) (ends : EndsAt so_far.moments now.0) (of_inputs : AllByRecursion (IsOfRuledInput start.settings) start.listed) where
     to_begin : AreToBegin 0 start.listed
     to_begin = are_to_begin [] start.listed refl of_inputs
 
@@ -216,9 +215,9 @@ module _ {T W L D : Type 0} (words : Words T W L D) (reads : (disk : D) → IfSo
     some_begun what new (inl is) =
         let begins = subst (λ (n : ℕ). BeginsBelow words reads counts start moments a b now n is.mid) (none_more (length (take is.count start.listed)) ∙ front_long start.listed is.count is.one is.is)
         (behind_some is.count is.passed is.mid is.begins) in
-        let of = at_place (IsOfNamedInput start.settings) start.listed is.count is.one of_inputs is.is in
+        let of = at_place (IsOfRuledInput start.settings) start.listed is.count is.one of_inputs is.is in
         one_ends words reads counts start moments a b now is.count is.one
-        (record { there = is.is; rule = of.rule; rule_is = of.rule_is; named = of.named; in_range = of.in_range }) is.mid begins what new is.ended
+        (record { there = is.is; rule = of.rule; rule_is = of.rule_is; in_range = of.in_range }) is.mid begins what new is.ended
       where
         none_more : (n : ℕ) → n + 0 ≡ n
         none_more n = omega arith

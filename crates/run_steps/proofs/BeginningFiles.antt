@@ -1,5 +1,5 @@
 -- Each file that is opened keeps what stands of a run: as its steps say what they changed.
-use Rattle.std.proofs.Common.{◌≡◌, ◌≢◌, ◌⊎◌, inl, inr, ℕ, suc, ◌≤◌, true, false, List, [], ◌∷◌, ◌++◌, Option, Some, None, IsSome, IfSome, Ok, Err, length, ◌<◌, ◌%◌, arith, refl, sym, ap, subst, ◌∙◌}
+use Rattle.std.proofs.Common.{◌≡◌, ◌≢◌, ◌⊎◌, inl, inr, ℕ, suc, ◌≤◌, true, false, List, [], ◌∷◌, ◌++◌, Option, Some, None, IsSome, IfSome, Result, Ok, Err, length, ◌<◌, ◌%◌, arith, refl, sym, ap, subst, ◌∙◌}
 use Rattle.std.proofs.lemmas.List.Elements.{Contains-append_right}
 use Rattle.std.specs.Prelude.{slice_get}
 use Rattle.accounts.specs.Opened.{IsTailOf, Opened}
@@ -8,14 +8,17 @@ use Rattle.accounts.proofs.Lists.{each_then}
 use Rattle.accounts.proofs.Onward.{stands_opened}
 use Rattle.event_tree.specs.declared.input_rule.InputRule.{InputRule}
 use Rattle.file_looks.specs.Looks.{TellsLooks}
-use Rattle.file_identity.specs.Key.{named_key}
+use Rattle.file_identity.specs.Answers.{IsGiven}
+use Rattle.file_identity.specs.AskedAgain.{GivesKey}
+use Rattle.file_identity.specs.declared.identity.Identity.{Identity}
+use Rattle.file_identity.specs.declared.identity.Identity.TheVariants.{Key}
+use Rattle.file_identity.specs.declared.identity_error.IdentityError.{IdentityError}
 use Rattle.harvester.specs.HasTold.{HasTold}
 use Rattle.harvester.specs.History as history
 use Rattle.harvester.specs.Standing.{stage_of}
 use Rattle.harvester.specs.declared.harvester.Harvester.{Harvester}
 use Rattle.harvester.specs.declared.stage.Stage.TheVariants as stage
 use Rattle.keeper.specs.Keeping.{Keeping}
-use Rattle.kept_rows.specs.Scans.{IsNoFingerprint}
 use Rattle.multiline_core.specs.Rule.{IsGroupRule}
 use Rattle.outside.specs.Folders.{FolderHistory, TellsOpening}
 use Rattle.outside.specs.declared.failed.FolderError.TheVariants.{Failed, NoMemory as WithoutMemory}
@@ -32,10 +35,11 @@ use Rattle.wire_base.specs.declared.note.Begin.{Begin}
 use Rattle.wire_base.specs.declared.numbers.Moment.{Moment}
 use Rattle.run_steps.specs.Began.{Began}
 use Rattle.run_steps.specs.BeginFor.{begin_for, start_among}
-use Rattle.run_steps.specs.Beginning.{AdmitsAt, Beginning, BeginsFile, BeginsOne, ClosesFile, GivesFileUp, HasListedKey, IsOpenedFor, OpensNone, SameLanes}
+use Rattle.run_steps.specs.Beginning.{AdmitsAt, AsksKey, Beginning, BeginsFile, BeginsOne, ClosesFile, GivesFileUp, HasListedKey, IsOpenedFor, OpensNone, SameLanes}
 use Rattle.run_steps.specs.BeginsAll.{file_at}
 use Rattle.run_steps.specs.Begun.{noted_begin}
 use Rattle.run_steps.specs.FolderSeen.{FolderSeen}
+use Rattle.run_steps.specs.Releasing.{closing_of, with_events}
 use Rattle.run_steps.specs.RunState.{Finished, Leaving, Reading}
 use Rattle.run_steps.specs.Shown.{HasShown}
 use Rattle.run_steps.specs.SoFar.{SoFar}
@@ -51,12 +55,11 @@ use Rattle.run_steps.proofs.TailOpened.{HasTail, IsShown, has_tail, opened_now}
 module _ {T W L D : Type 0} (words : Words T W L D) (reads : (disk : D) → IfSome (words.disks.contents disk) (words.disks.images disk))
     (counts : (disk : D) (at : ℕ) (image : List ℕ) → at ≤ words.disks.moment disk → words.disks.images disk image → words.disks.images_since disk at image)
     (start : Began D) (moments : Option (List ℕ)) (a b : D) (now : Moment) where
-  -- a listed file of an input that knows its files without reading them
+  -- a listed file of an input of the settings
   pub record IsToBegin (slot : ℕ) (listed : Listed) : Type 0 where
     pub there : slice_get start.listed slot ≡ Some listed
     pub rule : InputRule
     pub rule_is : slice_get start.settings.inputs listed.input ≡ Some rule
-    pub named : IsNoFingerprint rule.file_identity
     pub in_range : IsGroupRule rule.multiline
 
   -- all that stands of a run in this state, with its files begun below the slot
@@ -119,7 +122,7 @@ module _ {T W L D : Type 0} (words : Words T W L D) (reads : (disk : D) → IfSo
 
     -- by the rule of its input
     begun_so : (key : List ℕ) → listed.key ≡ Some key → (one : Opened) → one.begin ≡ begin_for (record { 0 = slot }) listed key (start_among start.opening listed) → one.rule ≡ to.rule →
-        (IsSome start.shown → named_key to.rule.id to.rule.file_identity listed.path one.file.numbers ≡ Some key) → IsBegunSo words start moments a b slot one
+        (IsSome start.shown → GivesKey to.rule key listed.path one.file one.asked) → IsBegunSo words start moments a b slot one
     begun_so key key_is one begin_is rule_is found = record {
       as_listed = record {
         one = listed;
@@ -127,39 +130,43 @@ module _ {T W L D : Type 0} (words : Words T W L D) (reads : (disk : D) → IfSo
         keyed = key_is ∙ ap (λ (g : Begin). Some g.key) (sym begin_is);
         begin_is = begin_is ∙ ap (λ (g : Begin). begin_for g.slot listed g.key (start_among start.opening listed)) (sym begin_is);
         rule_is = to.rule_is ∙ ap Some (sym rule_is);
-        named = subst (λ (r : InputRule). IsNoFingerprint r.file_identity) (sym rule_is) to.named;
         in_range = subst (λ (r : InputRule). IsGroupRule r.multiline) (sym rule_is) to.in_range;
       };
-      keyed = λ some. ap (λ (r : InputRule). named_key r.id r.file_identity one.begin.path one.file.numbers) rule_is
-          ∙ ap (λ (g : Begin). named_key to.rule.id to.rule.file_identity g.path one.file.numbers) begin_is ∙ found some ∙ ap (λ (g : Begin). Some g.key) (sym begin_is);
+      keyed = λ some. subst (λ (r : InputRule). GivesKey r one.begin.key one.begin.path one.file one.asked) (sym rule_is)
+          (subst (λ (g : Begin). GivesKey to.rule g.key g.path one.file one.asked) (sym begin_is) (found some));
       slot_is = ap (λ (g : Begin). g.slot.0) begin_is;
     }
 
-    module _ (mid : Option FolderHistory) (tail : T) (opens : TellsOpening words.tails.told words.tails.numbers old.folder.told old.folder.states old.folder.present listed.path (Ok (Some tail)) mid)
-        (found : HasListedKey words.tails start.settings (file_at start.opening slot listed now) tail) (key : List ℕ) (key_is : listed.key ≡ Some key) where
+    module _ (mid : Option FolderHistory) (fresh tail : T) (opens : TellsOpening words.tails.told words.tails.numbers old.folder.told old.folder.states old.folder.present listed.path (Ok (Some fresh)) mid)
+        (found : HasListedKey words.tails start.settings (file_at start.opening slot listed now) fresh tail) (key : List ℕ) (key_is : listed.key ≡ Some key) where
       begin : Begin
       begin = begin_for (record { 0 = slot }) listed key (start_among start.opening listed)
 
-      has : HasTail words.tails (begin_for (record { 0 = slot }) listed key (start_among start.opening listed)) to.rule old.folder.told tail mid
-      has = has_tail words.tails (begin_for (record { 0 = slot }) listed key (start_among start.opening listed)) to.rule old.folder.states old.folder.present tail old.folder.told mid opens
+      has : HasTail words.tails start.settings (file_at start.opening slot listed now) fresh tail (Ok (Key found.key)) found.asks (begin_for (record { 0 = slot }) listed key (start_among start.opening listed)) to.rule old.folder.told mid
+      has = has_tail words.tails start.settings (file_at start.opening slot listed now) fresh tail (Ok (Key found.key)) found.asks
+          (begin_for (record { 0 = slot }) listed key (start_among start.opening listed)) to.rule old.folder.states old.folder.present old.folder.told mid opens
 
       so : IsBegunSo words start moments a b slot has.one
       so = begun_so key key_is has.one has.begin_is has.rule_is found_key
         where
-          of_told : (o : Option TailHistory) → IsSome o → IfSome o (λ told. words.tails.numbers tail ≡ has.one.file.numbers) → words.tails.numbers tail ≡ has.one.file.numbers
-          of_told None some same = absurd (let q : false ≡ true = some in cc)
-          of_told (Some told) some same = same
+          of_told : (o : Option TailHistory) → IsSome o → IfSome o (λ told. IsGiven found.asks.rule.id found.asks.rule.file_identity listed.path has.one.file has.one.asked (Ok (Key found.key))) →
+              IsGiven found.asks.rule.id found.asks.rule.file_identity listed.path has.one.file has.one.asked (Ok (Key found.key))
+          of_told None some gave = absurd (let q : false ≡ true = some in cc)
+          of_told (Some told) some gave = gave
 
           same_rule : (x y : InputRule) → Some x ≡ Some y → x ≡ y
           same_rule x y e = cc
 
-          -- the tail tells the numbers of its file
-          found_key : IsSome start.shown → named_key to.rule.id to.rule.file_identity listed.path has.one.file.numbers ≡ Some key
+          same_key : (x y : List ℕ) → Some x ≡ Some y → x ≡ y
+          same_key x y e = cc
+
+          -- its asking gave the key
+          found_key : IsSome start.shown → GivesKey to.rule key listed.path has.one.file has.one.asked
           found_key some =
               let tells = shown_tells begins.so_far has.one (words.tails.told tail) start.shown old.folder.told mid begins.stands.shown has.shown some in
-              ap (named_key to.rule.id to.rule.file_identity listed.path) (sym (of_told (words.tails.told tail) tells has.numbers_are))
-              ∙ ap (λ (r : InputRule). named_key r.id r.file_identity listed.path (words.tails.numbers tail)) (same_rule to.rule found.rule (sym to.rule_is ∙ found.rule_is))
-              ∙ found.key_is ∙ key_is
+              let gave = of_told (words.tails.told tail) tells has.gave in
+              subst (λ (r : InputRule). GivesKey r key listed.path has.one.file has.one.asked) (same_rule found.asks.rule to.rule (sym found.asks.rule_is ∙ to.rule_is))
+              (record { asking = gave.0; gave = gave.1 ∙ ap Some (same_key found.key key (sym found.listed ∙ key_is)) })
 
       tells_it : (keeper new : Keeping) → TellsNotes (noted_begin (begin_for (record { 0 = slot }) listed key (start_among start.opening listed)) ∷ []) keeper new → TellsNotes (noted_begin has.one.begin ∷ []) keeper new
       tells_it keeper new tells = subst (λ (g : Begin). TellsNotes (noted_begin g ∷ []) keeper new) (sym has.begin_is) tells
@@ -187,11 +194,11 @@ module _ {T W L D : Type 0} (words : Words T W L D) (reads : (disk : D) → IfSo
               same : (x y : List ℕ) → Some x ≡ Some y → x ≡ y
               same x y e = cc
 
-          told_so : HasTold words.tails.numbers words.tails.told (history.opened has.one.rule start.settings.processors has.one.begin [] now.0) harvester
+          told_so : HasTold words.tails.numbers words.tails.told (history.opened has.one.rule start.settings.processors has.one.begin has.one.asked now.0) harvester
           told_so =
-              subst (λ (r : InputRule). HasTold words.tails.numbers words.tails.told (history.opened r start.settings.processors has.one.begin [] now.0) harvester) rule_same
-              (subst (λ (g : Begin). HasTold words.tails.numbers words.tails.told (history.opened is.rule start.settings.processors g [] now.0) harvester) begin_same
-              (subst (λ (l : List Look). HasTold words.tails.numbers words.tails.told (history.opened is.rule start.settings.processors is.begin l now.0) harvester) has.no_looks is.told))
+              subst (λ (r : InputRule). HasTold words.tails.numbers words.tails.told (history.opened r start.settings.processors has.one.begin has.one.asked now.0) harvester) rule_same
+              (subst (λ (g : Begin). HasTold words.tails.numbers words.tails.told (history.opened is.rule start.settings.processors g has.one.asked now.0) harvester) begin_same
+              (subst (λ (l : List Look). HasTold words.tails.numbers words.tails.told (history.opened is.rule start.settings.processors is.begin l now.0) harvester) has.looks_are is.told))
 
       not_over : (harvester : Harvester T) → IsOpenedFor words.tails start.settings (file_at start.opening slot listed now) tail harvester → harvester.reader.stage ≢ stage.Over
       not_over harvester is over = let no : history.Over ≡ history.Reads = sym (ap stage_of over) ∙ is.told.held.holds.follows.stage in cc
@@ -203,30 +210,38 @@ module _ {T W L D : Type 0} (words : Words T W L D) (reads : (disk : D) → IfSo
         let key = taken.tells.key in
         let key_is = taken.tells.key_is in
         let opens = is.opened.opens.told in
-        let of = has is.mid.folder.told is.tail opens is.keyed key key_is in
+        let of = has is.mid.folder.told is.fresh is.tail opens is.keyed key key_is in
         let harvester = is.follows.harvester in
         let kept = is.follows.opened.tail_kept in
-        let tells = tells_it is.mid.folder.told is.tail opens is.keyed key key_is is.mid.keeper new.keeper taken.tells.tells in
+        let tells = tells_it is.mid.folder.told is.fresh is.tail opens is.keyed key key_is is.mid.keeper new.keeper taken.tells.tells in
         subst (λ (f : FolderSeen). Begins words start moments a b now f.told new.crew new.keeper (suc slot)) (sym taken.folder)
-        (begins_next words reads counts start moments a b now old.folder.told old.crew old.keeper slot begins of.one (so is.mid.folder.told is.tail opens is.keyed key key_is) new.keeper
+        (begins_next words reads counts start moments a b now old.folder.told old.crew old.keeper slot begins of.one (so is.mid.folder.told is.fresh is.tail opens is.keyed key key_is) new.keeper
         (subst (λ (k : Keeping). TellsNotes (noted_begin of.one.begin ∷ []) k new.keeper) is.opened.keeper tells) harvester
-        (turns is.mid.folder.told is.tail opens is.keyed key key_is harvester is.follows.opened) (not_over is.mid.folder.told is.tail opens is.keyed key key_is harvester is.follows.opened)
+        (turns is.mid.folder.told is.fresh is.tail opens is.keyed key key_is harvester is.follows.opened) (not_over is.mid.folder.told is.fresh is.tail opens is.keyed key key_is harvester is.follows.opened)
         (slot % length old.crew.lanes.items) new.crew
         (subst (λ (c : Crew T W L). AdmitsAt (slot % length c.lanes.items) harvester (lanings c.lanes.items) (lanings new.crew.lanes.items)) is.opened.crew taken.admits)
         (subst (λ (c : Crew T W L). new.crew ≡ record c { lanes = new.crew.lanes }) is.opened.crew taken.others) is.mid.folder.told
         (subst (λ (t : T). IsShown old.folder.told of.one (words.tails.told t) is.mid.folder.told) (sym kept) of.shown))
 
-    -- whatever its key
-    opened_some : (mid : Option FolderHistory) (tail : T) → TellsOpening words.tails.told words.tails.numbers old.folder.told old.folder.states old.folder.present listed.path (Ok (Some tail)) mid →
-        HasTail words.tails (begin_for (record { 0 = slot }) listed [] (start_among start.opening listed)) to.rule old.folder.told tail mid
-    opened_some mid tail opens = has_tail words.tails (begin_for (record { 0 = slot }) listed [] (start_among start.opening listed)) to.rule old.folder.states old.folder.present tail old.folder.told mid opens
+    -- whatever it told of its key
+    module _ (fresh tail : T) (result : Result Identity IdentityError) (asks : AsksKey words.tails start.settings (file_at start.opening slot listed now) fresh tail result) where
+      opened_some : (mid : Option FolderHistory) → TellsOpening words.tails.told words.tails.numbers old.folder.told old.folder.states old.folder.present listed.path (Ok (Some fresh)) mid →
+          HasTail words.tails start.settings (file_at start.opening slot listed now) fresh tail result asks (begin_for (record { 0 = slot }) listed [] (start_among start.opening listed)) to.rule old.folder.told mid
+      opened_some mid opens = has_tail words.tails start.settings (file_at start.opening slot listed now) fresh tail result asks
+          (begin_for (record { 0 = slot }) listed [] (start_among start.opening listed)) to.rule old.folder.states old.folder.present old.folder.told mid opens
+
+      -- what the folder shows once it was closed again
+      shown_closed : (mid later : Option FolderHistory) → TellsOpening words.tails.told words.tails.numbers old.folder.told old.folder.states old.folder.present listed.path (Ok (Some fresh)) mid →
+          later ≡ with_events (closing_of (words.tails.told tail) (words.tails.faults tail)) mid → HasShown start.shown later begins.so_far
+      shown_closed mid later opens closes =
+          let of = opened_some mid opens in
+          unread_shown begins.so_far of.one (words.tails.told tail) of.reads (words.tails.faults tail) start.shown old.folder.told mid later begins.stands.shown of.shown closes
 
     -- it was closed again, and the keeper was told nothing
-    pub closed_again : (Why : T → Type 0) (new : Beginning T W L) → ClosesFile words.tails (file_at start.opening slot listed now) Why old new → BeginsBelow slot new
+    pub closed_again : (Why : T → T → Type 0) (new : Beginning T W L) → ClosesFile words.tails start.settings (file_at start.opening slot listed now) Why old new → BeginsBelow slot new
     closed_again Why new is =
-        let of = opened_some is.mid.folder.told is.tail is.opened.opens.told in
-        moved new slot (is.closed.crew ∙ is.opened.crew) (is.closed.keeper ∙ is.opened.keeper) (with_shown new.folder.told
-        (unread_shown begins.so_far of.one (words.tails.told is.tail) (words.tails.faults is.tail) start.shown old.folder.told is.mid.folder.told new.folder.told begins.stands.shown of.shown is.closed.closes.told))
+        moved new slot (is.closed.closed.crew ∙ is.opened.crew) (is.closed.closed.keeper ∙ is.opened.keeper) (with_shown new.folder.told
+        (shown_closed is.fresh is.closed.asked is.closed.result is.closed.asks is.mid.folder.told new.folder.told is.opened.opens.told is.closed.closed.closes.told))
 
     -- its tail was closed again
     pub given_up : (new : Beginning T W L) → GivesFileUp words.tails start.settings (file_at start.opening slot listed now) old new → Leaves new
@@ -244,21 +259,20 @@ module _ {T W L D : Type 0} (words : Words T W L D) (reads : (disk : D) → IfSo
 
         by_case : (new.keeper ≡ is.mid.keeper) ⊎ TellsBegin (record { 0 = slot }) listed (start_among start.opening listed) is.mid.keeper new.keeper → Leaves new
         by_case (inl same) =
-            let of = opened_some is.mid.folder.told is.tail is.opened.opens.told in
             at_end old.keeper begins.so_far (same ∙ is.opened.keeper)
             (stands_at words start moments a b old.folder.told new.folder.told old.crew old.keeper Leaving begins.so_far (λ e. let no : Leaving ≡ Finished = e in cc)
-            (unread_shown begins.so_far of.one (words.tails.told is.tail) (words.tails.faults is.tail) start.shown old.folder.told is.mid.folder.told new.folder.told begins.stands.shown of.shown is.gives_up.closes.told)
+            (shown_closed is.fresh is.tail (Ok (Key is.keyed.key)) is.keyed.asks is.mid.folder.told new.folder.told is.opened.opens.told is.gives_up.closes.told)
             begins.stands)
         by_case (inr told) =
             let opens = is.opened.opens.told in
-            let of = has is.mid.folder.told is.tail opens is.keyed told.key told.key_is in
-            let tells = tells_it is.mid.folder.told is.tail opens is.keyed told.key told.key_is is.mid.keeper new.keeper told.tells in
-            at_end new.keeper (left_after words reads counts start moments a b now old.folder.told old.crew old.keeper slot begins of.one (so is.mid.folder.told is.tail opens is.keyed told.key told.key_is) new.keeper
+            let of = has is.mid.folder.told is.fresh is.tail opens is.keyed told.key told.key_is in
+            let tells = tells_it is.mid.folder.told is.fresh is.tail opens is.keyed told.key told.key_is is.mid.keeper new.keeper told.tells in
+            at_end new.keeper (left_after words reads counts start moments a b now old.folder.told old.crew old.keeper slot begins of.one (so is.mid.folder.told is.fresh is.tail opens is.keyed told.key told.key_is) new.keeper
             (subst (λ (k : Keeping). TellsNotes (noted_begin of.one.begin ∷ []) k new.keeper) is.opened.keeper tells)
-            (words.tails.told is.tail) of.no_looks of.tail_is of.tells (words.tails.faults is.tail) is.mid.folder.told new.folder.told of.shown is.gives_up.closes.told) refl
-            (stands_left words reads counts start moments a b now old.folder.told old.crew old.keeper slot begins of.one (so is.mid.folder.told is.tail opens is.keyed told.key told.key_is) new.keeper
+            (words.tails.told is.tail) of.looks_are of.reads of.tail_is of.tells (words.tails.faults is.tail) is.mid.folder.told new.folder.told of.shown is.gives_up.closes.told) refl
+            (stands_left words reads counts start moments a b now old.folder.told old.crew old.keeper slot begins of.one (so is.mid.folder.told is.fresh is.tail opens is.keyed told.key told.key_is) new.keeper
             (subst (λ (k : Keeping). TellsNotes (noted_begin of.one.begin ∷ []) k new.keeper) is.opened.keeper tells)
-            (words.tails.told is.tail) of.no_looks of.tail_is of.tells (words.tails.faults is.tail) is.mid.folder.told new.folder.told of.shown is.gives_up.closes.told)
+            (words.tails.told is.tail) of.looks_are of.reads of.tail_is of.tells (words.tails.faults is.tail) is.mid.folder.told new.folder.told of.shown is.gives_up.closes.told)
 
     -- ---- whatever it came to
 
@@ -268,10 +282,11 @@ module _ {T W L D : Type 0} (words : Words T W L D) (reads : (disk : D) → IfSo
     one_more (Some why.Moved) new is = later_slot new slot (closed_again _ new is)
     one_more (Some why.Doubled) new is = absurd is
     one_more (Some why.Old) new is = absurd is
-    one_more (Some why.Small) new is = absurd is
+    one_more (Some why.Small) new is = later_slot new slot (closed_again _ new is)
 
     pub one_ends : (what : Met) (new : Beginning T W L) → BeginsOne words.tails start.settings (file_at start.opening slot listed now) (Err what) old new → Leaves new
-    one_ends met.FolderFault new is = failed_opening new is
+    one_ends met.FolderFault new (inl none) = failed_opening new none
+    one_ends met.FolderFault new (inr closed) = leaves new slot (closed_again _ new closed)
     one_ends met.NoMemory new (inl none) = without_memory new none
     one_ends met.NoMemory new (inr (inl up)) = given_up new up
     one_ends met.NoMemory new (inr (inr closed)) = leaves new slot (closed_again _ new closed)

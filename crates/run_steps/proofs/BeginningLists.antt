@@ -1,11 +1,12 @@
 -- Files begun one behind the other, in the order of their slots: one more, and what stays over all of them.
 use Rattle.std.proofs.Common.{◌≡◌, ◌⊎◌, inl, inr, ⊎_elim, ℕ, zero, suc, ◌+◌, ◌-◌, ◌^◌, ◌≤◌, ◌<◌, List, [], ◌∷◌, ◌++◌, length, take, append-nil, append_assoc, Option, None, Some, Result, Ok, Err, IfErr, IsErrAnd, refl, sym, ap, subst, ◌∙◌, arith}
+use Rattle.std.proofs.lemmas.Bool.{cases_lt}
 use Rattle.std.proofs.lemmas.Option.{slice_get_within}
 use Rattle.std.specs.List.{AllByRecursion}
 use Rattle.std.specs.Prelude.{slice_get}
 use Rattle.event_tree.specs.declared.settings.Settings.{Settings}
 use Rattle.keeper.specs.Keeping.{Keeping}
-use Rattle.outside.specs.Counts.{Rose}
+use Rattle.outside.specs.Counts.{Rose, added_counts}
 use Rattle.prospect.specs.declared.listed.Listed.{Listed}
 use Rattle.report.specs.declared.passing.Passing.{Passing}
 use Rattle.report.specs.declared.passing.Why.{Why}
@@ -43,6 +44,15 @@ take_short (suc count) (one ∷ listed) = let rest = take_short count listed in 
 rose_since : (first mid now : ℕ) → first ≤ mid → Rose mid now → Rose first now
 rose_since first mid now le (inl less) = inl (omega (arith, le, less))
 rose_since first mid now le (inr full) = inr full
+
+-- a tail that met a fault leaves it with the folder
+closing_rose : (count faults now : ℕ) → Rose 0 faults → added_counts count faults ≤ now → Rose count now
+closing_rose count faults now rose le = by_case rose (cases_lt count (2 ^ 64 - 1))
+  where
+    by_case : Rose 0 faults → (count < 2 ^ 64 - 1) ⊎ (2 ^ 64 - 1 ≤ count) → Rose count now
+    by_case (inl some) (inl less) = inl (omega (arith, some, less, le))
+    by_case (inr full) (inl less) = inl (omega (arith, full, less, le))
+    by_case some (inr end) = inr (omega (arith, end, le))
 
 take_shorter : (count : ℕ) (listed : List Listed) → length (take count listed) ≤ length listed
 take_shorter zero listed = omega arith
@@ -216,7 +226,17 @@ module _ {T W L : Type 0} (tails : TailWords T) (settings : Settings) (rows : Li
     begin_ends what (inr is) = subst (λ (m : Met). EndsBeginning (length listed) m old new) (sym is.0) tt
     begin_ends met.FolderFault (inl is) =
         let keeps = from_keeps 0 (take is.count listed) is.passed old is.mid is.begins in
-        rose_since old.folder.faults is.mid.folder.faults new.folder.faults keeps.faults_never_fall (is.ended.opens.failed_only_where_faults_rose refl)
+        rose_since old.folder.faults is.mid.folder.faults new.folder.faults keeps.faults_never_fall (by_case is.ended)
+      where
+        -- the opening failed, or a read of its tail did
+        by_case : BeginsOne tails settings (file_at rows is.count is.one now) (Err met.FolderFault) is.mid new → Rose is.mid.folder.faults new.folder.faults
+        by_case (inl none) = none.opens.failed_only_where_faults_rose refl
+        by_case (inr closed) =
+            let asks = closed.closed.why.asks in
+            let rose : Rose 0 (tails.faults closed.closed.asked) =
+            subst (λ (n : ℕ). Rose n (tails.faults closed.closed.asked)) closed.opened.opens.fresh (asks.failed_only_where_faults_rose refl) in
+            rose_since is.mid.folder.faults closed.mid.folder.faults new.folder.faults closed.opened.opens.faults_never_fall
+            (closing_rose closed.mid.folder.faults (tails.faults closed.closed.asked) new.folder.faults rose closed.closed.closed.closes.counts_faults)
     begin_ends met.NoMemory (inl is) = tt
     begin_ends met.Done (inl is) = absurd is.ended
     begin_ends met.Stopped (inl is) = absurd is.ended

@@ -7,6 +7,7 @@ use Rattle.accounts.specs.Opened.{IsTailOf, Opened}
 use Rattle.accounts.specs.Turned.{Turned, spans_in}
 use Rattle.accounts.specs.Turning.{IsTurnedSo, Pairs}
 use Rattle.accounts.proofs.Lists.{each_last}
+use Rattle.file_identity.specs.AskedAgain.{IsRead}
 use Rattle.file_looks.specs.Looks.{TellsLooks}
 use Rattle.harvester.specs.HasTold.{looks_so_far}
 use Rattle.harvester.specs.declared.harvester.Harvester.{Harvester}
@@ -15,6 +16,7 @@ use Rattle.keeper.specs.Keeping.{Keeping}
 use Rattle.lanes.specs.Laning.{Laning}
 use Rattle.outside.specs.Folders.{FolderHistory}
 use Rattle.outside.specs.Tails.{TailHistory}
+use Rattle.outside.specs.declared.history.Look.{Look}
 use Rattle.pass_sums.specs.Weight.{AsOften, weigh}
 use Rattle.pass_sums.proofs.Weights.{weigh-append}
 use Rattle.rounds.specs.Books.{ArePlaced, held_notes, held_parcels}
@@ -151,7 +153,7 @@ module _ {T W L D : Type 0} (words : Words T W L D) (reads : (disk : D) → IfSo
 
   -- ---- it was closed
 
-  module _ (told : Option TailHistory) (no_looks : looks_so_far told ≡ []) (tail_is : IfSome told (IsTailOf one)) (tells_looks : IfSome told TellsLooks) (faults : ℕ)
+  module _ (told : Option TailHistory) (looks_are : looks_so_far told ≡ one.asked) (only_reads : AllByRecursion (λ (look : Look). IsRead look.question) one.asked) (tail_is : IfSome told (IsTailOf one)) (tells_looks : IfSome told TellsLooks) (faults : ℕ)
       (mid later : Option FolderHistory) (shows : IsShown shown one told mid) (closes : later ≡ with_events (closing_of told faults) mid) where
     abbrev left_one : Left
     left_one = record { turned = turned; told = told }
@@ -178,7 +180,7 @@ module _ {T W L D : Type 0} (words : Words T W L D) (reads : (disk : D) → IfSo
     is_left = record {
       file = one;
       among = Contains-append_right was.opened (one ∷ []) one (first_there one []);
-      is_told = told_unread start.settings.processors one was.moments now.0 begins.ends told no_looks tail_is tells_looks;
+      is_told = told_unread start.settings.processors one was.moments now.0 begins.ends told looks_are tail_is tells_looks;
     }
 
     pub stands_left : Stands words start (at_phase words start moments a b later crew new_keeper Leaving) left_after
@@ -193,7 +195,7 @@ module _ {T W L D : Type 0} (words : Words T W L D) (reads : (disk : D) → IfSo
       finished = λ is some. absurd (let no : Leaving ≡ Finished = is in cc);
       tell = begins.stands.tell;
       left_tell = λ some. each_last (λ (l : Left). IsSome l.told) was.left left_one (begins.stands.left_tell some) (shown_tells was one told start.shown shown mid begins.stands.shown shows some);
-      shown = left_shown was one told faults (all_turned words start moments a b now shown crew keeper slot begins) turned left_after refl refl
+      shown = left_shown was one told only_reads faults (all_turned words start moments a b now shown crew keeper slot begins) turned left_after refl refl
           (not_turned words start moments a b now shown crew keeper slot begins one so) start.shown shown mid later begins.stands.shown shows closes;
       given = begins.stands.given;
       gave = record {

@@ -1,48 +1,55 @@
 -- How a listed file begins, from what each call answered.
-use Rattle.std.proofs.Common.{◌≡◌, ◌⊎◌, ◌↔◌, inl, inr, ℕ, List, IsTrue, Bool, true, false, Option, None, Some, Result, Ok, Err, OnOk, refl, sym, ap, subst, ◌∙◌, IsSome, IsNone}
-use Rattle.std.specs.Prelude.{slice_get}
-use Rattle.event_tree.specs.declared.input_rule.InputRule.{InputRule}
+use Rattle.std.proofs.Common.{◌≡◌, ◌⊎◌, ◌↔◌, inl, inr, ℕ, List, IsTrue, Bool, true, false, Option, None, Some, Result, Ok, Err, OnOk, refl, sym, ap, subst, ◌∙◌}
 use Rattle.event_tree.specs.declared.settings.Settings.{Settings}
-use Rattle.file_identity.specs.Key.{named_key}
+use Rattle.file_identity.specs.declared.identity.Identity.{Identity}
+use Rattle.file_identity.specs.declared.identity.Identity.TheVariants.{Key, TooSmall}
+use Rattle.file_identity.specs.declared.identity_error.IdentityError.{IdentityError}
+use Rattle.file_identity.specs.declared.identity_error.IdentityError.TheVariants.{NoNative as WithoutNumbers, ReadFault}
 use Rattle.harvester.specs.declared.harvester.Harvester.{Harvester}
 use Rattle.outside.specs.declared.failed.FolderError.{FolderError}
 use Rattle.outside.specs.declared.failed.FolderError.TheVariants.{Failed, NoMemory as WithoutMemory}
 use Rattle.rounds.specs.Words.{TailWords}
 use Rattle.report.specs.declared.passing.Why.{Why}
 use Rattle.report.specs.declared.passing.Why.TheVariants.{Doubled, Gone, Moved, Old, Small}
-use Rattle.run_steps.specs.Beginning.{Beginning, BeginsOne, ClosesUntold, Follows, FollowsListed, GivesUp, HasListedKey, HasOpened, HasOtherKey, IsOpenedFor, ListedFile, OpensNone, SameLanes, TakesIn, TellsKey}
+use Rattle.run_steps.specs.Beginning.{AsksKey, Beginning, BeginsOne, ClosesAsked, ClosesFile, ClosesUntold, FailsToTell, Follows, FollowsListed, ForSomeReason, GivesUp, HasOpened, HasOtherKey, IsOpenedFor, IsTooSmall, ListedFile, OpensNone, SameLanes, TakesIn, TellsKey}
 use Rattle.run_steps.specs.FolderSeen.{Closes, FolderSeen, OpensBy}
 use Rattle.run_steps.specs.Met.{IsMetByFolder}
 use Rattle.run_steps.specs.Telling.{TellsBegin}
 use Rattle.run_steps.specs.declared.met.Met.{Met}
 use Rattle.run_steps.specs.declared.met.Met.TheVariants.{DiskFault, Done, Epochs, FolderFault, NoMemory, NoNative, Stopped, Unreachable}
-use Rattle.event_tree.specs.declared.input_rule.IdentityRule.{IdentityRule}
-use Rattle.event_tree.specs.declared.input_rule.IdentityRule.TheVariants.{Native}
-use Rattle.file_identity.specs.Answers.{IsFingerprint}
 
--- ---- by what is known of its key
+-- ---- by what its tail told of its key
 
--- where native numbers made a key they were told
-told_numbers : (rule : InputRule) (path : List ℕ) (numbers : Option (ℕ × ℕ)) (key : Option (List ℕ)) → key ≡ named_key rule.id rule.file_identity path numbers → (IsNone key ↔ IsFingerprint rule.file_identity) →
-    rule.file_identity ≡ Native → IsSome numbers
-told_numbers rule path (Some told) key key_is none native = refl
-told_numbers rule path None key key_is none native =
-    let no_key : key ≡ None = key_is ∙ ap (λ (identity : IdentityRule). named_key rule.id identity path None) native in
-    absurd (subst IsFingerprint native (none.0 (subst IsNone (sym no_key) refl)))
+module _ {T : Type 0} (tails : TailWords T) (settings : Settings) (file : ListedFile) (fresh asked : T) where
+  abbrev Asks : Result Identity IdentityError → Type 0
+  Asks = AsksKey tails settings file fresh asked
 
-module _ {T : Type 0} (tails : TailWords T) (settings : Settings) (file : ListedFile) where
-  pub tells_key : (tail : T) (rule : InputRule) → slice_get settings.inputs file.listed.input ≡ Some rule → (key : Option (List ℕ)) → key ≡ named_key rule.id rule.file_identity file.listed.path (tails.numbers tail) → (IsNone key ↔ IsFingerprint rule.file_identity) →
-      (same : Bool) → (IsTrue same ↔ (key ≡ file.listed.key)) → TellsKey tails settings file tail (Ok same)
-  tells_key tail rule rule_is key key_is none true of = record { rule = rule; rule_is = rule_is; key_is = sym key_is ∙ of.0 refl }
-  tells_key tail rule rule_is key key_is none false of = record { rule = rule; rule_is = rule_is; numbered = λ native. told_numbers rule file.listed.path (tails.numbers tail) key key_is none native; other = λ same. let q : false ≡ true = of.1 (key_is ∙ same) in cc }
+  pub asks_for : (result : Result Identity IdentityError) (answer : Result Identity IdentityError) → Asks result → result ≡ answer → Asks answer
+  asks_for result answer asks is = subst Asks is asks
 
-  pub key_found : (tail : T) (same : Bool) → TellsKey tails settings file tail (Ok same) → same ≡ true → HasListedKey tails settings file tail
-  key_found tail true of is = of
-  key_found tail false of is = absurd (let q : false ≡ true = is in cc)
+  -- the first of the reasons that stands
+  pub key_is_listed : (key : List ℕ) (same : Bool) → Asks (Ok (Key key)) → (IsTrue same ↔ (file.listed.key ≡ Some key)) → same ≡ true → TellsKey tails settings file fresh asked (Ok None)
+  key_is_listed key same asks of is = record { key = key; asks = asks; listed = of.0 is }
 
-  pub key_not_found : (tail : T) (same : Bool) → TellsKey tails settings file tail (Ok same) → same ≡ false → HasOtherKey tails settings file tail
-  key_not_found tail true of is = absurd (let q : true ≡ false = is in cc)
-  key_not_found tail false of is = of
+  pub key_is_other : (key : List ℕ) (same : Bool) → Asks (Ok (Key key)) → (IsTrue same ↔ (file.listed.key ≡ Some key)) → same ≡ false → TellsKey tails settings file fresh asked (Ok (Some Moved))
+  key_is_other key same asks of is = record { key = key; asks = asks; other = λ listed. let q : true ≡ false = sym (of.1 listed) ∙ is in cc }
+
+  -- whatever came of it, the tail was asked
+  pub told_of_key : (result : Result (Option Why) Met) → TellsKey tails settings file fresh asked result → (answer : Result Identity IdentityError) × Asks answer
+  told_of_key (Ok None) of = (Ok (Key of.key), of.asks)
+  told_of_key (Ok (Some Moved)) of = (Ok (Key of.key), of.asks)
+  told_of_key (Ok (Some Small)) of = (Ok (TooSmall of.place), of.asks)
+  told_of_key (Ok (Some Doubled)) of = absurd of
+  told_of_key (Ok (Some Gone)) of = absurd of
+  told_of_key (Ok (Some Old)) of = absurd of
+  told_of_key (Err NoMemory) of = of
+  told_of_key (Err FolderFault) of = (Err ReadFault, of.asks)
+  told_of_key (Err (NoNative slot)) of = (Err WithoutNumbers, of.1.asks)
+  told_of_key (Err Done) of = absurd of
+  told_of_key (Err Stopped) of = absurd of
+  told_of_key (Err DiskFault) of = absurd of
+  told_of_key (Err (Unreachable worker)) of = absurd of
+  told_of_key (Err (Epochs slot)) of = absurd of
 
 module _ {T W L : Type 0} (tails : TailWords T) (settings : Settings) (file : ListedFile) where
   pub gives_up : (tail back : T) (old new : Beginning T W L) → back ≡ tail → Closes tails back old.folder new.folder → SameLanes old.crew new.crew
@@ -74,20 +81,23 @@ module _ {T W L : Type 0} (tails : TailWords T) (settings : Settings) (file : Li
       has : HasOpened tails file tail old (opened_so old folder)
       has = has_opened tail old folder opened opens (is ∙ ap Ok found_is)
 
+      closes_so : (Why : T → T → Type 0) → ClosesAsked tails settings file tail Why (opened_so old folder) new → ClosesFile tails settings file Why old new
+      closes_so Why closed = record { fresh = tail; mid = opened_so old folder; opened = has; closed = closed }
+
       by_result : (r : Result (Option Why) Met) → FollowsListed tails settings file tail r (opened_so old folder) new → BeginsOne tails settings file r old new
-      by_result (Ok None) of = record { tail = tail; mid = opened_so old folder; opened = has; keyed = of.0; follows = of.1 }
-      by_result (Ok (Some Moved)) of = record { tail = tail; mid = opened_so old folder; opened = has; closed = of.1; why = of.0 }
+      by_result (Ok None) of = record { fresh = tail; tail = of.tail; mid = opened_so old folder; opened = has; keyed = of.keyed; follows = of.follows }
+      by_result (Ok (Some Moved)) of = closes_so (HasOtherKey tails settings file) of
+      by_result (Ok (Some Small)) of = closes_so (IsTooSmall tails settings file) of
       by_result (Ok (Some Doubled)) of = absurd of
       by_result (Ok (Some Gone)) of = absurd of
       by_result (Ok (Some Old)) of = absurd of
-      by_result (Ok (Some Small)) of = absurd of
-      by_result (Err NoMemory) (inl up) = inr (inl (record { tail = tail; mid = opened_so old folder; opened = has; keyed = up.0; gives_up = up.1 }))
-      by_result (Err NoMemory) (inr closed) = inr (inr (record { tail = tail; mid = opened_so old folder; opened = has; closed = closed; why = tt }))
-      by_result (Err (NoNative slot)) of = (of.0, record { tail = tail; mid = opened_so old folder; opened = has; closed = of.2; why = of.1 })
+      by_result (Err NoMemory) (inl up) = inr (inl (record { fresh = tail; tail = up.tail; mid = opened_so old folder; opened = has; keyed = up.keyed; gives_up = up.gives_up }))
+      by_result (Err NoMemory) (inr closed) = inr (inr (closes_so ForSomeReason closed))
+      by_result (Err (NoNative slot)) of = (of.0, closes_so (λ fresh asked. FailsToTell tails settings file fresh asked WithoutNumbers) of.1)
+      by_result (Err FolderFault) of = inr (closes_so (λ fresh asked. FailsToTell tails settings file fresh asked ReadFault) of)
       by_result (Err Done) of = absurd of
       by_result (Err Stopped) of = absurd of
       by_result (Err DiskFault) of = absurd of
-      by_result (Err FolderFault) of = absurd of
       by_result (Err (Unreachable worker)) of = absurd of
       by_result (Err (Epochs slot)) of = absurd of
 
@@ -96,16 +106,35 @@ module _ {T W L : Type 0} (tails : TailWords T) (settings : Settings) (file : Li
   pub closed_untold : (tail back : T) (old new : Beginning T W L) → back ≡ tail → Closes tails back old.folder new.folder → new.crew ≡ old.crew → new.keeper ≡ old.keeper → ClosesUntold tails tail old new
   closed_untold tail back old new same closes crew keeper = record { closes = subst (λ (t : T). Closes tails t old.folder new.folder) same closes; crew = crew; keeper = keeper }
 
-  pub key_unknown : (tail : T) (met : Met) (old new : Beginning T W L) → TellsKey tails settings file tail (Err met) → ClosesUntold tails tail old new → FollowsListed tails settings file tail (Err met) old new
-  key_unknown tail NoMemory old new of closed = inr closed
-  key_unknown tail (NoNative slot) old new of closed = (of.0, of.1, closed)
-  key_unknown tail Done old new of closed = absurd of
-  key_unknown tail Stopped old new of closed = absurd of
-  key_unknown tail DiskFault old new of closed = absurd of
-  key_unknown tail FolderFault old new of closed = absurd of
-  key_unknown tail (Unreachable worker) old new of closed = absurd of
-  key_unknown tail (Epochs slot) old new of closed = absurd of
+  module _ (fresh asked : T) (old new : Beginning T W L) (closed : ClosesUntold tails asked old new) where
+    closes_asked : (Why : T → T → Type 0) (answer : Result Identity IdentityError) → AsksKey tails settings file fresh asked answer → Why fresh asked → ClosesAsked tails settings file fresh Why old new
+    closes_asked Why answer asks why = record { asked = asked; result = answer; asks = asks; closed = closed; why = why }
+
+    pub key_skips : (why : Why) → TellsKey tails settings file fresh asked (Ok (Some why)) → FollowsListed tails settings file fresh (Ok (Some why)) old new
+    key_skips Moved of = closes_asked (HasOtherKey tails settings file) (Ok (Key of.key)) of.asks of
+    key_skips Small of = closes_asked (IsTooSmall tails settings file) (Ok (TooSmall of.place)) of.asks of
+    key_skips Doubled of = absurd of
+    key_skips Gone of = absurd of
+    key_skips Old of = absurd of
+
+    pub key_unknown : (met : Met) → TellsKey tails settings file fresh asked (Err met) → FollowsListed tails settings file fresh (Err met) old new
+    key_unknown NoMemory of = inr (closes_asked ForSomeReason of.0 of.1 tt)
+    key_unknown (NoNative slot) of = (of.0, closes_asked (λ fresh asked. FailsToTell tails settings file fresh asked WithoutNumbers) (Err WithoutNumbers) of.1.asks of.1)
+    key_unknown FolderFault of = closes_asked (λ fresh asked. FailsToTell tails settings file fresh asked ReadFault) (Err ReadFault) of.asks of
+    key_unknown Done of = absurd of
+    key_unknown Stopped of = absurd of
+    key_unknown DiskFault of = absurd of
+    key_unknown (Unreachable worker) of = absurd of
+    key_unknown (Epochs slot) of = absurd of
+
+  -- ---- followed, or given up
+
+  pub asked_follows : (fresh tail : T) (old new : Beginning T W L) → TellsKey tails settings file fresh tail (Ok None) → Follows tails settings file tail old new → FollowsListed tails settings file fresh (Ok None) old new
+  asked_follows fresh tail old new keyed follows = record { tail = tail; keyed = keyed; follows = follows }
+
+  pub asked_gives_up : (fresh tail : T) (old new : Beginning T W L) → TellsKey tails settings file fresh tail (Ok None) → GivesUp tails file tail old new → FollowsListed tails settings file fresh (Err NoMemory) old new
+  asked_gives_up fresh tail old new keyed up = inl (record { tail = tail; keyed = keyed; gives_up = up })
 
   pub none_opened : (old new : Beginning T W L) (error : FolderError) (met : Met) → IsMetByFolder error met → OpensNone tails file (Err error) old new → BeginsOne tails settings file (Err met) old new
-  none_opened old new Failed met is opens = subst (λ (m : Met). BeginsOne tails settings file (Err m) old new) (sym is) opens
+  none_opened old new Failed met is opens = subst (λ (m : Met). BeginsOne tails settings file (Err m) old new) (sym is) (inl opens)
   none_opened old new WithoutMemory met is opens = subst (λ (m : Met). BeginsOne tails settings file (Err m) old new) (sym is) (inl opens)

@@ -4,11 +4,13 @@ use Rattle.std.proofs.lemmas.List.Elements.{Contains-append_cases}
 use Rattle.std.specs.List.{AllByRecursion}
 use Rattle.accounts.specs.Opened.{Opened as OpenedFile}
 use Rattle.accounts.specs.Turned.{Turned}
+use Rattle.file_identity.specs.AskedAgain.{IsRead}
 use Rattle.kept_rows.proofs.Showing.{both}
 use Rattle.outside.specs.Folders.{Closed, Event, FolderHistory, NotThere, Opened, OpeningFailed, TellsOpening}
 use Rattle.outside.specs.Tails.{TailHistory}
 use Rattle.outside.specs.declared.failed.FolderError.{FolderError}
 use Rattle.outside.specs.declared.failed.FolderError.TheVariants.{Failed, NoMemory}
+use Rattle.outside.specs.declared.history.Look.{Look}
 use Rattle.outside.specs.declared.history.Shown.{Shown}
 use Rattle.outside.specs.declared.history.Sight.{Sight}
 use Rattle.rounds.specs.Words.{TailWords}
@@ -81,16 +83,16 @@ module _ (so_far : SoFar) (one : OpenedFile) (told : Option TailHistory) where
       (subst (AllByRecursion (IsClosedIn (with_more now more))) (sym left_are) (left_stays before now so_far is more so_far.left is.closed))
       (λ turned. still_open_now now one shows.opening shows.file_is))
 
-  module _ (faults : ℕ) where
+  module _ (reads : AllByRecursion (λ (look : Look). IsRead look.question) one.asked) (faults : ℕ) where
     -- its opening and its closing
     both_are : (now : FolderHistory) (mid after : Option FolderHistory) → mid ≡ Some (with_more now (Opened one.begin.path one.number one.begun ∷ [])) →
-        told ≡ Some (record { opening = one.opening; number = one.number; file = one.file; begun = one.begun; looks = [] }) → after ≡ with_events (closing_of told faults) mid →
-        after ≡ Some (with_more now (Opened one.begin.path one.number one.begun ∷ Closed one.opening [] faults ∷ []))
+        told ≡ Some (record { opening = one.opening; number = one.number; file = one.file; begun = one.begun; looks = one.asked }) → after ≡ with_events (closing_of told faults) mid →
+        after ≡ Some (with_more now (Opened one.begin.path one.number one.begun ∷ Closed one.opening one.asked faults ∷ []))
     both_are now mid after mid_is told_is after_is =
         after_is
         ∙ ap (λ (o : Option TailHistory). with_events (closing_of o faults) mid) told_is
-        ∙ ap (with_events (Closed one.opening [] faults ∷ [])) mid_is
-        ∙ ap (λ (l : List Event). Some (record { files = now.files; events = l })) (append_assoc now.events (Opened one.begin.path one.number one.begun ∷ []) (Closed one.opening [] faults ∷ []))
+        ∙ ap (with_events (Closed one.opening one.asked faults ∷ [])) mid_is
+        ∙ ap (λ (l : List Event). Some (record { files = now.files; events = l })) (append_assoc now.events (Opened one.begin.path one.number one.begun ∷ []) (Closed one.opening one.asked faults ∷ []))
 
     -- it was closed, and the keeper was told nothing of it
     pub unread_shown : (before now mid after : Option FolderHistory) → HasShown before now so_far → IsShown now one told mid → after ≡ with_events (closing_of told faults) mid → HasShown before after so_far
@@ -99,7 +101,7 @@ module _ (so_far : SoFar) (one : OpenedFile) (told : Option TailHistory) where
     unread_shown (Some before) None mid after is shows after_is = absurd is
     unread_shown (Some before) (Some now) mid after is shows after_is =
         subst (λ (o : Option FolderHistory). HasShown (Some before) o so_far) (sym (both_are now mid after shows.after_is shows.told_is after_is))
-        (quiet_on before now so_far is (Opened one.begin.path one.number one.begun ∷ Closed one.opening [] faults ∷ []) (adds_unread now one shows.opening shows.file_is faults))
+        (quiet_on before now so_far is (Opened one.begin.path one.number one.begun ∷ Closed one.opening one.asked faults ∷ []) (adds_unread now one shows.opening shows.file_is reads faults))
 
     -- it was closed, and the keeper was told of it
     pub left_shown : ((other : OpenedFile) → Contains so_far.opened other → IsTurnedIn so_far other) → (turned : Turned) (later : SoFar) → later.opened ≡ so_far.opened ++ one ∷ [] →
@@ -109,10 +111,10 @@ module _ (so_far : SoFar) (one : OpenedFile) (told : Option TailHistory) where
     left_shown all_turned turned later opened_are left_are not_turned None (Some now) mid after is shows after_is = absurd cc
     left_shown all_turned turned later opened_are left_are not_turned (Some before) None mid after is shows after_is = absurd is
     left_shown all_turned turned later opened_are left_are not_turned (Some before) (Some now) mid after is shows after_is =
-        let more = Opened one.begin.path one.number one.begun ∷ Closed one.opening [] faults ∷ [] in
+        let more = Opened one.begin.path one.number one.begun ∷ Closed one.opening one.asked faults ∷ [] in
         subst (λ (o : Option FolderHistory). HasShown (Some before) o later) (sym (both_are now mid after shows.after_is shows.told_is after_is))
-        (with_one before now so_far is all_turned one shows.opening more (adds_left now one shows.opening shows.file_is faults) later opened_are
+        (with_one before now so_far is all_turned one shows.opening more (adds_left now one shows.opening shows.file_is reads faults) later opened_are
         (subst (AllByRecursion (IsClosedIn (with_more now more))) (sym left_are)
         (both (IsClosedIn (with_more now more)) so_far.left (record { turned = turned; told = told } ∷ []) (left_stays before now so_far is more so_far.left is.closed)
-        (subst (λ (o : Option TailHistory). IsClosedIn (with_more now more) (record { turned = turned; told = o })) (sym shows.told_is) (closed_at_once now one shows.opening shows.file_is faults), tt)))
+        (subst (λ (o : Option TailHistory). IsClosedIn (with_more now more) (record { turned = turned; told = o })) (sym shows.told_is) (closed_at_once now one shows.opening shows.file_is reads faults), tt)))
         (λ turned_there. absurd (not_turned turned_there)))

@@ -21,7 +21,7 @@ use Rattle.run_steps.proofs.Releasing.{left_of, left_of_all}
 
 -- ---- the first closing of an opening
 
-closing_both : (opening : ℕ) (first second : List Event) → closing_in opening (first ++ second) ≡ first_of_two (closing_in opening first) (closing_in opening second)
+pub closing_both : (opening : ℕ) (first second : List Event) → closing_in opening (first ++ second) ≡ first_of_two (closing_in opening first) (closing_in opening second)
 closing_both opening [] second = refl
 closing_both opening (event ∷ first) second = ap (first_of_two (closing_by opening event)) (closing_both opening first second)
     ∙ in_turn (closing_by opening event) (closing_in opening first) (closing_in opening second)

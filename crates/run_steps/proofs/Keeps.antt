@@ -72,20 +72,21 @@ module _ {T W L : Type 0} (tails : TailWords T) (settings : Settings) (file : Li
     faults_never_fall = omega (arith, gives_up.closes.counts_faults);
   }
 
-  closes_keeps : (Why : T → Type 0) (old new : Beginning T W L) → ClosesFile tails file Why old new → BeginKeeps tails settings file old new
-  closes_keeps Why old new closed = behind_opening closed.tail old closed.mid new closed.opened
-      (none_opened closed.mid new closed.closed.crew closed.closed.keeper (omega (arith, closed.closed.closes.counts_faults)))
+  closes_keeps : (Why : T → T → Type 0) (old new : Beginning T W L) → ClosesFile tails settings file Why old new → BeginKeeps tails settings file old new
+  closes_keeps Why old new closed = behind_opening closed.fresh old closed.mid new closed.opened
+      (none_opened closed.mid new closed.closed.closed.crew closed.closed.closed.keeper (omega (arith, closed.closed.closed.closes.counts_faults)))
 
   pub begin_keeps : (result : Result (Option Why) Met) (old new : Beginning T W L) → BeginsOne tails settings file result old new → BeginKeeps tails settings file old new
-  begin_keeps (Ok None) old new begins = behind_opening begins.tail old begins.mid new begins.opened (follows_keeps begins.tail begins.follows.harvester begins.mid new begins.follows.opened begins.follows.taken)
+  begin_keeps (Ok None) old new begins = behind_opening begins.fresh old begins.mid new begins.opened (follows_keeps begins.tail begins.follows.harvester begins.mid new begins.follows.opened begins.follows.taken)
   begin_keeps (Ok (Some Gone)) old new begins = none_opened old new begins.crew begins.keeper begins.opens.faults_never_fall
   begin_keeps (Ok (Some Moved)) old new begins = closes_keeps _ old new begins
   begin_keeps (Ok (Some Doubled)) old new begins = absurd begins
   begin_keeps (Ok (Some Old)) old new begins = absurd begins
-  begin_keeps (Ok (Some Small)) old new begins = absurd begins
-  begin_keeps (Err FolderFault) old new begins = none_opened old new begins.crew begins.keeper begins.opens.faults_never_fall
+  begin_keeps (Ok (Some Small)) old new begins = closes_keeps _ old new begins
+  begin_keeps (Err FolderFault) old new (inr begins) = closes_keeps _ old new begins
+  begin_keeps (Err FolderFault) old new (inl begins) = none_opened old new begins.crew begins.keeper begins.opens.faults_never_fall
   begin_keeps (Err NoMemory) old new (inl begins) = none_opened old new begins.crew begins.keeper begins.opens.faults_never_fall
-  begin_keeps (Err NoMemory) old new (inr (inl begins)) = behind_opening begins.tail old begins.mid new begins.opened (gives_up_keeps begins.tail begins.mid new begins.gives_up)
+  begin_keeps (Err NoMemory) old new (inr (inl begins)) = behind_opening begins.fresh old begins.mid new begins.opened (gives_up_keeps begins.tail begins.mid new begins.gives_up)
   begin_keeps (Err NoMemory) old new (inr (inr begins)) = closes_keeps _ old new begins
   begin_keeps (Err (NoNative slot)) old new begins = closes_keeps _ old new begins.1
   begin_keeps (Err Done) old new begins = absurd begins

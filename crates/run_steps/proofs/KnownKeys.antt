@@ -1,5 +1,5 @@
 -- Keys that a keeper knows: those of the rows of a registry, and of the files of a scan that have none.
-use Rattle.std.proofs.Common.{◌≡◌, ◌⊎◌, ⊎_elim, ℕ, zero, suc, ◌+◌, ◌≤◌, ◌==◌, All, Contains, List, [], ◌∷◌, ◌++◌, length, map, take, Option, None, Some, IfSome, is_none, true, false, Bool, refl, sym, ap, subst, arith}
+use Rattle.std.proofs.Common.{◌≡◌, ⊎_elim, ℕ, zero, suc, ◌≤◌, ◌==◌, All, Contains, List, [], ◌∷◌, ◌++◌, length, map, take, Option, None, Some, IfSome, is_none, true, false, Bool, refl, sym, ap, subst, arith}
 use Rattle.std.proofs.lemmas.List.{length-append, length-map}
 use Rattle.std.proofs.lemmas.List.Elements.{All-from_recursion, All-weaker, Contains-append_left, Contains-append_right}
 use Rattle.std.specs.Prelude.{if◌then◌else◌}

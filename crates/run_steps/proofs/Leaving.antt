@@ -7,7 +7,7 @@ use Rattle.std.specs.declared.alloc.Global.{Global}
 use Rattle.std.specs.List.{AllByRecursion, flat_map}
 use Rattle.accounts.specs.Once.{AreOnce}
 use Rattle.accounts.specs.Opened.{IsTailOf, Opened}
-use Rattle.accounts.specs.ToldFile.{IsToldToItsEnd}
+use Rattle.accounts.specs.ToldFile.{IsReadThrough}
 use Rattle.accounts.specs.Turned.{Turned, notes_told, parcels_told, spans_in}
 use Rattle.accounts.specs.Turning.{IsTurnedSo, Pairs}
 use Rattle.accounts.proofs.Often.{often_back, often_then, once_apart, once_front, once_more, once_none, once_often, once_others}
@@ -40,7 +40,7 @@ use Rattle.run_steps.specs.Began.{Began}
 use Rattle.run_steps.specs.Begun.{AreSlotsFrom}
 use Rattle.run_steps.specs.Releasing.{all_closings, released, with_events}
 use Rattle.run_steps.specs.RunState.{Finished, Leaving, Phase, Reading, RunState, phase_left}
-use Rattle.run_steps.specs.Shown.{HasDone, HasShown, IsNoListing, IsStillOpen, WasClosedWith, WasOpenedSince, openings_of}
+use Rattle.run_steps.specs.Shown.{HasDone, HasShown, IsNoListing, IsStillOpen, WasClosedWith, WasOnlyAsked, WasOpenedSince, openings_of}
 use Rattle.run_steps.specs.SoFar.{Left, SoFar, files_in}
 use Rattle.run_steps.specs.Stands.{AreEachOnce, AreTurnedIn, Further, IsLeftSo, Stands, TellIn}
 use Rattle.run_steps.proofs.Closing.{ClosesOne, HasClosing, HasOne, all_close, all_have, closed_now, closed_still, each_closed}
@@ -227,18 +227,18 @@ module _ {T W L D : Type 0} (words : Words T W L D) (start : Began D) (so_far : 
   left = both (IsLeftSo processors so_far.opened so_far.moments) so_far.left new_left stands.left
       (each_left_so words.tails processors so_far.opened so_far.moments so_far.lanes lanes stands.turned)
 
-  abbrev ToItsEnd : Turned → Type 0
-  ToItsEnd turned = IsToldToItsEnd turned.history
+  abbrev ReadThrough : Turned → Type 0
+  ReadThrough turned = IsReadThrough turned.history
 
-  to_their_ends : AllByRecursion ToItsEnd (files_in so_far) → AllByRecursion ToItsEnd (files_in after)
-  to_their_ends each =
-      let parts = parts_of ToItsEnd all_files left_files each in
-      subst (AllByRecursion ToItsEnd) (sym files_are) (both ToItsEnd left_files all_files parts.1 parts.0)
+  read_through : AllByRecursion ReadThrough (files_in so_far) → AllByRecursion ReadThrough (files_in after)
+  read_through each =
+      let parts = parts_of ReadThrough all_files left_files each in
+      subst (AllByRecursion ReadThrough) (sym files_are) (both ReadThrough left_files all_files parts.1 parts.0)
 
-  finished : (phase : Phase) → before.phase ≡ phase → phase_left phase ≡ Finished → IsSome start.shown → AllByRecursion ToItsEnd (files_in after)
+  finished : (phase : Phase) → before.phase ≡ phase → phase_left phase ≡ Finished → IsSome start.shown → AllByRecursion ReadThrough (files_in after)
   finished Reading was is some = absurd (let no : Leaving ≡ Finished = is in cc)
   finished Leaving was is some = absurd (let no : Leaving ≡ Finished = is in cc)
-  finished Finished was is some = to_their_ends (stands.finished was some)
+  finished Finished was is some = read_through (stands.finished was some)
 
   not_reading : (phase : Phase) → phase_left phase ≡ Reading → ⊥
   not_reading Reading is = let no : Leaving ≡ Reading = is in cc
@@ -384,6 +384,10 @@ module _ {T W L D : Type 0} (words : Words T W L D) (start : Began D) (so_far : 
         (all_close words.tails.told words.tails.faults so_far.lanes lanes (same_lengths so_far.lanes lanes stands.turned)) there in
         let no : folders.Opened path number begun ≡ Closed of.tail.opening of.tail.looks of.faults = of.is in cc
 
+    -- one that was only asked for its key stays so
+    asked_still : (opening : ℕ) → opening < length now.events → WasOnlyAsked now opening → WasOnlyAsked then_told opening
+    asked_still opening below was = record { looks = was.looks; closed = closed_still now closings opening was.looks below was.closed; reads = was.reads }
+
     has_done : HasDone first then_told after
     has_done = record {
       files = done.files;
@@ -396,7 +400,7 @@ module _ {T W L D : Type 0} (words : Words T W L D) (start : Began D) (so_far : 
       apart = done.apart;
       serve = λ opening path number begun since is. ⊎_elim
           (λ here. ⊎_elim (λ one. inl one)
-          (λ closed. inr (closed_still now closings opening [] (got_within now.events opening (folders.Opened path number begun) here) closed)) (done.serve opening path number begun since here))
+          (λ was. inr (asked_still opening (got_within now.events opening (folders.Opened path number begun) here) was)) (done.serve opening path number begun since here))
           (λ there. absurd (no_opening path number begun there)) (got_in now.events closings opening (folders.Opened path number begun) is);
       closed = each_there (λ (one : Left). IfSome one.told (λ tail. WasClosedWith then_told tail.opening tail.looks)) (so_far.left ++ new_left) (λ one there.
           ⊎_elim (λ earlier. closed_before one earlier) (λ later. closed_one one later) (Contains-append_cases so_far.left new_left one there));

@@ -3,6 +3,7 @@ pub mod Admitted
 pub mod Admitting
 pub mod AllBegun
 pub mod Areas
+pub mod AskedEvents
 pub mod Attempts
 pub mod BeginningFiles
 pub mod BeginningLists
@@ -22,11 +23,13 @@ pub mod FailingRounds
 pub mod Filing
 pub mod Finishing
 pub mod First
+pub mod FirstPaths
 pub mod Giving
 pub mod Grounds
 pub mod Having
 pub mod HeldRows
 pub mod Keeps
+pub mod KeyedFiles
 pub mod KnownKeys
 pub mod Lanes
 pub mod Leaving
@@ -37,6 +40,7 @@ pub mod MetBy
 pub mod Moments
 pub mod Named
 pub mod NamedInputs
+pub mod NamesApart
 pub mod Notes
 pub mod Noting
 pub mod OfInputs
@@ -66,6 +70,8 @@ pub mod RunServed
 pub mod RunTails
 pub mod RunToldOf
 pub mod RunWires
+pub mod ScanAsked
+pub mod ScanList
 pub mod ScanOf
 pub mod Scanning
 pub mod SeenMoments

@@ -1,13 +1,17 @@
--- Inputs within the ranges of the settings that do not read their files to know them tell their files' keys apart.
-use Rattle.std.proofs.Common.{◌≡◌, ◌≢◌, ℕ, suc, true, false, All, AllPairs, List, [], ◌∷◌, map, IsTrue, sym, ap, subst, ◌∙◌, arith}
+-- Inputs within the ranges of the settings have their own ids, and their files may be asked for their keys.
+use Rattle.std.proofs.Common.{◌≡◌, ◌≢◌, ℕ, suc, true, false, All, AllPairs, List, [], ◌∷◌, get_or, map, IsTrue, sym, ap, subst, ◌∙◌, arith}
 use Rattle.std.specs.List.{AllByRecursion}
 use Rattle.accounts.proofs.Grounded.{of_map}
-use Rattle.accounts.specs.OneScan.{AreNamed, IsNamed}
-use Rattle.beat_config.specs.InRange.{AreInRange, IsInputInRange}
+use Rattle.accounts.specs.RunsInARow.{HaveOwnIds}
+use Rattle.beat_config.specs.InRange.{AreInRange, IsIdentityInRange, IsInputInRange}
 use Rattle.beat_config.specs.Name.{is_name_byte}
+use Rattle.event_tree.specs.declared.input_rule.IdentityRule.{IdentityRule}
+use Rattle.event_tree.specs.declared.input_rule.IdentityRule.TheVariants.{Fingerprint, Native, Path}
 use Rattle.event_tree.specs.declared.input_rule.InputRule.{InputRule}
 use Rattle.event_tree.specs.declared.settings.Settings.{Settings}
-use Rattle.kept_rows.specs.Scans.{AreDistinct, IsNoFingerprint}
+use Rattle.file_identity.specs.Answers.{IsAskable}
+use Rattle.kept_rows.specs.Scans.{AreDistinct}
+use Rattle.prospect.specs.AskedFiles.{AreAskable}
 
 -- of each item what is said of all
 pub each_of : {A : Type 0} (P : A → Type 0) (xs : List A) → All P xs → AllByRecursion P xs
@@ -22,11 +26,11 @@ no_colon_there (byte ∷ bytes) each = (
   no_colon_there bytes each.1,
 )
 
-are_named : (inputs : List InputRule) → AllByRecursion IsInputInRange inputs → AllByRecursion (λ (input : InputRule). IsNoFingerprint input.file_identity) inputs → AllByRecursion IsNamed inputs
-are_named [] each named = tt
-are_named (input ∷ inputs) each named = (
-  record { identity = named.0; no_colon = no_colon_there input.id (each_of (λ byte. IsTrue (is_name_byte byte)) input.id each.0.id.bytes) },
-  are_named inputs each.1 named.1,
+no_colons : (inputs : List InputRule) → AllByRecursion IsInputInRange inputs → AllByRecursion (λ (input : InputRule). AllByRecursion (λ byte. byte ≢ 58) input.id) inputs
+no_colons [] each = tt
+no_colons (input ∷ inputs) each = (
+  no_colon_there input.id (each_of (λ byte. IsTrue (is_name_byte byte)) input.id each.0.id.bytes),
+  no_colons inputs each.1,
 )
 
 ids_apart : (inputs : List InputRule) → AllPairs (λ (earlier later : InputRule). earlier.id ≢ later.id) inputs → AreDistinct (map (λ (input : InputRule). input.id) inputs)
@@ -38,8 +42,19 @@ ids_apart (input ∷ inputs) differ = (
   ids_apart inputs (λ i j d before within. differ (suc i) (suc j) d (omega (arith, before)) (omega (arith, within))),
 )
 
-pub inputs_are_named : (settings : Settings) → AreInRange settings → All (λ (input : InputRule). IsNoFingerprint input.file_identity) settings.inputs → AreNamed settings.inputs
-inputs_are_named settings in_range named = record {
-  each = are_named settings.inputs (each_of IsInputInRange settings.inputs in_range.inputs) (each_of (λ (input : InputRule). IsNoFingerprint input.file_identity) settings.inputs named);
+pub inputs_have_own_ids : (settings : Settings) → AreInRange settings → HaveOwnIds settings.inputs
+inputs_have_own_ids settings in_range = record {
+  no_colon = no_colons settings.inputs (each_of IsInputInRange settings.inputs in_range.inputs);
   ids_apart = ids_apart settings.inputs in_range.ids_differ;
 }
+
+-- ---- what their files may be asked
+
+-- a fingerprint in its range is of some bytes within a file
+askable : (rule : IdentityRule) → IsIdentityInRange rule → IsAskable rule
+askable (Fingerprint offset count) range = (omega (arith, range.1.0), omega (arith, range.0, range.1.1))
+askable Native range = tt
+askable Path range = tt
+
+pub inputs_are_askable : (settings : Settings) → AreInRange settings → AreAskable settings.inputs
+inputs_are_askable settings in_range k d within = askable (get_or settings.inputs k d).file_identity (in_range.inputs k d within).file_identity

@@ -10,7 +10,6 @@ use Rattle.event_tree.specs.declared.input_rule.InputRule.{InputRule}
 use Rattle.event_tree.specs.declared.settings.Settings.{Settings}
 use Rattle.harvester.specs.HasTold.{begin_of}
 use Rattle.harvester.specs.declared.harvester.Harvester.{Harvester}
-use Rattle.kept_rows.specs.Scans.{IsNoFingerprint}
 use Rattle.lanes.specs.Laning.{Laning}
 use Rattle.multiline_core.specs.Rule.{IsGroupRule}
 use Rattle.prospect.specs.declared.listed.Listed.{Listed}
@@ -18,7 +17,7 @@ use Rattle.rounds.specs.Pairs.{SomeOf}
 use Rattle.rounds.specs.Staying.{HaveSlot}
 use Rattle.wire_base.specs.declared.note.Begin.{Begin}
 use Rattle.wire_base.specs.declared.numbers.Slot.{Slot}
-use Rattle.run_steps.specs.BeginsAll.{AreSlotsBelow, IsOfNamedInput, IsSlotBelow}
+use Rattle.run_steps.specs.BeginsAll.{AreSlotsBelow, IsOfRuledInput, IsSlotBelow}
 
 groups : (rule : GroupRule) → IsGroupInRange rule → IsGroupRule rule
 groups (Single limit) h = h
@@ -37,13 +36,11 @@ rule_at [] place inside = absurd (omega (arith, inside))
 rule_at (first ∷ inputs) zero inside = (first, refl)
 rule_at (first ∷ inputs) (suc place) inside = rule_at inputs place (omega (arith, inside))
 
--- where all inputs know their files without reading them
-pub of_named_input : (settings : Settings) (listed : Listed) → AreInRange settings → All (λ (rule : InputRule). IsNoFingerprint rule.file_identity) settings.inputs → listed.input < length settings.inputs →
-    IsOfNamedInput settings listed
-of_named_input settings listed range named inside = record {
+-- its input is one of the settings
+pub of_ruled_input : (settings : Settings) (listed : Listed) → AreInRange settings → listed.input < length settings.inputs → IsOfRuledInput settings listed
+of_ruled_input settings listed range inside = record {
   rule = its.0;
   rule_is = its.1;
-  named = got_of (λ (rule : InputRule). IsNoFingerprint rule.file_identity) settings.inputs listed.input its.0 named its.1;
   in_range = groups its.0.multiline (got_of IsInputInRange settings.inputs listed.input its.0 range.inputs its.1).multiline;
 }
   where

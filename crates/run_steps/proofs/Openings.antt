@@ -1,4 +1,4 @@
--- What a folder tells as files are opened, and as tails are closed that were not read.
+-- What a folder tells as files are opened, and as tails are closed that were only asked for their keys.
 use Rattle.std.proofs.Common.{◌≡◌, ◌⊎◌, inl, inr, ⊎_elim, ℕ, zero, suc, ◌+◌, ◌≤◌, ◌<◌, ◌==◌, Bool, true, false, drop, List, [], ◌∷◌, ◌++◌, Contains, length, append-nil, append_assoc, Option, Some, None, IfSome, refl, sym, ap, subst, ◌∙◌, arith, if◌then◌else◌}
 use Rattle.std.proofs.lemmas.Bool.{eq-eqb, eqb-true}
 use Rattle.std.proofs.lemmas.List.{drop-append-le, length-append, map-append}
@@ -8,6 +8,7 @@ use Rattle.std.specs.Prelude.{slice_get}
 use Rattle.std.specs.List.{AllByRecursion}
 use Rattle.accounts.specs.Opened.{Opened as OpenedFile}
 use Rattle.accounts.proofs.Lists.{each_then}
+use Rattle.file_identity.specs.AskedAgain.{IsRead}
 use Rattle.kept_rows.specs.Scans.{AreDistinct}
 use Rattle.kept_rows.specs.Trace.{Closing, closing_by, closing_in, first_of_two}
 use Rattle.kept_rows.proofs.Acknowledging.{got_in_front}
@@ -17,7 +18,7 @@ use Rattle.outside.specs.Tails.{TailHistory}
 use Rattle.outside.specs.declared.history.Look.{Look}
 use Rattle.outside.specs.declared.history.Sight.{Sight}
 use Rattle.ship_core.proofs.Members.{first_there, later_there, none_there, there_cases}
-use Rattle.run_steps.specs.Shown.{HasDone, IsNoListing, IsStillOpen, IsTurnedIn, WasClosedWith, WasOpenedSince, openings_of}
+use Rattle.run_steps.specs.Shown.{HasDone, IsNoListing, IsStillOpen, IsTurnedIn, WasClosedWith, WasOnlyAsked, WasOpenedSince, openings_of}
 use Rattle.run_steps.specs.SoFar.{Left, SoFar}
 use Rattle.run_steps.proofs.Members.{member_is}
 
@@ -121,7 +122,7 @@ pub record Adds (now : FolderHistory) (more : List Event) (news : List OpenedFil
   pub stand : AllByRecursion (WasOpenedSince now (with_more now more)) news
   pub behind : AllByRecursion (λ (one : OpenedFile). one.opening ≡ length now.events) news
   pub serve : (place : ℕ) (path : List ℕ) (number : ℕ) (begun : Sight) → slice_get more place ≡ Some (Opened path number begun) →
-      Contains (openings_of news) (length now.events + place) ⊎ WasClosedWith (with_more now more) (length now.events + place) []
+      Contains (openings_of news) (length now.events + place) ⊎ WasOnlyAsked (with_more now more) (length now.events + place)
 
 openings_below : (before now : FolderHistory) (files : List OpenedFile) → AllByRecursion (WasOpenedSince before now) files → (opening : ℕ) → Contains (openings_of files) opening → opening < length now.events
 openings_below before now [] each opening there = absurd (none_there opening there)
@@ -141,6 +142,9 @@ module _ (before now : FolderHistory) (so_far : SoFar) (done : HasDone before no
     faults = was.faults;
     closing = closing_stays_behind (suc opening) opening now.events more (record { looks = looks; faults = was.faults }) was.closing;
   }
+
+  only_asked_stays : (opening : ℕ) → WasOnlyAsked now opening → WasOnlyAsked (with_more now more) opening
+  only_asked_stays opening was = record { looks = was.looks; closed = closed_stays opening was.looks was.closed; reads = was.reads }
 
   pub still_stays : (opening : ℕ) → opening < length now.events → closing_in opening more ≡ None → IsStillOpen now opening → IsStillOpen (with_more now more) opening
   still_stays opening less none is_open =
@@ -174,21 +178,21 @@ module _ (before now : FolderHistory) (so_far : SoFar) (done : HasDone before no
     openings_are = map-append (λ (one : OpenedFile). one.opening) so_far.opened news
 
     serve : (opening : ℕ) (path : List ℕ) (number : ℕ) (begun : Sight) → length before.events ≤ opening → slice_get (now.events ++ more) opening ≡ Some (Opened path number begun) →
-        Contains (openings_of so_far.opened ++ openings_of news) opening ⊎ WasClosedWith (with_more now more) opening []
+        Contains (openings_of so_far.opened ++ openings_of news) opening ⊎ WasOnlyAsked (with_more now more) opening
     serve opening path number begun least is = from (got_cases now.events more opening (Opened path number begun) is)
       where
-        old : Contains (openings_of so_far.opened) opening ⊎ WasClosedWith now opening [] → Contains (openings_of so_far.opened ++ openings_of news) opening ⊎ WasClosedWith (with_more now more) opening []
+        old : Contains (openings_of so_far.opened) opening ⊎ WasOnlyAsked now opening → Contains (openings_of so_far.opened ++ openings_of news) opening ⊎ WasOnlyAsked (with_more now more) opening
         old (inl there) = inl (Contains-append_left (openings_of so_far.opened) (openings_of news) opening there)
-        old (inr was) = inr (closed_stays opening [] was)
+        old (inr was) = inr (only_asked_stays opening was)
 
-        new : (place : ℕ) → opening ≡ length now.events + place → Contains (openings_of news) (length now.events + place) ⊎ WasClosedWith (with_more now more) (length now.events + place) [] →
-            Contains (openings_of so_far.opened ++ openings_of news) opening ⊎ WasClosedWith (with_more now more) opening []
+        new : (place : ℕ) → opening ≡ length now.events + place → Contains (openings_of news) (length now.events + place) ⊎ WasOnlyAsked (with_more now more) (length now.events + place) →
+            Contains (openings_of so_far.opened ++ openings_of news) opening ⊎ WasOnlyAsked (with_more now more) opening
         new place at (inl there) = inl (subst (λ (n : ℕ). Contains (openings_of so_far.opened ++ openings_of news) n) (sym at)
             (Contains-append_right (openings_of so_far.opened) (openings_of news) (length now.events + place) there))
-        new place at (inr was) = inr (subst (λ (n : ℕ). WasClosedWith (with_more now more) n []) (sym at) was)
+        new place at (inr was) = inr (subst (λ (n : ℕ). WasOnlyAsked (with_more now more) n) (sym at) was)
 
         from : (slice_get now.events opening ≡ Some (Opened path number begun)) ⊎ StandsBehind now.events more opening (Opened path number begun) →
-            Contains (openings_of so_far.opened ++ openings_of news) opening ⊎ WasClosedWith (with_more now more) opening []
+            Contains (openings_of so_far.opened ++ openings_of news) opening ⊎ WasOnlyAsked (with_more now more) opening
         from (inl there) = old (done.serve opening path number begun least there)
         from (inr of) = new of.place of.at (adds.serve of.place path number begun of.stands)
 
@@ -203,7 +207,7 @@ module _ (before now : FolderHistory) (so_far : SoFar) (done : HasDone before no
       opened = subst (AllByRecursion (WasOpenedSince before (with_more now more))) (sym opened_are)
           (both (WasOpenedSince before (with_more now more)) so_far.opened news (opened_stays so_far.opened done.opened) news_stand);
       apart = subst AreDistinct (sym (ap openings_of opened_are ∙ openings_are)) apart;
-      serve = λ opening path number begun least is. subst (λ (l : List ℕ). Contains l opening ⊎ WasClosedWith (with_more now more) opening []) (sym (ap openings_of opened_are ∙ openings_are))
+      serve = λ opening path number begun least is. subst (λ (l : List ℕ). Contains l opening ⊎ WasOnlyAsked (with_more now more) opening) (sym (ap openings_of opened_are ∙ openings_are))
           (serve opening path number begun least is);
       closed = closed;
       still_open = λ one there turned. still one (subst (λ (l : List OpenedFile). Contains l one) opened_are there) turned;
@@ -230,7 +234,7 @@ module _ (now : FolderHistory) where
   }
     where
       none : (place : ℕ) (other : List ℕ) (number : ℕ) (begun : Sight) → slice_get (NotThere path ∷ []) place ≡ Some (Opened other number begun) →
-          Contains [] (length now.events + place) ⊎ WasClosedWith (with_more now (NotThere path ∷ [])) (length now.events + place) []
+          Contains [] (length now.events + place) ⊎ WasOnlyAsked (with_more now (NotThere path ∷ [])) (length now.events + place)
       none zero other number begun is = absurd (let q : Some (NotThere path) ≡ Some (Opened other number begun) = is in cc)
       none (suc place) other number begun is = absurd (let q : None ≡ Some (Opened other number begun) = is in cc)
 
@@ -244,7 +248,7 @@ module _ (now : FolderHistory) where
   }
     where
       none : (place : ℕ) (other : List ℕ) (number : ℕ) (begun : Sight) → slice_get (OpeningFailed path ∷ []) place ≡ Some (Opened other number begun) →
-          Contains [] (length now.events + place) ⊎ WasClosedWith (with_more now (OpeningFailed path ∷ [])) (length now.events + place) []
+          Contains [] (length now.events + place) ⊎ WasOnlyAsked (with_more now (OpeningFailed path ∷ [])) (length now.events + place)
       none zero other number begun is = absurd (let q : Some (OpeningFailed path) ≡ Some (Opened other number begun) = is in cc)
       none (suc place) other number begun is = absurd (let q : None ≡ Some (Opened other number begun) = is in cc)
 
@@ -272,7 +276,7 @@ module _ (now : FolderHistory) where
     }
       where
         it : (place : ℕ) (path : List ℕ) (number : ℕ) (begun : Sight) → slice_get (opening_of_it ∷ []) place ≡ Some (Opened path number begun) →
-            Contains (openings_of (one ∷ [])) (length now.events + place) ⊎ WasClosedWith (with_more now (opening_of_it ∷ [])) (length now.events + place) []
+            Contains (openings_of (one ∷ [])) (length now.events + place) ⊎ WasOnlyAsked (with_more now (opening_of_it ∷ [])) (length now.events + place)
         it zero path number begun is = inl (there_at zero refl)
         it (suc place) path number begun is = absurd (let q : None ≡ Some (Opened path number begun) = is in cc)
 
@@ -280,24 +284,24 @@ module _ (now : FolderHistory) where
     still_open_now = ap (λ (k : ℕ). closing_in one.opening (drop (suc k) (now.events ++ opening_of_it ∷ []))) at
         ∙ ap (λ (l : List Event). closing_in one.opening l) (behind_all now.events (opening_of_it ∷ []))
 
-    -- and closed again
-    module _ (faults : ℕ) where
+    -- and closed again, with what it told as it was asked for its key
+    module _ (reads : AllByRecursion (λ (look : Look). IsRead look.question) one.asked) (faults : ℕ) where
       abbrev both_events : List Event
-      both_events = opening_of_it ∷ Closed one.opening [] faults ∷ []
+      both_events = opening_of_it ∷ Closed one.opening one.asked faults ∷ []
 
-      pub closed_at_once : WasClosedWith (with_more now both_events) one.opening []
+      pub closed_at_once : WasClosedWith (with_more now both_events) one.opening one.asked
       closed_at_once = record {
         faults = faults;
         closing = ap (λ (k : ℕ). closing_in one.opening (drop (suc k) (now.events ++ both_events))) at
             ∙ ap (λ (l : List Event). closing_in one.opening l) (behind_all now.events both_events)
-            ∙ closes_itself one.opening [] faults;
+            ∙ closes_itself one.opening one.asked faults;
       }
 
       none_closed : (opening : ℕ) → opening < length now.events → closing_in opening both_events ≡ None
-      none_closed opening less = closes_no_other opening one.opening [] faults (omega (arith, less, at))
+      none_closed opening less = closes_no_other opening one.opening one.asked faults (omega (arith, less, at))
 
-      closes_here : (place : ℕ) → place ≡ 0 → WasClosedWith (with_more now both_events) (length now.events + place) []
-      closes_here place is = subst (λ (n : ℕ). WasClosedWith (with_more now both_events) n []) (omega (arith, at, is)) closed_at_once
+      closes_here : (place : ℕ) → place ≡ 0 → WasOnlyAsked (with_more now both_events) (length now.events + place)
+      closes_here place is = subst (WasOnlyAsked (with_more now both_events)) (omega (arith, at, is)) (record { looks = one.asked; closed = closed_at_once; reads = reads })
 
       pub adds_unread : Adds now both_events []
       adds_unread = record {
@@ -309,22 +313,22 @@ module _ (now : FolderHistory) where
       }
         where
           it : (place : ℕ) (path : List ℕ) (number : ℕ) (begun : Sight) → slice_get both_events place ≡ Some (Opened path number begun) →
-              Contains [] (length now.events + place) ⊎ WasClosedWith (with_more now both_events) (length now.events + place) []
+              Contains [] (length now.events + place) ⊎ WasOnlyAsked (with_more now both_events) (length now.events + place)
           it zero path number begun is = inr (closes_here zero refl)
-          it (suc zero) path number begun is = absurd (let q : Some (Closed one.opening [] faults) ≡ Some (Opened path number begun) = is in cc)
+          it (suc zero) path number begun is = absurd (let q : Some (Closed one.opening one.asked faults) ≡ Some (Opened path number begun) = is in cc)
           it (suc (suc place)) path number begun is = absurd (let q : None ≡ Some (Opened path number begun) = is in cc)
 
       pub adds_left : Adds now both_events (one ∷ [])
       adds_left = record {
         no_listing = (tt, (tt, tt));
         closes_none = none_closed;
-        stand = (was_opened (Closed one.opening [] faults ∷ []), tt);
+        stand = (was_opened (Closed one.opening one.asked faults ∷ []), tt);
         behind = (at, tt);
         serve = it;
       }
         where
           it : (place : ℕ) (path : List ℕ) (number : ℕ) (begun : Sight) → slice_get both_events place ≡ Some (Opened path number begun) →
-              Contains (openings_of (one ∷ [])) (length now.events + place) ⊎ WasClosedWith (with_more now both_events) (length now.events + place) []
+              Contains (openings_of (one ∷ [])) (length now.events + place) ⊎ WasOnlyAsked (with_more now both_events) (length now.events + place)
           it zero path number begun is = inl (there_at zero refl)
-          it (suc zero) path number begun is = absurd (let q : Some (Closed one.opening [] faults) ≡ Some (Opened path number begun) = is in cc)
+          it (suc zero) path number begun is = absurd (let q : Some (Closed one.opening one.asked faults) ≡ Some (Opened path number begun) = is in cc)
           it (suc (suc place)) path number begun is = absurd (let q : None ≡ Some (Opened path number begun) = is in cc)

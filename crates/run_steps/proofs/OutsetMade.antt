@@ -3,10 +3,8 @@
 use Rattle.std.proofs.Common.{◌≡◌, All, List, [], ◌∷◌, refl, sym, subst}
 use Rattle.std.specs.List.{AllByRecursion}
 use Rattle.beat_config.specs.InRange.{AreInRange}
-use Rattle.event_tree.specs.declared.input_rule.InputRule.{InputRule}
 use Rattle.event_tree.specs.declared.settings.Settings.{Settings}
 use Rattle.keeper.specs.Keeping.{Keeping, begun_with}
-use Rattle.kept_rows.specs.Scans.{IsNoFingerprint}
 use Rattle.outside.specs.Times.{GivesMoment}
 use Rattle.prospect.specs.declared.listed.Listed.{Listed}
 use Rattle.registry_store.specs.Settled.{AreAtRest, AreSettled}
@@ -14,10 +12,10 @@ use Rattle.registry_store.specs.Standing.{Standing, chosen_by}
 use Rattle.rounds.specs.Words.{DiskWords, WireWords}
 use Rattle.settle_box.specs.Collector.{Collector}
 use Rattle.run_steps.specs.Areas.{GiveTheRows, HaveHeldFronts, IsAtRest}
-use Rattle.run_steps.specs.BeginsAll.{IsOfInputs, IsOfNamedInput}
+use Rattle.run_steps.specs.BeginsAll.{IsOfInputs, IsOfRuledInput}
 use Rattle.run_steps.specs.Outset.{Earlier, Outset, SetsOut, began_with}
 use Rattle.run_steps.proofs.NamedInputs.{each_of}
-use Rattle.run_steps.proofs.OfInputs.{of_named_input}
+use Rattle.run_steps.proofs.OfInputs.{of_ruled_input}
 
 -- ---- the keeper
 
@@ -29,14 +27,14 @@ first_at_rest disks keeper a b store pass made settled =
 
 -- ---- the scan
 
-module _ (settings : Settings) (in_range : AreInRange settings) (named : All (λ (input : InputRule). IsNoFingerprint input.file_identity) settings.inputs) where
-  of_named_each : (listed : List Listed) → AllByRecursion (IsOfInputs settings) listed → AllByRecursion (IsOfNamedInput settings) listed
-  of_named_each [] inside = tt
-  of_named_each (one ∷ listed) inside = (of_named_input settings one in_range named inside.0, of_named_each listed inside.1)
+module _ (settings : Settings) (in_range : AreInRange settings) where
+  of_ruled_each : (listed : List Listed) → AllByRecursion (IsOfInputs settings) listed → AllByRecursion (IsOfRuledInput settings) listed
+  of_ruled_each [] inside = tt
+  of_ruled_each (one ∷ listed) inside = (of_ruled_input settings one in_range inside.0, of_ruled_each listed inside.1)
 
-  -- what a scan told is of inputs that know their files without reading them
-  pub of_named_inputs : (listed : List Listed) → All (IsOfInputs settings) listed → AllByRecursion (IsOfNamedInput settings) listed
-  of_named_inputs listed inside = of_named_each listed (each_of (IsOfInputs settings) listed inside)
+  -- what a scan told is of inputs whose rules are in their ranges
+  pub of_ruled_inputs : (listed : List Listed) → All (IsOfInputs settings) listed → AllByRecursion (IsOfRuledInput settings) listed
+  of_ruled_inputs listed inside = of_ruled_each listed (each_of (IsOfInputs settings) listed inside)
 
 -- ---- all of it
 
@@ -45,12 +43,12 @@ module _ {W D : Type 0} (disks : DiskWords D) (wires : WireWords W) (outset : Ou
       GiveTheRows disks earlier.a earlier.b outset.keeper.store.rows →
       (AreAtRest disks.contents disks.images earlier.a earlier.b → HaveHeldFronts disks outset.keeper.store.rows [] earlier.a earlier.b outset.a outset.b) →
       (AreAtRest disks.contents disks.images earlier.a earlier.b → AreSettled disks.contents disks.images outset.a outset.b (chosen_by store)) →
-      AreInRange outset.settings → All (λ (input : InputRule). IsNoFingerprint input.file_identity) outset.settings.inputs → All (IsOfInputs outset.settings) outset.listed →
+      AreInRange outset.settings → All (IsOfInputs outset.settings) outset.listed →
       SetsOut disks (began_with wires outset earlier) outset
-  sets_out store pass made gives gave areas settled in_range named inside = record {
+  sets_out store pass made gives gave areas settled in_range inside = record {
     gives = gives;
     gave = gave;
     areas = areas;
     at_rest = λ rest. first_at_rest disks outset.keeper outset.a outset.b store pass made (settled rest);
-    of_inputs = of_named_inputs outset.settings in_range named outset.listed inside;
+    of_inputs = of_ruled_inputs outset.settings in_range outset.listed inside;
   }

@@ -3,7 +3,7 @@ use Rattle.std.proofs.Common.{◌≡◌, ◌≢◌, ◌⊎◌, inl, inr, ℕ, �
 use Rattle.std.proofs.lemmas.List.{map-append}
 use Rattle.std.specs.List.{AllByRecursion, flat_map}
 use Rattle.accounts.specs.Opened.{Opened}
-use Rattle.accounts.specs.ToldFile.{IsToldToItsEnd}
+use Rattle.accounts.specs.ToldFile.{IsReadThrough}
 use Rattle.accounts.specs.Turned.{Turned, notes_told, parcels_told, spans_in}
 use Rattle.accounts.specs.Turning.{IsTurnedSo, Pairs}
 use Rattle.accounts.proofs.Lists.{flat_map_both}
@@ -20,7 +20,6 @@ use Rattle.outside.specs.Times.{GivesMoment}
 use Rattle.pass_sums.specs.Weight.{AsOften}
 use Rattle.pass_sums.proofs.Weights.{weigh-append}
 use Rattle.keeper.specs.Keeping.{held_in}
-use Rattle.kept_rows.specs.Scans.{IsNoFingerprint}
 use Rattle.rounds.specs.Books.{Heard, flat}
 use Rattle.rounds.specs.Crewed.{lanings}
 use Rattle.rounds.specs.Crewing.{Crewing, crew_of}
@@ -41,7 +40,6 @@ use Rattle.wire_base.specs.declared.numbers.Slot.{Slot}
 use Rattle.wire_base.specs.declared.row.Row.{Row}
 use Rattle.run_steps.specs.Areas.{BeganAtRest, HaveHeldFronts, IsAtRest}
 use Rattle.run_steps.specs.Began.{Began}
-use Rattle.run_steps.specs.Begun.{IsKeyed, IsOpenedAsListed}
 use Rattle.run_steps.specs.RunState.{Finished, Phase, Reading, RunState}
 use Rattle.run_steps.specs.Shown.{HasShown}
 use Rattle.run_steps.specs.SoFar.{Left, SoFar, files_in}
@@ -52,7 +50,6 @@ use Rattle.run_steps.proofs.Epochs.{no_turn_out}
 use Rattle.run_steps.proofs.Giving.{GivenOn, given_on}
 use Rattle.run_steps.proofs.Grounds.{have_ground}
 use Rattle.run_steps.proofs.Lanes.{LanesTellOn, lanes_later, lanes_spans, lanes_tell, pairs_but_passes, same_but_passes, spans_but_passes, spans_of_both}
-use Rattle.run_steps.proofs.Members.{member_is}
 use Rattle.run_steps.proofs.Noting.{collected_on, dropped_on, noted_on, shipped_on}
 use Rattle.run_steps.proofs.Ordering.{all_in_epochs, notes_are_orderly}
 use Rattle.run_steps.proofs.Turning.{Any, IsNotOver, Tells, NotOut, lanes_keep, not_over_on, tell_on}
@@ -285,17 +282,11 @@ module _ {T W L D : Type 0} (words : Words T W L D) (queue : BoundedQueue) (desk
 
     -- the phase behind it, with what it wants
     module _ (phase : Phase) (none_out : (phase ≡ Reading) ⊎ (phase ≡ Finished) → round.epochs ≡ None) (done : phase ≡ Finished → AllByRecursion IsDone (lanings new.lanes.items)) where
-      finished : phase ≡ Finished → IsSome start.shown → AllByRecursion (λ (t : Turned). IsToldToItsEnd t.history) (files_in after)
-      finished is some = subst (λ (l : List Left). AllByRecursion (λ (t : Turned). IsToldToItsEnd t.history) (all_of told.after ++ map (λ (one : Left). one.turned) l)) (sym reading.none_left)
-          (subst (λ (l : List Turned). AllByRecursion (λ (t : Turned). IsToldToItsEnd t.history) l) (sym (append-nil (all_of told.after)))
-          (all_end words.tails.numbers words.tails.told start.settings.processors so_far.opened since of_names told.after (lanings new.lanes.items) turned
-          (tell some) (none_over (none_out (inr is))) (done is)))
-        where
-          of_names : (one : Opened) → Contains so_far.opened one → IsNoFingerprint one.rule.file_identity × IsKeyed one
-          of_names one among = (
-            (member_is (IsOpenedAsListed start.settings start.opening start.listed) so_far.opened one stands.opened among).named,
-            member_is IsKeyed so_far.opened one (stands.keyed some) among,
-          )
+      finished : phase ≡ Finished → IsSome start.shown → AllByRecursion (λ (t : Turned). IsReadThrough t.history) (files_in after)
+      finished is some = subst (λ (l : List Left). AllByRecursion (λ (t : Turned). IsReadThrough t.history) (all_of told.after ++ map (λ (one : Left). one.turned) l)) (sym reading.none_left)
+          (subst (λ (l : List Turned). AllByRecursion (λ (t : Turned). IsReadThrough t.history) l) (sym (append-nil (all_of told.after)))
+          (all_end words.tails.numbers words.tails.told start.settings.processors so_far.opened since told.after (lanings new.lanes.items) turned
+          (none_over (none_out (inr is))) (done is)))
 
       module _ (reads : (disk : D) → IfSome (words.disks.contents disk) (words.disks.images disk))
           (counts : (disk : D) (at : ℕ) (image : List ℕ) → at ≤ words.disks.moment disk → words.disks.images disk image → words.disks.images_since disk at image)

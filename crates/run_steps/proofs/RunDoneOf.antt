@@ -8,7 +8,7 @@ use Rattle.accounts.specs.Filed.{Filed, turned_of}
 use Rattle.accounts.specs.RunDone.{AreAllCollected, RunDone}
 use Rattle.accounts.specs.Taken.{Taken}
 use Rattle.kept_rows.specs.Trace.{WireTold}
-use Rattle.accounts.specs.ToldFile.{IsToldToItsEnd}
+use Rattle.accounts.specs.ToldFile.{IsReadThrough}
 use Rattle.accounts.specs.Turned.{Turned, notes_told, parcels_told}
 use Rattle.rounds.specs.Settled.{AreSettledIn}
 use Rattle.rounds.specs.Words.{Words}
@@ -43,7 +43,7 @@ module _ {T W L D : Type 0} (words : Words T W L D) (start : Began D) (ending : 
   settled : AreSettledIn ends.crew ending.keeper
   settled = ends.stored (subst AreLeft (sym is_done) tt)
 
-  finished : AllByRecursion (λ (turned : Turned). IsToldToItsEnd turned.history) (files_in ends.so_far)
+  finished : AllByRecursion (λ (turned : Turned). IsReadThrough turned.history) (files_in ends.so_far)
   finished = ends.stands.finished (ends.finished is_done) (subst IsSome (sym has.shown) refl)
 
   all_are_collected : AreAllCollected (files_in ends.so_far) all_workers ends.so_far.collected

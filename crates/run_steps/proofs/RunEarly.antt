@@ -1,9 +1,10 @@
--- A run that ended before it opened a file is accounted for, too: it follows nothing and sent nothing, and its areas give the rows that
--- they gave before.
-use Rattle.std.proofs.Common.{◌≡◌, ◌≢◌, inl, inr, ⊎_elim, ℕ, zero, suc, ◌-◌, ◌≤◌, true, List, [], ◌∷◌, ◌++◌, drop, length, map, append-nil, Option, Some, None, IsSome, refl, sym, ap, subst, ◌∙◌, arith}
+-- A run that ended before it followed a file is accounted for, too: what it opened it only asked for keys, it sent nothing, and its areas
+-- give the rows that they gave before.
+use Rattle.std.proofs.Common.{◌≡◌, ◌≢◌, ◌⊎◌, inl, inr, ⊎_elim, ℕ, zero, suc, ◌-◌, ◌≤◌, ◌<◌, true, List, [], ◌∷◌, ◌++◌, Contains, drop, length, map, append_assoc, append-nil, Option, Some, None, IsSome, refl, sym, ap, subst, ◌∙◌, arith}
 use Rattle.std.proofs.Math.Seq.{drop-append_seam, drop-length}
+use Rattle.std.proofs.lemmas.Bool.{cases_lt}
 use Rattle.std.proofs.lemmas.Option.{slice_get_past}
-use Rattle.std.specs.Prelude.{slice_get}
+use Rattle.std.specs.Prelude.{option_map, slice_get}
 use Rattle.std.specs.List.{AllByRecursion}
 use Rattle.accounts.proofs.AccountingFor.{is_accounted_for}
 use Rattle.accounts.proofs.Unscanned.{unscanned_is_accounted_for}
@@ -16,20 +17,25 @@ use Rattle.accounts.specs.Taken.{taken_in}
 use Rattle.accounts.specs.Unscanned.{IsSilent, IsUnscanned}
 use Rattle.batch_worker.specs.Held.{notes_of}
 use Rattle.batch_worker.specs.Standing.{length_of}
+use Rattle.beat_config.specs.InRange.{AreInRange}
 use Rattle.event_tree.specs.declared.input_rule.InputRule.{InputRule}
 use Rattle.event_tree.specs.declared.settings.Settings.{Settings}
 use Rattle.kept_rows.specs.Backed.{AreRowsOverFronts}
+use Rattle.kept_rows.specs.Followed.{OnlyReads}
 use Rattle.kept_rows.specs.Run.{Run, Scan}
-use Rattle.kept_rows.specs.Scans.{ListGlobs, globs_in, listings_from}
-use Rattle.kept_rows.specs.Trace.{Trace, WireTold}
+use Rattle.kept_rows.specs.Scans.{ListGlobs, globs_in, listings_from, listings_of}
+use Rattle.kept_rows.specs.Trace.{Closing, Trace, WireTold, first_of_two, open_looks_in}
 use Rattle.outside.specs.Folders.{Event, FolderHistory, Opened}
 use Rattle.outside.specs.Wires.{Outcome}
 use Rattle.outside.specs.declared.history.Sight.{Sight}
 use Rattle.pass_sums.specs.Weight.{weigh}
-use Rattle.prospect.specs.ListedFiles.{EndsAs}
+use Rattle.prospect.specs.AskedFiles.{AskedFile, AsksFiles, AsksFrom, AsksSome}
+use Rattle.prospect.specs.ListedFiles.{EndsAs, ScansFiles}
 use Rattle.prospect.specs.Members.{globs_of}
 use Rattle.prospect.specs.Scan.{AreListed, Listing, event_of}
 use Rattle.prospect.specs.Unfinished.{ListSome, ListsSome}
+use Rattle.prospect.specs.declared.asking.Keyed.{Keyed}
+use Rattle.prospect.specs.declared.listed.Listed.{Listed as ListedFile}
 use Rattle.prospect.specs.declared.scan_error.ScanError.{ScanError}
 use Rattle.prospect.specs.declared.scan_error.ScanError.TheVariants.{Failed, NoMemory, NoNative, TooMany}
 use Rattle.registry_store.specs.Choice.{GivesRows}
@@ -44,18 +50,19 @@ use Rattle.run_steps.specs.AccountedFor.{AccountedFor, AreImageRows, HoldKeptRow
 use Rattle.run_steps.specs.Areas.{BeganAtRest, GaveRows, GiveTheRows, HaveHeldFronts, HeldOnlyFronts}
 use Rattle.run_steps.specs.Began.{Began}
 use Rattle.run_steps.specs.RunOf.{FolderTold, run_of, scan_of, wires_behind}
-use Rattle.run_steps.specs.ScannedSome.{HasScannedSome}
+use Rattle.run_steps.specs.ScannedSome.{HasOnlyAsked, HasScannedSome}
 use Rattle.run_steps.specs.Shown.{HasGiven}
 use Rattle.run_steps.specs.declared.met.Met.{Met}
 use Rattle.run_steps.specs.declared.met.Met.TheVariants.{Done}
-use Rattle.run_steps.proofs.NamedInputs.{inputs_are_named}
+use Rattle.run_steps.proofs.AskedEvents.{all_asked, asked_none, event_was, goes_on_asking, some_asked}
+use Rattle.run_steps.proofs.NamedInputs.{inputs_have_own_ids}
 use Rattle.run_steps.proofs.HeldRows.{rows_in_order, some_of}
 use Rattle.run_steps.proofs.Members.{some_is}
 use Rattle.run_steps.proofs.RowsStay.{rows_stay}
 use Rattle.run_steps.proofs.RunFits.{moments_since}
 use Rattle.run_steps.proofs.RunRows.{OneChoice, given_over_fronts, opened_over_fronts}
 use Rattle.run_steps.proofs.RunWires.{acknowledged_none, of_no_worker, took_none}
-use Rattle.run_steps.proofs.Scanning.{AreAt, are_at}
+use Rattle.run_steps.proofs.Scanning.{AreAt, are_at, no_more_listings}
 
 -- ---- its listings
 
@@ -107,6 +114,33 @@ got_in_rest [] rest place x since at = (place, at)
 got_in_rest (y ∷ front) rest zero x since at = absurd (omega (arith, since))
 got_in_rest (y ∷ front) rest (suc place) x since at = got_in_rest front rest place x (omega (arith, since)) at
 
+-- ---- how it scanned
+
+module _ (settings : Settings) (folder : FolderTold) (in_range : AreInRange settings) where
+  -- the scan told no files, so none was asked for its key
+  pub ended_scan : (error : ScanError) → EndsAs settings.inputs folder.earlier error (Some folder.listed) → folder.scanned ≡ folder.listed → HasScannedSome settings folder
+  ended_scan error ends same = record {
+    in_range = in_range;
+    lists = ended_some settings.inputs folder.earlier error (Some folder.listed) ends;
+    asks = subst (HasOnlyAsked folder.listed) (sym same) (asked_none folder.listed);
+  }
+
+  module _ (all : List ListedFile) (scans : ScansFiles settings.inputs folder.earlier all (Some folder.listed)) where
+    lists : ListsSome (globs_of settings.inputs) folder.earlier (Some folder.listed)
+    lists = listed_all (globs_of settings.inputs) folder.earlier scans.listings (Some folder.listed) scans.listed_is
+
+    -- it told them, and asking them for their keys was cut off
+    pub cut_scan : AsksSome settings.inputs folder.listed all (Some folder.scanned) → HasScannedSome settings folder
+    cut_scan asks = record { in_range = in_range; lists = lists; asks = some_asked settings.inputs folder.listed all folder.scanned asks }
+
+    -- each was asked
+    pub asked_scan : (asked : List AskedFile) → AsksFrom settings.inputs asked folder.listed folder.scanned → HasScannedSome settings folder
+    asked_scan asked asks = record { in_range = in_range; lists = lists; asks = all_asked settings.inputs asked folder.listed folder.scanned asks }
+
+    pub full_scan : (keyed : Keyed) → AsksFiles settings.inputs folder.listed all keyed (Some folder.scanned) → HasScannedSome settings folder
+    full_scan keyed asks =
+        asked_scan asks.asked (subst (AsksFrom settings.inputs asks.asked folder.listed) (some_is asks.last folder.scanned (sym asks.after_is)) asks.asks)
+
 -- ---- its wires and its books
 
 silent_wires : (outcomes : List (Option (List Outcome))) → AreOfWorkers (took_none outcomes) (wires_behind (map length_of outcomes) outcomes)
@@ -145,9 +179,9 @@ given_by fronts = (fronts.rows, fronts.given)
 abbrev pub scanned_some : {D : Type 0} → Began D → Began D
 scanned_some start = record start { listed = []; doubled = [] }
 
--- and did nothing more with the folder
+-- and did nothing more with the folder; which files it asked for their keys is not told
 abbrev pub folder_scanned : FolderTold → FolderTold
-folder_scanned folder = record folder { ended = folder.scanned }
+folder_scanned folder = record folder { ended = folder.scanned; asked = [] }
 
 module _ {D : Type 0} (disks : DiskWords D) (start : Began D) (folder : FolderTold) (has : HasScannedSome start.settings folder) (moments : List ℕ) (later : Option (List ℕ))
     (given : HasGiven start.moments later start.moment moments) (clock_tells : IsSome later) (outcomes : List (Option (List Outcome))) where
@@ -163,22 +197,29 @@ module _ {D : Type 0} (disks : DiskWords D) (start : Began D) (folder : FolderTo
   abbrev began : ℕ
   began = length folder.earlier.events
 
-  events_are : folder.scanned.events ≡ folder.earlier.events ++ has.lists.more
-  events_are = ap (λ (h : FolderHistory). h.events) (some_is folder.scanned (record folder.earlier { events = folder.earlier.events ++ has.lists.more }) has.lists.kept)
+  listed_events : folder.listed.events ≡ folder.earlier.events ++ has.lists.more
+  listed_events = ap (λ (h : FolderHistory). h.events) (some_is folder.listed (record folder.earlier { events = folder.earlier.events ++ has.lists.more }) has.lists.kept)
+
+  events_are : folder.scanned.events ≡ folder.earlier.events ++ (has.lists.more ++ has.asks.more)
+  events_are = has.asks.events ∙ ap (λ (l : List Event). l ++ has.asks.more) listed_events ∙ append_assoc folder.earlier.events has.lists.more has.asks.more
 
   listings_are : early_scan.listings ≡ listings_from began has.lists.more
-  listings_are = ap (λ (l : List Event). listings_from began (drop began l)) events_are ∙ ap (listings_from began) (drop-append_seam folder.earlier.events has.lists.more)
+  listings_are = ap (λ (l : List Event). listings_from began (drop began l)) listed_events ∙ ap (listings_from began) (drop-append_seam folder.earlier.events has.lists.more)
+
+  all_listings : listings_of early_run.trace ≡ listings_from began has.lists.more
+  all_listings =
+      ap (λ (l : List Event). listings_from began (drop began l)) events_are ∙ ap (listings_from began) (drop-append_seam folder.earlier.events (has.lists.more ++ has.asks.more))
+      ∙ no_more_listings has.lists.more has.asks.more began has.asks.no_listing
 
   at : AreAt early_run.trace.events began has.lists.more
-  at = subst (λ (l : List Event). AreAt l began has.lists.more) (sym (events_are ∙ ap (λ (l : List Event). folder.earlier.events ++ l) (sym (append-nil has.lists.more))))
-      (are_at has.lists.more folder.earlier.events [])
+  at = subst (λ (l : List Event). AreAt l began has.lists.more) (sym events_are) (are_at has.lists.more folder.earlier.events has.asks.more)
 
   by_one_scan : IsByOneScan early_run early_scan
   by_one_scan = record {
     once = refl;
     only = refl;
     scans = record {
-      together = append-nil early_scan.listings;
+      together = append-nil early_scan.listings ∙ listings_are ∙ sym all_listings;
       by_globs = (
         subst (λ (l : List ℕ). ListGlobs early_run.trace (globs_in start.settings.inputs) l) (sym listings_are)
             (some_globs early_run.trace (globs_in start.settings.inputs) began has.lists.more at has.lists.in_order),
@@ -187,14 +228,26 @@ module _ {D : Type 0} (disks : DiskWords D) (start : Began D) (folder : FolderTo
       full = tt;
       moments = (given.among.0, given.among.1, given.among.2, tt);
     };
-    askings = tt;
-    inputs = inputs_are_named start.settings has.in_range has.named;
+    asked_well = tt;
+    own_ids = inputs_have_own_ids start.settings has.in_range;
   }
 
+  -- what it opened it only asked
   no_opening : EachOpeningIsOne early_run []
-  no_opening opening path number begun since is =
-      let of = got_in_rest folder.earlier.events has.lists.more opening (Opened path number begun) since (sym (ap (λ (l : List Event). slice_get l opening) events_are) ∙ is) in
-      absurd (none_is_opening (globs_in start.settings.inputs) has.lists.more of.0 path number begun has.lists.in_order of.1)
+  no_opening opening path number begun since is = by_order (cases_lt opening (length folder.listed.events))
+    where
+      by_order : (opening < length folder.listed.events) ⊎ (length folder.listed.events ≤ opening) → Contains [] opening ⊎ OnlyReads early_run.trace opening
+      by_order (inl within) =
+          let here = event_was folder.listed folder.scanned (goes_on_asking folder.listed folder.scanned has.asks) opening (Opened path number begun) within is in
+          let of = got_in_rest folder.earlier.events has.lists.more opening (Opened path number begun) since (sym (ap (λ (l : List Event). slice_get l opening) listed_events) ∙ here) in
+          absurd (none_is_opening (globs_in start.settings.inputs) has.lists.more of.0 path number begun has.lists.in_order of.1)
+      by_order (inr behind) =
+          let was = has.asks.only_asked opening path number begun behind is in
+          inr (record {
+            looks = was.looks;
+            tells = ap (λ (o : Option Closing). first_of_two (option_map (λ (c : Closing). c.looks) o) (open_looks_in opening [])) was.closed.closing;
+            none_at_length = was.reads;
+          })
 
   early_told : RunTold early_run early_scan [] (took_none outcomes) [] []
   early_told = record {

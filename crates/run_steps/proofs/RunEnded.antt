@@ -46,7 +46,16 @@ module _ {T W L D : Type 0} (words : Words T W L D) (start : Began D) (ending : 
   whole = record folder { ended = told.0 }
 
   has_whole : HasScanned start whole
-  has_whole = record { in_range = has.in_range; named = has.named; shown = has.shown; all = has.all; scans = has.scans; keyed = has.keyed; parts = has.parts }
+  has_whole = record {
+    in_range = has.in_range;
+    shown = has.shown;
+    all = has.all;
+    scans = has.scans;
+    keyed = has.keyed;
+    asked_are = has.asked_are;
+    asks = has.asks;
+    parts = has.parts;
+  }
 
   do_tell : DoTell words.wires ending whole wires
   do_tell = record {

@@ -1,10 +1,12 @@
 -- The files of a run, each with what its tail told as it was closed: listed by the run's scan, opened behind it, and begun once.
-use Rattle.std.proofs.Common.{◌≡◌, ◌⊎◌, inl, inr, ⊎_elim, ℕ, suc, ◌+◌, ◌≤◌, max, min, All, List, [], ◌∷◌, ◌++◌, Contains, drop, length, length-append, map, Option, Some, None, IsSome, IfSome, refl, sym, ap, subst, ◌∙◌, arith, Bool, true, false, nat_le, if◌then◌else◌}
+use Rattle.std.proofs.Common.{◌≡◌, ◌⊎◌, inl, inr, ⊎_elim, ℕ, suc, ◌+◌, ◌≤◌, max, min, All, List, [], ◌∷◌, ◌++◌, Contains, append-nil, drop, length, map, Option, Some, None, IsSome, IfSome, refl, sym, ap, subst, ◌∙◌, arith, Bool, true, false, nat_le, if◌then◌else◌}
+use Rattle.std.proofs.lemmas.Bool.{cases_lt}
 use Rattle.std.proofs.lemmas.List.Elements.{Contains-append_left}
 use Rattle.std.specs.Prelude.{option_map, slice_get}
 use Rattle.std.specs.List.{AllByRecursion, flat_map}
 use Rattle.std.specs.Option.{option_map_or}
 use Rattle.accounts.proofs.Backing.{mapped_there}
+use Rattle.accounts.proofs.Following.{got_there}
 use Rattle.accounts.proofs.Grounded.{each_member, of_map}
 use Rattle.accounts.proofs.Joining.{AreJoined, AreOpenedInSlots, IsJoined, join, joined_in_slots, told_by_its_tail}
 use Rattle.accounts.proofs.Orderly.{same_item}
@@ -16,18 +18,16 @@ use Rattle.accounts.specs.Turned.{Turned}
 use Rattle.accounts.specs.Turning.{IsTurnedSo, Pairs}
 use Rattle.event_tree.specs.declared.processor_rule.ProcessorRule.{ProcessorRule}
 use Rattle.harvester.specs.declared.harvester.Harvester.{Harvester}
-use Rattle.kept_rows.specs.Followed.{OnlyReads, Start as StartBy, start_by}
+use Rattle.kept_rows.specs.Followed.{OnlyReads, Start as StartBy, asked_openings, start_by}
 use Rattle.kept_rows.specs.Run.{Run, Scan}
-use Rattle.kept_rows.specs.Scans.{AreDistinct, IsFirstPath, ShowsFileTo, moment_in}
+use Rattle.kept_rows.specs.Scans.{AreDistinct, IsFirstPath, moment_in}
 use Rattle.kept_rows.specs.Telling.{opening_moment}
 use Rattle.kept_rows.specs.Trace.{Closing, WireTold, closing_in, first_of_two, looks_of, open_looks_in}
 use Rattle.lanes.specs.Laning.{Laning}
-use Rattle.outside.specs.Folders.{FolderHistory, Opened as OpenedAs}
+use Rattle.outside.specs.Folders.{FolderHistory}
 use Rattle.outside.specs.Tails.{TailHistory}
 use Rattle.outside.specs.declared.history.Look.{Look}
 use Rattle.outside.specs.declared.history.Shown.{Shown}
-use Rattle.outside.specs.declared.history.Sight.{Sight}
-use Rattle.prospect.specs.Scan.{event_of}
 use Rattle.prospect.specs.declared.listed.Listed.{Listed}
 use Rattle.rounds.specs.Crewed.{lanings}
 use Rattle.rounds.specs.Words.{TailWords, Words}
@@ -47,14 +47,19 @@ use Rattle.run_steps.specs.Releasing.{HasNoHarvesters}
 use Rattle.run_steps.specs.RunOf.{FolderTold, run_of, scan_of}
 use Rattle.run_steps.specs.RunState.{RunState}
 use Rattle.run_steps.specs.Scanned.{HasScanned}
-use Rattle.run_steps.specs.Shown.{HasDone, HasShown, WasClosedWith, WasOpenedSince, openings_of}
+use Rattle.run_steps.specs.Shown.{HasDone, HasShown, WasClosedWith, WasOnlyAsked, WasOpenedSince, openings_of}
 use Rattle.run_steps.specs.SoFar.{Left, SoFar, files_in}
 use Rattle.run_steps.specs.Stands.{AreTurnedIn, IsLeftSo, Stands}
+use Rattle.run_steps.proofs.AskedEvents.{distinct_both, openings_asked, openings_distinct}
 use Rattle.run_steps.proofs.NamedInputs.{each_of}
 use Rattle.run_steps.proofs.Members.{member_is}
 use Rattle.prospect.proofs.Doubled.{keys_apart as files_keys_apart}
+use Rattle.prospect.specs.AskedFiles.{keyed_by}
 use Rattle.run_steps.proofs.Named.{keys_apart}
-use Rattle.run_steps.proofs.ScanOf.{IsOfEntry, behind_scan, entry_of, got_there, is_before, is_first_path, scanned_is, shows_file}
+use Rattle.run_steps.proofs.FirstPaths.{is_first_path}
+use Rattle.run_steps.proofs.ScanAsked.{in_this_run}
+use Rattle.run_steps.proofs.ScanList.{IsOfEntry, asked_within, behind_listings, entry_of, is_before, placed_in_scan, since_listed}
+use Rattle.run_steps.proofs.ScanOf.{ShowsSome, shows_file}
 
 -- ---- what stands of a file in the lists
 
@@ -220,6 +225,10 @@ module _ {T W L D : Type 0} (words : Words T W L D) (start : Began D) (state : R
     opened_since : WasOpenedSince folder.scanned folder.ended one
     opened_since = member_is (WasOpenedSince folder.scanned folder.ended) so_far.opened one done.opened was_opened
 
+    -- behind the listings, as behind all of the scan
+    behind : length folder.listed.events ≤ one.opening
+    behind = let since = opened_since.since in let long = since_listed start folder has so_far done wires in omega (arith, since, long)
+
     -- ---- as it was listed
 
     abbrev entry : Listed
@@ -231,7 +240,7 @@ module _ {T W L D : Type 0} (words : Words T W L D) (start : Began D) (state : R
     pub entry_there : Contains start.listed entry
     entry_there = got_there start.listed one.begin.slot.0 entry as_listed.listed_there
 
-    pub of_entry : IsOfEntry start.settings.inputs has.scans.listings entry
+    pub of_entry : IsOfEntry start.settings.inputs has.scans.listings folder.asked entry
     of_entry = entry_of start folder has so_far done wires entry (Contains-append_left start.listed start.doubled entry entry_there)
 
     abbrev its_entry : Shown
@@ -246,31 +255,31 @@ module _ {T W L D : Type 0} (words : Words T W L D) (start : Began D) (state : R
     rule_is : slice_get start.settings.inputs one.begin.input ≡ Some one.rule
     rule_is = ap (slice_get start.settings.inputs) input_is ∙ as_listed.rule_is
 
-    shows : ShowsFileTo run scan one.begin.input key its_entry.file its_entry
+    shows : ShowsSome start folder has so_far done wires its_entry one.begin.input key
     shows =
-        subst (λ (i : ℕ). ShowsFileTo run scan i key its_entry.file its_entry) (sym input_is)
+        subst (λ (i : ℕ). ShowsSome start folder has so_far done wires its_entry i key) (sym input_is)
         (shows_file start folder has so_far done wires entry (Contains-append_left start.listed start.doubled entry entry_there) of_entry key as_listed.keyed one.rule as_listed.rule_is)
 
     starts : start_in one ≡ start_by (find key start.opening) its_entry.entry.size
     starts =
         (λ k. record { epoch = ap (λ (b : Begin). b.epoch.0) as_listed.begin_is k; base = ap (λ (b : Begin). b.base) as_listed.begin_is k })
-        ∙ ap (λ (n : ℕ). start_from (start_of n (row_of start.opening entry.key))) of_entry.by.size_is
+        ∙ ap (λ (n : ℕ). start_from (start_of n (row_of start.opening entry.key))) of_entry.size_is
         ∙ ap (λ (o : Option (List ℕ)). start_from (start_of its_entry.entry.size (row_of start.opening o))) as_listed.keyed
         ∙ same_start (find key start.opening) its_entry.entry.size
 
-    first : IsFirstPath run scan key its_entry.file one.begin.path
+    first : IsFirstPath run scan key shows.number one.begin.path
     first =
-        subst (IsFirstPath run scan key its_entry.file) (sym path_is)
-        (is_first_path start folder has so_far done wires entry key its_entry.file entry_there as_listed.keyed
-        (record { shown = its_entry; path_is = sym of_entry.by.path_is; shows = (one.begin.input, shows) }))
+        subst (IsFirstPath run scan key shows.number) (sym path_is)
+        (is_first_path start folder has so_far done wires entry key shows.number entry_there as_listed.keyed
+        (record { shown = its_entry; path_is = sym of_entry.path_is; shows = (one.begin.input, shows.shows) }))
 
     is_listed : IsListedAs run scan one its_entry
     is_listed = record {
-      number = its_entry.file;
-      shows = shows;
-      path_is = sym of_entry.by.path_is ∙ sym path_is;
+      number = shows.number;
+      shows = shows.shows;
+      path_is = sym of_entry.path_is ∙ sym path_is;
       first = first;
-      before = is_before start folder has so_far done wires one.opening opened_since.since;
+      before = is_before start folder has so_far done wires one.opening behind;
       starts = starts;
     }
 
@@ -282,7 +291,7 @@ module _ {T W L D : Type 0} (words : Words T W L D) (start : Began D) (state : R
     keyed = member_is IsKeyed so_far.opened one (stands.keyed tells) was_opened
 
     changed_by_entry : (moment_noted start.opening entry).0 ≡ max (opening_moment start.opening key) (moment_in its_entry)
-    changed_by_entry = ap (λ (m : Moment). max (option_map_or (λ (row : Row). row.changed.0) (row_of start.opening entry.key) 0) (min m.0 MAX_MOMENT)) of_entry.by.changed_is
+    changed_by_entry = ap (λ (m : Moment). max (option_map_or (λ (row : Row). row.changed.0) (row_of start.opening entry.key) 0) (min m.0 MAX_MOMENT)) of_entry.changed_is
         ∙ ap (λ (o : Option (List ℕ)). max (option_map_or (λ (row : Row). row.changed.0) (row_of start.opening o) 0) (moment_in its_entry)) as_listed.keyed
 
     pub moment_noted_is : file.changed ≡ moment_by run file its_entry
@@ -291,11 +300,11 @@ module _ {T W L D : Type 0} (words : Words T W L D) (start : Began D) (state : R
     pub is_followed : IsFollowedFile run scan file
     is_followed = record {
       rule_is = rule_is;
-      key_is = keyed;
+      gave = keyed;
       in_range = as_listed.in_range;
       file_is = opened_since.file_is;
       tail = record {
-        in_this_run = since_began (ap (λ (h : FolderHistory). length h.events) (scanned_is start folder has so_far done wires));
+        in_this_run = in_this_run start folder has so_far done wires one.opening behind;
         begun = one.begun;
         opened = opened_since.stands;
         tells = tells_looks;
@@ -305,12 +314,6 @@ module _ {T W L D : Type 0} (words : Words T W L D) (start : Began D) (state : R
       listed = is_listed;
       moment = inr moment_noted_is;
     }
-      where
-        since_began : length folder.scanned.events ≡ length (folder.earlier.events ++ map event_of has.scans.listings) → length folder.earlier.events ≤ one.opening
-        since_began same =
-            let both = length-append folder.earlier.events (map event_of has.scans.listings) in
-            let since = opened_since.since in
-            omega (arith, same, both, since)
 
   -- ---- all of them
 
@@ -324,29 +327,42 @@ module _ {T W L D : Type 0} (words : Words T W L D) (start : Began D) (state : R
       mapped_twice [] = refl
       mapped_twice (f ∷ some) = ap (λ (l : List ℕ). f.opened.opening ∷ l) (mapped_twice some)
 
-  -- behind the scan: the run made no opening before
-  none_in_scan : (opening : ℕ) (path : List ℕ) (number : ℕ) (begun : Sight) → length folder.earlier.events ≤ opening →
-      slice_get folder.ended.events opening ≡ Some (OpenedAs path number begun) → length folder.scanned.events ≤ opening
-  none_in_scan opening path number begun since is = behind_scan start folder has so_far done wires opening path number begun since is
+  only_reads : (opening : ℕ) → WasOnlyAsked folder.ended opening → OnlyReads run.trace opening
+  only_reads opening was = record {
+    looks = was.looks;
+    tells = ap (λ (o : Option Closing). first_of_two (option_map (λ (c : Closing). c.looks) o) (open_looks_in opening [])) was.closed.closing;
+    none_at_length = was.reads;
+  }
 
+  -- before the end of the scan it asked for a key alone, and behind it there is none that is not followed or was only asked
   each_opening : EachOpeningIsOne run files
   each_opening opening path number begun since is =
-      ⊎_elim (λ among. inl (subst (λ (l : List ℕ). Contains l opening) (sym openings_are) among)) (λ closed. inr (only_reads closed))
-      (done.serve opening path number begun (none_in_scan opening path number begun since is) is)
-    where
-      only_reads : WasClosedWith folder.ended opening [] → OnlyReads run.trace opening
-      only_reads closed = record {
-        looks = [];
-        tells = ap (λ (o : Option Closing). first_of_two (option_map (λ (c : Closing). c.looks) o) (open_looks_in opening [])) closed.closing;
-        none_at_length = tt;
-      }
+      ⊎_elim
+      (λ within. inr (only_reads opening (asked_within start folder has so_far done wires opening path number begun (behind_listings start folder has so_far done wires opening path number begun since is) within is)))
+      (λ behind. ⊎_elim (λ among. inl (subst (λ (l : List ℕ). Contains l opening) (sym openings_are) among)) (λ was. inr (only_reads opening was)) (done.serve opening path number begun behind is))
+      (cases_lt opening (length folder.scanned.events))
+
+  -- those that only asked stand before the end of the scan, and those that are followed behind it
+  none_in_both : (opening : ℕ) → Contains (openings_asked folder.asked) opening → Contains (openings_of so_far.opened) opening → ⊥
+  none_in_both opening asked followed =
+      let within = placed_in_scan start folder has so_far done wires opening asked in
+      let of = of_map (λ (o : Opened). o.opening) so_far.opened opening followed in
+      let since = (member_is (WasOpenedSince folder.scanned folder.ended) so_far.opened of.item done.opened of.among).since in
+      let is = of.is in
+      omega (arith, within, since, is)
+
+  openings_apart : AreDistinct (asked_openings run ++ map opening_in files)
+  openings_apart = subst (λ (l : List ℕ). AreDistinct (l ++ map opening_in files)) (sym (append-nil (openings_asked folder.asked)))
+      (subst (λ (l : List ℕ). AreDistinct (openings_asked folder.asked ++ l)) (sym openings_are)
+      (distinct_both (openings_asked folder.asked) (openings_of so_far.opened) (openings_distinct start.settings.inputs folder.asked folder.listed folder.scanned has.asks) done.apart
+      none_in_both))
 
   pub are_followed_files : AreFollowedFiles run scan files
   are_followed_files = record {
     each = each_member (IsFollowedFile run scan) files is_followed;
     slots = in_slots;
-    keys_apart = keys_apart start.settings start.opening start.listed (files_keys_apart has.all start.listed start.doubled has.parts) 0 files in_slots
+    keys_apart = keys_apart start.settings start.opening start.listed (files_keys_apart (flat_map keyed_by folder.asked) start.listed start.doubled has.parts) 0 files in_slots
         (each_member (λ (file : Filed). IsOpenedAsListed start.settings start.opening start.listed file.opened) files as_listed);
-    openings_apart = subst AreDistinct (sym openings_are) done.apart;
+    openings_apart = openings_apart;
     openings_serve = each_opening;
   }

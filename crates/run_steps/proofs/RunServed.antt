@@ -1,36 +1,34 @@
--- Of a run that is done each entry that an input covers was followed or skipped for its reason, and each file that was begun is told to
--- its end, with the moment of its change.
-use Rattle.std.proofs.Common.{◌≡◌, ◌⊎◌, inl, inr, ⊎_elim, ℕ, ◌<◌, ◌≤◌, false, true, All, List, [], Contains, length, Option, Some, IfSome, refl, sym, ap, subst, ◌∙◌, arith, None, IsSome}
+-- Of a run that is done each entry that an input covers was followed or skipped for its reason, and each file that was begun is read
+-- through, with the moment of its change.
+use Rattle.std.proofs.Common.{◌≡◌, ◌⊎◌, inl, inr, ⊎_elim, ℕ, ◌<◌, ◌≤◌, All, List, [], Contains, append-nil, length, Option, Some, None, IfSome, refl, sym, ap, subst, ◌∙◌, arith}
 use Rattle.std.proofs.lemmas.Bool.{cases_lt}
 use Rattle.std.proofs.lemmas.List.Elements.{Contains-append_cases, Contains-append_left}
 use Rattle.std.proofs.lemmas.Option.{slice_get-get_or}
 use Rattle.std.specs.Prelude.{option_map, slice_get}
 use Rattle.std.specs.List.{AllByRecursion}
 use Rattle.std.specs.declared.cmp.Ordering.TheVariants.{Less}
-use Rattle.accounts.proofs.Backing.{mapped_there}
-use Rattle.accounts.proofs.Draining.{of_no_other}
 use Rattle.accounts.proofs.Grounded.{each_has_ground, each_member, of_map}
 use Rattle.accounts.specs.Filed.{Filed, slot_in}
 use Rattle.accounts.specs.Ground.{HasGround}
 use Rattle.accounts.specs.Opened.{Opened}
 use Rattle.accounts.specs.RunDone.{EachEntryIsServed, IsAmongFiles, IsToldWhole}
 use Rattle.accounts.specs.Taken.{FitBooks, Taken, acknowledged_in}
-use Rattle.accounts.specs.ToldFile.{IsToldToItsEnd}
+use Rattle.accounts.specs.ToldFile.{IsReadThrough}
 use Rattle.accounts.specs.Turned.{Turned}
-use Rattle.event_tree.specs.declared.input_rule.IdentityRule.{IdentityRule}
-use Rattle.event_tree.specs.declared.input_rule.IdentityRule.TheVariants.{Fingerprint, Native, Path}
 use Rattle.event_tree.specs.declared.input_rule.InputRule.{InputRule}
-use Rattle.file_identity.specs.Asking.{IsAsking}
-use Rattle.file_identity.specs.Key.{named_key, native_key, path_key}
-use Rattle.kept_rows.specs.Drained.{IsDoubled, IsGone, IsMoved, IsOfNoOther, IsPassedOver}
+use Rattle.file_identity.specs.Answers.{IsFingerprint}
+use Rattle.file_identity.specs.Asking.{IsAsking, given_key}
+use Rattle.kept_rows.specs.Drained.{IsDoubled, IsGone, IsMoved, IsOfNoOther, IsPassedOver, IsSmall, WasOpenedWith}
 use Rattle.kept_rows.specs.Run.{Run, Scan}
-use Rattle.kept_rows.specs.Scans.{IsCovered, IsNoFingerprint, ShowsEntry, ShowsFileTo}
+use Rattle.kept_rows.specs.Scans.{Gave, IsCovered, ShowsEntry}
 use Rattle.kept_rows.specs.Trace.{Closing, WireTold, first_of_two, open_looks_in}
 use Rattle.outside.specs.Folders.{NotThere, Opened as OpenedAs}
 use Rattle.outside.specs.declared.history.Shown.{Shown}
+use Rattle.prospect.specs.AskedFiles.{Answer, ByName, Gave as KeyGiven, NotFound, TooFew, keyed_as, keyed_by, with_key}
 use Rattle.prospect.specs.declared.listed.Listed.{Listed}
 use Rattle.rounds.specs.Crewed.{lanings}
 use Rattle.rounds.specs.Words.{Words}
+use Rattle.ship_core.proofs.Members.{first_there}
 use Rattle.ship_core.specs.RowOver.{moment_of, slot_of}
 use Rattle.wire_base.specs.declared.note.Note.{Note}
 use Rattle.wire_base.specs.declared.note.Note.TheVariants.{Seen}
@@ -40,26 +38,22 @@ use Rattle.run_steps.specs.Telling.{moment_noted}
 use Rattle.run_steps.specs.Began.{Began}
 use Rattle.run_steps.specs.Begun.{noted_begin}
 use Rattle.run_steps.specs.Releasing.{HasNoHarvesters}
-use Rattle.run_steps.specs.RunOf.{FolderTold, asking_of, run_of, scan_of}
+use Rattle.run_steps.specs.RunOf.{FolderTold, asking_of, opening_by, run_of, scan_of}
 use Rattle.run_steps.specs.RunState.{RunState}
 use Rattle.run_steps.specs.Scanned.{HasScanned}
-use Rattle.run_steps.specs.Served.{AreServed, HasBegin, WasMoved, WasNotThere}
+use Rattle.run_steps.specs.Served.{AreServed, HasBegin, WasAskedAsOpened, WasMoved, WasNotThere, WasTooSmall}
 use Rattle.run_steps.specs.Shown.{HasDone}
 use Rattle.run_steps.specs.SoFar.{SoFar, files_in}
 use Rattle.run_steps.specs.Stands.{Stands}
-use Rattle.run_steps.proofs.Finishing.{given_is}
+use Rattle.run_steps.proofs.AskedEvents.{AnswerStands, HasAsked, HasMissed}
+use Rattle.run_steps.proofs.FirstPaths.{double_has_earlier}
+use Rattle.run_steps.proofs.KeyedFiles.{KeepsEntry, keeps_entry}
 use Rattle.run_steps.proofs.Members.{member_is, some_is}
 use Rattle.run_steps.proofs.RunFiles.{as_listed, done, files, is_joined, joined, moment_is, moment_noted_is, of_entry, path_is, input_is, was_opened}
 use Rattle.run_steps.proofs.RunNotes.{begin_opened, opened_is_in_notes, opened_is_noted, own_seen}
-use Rattle.run_steps.proofs.ScanOf.{IsListedFor, askings_are, double_has_earlier, entry_of, everyone, is_listed_for, key_is_told, named_at, scanned_length, shows_entry, shows_file}
-
--- where no file is read and the native numbers that are wanted were told, a key is known
-named_by : (id : List ℕ) (identity : IdentityRule) (path : List ℕ) (numbers : Option (ℕ × ℕ)) → IsNoFingerprint identity → (identity ≡ Native → IsSome numbers) →
-    (key : List ℕ) × (named_key id identity path numbers ≡ Some key)
-named_by id (Fingerprint offset count) path numbers named numbered = absurd named
-named_by id Native path (Some told) named numbered = (native_key id told, refl)
-named_by id Native path None named numbered = absurd (let q : false ≡ true = numbered refl in cc)
-named_by id Path path numbers named numbered = (path_key id path, refl)
+use Rattle.run_steps.proofs.ScanAsked.{asks_for, in_this_run, of_its_input, of_no_asking}
+use Rattle.run_steps.proofs.ScanList.{answered, entry_of, everyone, in_parts, is_before, shows_entry, since_listed}
+use Rattle.run_steps.proofs.ScanOf.{IsListedFor, ShowsSome, answer_by, gave_there, is_listed_for, key_is_told, rule_of, shows_asked, shows_file}
 
 got_some : {A : Type 0} (P : A → Type 0) (o : Option A) (x : A) → o ≡ Some x → IfSome o P → P x
 got_some P o x is all = subst (λ (q : Option _). IfSome q P) is all
@@ -107,138 +101,191 @@ module _ {T W L D : Type 0} (words : Words T W L D) (start : Began D) (state : R
         slot_is = ap (λ (o : Opened). o.begin.slot.0) of.is ∙ ap (λ (s : Slot). s.0) opened.slot_is ∙ begun.slot_is;
       }
 
-  -- the openings of the run stand behind its scan
-  in_this_run : (opening : ℕ) → length folder.scanned.events ≤ opening → length folder.earlier.events ≤ opening
-  in_this_run opening since = let long = scanned_length start folder has so_far has_done wires in omega (arith, long, since)
-
-  no_other : (input opening : ℕ) → IsOfNoOther run input opening
-  no_other input opening = of_no_other run scan refl (askings_are start folder has so_far has_done wires) input opening
+  -- behind the scan no opening was made for an asking
+  behind_listings : (opening : ℕ) → length folder.scanned.events ≤ opening → length folder.listed.events ≤ opening
+  behind_listings opening since = let long = since_listed start folder has so_far has_done wires in omega (arith, long, since)
 
   module _ (shown_entry : Shown) (input : ℕ) (rule : InputRule) (entry : ShowsEntry run.trace scan shown_entry) (rule_is : slice_get start.settings.inputs input ≡ Some rule)
       (covered : IsCovered rule.paths shown_entry.entry.path) where
     of : IsListedFor start folder has so_far has_done wires shown_entry input rule
     of = is_listed_for start folder has so_far has_done wires shown_entry input rule entry rule_is covered
 
-    -- the entry shows its file with the key of the listed one
-    shows_it : (key : List ℕ) → of.one.key ≡ Some key → ShowsFileTo run scan input key shown_entry.file shown_entry
-    shows_it key keyed = record {
-      asking = asking_of of.one;
-      asks = record {
-        entry = entry;
-        asked_in = tt;
-        of_scan = mapped_there asking_of (everyone start folder has so_far has_done wires) of.one of.among;
-        input_is = of.input_is;
-        path_is = of.path_is;
+    answer : AnswerStands rule of.of.listed of.of.answer folder.ended
+    answer = answer_by start folder has so_far has_done wires of.of of.among shown_entry input rule entry of.input_is of.path_is rule_is
+
+    -- where its opening is, if it was opened to ask for its key
+    since : (opening : ℕ) → opening_by of.of.answer ≡ Some opening → length folder.listed.events ≤ opening
+    since opening at = ((answered start folder has so_far has_done wires of.of of.among).placed opening at).0
+
+    own : (opening : ℕ) → opening_by of.of.answer ≡ Some opening → IsOfNoOther run input opening
+    own opening at = subst (λ (i : ℕ). IsOfNoOther run i opening) of.input_is (of_its_input start folder has so_far has_done wires of.of of.among opening at)
+
+    -- ---- with no key
+
+    -- nothing had its path as it was asked
+    gone_asked : (opening : ℕ) → opening_by of.of.answer ≡ Some opening → HasMissed rule of.of.listed opening folder.ended → IsGone run scan shown_entry.entry.path input
+    gone_asked opening at missed = record {
+      opening = opening;
+      since = is_before start folder has so_far has_done wires opening (since opening at);
+      of_input = own opening at;
+      was = record {
+        in_this_run = in_this_run start folder has so_far has_done wires opening (since opening at);
+        not_there = missed.is ∙ ap (λ (path : List ℕ). Some (NotThere path)) of.path_is;
       };
-      rule = rule;
-      rule_is = rule_is;
-      covered = covered;
-      gave = record { no_bytes = named_at start folder has so_far has_done wires input rule rule_is; number_is = refl; gave = sym keyed ∙ of.key_is };
     }
 
-    among_files : (slot : ℕ) → slice_get start.listed slot ≡ Some of.one → HasFileAt slot → IsAmongFiles run_files rule shown_entry input
-    among_files slot at there =
-        let file = there.file in
-        let listed = as_listed words start state so_far stands released folder has shown wires file there.among in
-        let same : listed.one ≡ of.one = some_is listed.one of.one (sym listed.listed_there ∙ ap (slice_get start.listed) there.slot_is ∙ at) in
-        record {
-          file = file;
-          of_files = there.among;
-          path_is = path_is words start state so_far stands released folder has shown wires file there.among ∙ ap (λ (one : Listed). one.path) same ∙ of.path_is;
-          input_is = input_is words start state so_far stands released folder has shown wires file there.among ∙ ap (λ (one : Listed). one.input) same ∙ of.input_is;
-          key_is = sym of.key_is ∙ ap (λ (one : Listed). one.key) (sym same) ∙ listed.keyed;
-        }
-
-    is_gone : WasNotThere folder of.one.path → IsGone run shown_entry.entry.path input
-    is_gone gone = record {
-      opening = gone.opening;
-      of_input = no_other input gone.opening;
-      was = record { in_this_run = in_this_run gone.opening gone.since; not_there = gone.is ∙ ap (λ (path : List ℕ). Some (NotThere path)) of.path_is };
+    small_asked : (opening : ℕ) → opening_by of.of.answer ≡ Some opening → HasAsked rule of.of.listed opening None folder.ended → IsSmall run rule scan shown_entry input
+    small_asked opening at asked = record {
+      by_bytes = asked.by_bytes;
+      gave_none = inl (record {
+        asking = asking_of of.of;
+        asks = asks_for start folder has so_far has_done wires of.of of.among shown_entry input entry of.input_is of.path_is;
+        number = asked.number;
+        gave = subst (λ (o : Option ℕ). Gave run.trace rule shown_entry o None asked.number) (sym at)
+            (gave_there start folder has so_far has_done wires of.of of.among shown_entry input rule entry of.input_is of.path_is rule_is opening None at asked);
+      });
     }
 
-    is_moved : Contains start.listed of.one → WasMoved start.settings folder of.one → IsMoved run rule scan shown_entry input
-    is_moved file moved = record {
-      key = its_key.0;
-      number = shown_entry.file;
-      shows = shows_it its_key.0 its_key.1;
-      other = its_other.0;
-      opened = record {
-        opening = moved.opening;
-        of_input = no_other input moved.opening;
-        number = moved.number;
-        looks = [];
-        tail = record {
-          in_this_run = in_this_run moved.opening moved.since;
-          begun = moved.begun;
-          opened = moved.is ∙ ap (λ (path : List ℕ). Some (OpenedAs path moved.number moved.begun)) of.path_is;
-          tells = ap (λ (o : Option Closing). first_of_two (option_map (λ (c : Closing). c.looks) o) (open_looks_in moved.opening [])) moved.closed.closing;
+    -- ---- with its key
+
+    module _ (one : Listed) (kept : Contains (keyed_by of.of) one) where
+      keeps : KeepsEntry of.of.listed one
+      keeps = keeps_entry of.of.listed of.of.answer one kept
+
+      its_path : one.path ≡ shown_entry.entry.path
+      its_path = keeps.path_is ∙ of.path_is
+
+      its_rule : slice_get start.settings.inputs one.input ≡ Some rule
+      its_rule = ap (slice_get start.settings.inputs) (keeps.input_is ∙ of.input_is) ∙ rule_is
+
+      among_all : Contains (everyone start folder has so_far has_done wires) one
+      among_all = in_parts start folder has so_far has_done wires of.of one of.among kept
+
+      -- the entry shows a file with the key
+      shows_it : (key : List ℕ) → one.key ≡ Some key → ShowsSome start folder has so_far has_done wires shown_entry input key
+      shows_it key keyed =
+          shows_asked start folder has so_far has_done wires of.of of.among shown_entry input rule entry of.input_is of.path_is rule_is covered of.key_is one kept key keyed
+
+      among_files : (slot : ℕ) → slice_get start.listed slot ≡ Some one → HasFileAt slot → IsAmongFiles run scan run_files shown_entry input
+      among_files slot at there =
+          let file = there.file in
+          let listed = as_listed words start state so_far stands released folder has shown wires file there.among in
+          let same : listed.one ≡ one = some_is listed.one one (sym listed.listed_there ∙ ap (slice_get start.listed) there.slot_is ∙ at) in
+          let shows = shows_it file.opened.begin.key (ap (λ (l : Listed). l.key) (sym same) ∙ listed.keyed) in
+          record {
+            file = file;
+            of_files = there.among;
+            input_is = input_is words start state so_far stands released folder has shown wires file there.among ∙ ap (λ (l : Listed). l.input) same ∙ keeps.input_is ∙ of.input_is;
+            path_is = path_is words start state so_far stands released folder has shown wires file there.among ∙ ap (λ (l : Listed). l.path) same ∙ its_path;
+            number = shows.number;
+            shows = shows.shows;
+          }
+
+      is_gone : WasNotThere folder one.path → IsGone run scan shown_entry.entry.path input
+      is_gone gone = record {
+        opening = gone.opening;
+        since = is_before start folder has so_far has_done wires gone.opening (behind_listings gone.opening gone.since);
+        of_input = of_no_asking start folder has so_far has_done wires gone.opening input gone.since;
+        was = record {
+          in_this_run = in_this_run start folder has so_far has_done wires gone.opening (behind_listings gone.opening gone.since);
+          not_there = gone.is ∙ ap (λ (path : List ℕ). Some (NotThere path)) its_path;
         };
-        file = moved.file;
-        file_is = moved.file_is;
-        asked = [];
+      }
+
+      -- as it was opened, its tail gave this key, or none
+      opened_with : (key : Option (List ℕ)) → WasAskedAsOpened start.settings folder one key → WasOpenedWith run rule scan input shown_entry.entry.path key
+      opened_with key asked = record {
+        opening = asked.opening;
+        since = is_before start folder has so_far has_done wires asked.opening (behind_listings asked.opening asked.since);
+        of_input = of_no_asking start folder has so_far has_done wires asked.opening input asked.since;
+        number = asked.number;
+        looks = asked.looks;
+        tail = record {
+          in_this_run = in_this_run start folder has so_far has_done wires asked.opening (behind_listings asked.opening asked.since);
+          begun = asked.begun;
+          opened = asked.is ∙ ap (λ (path : List ℕ). Some (OpenedAs path asked.number asked.begun)) its_path;
+          tells = ap (λ (o : Option Closing). first_of_two (option_map (λ (c : Closing). c.looks) o) (open_looks_in asked.opening [])) asked.closed.closing;
+        };
+        file = asked.file;
+        file_is = asked.file_is;
+        asked = asked.looks;
         behind = [];
-        looks_are = refl;
-        asking = no_look rule.file_identity named;
-        gave = sym its_other.1 ∙ sym (given_is rule.id rule.file_identity shown_entry.entry.path moved.file [] named);
-      };
-      other_key = λ same. moved.other
-          (ap (λ (r : InputRule). named_key r.id r.file_identity of.one.path moved.file.numbers) same_rule
-          ∙ ap (λ (path : List ℕ). named_key rule.id rule.file_identity path moved.file.numbers) of.path_is ∙ its_other.1 ∙ ap (λ (key : List ℕ). Some key) same ∙ sym its_key.1);
-    }
+        looks_are = sym (append-nil asked.looks);
+        asking = subst (λ (r : InputRule). IsAsking r.file_identity asked.looks) same_rule asked.asking;
+        gave = sym asked.gave ∙ (λ k. given_key (same_rule k).id (same_rule k).file_identity (its_path k) asked.file asked.looks);
+      }
+        where
+          same_rule : asked.rule ≡ rule
+          same_rule = some_is asked.rule rule (sym asked.rule_is ∙ its_rule)
+
+      is_moved : WasMoved start.settings folder one → IsMoved run rule scan shown_entry input
+      is_moved moved =
+          let its_key = key_is_told start folder has so_far has_done wires one among_all in
+          let shows = shows_it its_key.0 its_key.1 in
+          record {
+            key = its_key.0;
+            number = shows.number;
+            shows = shows.shows;
+            other = moved.other;
+            opened = opened_with (Some moved.other) moved.asked;
+            other_key = λ same. moved.other_key (its_key.1 ∙ ap (λ (key : List ℕ). Some key) (sym same));
+          }
+
+      is_small : WasTooSmall start.settings folder one → IsSmall run rule scan shown_entry input
+      is_small small = record {
+        by_bytes = subst (λ (r : InputRule). IsFingerprint r.file_identity) (some_is small.asked.rule rule (sym small.asked.rule_is ∙ its_rule)) small.by_bytes;
+        gave_none = inr (opened_with None small.asked);
+      }
+
+      is_doubled : Contains start.doubled one → IsDoubled run scan shown_entry input
+      is_doubled double =
+          let earlier = double_has_earlier start folder has so_far has_done wires one double in
+          let first_there = Contains-append_left start.listed start.doubled earlier.first earlier.among in
+          let its = entry_of start folder has so_far has_done wires earlier.first first_there in
+          let shows = shows_it earlier.key earlier.keyed in
+          let shows_first = shows_file start folder has so_far has_done wires earlier.first first_there its earlier.key earlier.same its.by.rule
+          (rule_of start folder has so_far has_done wires earlier.first its) in
+          record {
+            key = earlier.key;
+            number = shows.number;
+            shows = shows.shows;
+            other = shows_first.number;
+            earlier = earlier.first.path;
+            shows_earlier = record { shown = its.shown; path_is = sym its.path_is; shows = (earlier.first.input, shows_first.shows) };
+            before = subst (λ (path : List ℕ). compare earlier.first.path path ≡ Less) its_path earlier.before;
+          }
+
+      served_keyed : IsAmongFiles run scan run_files shown_entry input ⊎ IsPassedOver run rule scan shown_entry input
+      served_keyed = ⊎_elim by_slot (λ double. inr (inl (is_doubled double))) (Contains-append_cases start.listed start.doubled one among_all)
+        where
+          by_slot : Contains start.listed one → IsAmongFiles run scan run_files shown_entry input ⊎ IsPassedOver run rule scan shown_entry input
+          by_slot file =
+              let at = slice_get-get_or start.listed file.0 one file.1 ∙ ap (λ (l : Listed). Some l) file.2 in
+              ⊎_elim (λ begun. inl (among_files file.0 at (file_of_begin file.0 begun)))
+              (λ skipped. inr (⊎_elim (λ gone. inr (inr (inl (is_gone gone))))
+              (λ other. ⊎_elim (λ moved. inr (inr (inr (inl (is_moved moved))))) (λ small. inr (inr (inr (inr (is_small small))))) other) skipped))
+              (served.each file.0 one at)
+
+    -- ---- by what was answered
+
+    served_entry : IsAmongFiles run scan run_files shown_entry input ⊎ IsPassedOver run rule scan shown_entry input
+    served_entry = by_answer of.of.answer refl answer served_keyed
       where
-        its_key : (key : List ℕ) × (of.one.key ≡ Some key)
-        its_key = key_is_told start folder has so_far has_done wires of.one of.among
-
-        named : IsNoFingerprint rule.file_identity
-        named = named_at start folder has so_far has_done wires input rule rule_is
-
-        same_rule : moved.rule ≡ rule
-        same_rule = some_is moved.rule rule (sym moved.rule_is ∙ ap (slice_get start.settings.inputs) of.input_is ∙ rule_is)
-
-        its_other : (other : List ℕ) × (named_key rule.id rule.file_identity shown_entry.entry.path moved.file.numbers ≡ Some other)
-        its_other = named_by rule.id rule.file_identity shown_entry.entry.path moved.file.numbers named
-            (λ native. moved.numbered (ap (λ (r : InputRule). r.file_identity) same_rule ∙ native))
-
-        no_look : (identity : IdentityRule) → IsNoFingerprint identity → IsAsking identity []
-        no_look (Fingerprint offset count) named = absurd named
-        no_look Native named = refl
-        no_look Path named = refl
-
-    is_doubled : Contains start.doubled of.one → IsDoubled run scan shown_entry input
-    is_doubled double =
-        let earlier = double_has_earlier start folder has so_far has_done wires of.one double in
-        let first_there = Contains-append_left start.listed start.doubled earlier.first earlier.among in
-        let its = entry_of start folder has so_far has_done wires earlier.first first_there in
-        record {
-          key = earlier.key;
-          number = shown_entry.file;
-          shows = shows_it earlier.key earlier.keyed;
-          other = its.shown.file;
-          earlier = earlier.first.path;
-          shows_earlier = record {
-            shown = its.shown;
-            path_is = sym its.by.path_is;
-            shows = (earlier.first.input, shows_file start folder has so_far has_done wires earlier.first first_there its earlier.key earlier.same its.by.rule its.by.rule_is);
-          };
-          before = subst (λ (path : List ℕ). compare earlier.first.path path ≡ Less) of.path_is earlier.before;
-        }
-
-    served_entry : IsAmongFiles run_files rule shown_entry input ⊎ IsPassedOver run rule scan shown_entry input
-    served_entry = ⊎_elim by_slot (λ double. inr (inl (is_doubled double))) (Contains-append_cases start.listed start.doubled of.one of.among)
-      where
-        by_slot : Contains start.listed of.one → IsAmongFiles run_files rule shown_entry input ⊎ IsPassedOver run rule scan shown_entry input
-        by_slot file =
-            let at = slice_get-get_or start.listed file.0 of.one file.1 ∙ ap (λ (one : Listed). Some one) file.2 in
-            ⊎_elim (λ begun. inl (among_files file.0 at (file_of_begin file.0 begun)))
-            (λ skipped. inr (⊎_elim (λ gone. inr (inr (inl (is_gone gone)))) (λ moved. inr (inr (inr (inl (is_moved file moved))))) skipped))
-            (served.each file.0 of.one at)
+        by_answer : (said : Answer) → of.of.answer ≡ said → AnswerStands rule of.of.listed said folder.ended →
+            ((one : Listed) → Contains (keyed_as of.of.listed of.of.answer) one → IsAmongFiles run scan run_files shown_entry input ⊎ IsPassedOver run rule scan shown_entry input) →
+            IsAmongFiles run scan run_files shown_entry input ⊎ IsPassedOver run rule scan shown_entry input
+        by_answer ByName is stands keyed = keyed of.of.listed (subst (λ (a : Answer). Contains (keyed_as of.of.listed a) of.of.listed) (sym is) (first_there of.of.listed []))
+        by_answer (KeyGiven opening key) is stands keyed =
+            keyed (with_key of.of.listed key) (subst (λ (a : Answer). Contains (keyed_as of.of.listed a) (with_key of.of.listed key)) (sym is) (first_there (with_key of.of.listed key) []))
+        by_answer (TooFew opening) is stands keyed = inr (inr (inr (inr (inr (small_asked opening (ap opening_by is) stands)))))
+        by_answer (NotFound opening) is stands keyed = inr (inr (inr (inl (gone_asked opening (ap opening_by is) stands))))
 
   pub each_entry : EachEntryIsServed run scan run_files
   each_entry shown_entry input rule entry rule_is covered = served_entry shown_entry input rule entry rule_is covered
 
   -- ---- each file
 
-  module _ (finished : AllByRecursion (λ (turned : Turned). IsToldToItsEnd turned.history) (files_in so_far)) (file : Filed) (among : Contains run_files file) where
+  module _ (finished : AllByRecursion (λ (turned : Turned). IsReadThrough turned.history) (files_in so_far)) (file : Filed) (among : Contains run_files file) where
     abbrev one : Opened
     one = file.opened
 
@@ -284,13 +331,13 @@ module _ {T W L D : Type 0} (words : Words T W L D) (start : Began D) (state : R
 
     pub told_whole : IsToldWhole run scan so_far.begun file
     told_whole = record {
-      to_its_end = member_is (λ (turned : Turned). IsToldToItsEnd turned.history) (files_in so_far) file.turned finished
+      read_through = member_is (λ (turned : Turned). IsReadThrough turned.history) (files_in so_far) file.turned finished
           (is_joined words start state so_far stands released folder has shown wires file among).among;
       moment = record {
         shown = (of_entry words start state so_far stands released folder has shown wires file among).shown;
         entry = shows_entry start folder has so_far has_done wires (of_entry words start state so_far stands released folder has shown wires file among).shown
             (of_entry words start state so_far stands released folder has shown wires file among).among;
-        path_is = sym (of_entry words start state so_far stands released folder has shown wires file among).by.path_is
+        path_is = sym (of_entry words start state so_far stands released folder has shown wires file among).path_is
             ∙ sym (path_is words start state so_far stands released folder has shown wires file among);
         changed_is = moment_noted_is words start state so_far stands released folder has shown wires file among;
         note = carries_moment.note;
@@ -300,5 +347,5 @@ module _ {T W L D : Type 0} (words : Words T W L D) (start : Began D) (state : R
       };
     }
 
-  pub each_whole : AllByRecursion (λ (turned : Turned). IsToldToItsEnd turned.history) (files_in so_far) → AllByRecursion (IsToldWhole run scan so_far.begun) run_files
+  pub each_whole : AllByRecursion (λ (turned : Turned). IsReadThrough turned.history) (files_in so_far) → AllByRecursion (IsToldWhole run scan so_far.begun) run_files
   each_whole finished = each_member (IsToldWhole run scan so_far.begun) run_files (told_whole finished)

@@ -27,7 +27,8 @@ use Rattle.run_steps.specs.declared.met.Met.{Met}
 use Rattle.run_steps.proofs.RunBooks.{FitWith, books_fit, first_notes}
 use Rattle.run_steps.proofs.RunFiles.{are_followed_files, done, files, joined}
 use Rattle.run_steps.proofs.RunWires.{acknowledged_are, carried_are, of_workers, took_each, took_none}
-use Rattle.run_steps.proofs.ScanOf.{is_by_one_scan, is_full_scan, key_is_shown, only_listed}
+use Rattle.run_steps.proofs.ScanAsked.{is_by_one_scan}
+use Rattle.run_steps.proofs.ScanOf.{is_full_scan, key_is_shown, only_listed}
 
 module _ {T W L D : Type 0} (words : Words T W L D) (start : Began D) (ending : Ending D) (met : Met) (unused wires : List W) (ends : Ends words start ending met unused wires)
     (left : AreLeftSo words.disks start ending met ends.crew) (folder : FolderTold) (has : HasScanned start folder) (tell : DoTell words.wires ending folder wires) where

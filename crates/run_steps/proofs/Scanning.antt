@@ -38,7 +38,7 @@ are_at (x ∷ xs) front back = (
 
 -- ---- which of them are listings
 
-pub no_listings : (place : ℕ) (more : List Event) → AllByRecursion IsNoListing more → listings_from place more ≡ []
+no_listings : (place : ℕ) (more : List Event) → AllByRecursion IsNoListing more → listings_from place more ≡ []
 no_listings place [] none = refl
 no_listings place (Listed root depth shown ∷ more) none = absurd none.0
 no_listings place (ListingFailed ∷ more) none = absurd none.0
@@ -47,10 +47,14 @@ no_listings place (NotThere path ∷ more) none = no_listings (suc place) more n
 no_listings place (OpeningFailed path ∷ more) none = no_listings (suc place) more none.1
 no_listings place (Closed opening looks faults ∷ more) none = no_listings (suc place) more none.1
 
-pub no_more_listings : (listings : List Listing) (more : List Event) (place : ℕ) → AllByRecursion IsNoListing more →
-    listings_from place (map event_of listings ++ more) ≡ listings_from place (map event_of listings)
+pub no_more_listings : (events more : List Event) (place : ℕ) → AllByRecursion IsNoListing more → listings_from place (events ++ more) ≡ listings_from place events
 no_more_listings [] more place none = no_listings place more none
-no_more_listings (listing ∷ listings) more place none = ap (λ (l : List ℕ). place ∷ l) (no_more_listings listings more (suc place) none)
+no_more_listings (Listed root depth shown ∷ events) more place none = ap (λ (l : List ℕ). place ∷ l) (no_more_listings events more (suc place) none)
+no_more_listings (ListingFailed ∷ events) more place none = ap (λ (l : List ℕ). place ∷ l) (no_more_listings events more (suc place) none)
+no_more_listings (Opened path number begun ∷ events) more place none = no_more_listings events more (suc place) none
+no_more_listings (NotThere path ∷ events) more place none = no_more_listings events more (suc place) none
+no_more_listings (OpeningFailed path ∷ events) more place none = no_more_listings events more (suc place) none
+no_more_listings (Closed opening looks faults ∷ events) more place none = no_more_listings events more (suc place) none
 
 pub as_many_listings : (listings : List Listing) (place : ℕ) → length (listings_from place (map event_of listings)) ≡ length listings
 as_many_listings [] place = refl

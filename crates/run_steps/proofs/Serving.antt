@@ -1,21 +1,28 @@
 -- Beginning all listed files begins or skips each for its reason; and what is known of it stays known as the run goes on, since the folder's
 -- list grows, and of notes only those are collected that lanes and workers post.
-use Rattle.std.proofs.Common.{◌≡◌, ◌≢◌, ◌⊎◌, inl, inr, ⊎_elim, ℕ, zero, suc, ◌+◌, ◌<◌, Bool, drop, if◌then◌else◌, List, [], ◌∷◌, ◌++◌, Contains, length, append_assoc, append-nil, Option, Some, None, IfSome, Ok, refl, sym, ap, subst, ◌∙◌, arith, IsSome}
+use Rattle.std.proofs.Common.{◌≡◌, ◌≢◌, ◌⊎◌, inl, inr, ⊎_elim, ℕ, zero, suc, ◌+◌, ◌<◌, Bool, drop, if◌then◌else◌, List, [], ◌∷◌, ◌++◌, Contains, length, append_assoc, append-nil, Option, Some, None, IfSome, Result, Ok, refl, sym, ap, subst, ◌∙◌, arith}
 use Rattle.std.proofs.lemmas.List.Elements.{Contains-append_cases, Contains-append_left, Contains-append_right}
 use Rattle.std.proofs.lemmas.Bool.{eq-eqb}
 use Rattle.std.proofs.lemmas.List.{drop-append-le, length-append}
 use Rattle.std.proofs.lemmas.Option.{slice_get-get_or, slice_get_within}
 use Rattle.std.specs.Prelude.{slice_get}
 use Rattle.std.specs.List.{AllByRecursion}
+use Rattle.event_tree.specs.declared.input_rule.IdentityRule.{IdentityRule}
+use Rattle.event_tree.specs.declared.input_rule.IdentityRule.TheVariants.{Fingerprint, Native, Path}
 use Rattle.event_tree.specs.declared.input_rule.InputRule.{InputRule}
 use Rattle.event_tree.specs.declared.settings.Settings.{Settings}
-use Rattle.file_identity.specs.Key.{named_key}
+use Rattle.file_identity.specs.Answers.{IsAsked, IsFingerprint, IsGiven, IsWithin, with_numbers}
+use Rattle.file_identity.specs.Asking.{IsAsking, given_key}
+use Rattle.file_identity.specs.declared.identity.Identity.{Identity}
+use Rattle.file_identity.specs.declared.identity.Identity.TheVariants.{Key, TooSmall}
+use Rattle.file_identity.specs.declared.identity_error.IdentityError.{IdentityError}
 use Rattle.keeper.specs.Collecting.{Collects}
 use Rattle.keeper.specs.Keeping.{Keeping, held_in}
 use Rattle.kept_rows.specs.Trace.{Closing, closing_by, closing_in, first_of_two}
 use Rattle.outside.specs.Files.{File, sight_of}
 use Rattle.outside.specs.Folders.{Closed, Event, FolderHistory, FindsNone, NotThere, Opened, OpensFile, TellsOpening, with_event}
 use Rattle.outside.specs.Tails.{TailHistory}
+use Rattle.outside.specs.declared.history.Look.{Look}
 use Rattle.outside.specs.declared.history.Shown.{Shown}
 use Rattle.outside.specs.declared.history.Sight.{Sight}
 use Rattle.prospect.specs.declared.listed.Listed.{Listed}
@@ -32,40 +39,58 @@ use Rattle.wire_base.specs.declared.note.Note.TheVariants.{Announce, Begin, Forg
 use Rattle.wire_base.specs.declared.numbers.Moment.{Moment}
 use Rattle.wire_base.specs.declared.row.Row.{Row}
 use Rattle.run_steps.specs.BeginFor.{begin_for, start_among}
-use Rattle.run_steps.specs.Beginning.{Beginning, BeginsOne, ClosesFile, HasOtherKey, ListedFile}
+use Rattle.run_steps.specs.Beginning.{AsksKey, Beginning, BeginsOne, ClosesFile, HasOtherKey, IsTooSmall, ListedFile}
 use Rattle.run_steps.specs.BeginsAll.{BeginsAll, BeginsFrom, file_at}
 use Rattle.run_steps.specs.Begun.{AreAllSeen, noted_begin}
 use Rattle.run_steps.specs.Releasing.{closing_of, with_events}
 use Rattle.run_steps.specs.RunOf.{FolderTold}
-use Rattle.run_steps.specs.Served.{AreServed, HasBegin, IsEachServed, WasMoved, WasNotThere}
+use Rattle.run_steps.specs.Served.{AreServed, HasBegin, IsEachServed, IsServedAs, WasAskedAsOpened, WasNotThere}
 use Rattle.run_steps.specs.Telling.{TellMoments, TellsMoment, moment_noted}
 use Rattle.run_steps.proofs.NamedInputs.{each_of}
 use Rattle.run_steps.proofs.Members.{member_is}
 use Rattle.run_steps.proofs.RunNotes.{IsNoBegin}
-use Rattle.event_tree.specs.declared.input_rule.IdentityRule.TheVariants.{Native}
 
 -- ---- one file
 
--- among these events behind what the folder told, the file of the path was opened, had another key than it was listed with, and was
--- closed unread at once
-pub record MovedIn (settings : Settings) (before : FolderHistory) (events : List Event) (one : Listed) : Type 0 where
+-- a place before the end of a fingerprint is of one
+within_bytes : (identity : IdentityRule) (place : ℕ) → IsWithin identity place → IsFingerprint identity
+within_bytes (Fingerprint offset count) place within = tt
+within_bytes Native place within = absurd within
+within_bytes Path place within = absurd within
+
+-- among these events behind what the folder told, the file of the path was opened, was asked for its key, which gave this one or none,
+-- and was closed at once
+pub record AskedIn (settings : Settings) (before : FolderHistory) (events : List Event) (one : Listed) (key : Option (List ℕ)) : Type 0 where
   pub front : List Event
   pub back : List Event
   pub opening : ℕ
   pub opening_is : opening ≡ length before.events + length front
   pub number : ℕ
   pub begun : Sight
+  pub looks : List Look
   pub faults : ℕ
-  pub are : events ≡ front ++ (Opened one.path number begun ∷ (Closed opening [] faults ∷ back))
+  pub are : events ≡ front ++ (Opened one.path number begun ∷ (Closed opening looks faults ∷ back))
   pub file : File
   pub file_is : slice_get before.files number ≡ Some file
   pub rule : InputRule
   pub rule_is : slice_get settings.inputs one.input ≡ Some rule
-  pub numbered : rule.file_identity ≡ Native → IsSome file.numbers
-  pub other : named_key rule.id rule.file_identity one.path file.numbers ≢ one.key
+  pub asking : IsAsking rule.file_identity looks
+  pub gave : given_key rule.id rule.file_identity one.path file looks ≡ key
+
+-- it had another key than it was listed with
+pub record MovedIn (settings : Settings) (before : FolderHistory) (events : List Event) (one : Listed) : Type 0 where
+  pub other : List ℕ
+  pub asked : AskedIn settings before events one (Some other)
+  pub other_key : one.key ≢ Some other
+
+-- not all bytes of its fingerprint were there
+pub record TooSmallIn (settings : Settings) (before : FolderHistory) (events : List Event) (one : Listed) : Type 0 where
+  pub asked : AskedIn settings before events one None
+  pub by_bytes : IsFingerprint asked.rule.file_identity
 
 abbrev pub IsServedIn : Settings → FolderHistory → List Event → List Note → ℕ → Listed → Type 0
-IsServedIn settings before events more slot one = HasBegin more slot ⊎ (Contains events (NotThere one.path) ⊎ MovedIn settings before events one)
+IsServedIn settings before events more slot one =
+    HasBegin more slot ⊎ (Contains events (NotThere one.path) ⊎ (MovedIn settings before events one ⊎ TooSmallIn settings before events one))
 
 abbrev pub with_more : FolderHistory → List Event → FolderHistory
 with_more before events = record before { events = before.events ++ events }
@@ -84,55 +109,63 @@ begun_left first second slot has = record { begin = has.begin; slot_is = has.slo
 begun_right : (first second : List Note) (slot : ℕ) → HasBegin second slot → HasBegin (first ++ second) slot
 begun_right first second slot has = record { begin = has.begin; slot_is = has.slot_is; noted = Contains-append_right first second (noted_begin has.begin) has.noted }
 
-moved_left : (settings : Settings) (before : FolderHistory) (first second : List Event) (one : Listed) → MovedIn settings before first one → MovedIn settings before (first ++ second) one
-moved_left settings before first second one moved = record {
-  front = moved.front;
-  back = moved.back ++ second;
-  opening = moved.opening;
-  opening_is = moved.opening_is;
-  number = moved.number;
-  begun = moved.begun;
-  faults = moved.faults;
-  are = ap (λ (l : List Event). l ++ second) moved.are ∙ append_assoc moved.front (Opened one.path moved.number moved.begun ∷ (Closed moved.opening [] moved.faults ∷ moved.back)) second;
-  file = moved.file;
-  file_is = moved.file_is;
-  rule = moved.rule;
-  rule_is = moved.rule_is;
-  numbered = moved.numbered;
-  other = moved.other;
-}
+module _ (settings : Settings) (before : FolderHistory) (first second : List Event) (one : Listed) where
+  asked_left : (key : Option (List ℕ)) → AskedIn settings before first one key → AskedIn settings before (first ++ second) one key
+  asked_left key asked = record {
+    front = asked.front;
+    back = asked.back ++ second;
+    opening = asked.opening;
+    opening_is = asked.opening_is;
+    number = asked.number;
+    begun = asked.begun;
+    looks = asked.looks;
+    faults = asked.faults;
+    are = ap (λ (l : List Event). l ++ second) asked.are
+        ∙ append_assoc asked.front (Opened one.path asked.number asked.begun ∷ (Closed asked.opening asked.looks asked.faults ∷ asked.back)) second;
+    file = asked.file;
+    file_is = asked.file_is;
+    rule = asked.rule;
+    rule_is = asked.rule_is;
+    asking = asked.asking;
+    gave = asked.gave;
+  }
 
-moved_right : (settings : Settings) (before : FolderHistory) (first second : List Event) (one : Listed) → MovedIn settings (with_more before first) second one → MovedIn settings before (first ++ second) one
-moved_right settings before first second one moved = record {
-  front = first ++ moved.front;
-  back = moved.back;
-  opening = moved.opening;
-  opening_is =
-      let is = moved.opening_is in
-      omega (arith, is, length-append before.events first, length-append first moved.front);
-  number = moved.number;
-  begun = moved.begun;
-  faults = moved.faults;
-  are = ap (λ (l : List Event). first ++ l) moved.are ∙ sym (append_assoc first moved.front (Opened one.path moved.number moved.begun ∷ (Closed moved.opening [] moved.faults ∷ moved.back)));
-  file = moved.file;
-  file_is = moved.file_is;
-  rule = moved.rule;
-  rule_is = moved.rule_is;
-  numbered = moved.numbered;
-  other = moved.other;
-}
+  asked_right : (key : Option (List ℕ)) → AskedIn settings (with_more before first) second one key → AskedIn settings before (first ++ second) one key
+  asked_right key asked = record {
+    front = first ++ asked.front;
+    back = asked.back;
+    opening = asked.opening;
+    opening_is =
+        let is = asked.opening_is in
+        omega (arith, is, length-append before.events first, length-append first asked.front);
+    number = asked.number;
+    begun = asked.begun;
+    looks = asked.looks;
+    faults = asked.faults;
+    are = ap (λ (l : List Event). first ++ l) asked.are
+        ∙ sym (append_assoc first asked.front (Opened one.path asked.number asked.begun ∷ (Closed asked.opening asked.looks asked.faults ∷ asked.back)));
+    file = asked.file;
+    file_is = asked.file_is;
+    rule = asked.rule;
+    rule_is = asked.rule_is;
+    asking = asked.asking;
+    gave = asked.gave;
+  }
 
-served_left : (settings : Settings) (before : FolderHistory) (first second : List Event) (notes_first notes_second : List Note) (slot : ℕ) (one : Listed) → IsServedIn settings before first notes_first slot one →
-    IsServedIn settings before (first ++ second) (notes_first ++ notes_second) slot one
-served_left settings before first second notes_first notes_second slot one (inl has) = inl (begun_left notes_first notes_second slot has)
-served_left settings before first second notes_first notes_second slot one (inr (inl gone)) = inr (inl (Contains-append_left first second (NotThere one.path) gone))
-served_left settings before first second notes_first notes_second slot one (inr (inr moved)) = inr (inr (moved_left settings before first second one moved))
+  module _ (notes_first notes_second : List Note) (slot : ℕ) where
+    served_left : IsServedIn settings before first notes_first slot one → IsServedIn settings before (first ++ second) (notes_first ++ notes_second) slot one
+    unfolding asked_left
+    served_left (inl has) = inl (begun_left notes_first notes_second slot has)
+    served_left (inr (inl gone)) = inr (inl (Contains-append_left first second (NotThere one.path) gone))
+    served_left (inr (inr (inl moved))) = inr (inr (inl (record { other = moved.other; asked = asked_left (Some moved.other) moved.asked; other_key = moved.other_key })))
+    served_left (inr (inr (inr small))) = inr (inr (inr (record { asked = asked_left None small.asked; by_bytes = small.by_bytes })))
 
-served_right : (settings : Settings) (before : FolderHistory) (first second : List Event) (notes_first notes_second : List Note) (slot : ℕ) (one : Listed) →
-    IsServedIn settings (with_more before first) second notes_second slot one → IsServedIn settings before (first ++ second) (notes_first ++ notes_second) slot one
-served_right settings before first second notes_first notes_second slot one (inl has) = inl (begun_right notes_first notes_second slot has)
-served_right settings before first second notes_first notes_second slot one (inr (inl gone)) = inr (inl (Contains-append_right first second (NotThere one.path) gone))
-served_right settings before first second notes_first notes_second slot one (inr (inr moved)) = inr (inr (moved_right settings before first second one moved))
+    served_right : IsServedIn settings (with_more before first) second notes_second slot one → IsServedIn settings before (first ++ second) (notes_first ++ notes_second) slot one
+    unfolding asked_right
+    served_right (inl has) = inl (begun_right notes_first notes_second slot has)
+    served_right (inr (inl gone)) = inr (inl (Contains-append_right first second (NotThere one.path) gone))
+    served_right (inr (inr (inl moved))) = inr (inr (inl (record { other = moved.other; asked = asked_right (Some moved.other) moved.asked; other_key = moved.other_key })))
+    served_right (inr (inr (inr small))) = inr (inr (inr (record { asked = asked_right None small.asked; by_bytes = small.by_bytes })))
 
 module _ {T : Type 0} (tails : TailWords T) where
   pub opened_file : (path : List ℕ) (tail : T) (before : FolderHistory) (told after : Option FolderHistory) (states : List Sight) (present : List Shown) → told ≡ Some before →
@@ -148,22 +181,78 @@ module _ {T : Type 0} (tails : TailWords T) where
       finds.kept
 
 module _ {T W L : Type 0} (tails : TailWords T) (settings : Settings) (rows : List Row) (now : Moment) where
-  -- what the folder tells of a file that was opened and closed again
-  pub closed_told : (file : ListedFile) (Why : T → Type 0) (before : FolderHistory) (old new : Beginning T W L) (closed : ClosesFile tails file Why old new)
-      (opens : OpensFile tails.told tails.numbers before old.folder.states old.folder.present file.listed.path closed.tail closed.mid.folder.told) →
-      new.folder.told ≡ Some (with_more before (Opened file.listed.path opens.one.file (sight_of opens.one) ∷ (Closed (length before.events) [] (tails.faults closed.tail) ∷ [])))
-  closed_told file Why before old new closed opens =
-      let opening = Opened file.listed.path opens.one.file (sight_of opens.one) in
-      let closing = Closed (length before.events) [] (tails.faults closed.tail) in
-      closed.closed.closes.told
-      ∙ ap (λ (o : Option TailHistory). with_events (closing_of o (tails.faults closed.tail)) closed.mid.folder.told) opens.begins
-      ∙ ap (with_events (closing ∷ [])) opens.kept
-      ∙ ap (λ (l : List Event). Some (record before { events = l })) (append_assoc before.events (opening ∷ []) (closing ∷ []))
+  -- what the folder tells of a file that was opened, asked for its key and closed again
+  module _ (file : ListedFile) (Why : T → T → Type 0) (before : FolderHistory) (old new : Beginning T W L) (closed : ClosesFile tails settings file Why old new)
+      (result : Result Identity IdentityError) (asks : AsksKey tails settings file closed.fresh closed.closed.asked result) where
+    abbrev faults : ℕ
+    faults = tails.faults closed.closed.asked
+
+    pub record ToldClosed : Type 0 where
+      pub opens : OpensFile tails.told tails.numbers before old.folder.states old.folder.present file.listed.path closed.fresh closed.mid.folder.told
+      pub looks : List Look
+      pub told : new.folder.told ≡ Some (with_more before (Opened file.listed.path opens.one.file (sight_of opens.one) ∷ (Closed (length before.events) looks faults ∷ [])))
+      pub gave : IsGiven asks.rule.id asks.rule.file_identity file.listed.path opens.file looks result
+
+    pub closed_told : old.folder.told ≡ Some before → ToldClosed
+    closed_told is = told_by opens_it
+      where
+        opens_it : OpensFile tails.told tails.numbers before old.folder.states old.folder.present file.listed.path closed.fresh closed.mid.folder.told
+        opens_it = opened_file tails file.listed.path closed.fresh before old.folder.told closed.mid.folder.told old.folder.states old.folder.present is closed.opened.opens.told
+
+        told_by : OpensFile tails.told tails.numbers before old.folder.states old.folder.present file.listed.path closed.fresh closed.mid.folder.told → ToldClosed
+        told_by opens =
+            let asked : IsAsked asks.rule.id asks.rule.file_identity file.listed.path (tails.numbers closed.fresh)
+            (record { opening = length before.events; number = opens.one.file; file = opens.file; begun = sight_of opens.one; looks = [] }) result (tails.told closed.closed.asked) =
+            subst (λ (o : Option TailHistory). IfSome o (λ telling. IsAsked asks.rule.id asks.rule.file_identity file.listed.path (tails.numbers closed.fresh) telling result (tails.told closed.closed.asked)))
+            opens.begins asks.told in
+            record {
+              opens = opens;
+              looks = asked.looks;
+              told = closed.closed.closed.closes.told
+                  ∙ ap (λ (o : Option TailHistory). with_events (closing_of o faults) closed.mid.folder.told) asked.added.kept
+                  ∙ ap (with_events (Closed (length before.events) asked.looks faults ∷ [])) opens.kept
+                  ∙ ap (λ (l : List Event). Some (record before { events = l }))
+                  (append_assoc before.events (Opened file.listed.path opens.one.file (sight_of opens.one) ∷ []) (Closed (length before.events) asked.looks faults ∷ []));
+              gave = subst (λ (n : Option (ℕ × ℕ)). IsGiven asks.rule.id asks.rule.file_identity file.listed.path (with_numbers n opens.file) asked.looks result) opens.numbers asked.gave;
+            }
+
+    abbrev events_of : ToldClosed → List Event
+    events_of its = Opened file.listed.path its.opens.one.file (sight_of its.opens.one) ∷ (Closed (length before.events) its.looks faults ∷ [])
+
+    asked_at_once : (its : ToldClosed) (key : Option (List ℕ)) → IsAsking asks.rule.file_identity its.looks →
+        given_key asks.rule.id asks.rule.file_identity file.listed.path its.opens.file its.looks ≡ key → AskedIn settings before (events_of its) file.listed key
+    asked_at_once its key asking gave = record {
+      front = [];
+      back = [];
+      opening = length before.events;
+      opening_is = omega arith;
+      number = its.opens.one.file;
+      begun = sight_of its.opens.one;
+      looks = its.looks;
+      faults = faults;
+      are = refl;
+      file = its.opens.file;
+      file_is = its.opens.file_is;
+      rule = asks.rule;
+      rule_is = asks.rule_is;
+      asking = asking;
+      gave = gave;
+    }
+
+    closed_serves : (slot : ℕ) (its : ToldClosed) → IsServedIn settings before (events_of its) [] slot file.listed → ServesOne settings slot file.listed before old new
+    closed_serves slot its served = record {
+      events = events_of its;
+      told = its.told;
+      more = [];
+      noted = ap (λ (k : Keeping). k.tracked.notes) (closed.closed.closed.keeper ∙ closed.opened.keeper) ∙ sym (append-nil old.keeper.tracked.notes);
+      served = served;
+    }
 
   serves_one : (slot : ℕ) (one : Listed) (skipped : Option Why) (before : FolderHistory) (old new : Beginning T W L) → old.folder.told ≡ Some before →
       BeginsOne tails settings (file_at rows slot one now) (Ok skipped) old new → ServesOne settings slot one before old new
+  unfolding asked_at_once
   serves_one slot one None before old new is begins =
-      let opens = opened_file tails one.path begins.tail before old.folder.told begins.mid.folder.told old.folder.states old.folder.present is begins.opened.opens.told in
+      let opens = opened_file tails one.path begins.fresh before old.folder.told begins.mid.folder.told old.folder.states old.folder.present is begins.opened.opens.told in
       let tells = begins.follows.taken.tells in
       record {
         events = Opened one.path opens.one.file (sight_of opens.one) ∷ [];
@@ -184,33 +273,26 @@ module _ {T W L : Type 0} (tails : TailWords T) (settings : Settings) (rows : Li
     served = inr (inl (first_there (NotThere one.path) []));
   }
   serves_one slot one (Some Moved) before old new is closed =
-      let opens = opened_file tails one.path closed.tail before old.folder.told closed.mid.folder.told old.folder.states old.folder.present is closed.opened.opens.told in
-      let faults = tails.faults closed.tail in
-      record {
-        events = Opened one.path opens.one.file (sight_of opens.one) ∷ (Closed (length before.events) [] faults ∷ []);
-        told = closed_told (file_at rows slot one now) (HasOtherKey tails settings (file_at rows slot one now)) before old new closed opens;
-        more = [];
-        noted = ap (λ (k : Keeping). k.tracked.notes) (closed.closed.keeper ∙ closed.opened.keeper) ∙ sym (append-nil old.keeper.tracked.notes);
-        served = inr (inr (record {
-          front = [];
-          back = [];
-          opening = length before.events;
-          opening_is = omega arith;
-          number = opens.one.file;
-          begun = sight_of opens.one;
-          faults = faults;
-          are = refl;
-          file = opens.file;
-          file_is = opens.file_is;
-          rule = closed.why.rule;
-          rule_is = closed.why.rule_is;
-          numbered = λ native. subst (λ (numbers : Option (ℕ × ℕ)). IsSome numbers) opens.numbers (closed.why.numbered native);
-          other = λ same. closed.why.other (ap (named_key closed.why.rule.id closed.why.rule.file_identity one.path) opens.numbers ∙ same);
-        }));
-      }
+      let file = file_at rows slot one now in
+      let asks = closed.closed.why.asks in
+      let its = closed_told file (HasOtherKey tails settings file) before old new closed (Ok (Key closed.closed.why.key)) asks is in
+      closed_serves file (HasOtherKey tails settings file) before old new closed (Ok (Key closed.closed.why.key)) asks slot its
+      (inr (inr (inl (record {
+        other = closed.closed.why.key;
+        asked = asked_at_once file (HasOtherKey tails settings file) before old new closed (Ok (Key closed.closed.why.key)) asks its (Some closed.closed.why.key) its.gave.0 its.gave.1;
+        other_key = closed.closed.why.other;
+      }))))
+  serves_one slot one (Some Small) before old new is closed =
+      let file = file_at rows slot one now in
+      let asks = closed.closed.why.asks in
+      let its = closed_told file (IsTooSmall tails settings file) before old new closed (Ok (TooSmall closed.closed.why.place)) asks is in
+      closed_serves file (IsTooSmall tails settings file) before old new closed (Ok (TooSmall closed.closed.why.place)) asks slot its
+      (inr (inr (inr (record {
+        asked = asked_at_once file (IsTooSmall tails settings file) before old new closed (Ok (TooSmall closed.closed.why.place)) asks its None its.gave.0 its.gave.1;
+        by_bytes = within_bytes asks.rule.file_identity closed.closed.why.place asks.answer;
+      }))))
   serves_one slot one (Some Doubled) before old new is begins = absurd begins
   serves_one slot one (Some Old) before old new is begins = absurd begins
-  serves_one slot one (Some Small) before old new is begins = absurd begins
 
   -- ---- all of them
 
@@ -249,11 +331,11 @@ module _ {T W L : Type 0} (tails : TailWords T) (settings : Settings) (rows : Li
               let same : one ≡ other = cc in
               let here : slot ≡ slot + 0 = omega arith in
               subst (λ (n : ℕ). IsServedIn settings before (first.events ++ rest.events) (first.more ++ rest.more) n other) here
-              (served_left settings before first.events rest.events first.more rest.more slot other (subst (IsServedIn settings before first.events first.more slot) same first.served))
+              (served_left settings before first.events rest.events other first.more rest.more slot (subst (IsServedIn settings before first.events first.more slot) same first.served))
           each (suc k) other at =
               let here : suc slot + k ≡ slot + suc k = omega arith in
               subst (λ (n : ℕ). IsServedIn settings before (first.events ++ rest.events) (first.more ++ rest.more) n other) here
-              (served_right settings before first.events rest.events first.more rest.more (suc slot + k) other (rest.each k other at))
+              (served_right settings before first.events rest.events other first.more rest.more (suc slot + k) (rest.each k other at))
 
 -- ---- of the keeper's notes, and behind the scan
 
@@ -277,9 +359,9 @@ behind_it [] x back place is = ap (λ (n : ℕ). drop (suc n) (x ∷ back)) is
 behind_it (y ∷ front) x back zero is = absurd (omega (arith, is))
 behind_it (y ∷ front) x back (suc place) is = behind_it front x back place (omega (arith, is))
 
-closes_first : (opening faults : ℕ) (back : List Event) → closing_in opening (Closed opening [] faults ∷ back) ≡ Some (record { looks = []; faults = faults })
-closes_first opening faults back =
-    ap (λ (b : Bool). first_of_two (if b then Some (record { looks = []; faults = faults }) else None) (closing_in opening back)) (eq-eqb opening opening refl)
+closes_first : (opening : ℕ) (looks : List Look) (faults : ℕ) (back : List Event) → closing_in opening (Closed opening looks faults ∷ back) ≡ Some (record { looks = looks; faults = faults })
+closes_first opening looks faults back =
+    ap (λ (b : Bool). first_of_two (if b then Some (record { looks = looks; faults = faults }) else None) (closing_in opening back)) (eq-eqb opening opening refl)
 
 -- notes that moments of files add begin no file, and take none away
 moments_grow : (rows : List Row) (slot : ℕ) (listed : List Listed) (old new : Keeping) → TellMoments rows slot listed old new → (more : List Note) × (new.tracked.notes ≡ old.tracked.notes ++ more)
@@ -335,26 +417,27 @@ module _ {T W L : Type 0} (tails : TailWords T) (settings : Settings) (rows : Li
             (slice_get-get_or of.events there.0 (NotThere path) there.1 ∙ ap (λ (e : Event). Some e) there.2) refl;
       }
 
-      moved : (one : Listed) → MovedIn settings folder.scanned of.events one → WasMoved settings (folder_begun folder of.events) one
-      moved one is = record {
+      asked_so : (one : Listed) (key : Option (List ℕ)) → AskedIn settings folder.scanned of.events one key → WasAskedAsOpened settings (folder_begun folder of.events) one key
+      asked_so one key is = record {
         opening = is.opening;
         since = let its = is.opening_is in omega (arith, its);
         number = is.number;
         begun = is.begun;
         is = subst (λ (l : List Event). slice_get l is.opening ≡ Some (Opened one.path is.number is.begun)) (sym all_events)
-            (got_at_end all_front (Opened one.path is.number is.begun) (Closed is.opening [] is.faults ∷ is.back) is.opening long);
+            (got_at_end all_front (Opened one.path is.number is.begun) (Closed is.opening is.looks is.faults ∷ is.back) is.opening long);
+        looks = is.looks;
         closed = record {
           faults = is.faults;
-          closing = subst (λ (l : List Event). closing_in is.opening (drop (suc is.opening) l) ≡ Some (record { looks = []; faults = is.faults })) (sym all_events)
-              (ap (closing_in is.opening) (behind_it all_front (Opened one.path is.number is.begun) (Closed is.opening [] is.faults ∷ is.back) is.opening long)
-              ∙ closes_first is.opening is.faults is.back);
+          closing = subst (λ (l : List Event). closing_in is.opening (drop (suc is.opening) l) ≡ Some (record { looks = is.looks; faults = is.faults })) (sym all_events)
+              (ap (closing_in is.opening) (behind_it all_front (Opened one.path is.number is.begun) (Closed is.opening is.looks is.faults ∷ is.back) is.opening long)
+              ∙ closes_first is.opening is.looks is.faults is.back);
         };
         file = is.file;
         file_is = is.file_is;
         rule = is.rule;
         rule_is = is.rule_is;
-        numbered = is.numbered;
-        other = is.other;
+        asking = is.asking;
+        gave = is.gave;
       }
         where
           all_front : List Event
@@ -363,15 +446,15 @@ module _ {T W L : Type 0} (tails : TailWords T) (settings : Settings) (rows : Li
           long : is.opening ≡ length all_front
           long = let its = is.opening_is in omega (arith, its, length-append folder.scanned.events is.front)
 
-          all_events : folder.scanned.events ++ of.events ≡ all_front ++ (Opened one.path is.number is.begun ∷ (Closed is.opening [] is.faults ∷ is.back))
+          all_events : folder.scanned.events ++ of.events ≡ all_front ++ (Opened one.path is.number is.begun ∷ (Closed is.opening is.looks is.faults ∷ is.back))
           all_events = ap (λ (l : List Event). folder.scanned.events ++ l) is.are
-              ∙ sym (append_assoc folder.scanned.events is.front (Opened one.path is.number is.begun ∷ (Closed is.opening [] is.faults ∷ is.back)))
+              ∙ sym (append_assoc folder.scanned.events is.front (Opened one.path is.number is.begun ∷ (Closed is.opening is.looks is.faults ∷ is.back)))
 
-      of_each : (slot : ℕ) (one : Listed) → IsServedIn settings folder.scanned of.events of.more (0 + slot) one →
-          HasBegin new.keeper.tracked.notes slot ⊎ (WasNotThere (folder_begun folder of.events) one.path ⊎ WasMoved settings (folder_begun folder of.events) one)
+      of_each : (slot : ℕ) (one : Listed) → IsServedIn settings folder.scanned of.events of.more (0 + slot) one → IsServedAs settings new.keeper.tracked.notes (folder_begun folder of.events) slot one
       of_each slot one (inl has) = inl (begun_in_all slot (subst (HasBegin of.more) (no_less slot) has))
       of_each slot one (inr (inl gone)) = inr (inl (not_there one.path gone))
-      of_each slot one (inr (inr is)) = inr (inr (moved one is))
+      of_each slot one (inr (inr (inl moved))) = inr (inr (inl (record { other = moved.other; asked = asked_so one (Some moved.other) moved.asked; other_key = moved.other_key })))
+      of_each slot one (inr (inr (inr small))) = inr (inr (inr (record { asked = asked_so one None small.asked; by_bytes = small.by_bytes })))
 
 -- ---- as the run goes on
 
@@ -421,20 +504,21 @@ module _ (settings : Settings) (rows : List Row) (listed : List Listed) (folder 
   still_not_there : (path : List ℕ) → WasNotThere folder path → WasNotThere (folder_on folder events) path
   still_not_there path gone = record { opening = gone.opening; since = gone.since; is = got_still folder.ended.events events gone.opening (NotThere path) gone.is }
 
-  still_moved : (one : Listed) → WasMoved settings folder one → WasMoved settings (folder_on folder events) one
-  still_moved one moved = record {
-    opening = moved.opening;
-    since = moved.since;
-    number = moved.number;
-    begun = moved.begun;
-    is = got_still folder.ended.events events moved.opening (Opened one.path moved.number moved.begun) moved.is;
-    closed = record { faults = moved.closed.faults; closing = closed_still folder.ended.events events moved.opening (Opened one.path moved.number moved.begun) _ moved.is moved.closed.closing };
-    file = moved.file;
-    file_is = moved.file_is;
-    rule = moved.rule;
-    rule_is = moved.rule_is;
-    numbered = moved.numbered;
-    other = moved.other;
+  still_asked : (one : Listed) (key : Option (List ℕ)) → WasAskedAsOpened settings folder one key → WasAskedAsOpened settings (folder_on folder events) one key
+  still_asked one key asked = record {
+    opening = asked.opening;
+    since = asked.since;
+    number = asked.number;
+    begun = asked.begun;
+    is = got_still folder.ended.events events asked.opening (Opened one.path asked.number asked.begun) asked.is;
+    looks = asked.looks;
+    closed = record { faults = asked.closed.faults; closing = closed_still folder.ended.events events asked.opening (Opened one.path asked.number asked.begun) _ asked.is asked.closed.closing };
+    file = asked.file;
+    file_is = asked.file_is;
+    rule = asked.rule;
+    rule_is = asked.rule_is;
+    asking = asked.asking;
+    gave = asked.gave;
   }
 
   still_noted : (note : Note) → Contains old.tracked.notes note → Contains new.tracked.notes note
@@ -446,11 +530,12 @@ module _ (settings : Settings) (rows : List Row) (listed : List Listed) (folder 
       (λ later. absurd (posted_begins_none (noted_begin begin) (member_is IsPostable collects.more (noted_begin begin) were_posted later)))
       (Contains-append_cases old.tracked.notes collects.more (noted_begin begin) (subst (λ (l : List Note). Contains l (noted_begin begin)) collects.noted there))
 
-  still_so : (slot : ℕ) (one : Listed) → HasBegin old.tracked.notes slot ⊎ (WasNotThere folder one.path ⊎ WasMoved settings folder one) →
-      HasBegin new.tracked.notes slot ⊎ (WasNotThere (folder_on folder events) one.path ⊎ WasMoved settings (folder_on folder events) one)
+  still_so : (slot : ℕ) (one : Listed) → IsServedAs settings old.tracked.notes folder slot one → IsServedAs settings new.tracked.notes (folder_on folder events) slot one
+  unfolding still_asked
   still_so slot one (inl has) = inl (still_begun slot has)
   still_so slot one (inr (inl gone)) = inr (inl (still_not_there one.path gone))
-  still_so slot one (inr (inr moved)) = inr (inr (still_moved one moved))
+  still_so slot one (inr (inr (inl moved))) = inr (inr (inl (record { other = moved.other; asked = still_asked one (Some moved.other) moved.asked; other_key = moved.other_key })))
+  still_so slot one (inr (inr (inr small))) = inr (inr (inr (record { asked = still_asked one None small.asked; by_bytes = small.by_bytes })))
 
   pub still_served : AreServed settings rows listed old.tracked.notes folder → AreServed settings rows listed new.tracked.notes (folder_on folder events)
   still_served served = record {

@@ -39,11 +39,11 @@ one_harvester_more number harvester old new admits =
     )
 
 module _ {T W L : Type 0} (tails : TailWords T) (settings : Settings) (file : ListedFile) where
-  as_many_closed : (Why : T → Type 0) (old new : Beginning T W L) → ClosesFile tails file Why old new → length (harvesters_of (lanings new.crew.lanes.items)) ≡ length (harvesters_of (lanings old.crew.lanes.items)) + 0
+  as_many_closed : (Why : T → T → Type 0) (old new : Beginning T W L) → ClosesFile tails settings file Why old new → length (harvesters_of (lanings new.crew.lanes.items)) ≡ length (harvesters_of (lanings old.crew.lanes.items)) + 0
   as_many_closed Why old new closed = omega (
     arith,
     ap (λ (c : Crew T W L). length (harvesters_of (lanings c.lanes.items))) closed.opened.crew,
-    ap (λ (c : Crew T W L). length (harvesters_of (lanings c.lanes.items))) closed.closed.crew,
+    ap (λ (c : Crew T W L). length (harvesters_of (lanings c.lanes.items))) closed.closed.closed.crew,
   )
 
   pub as_many_harvesters : (result : Result (Option Why) Met) (old new : Beginning T W L) → BeginsOne tails settings file result old new
@@ -58,8 +58,9 @@ module _ {T W L : Type 0} (tails : TailWords T) (settings : Settings) (file : Li
   as_many_harvesters (Ok (Some Moved)) old new begins = as_many_closed _ old new begins
   as_many_harvesters (Ok (Some Doubled)) old new begins = absurd begins
   as_many_harvesters (Ok (Some Old)) old new begins = absurd begins
-  as_many_harvesters (Ok (Some Small)) old new begins = absurd begins
-  as_many_harvesters (Err FolderFault) old new begins = omega (arith, ap (λ (c : Crew T W L). length (harvesters_of (lanings c.lanes.items))) begins.crew)
+  as_many_harvesters (Ok (Some Small)) old new begins = as_many_closed _ old new begins
+  as_many_harvesters (Err FolderFault) old new (inr begins) = as_many_closed _ old new begins
+  as_many_harvesters (Err FolderFault) old new (inl begins) = omega (arith, ap (λ (c : Crew T W L). length (harvesters_of (lanings c.lanes.items))) begins.crew)
   as_many_harvesters (Err NoMemory) old new (inl begins) = omega (arith, ap (λ (c : Crew T W L). length (harvesters_of (lanings c.lanes.items))) begins.crew)
   as_many_harvesters (Err (NoNative slot)) old new begins = as_many_closed _ old new begins.1
   as_many_harvesters (Err NoMemory) old new (inr (inr begins)) = as_many_closed _ old new begins
@@ -72,8 +73,8 @@ module _ {T W L : Type 0} (tails : TailWords T) (settings : Settings) (file : Li
   as_many_harvesters (Err (Epochs slot)) old new begins = absurd begins
 
   -- where the count of open tails does not stand at its end
-  none_more_open : (Why : T → Type 0) (old new : Beginning T W L) → old.folder.open_tails < 2 ^ 64 - 1 → ClosesFile tails file Why old new → new.folder.open_tails ≡ old.folder.open_tails + 0
-  none_more_open Why old new below closed = omega (arith, below, closed.opened.opens.open_tails, closed.closed.closes.open_tails)
+  none_more_open : (Why : T → T → Type 0) (old new : Beginning T W L) → old.folder.open_tails < 2 ^ 64 - 1 → ClosesFile tails settings file Why old new → new.folder.open_tails ≡ old.folder.open_tails + 0
+  none_more_open Why old new below closed = omega (arith, below, closed.opened.opens.open_tails, closed.closed.closed.closes.open_tails)
 
   pub as_many_open : (result : Result (Option Why) Met) (old new : Beginning T W L) → old.folder.open_tails < 2 ^ 64 - 1 → BeginsOne tails settings file result old new
       → new.folder.open_tails ≡ old.folder.open_tails + followed_by result
@@ -82,8 +83,9 @@ module _ {T W L : Type 0} (tails : TailWords T) (settings : Settings) (file : Li
   as_many_open (Ok (Some Moved)) old new below begins = none_more_open _ old new below begins
   as_many_open (Ok (Some Doubled)) old new below begins = absurd begins
   as_many_open (Ok (Some Old)) old new below begins = absurd begins
-  as_many_open (Ok (Some Small)) old new below begins = absurd begins
-  as_many_open (Err FolderFault) old new below begins = omega (arith, begins.opens.open_tails)
+  as_many_open (Ok (Some Small)) old new below begins = none_more_open _ old new below begins
+  as_many_open (Err FolderFault) old new below (inr begins) = none_more_open _ old new below begins
+  as_many_open (Err FolderFault) old new below (inl begins) = omega (arith, begins.opens.open_tails)
   as_many_open (Err NoMemory) old new below (inl begins) = omega (arith, begins.opens.open_tails)
   as_many_open (Err (NoNative slot)) old new below begins = none_more_open _ old new below begins.1
   as_many_open (Err NoMemory) old new below (inr (inr begins)) = none_more_open _ old new below begins

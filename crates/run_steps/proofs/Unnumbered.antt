@@ -3,6 +3,7 @@ use Rattle.std.proofs.Common.{◌≡◌, ◌⊎◌, inl, inr, ℕ, List, [], ◌
 use Rattle.std.proofs.lemmas.List.{length-append}
 use Rattle.std.specs.Prelude.{slice_get}
 use Rattle.event_tree.specs.declared.settings.Settings.{Settings}
+use Rattle.file_identity.specs.declared.identity_error.IdentityError.TheVariants.{NoNative as WithoutNumbers}
 use Rattle.outside.specs.Files.{sight_of}
 use Rattle.outside.specs.Folders.{Closed, Event, FolderHistory, Opened}
 use Rattle.prospect.specs.declared.listed.Listed.{Listed}
@@ -12,33 +13,37 @@ use Rattle.rounds.specs.declared.crew.Crew.{Crew}
 use Rattle.wire_base.specs.declared.numbers.Moment.{Moment}
 use Rattle.wire_base.specs.declared.numbers.Slot.{Slot}
 use Rattle.wire_base.specs.declared.row.Row.{Row}
-use Rattle.run_steps.specs.Beginning.{Beginning, ClosesFile, HasNoNumbers}
+use Rattle.run_steps.specs.Beginning.{Beginning, ClosesFile, FailsToTell, ListedFile}
 use Rattle.run_steps.specs.BeginsAll.{EndsInFiles, file_at}
 use Rattle.run_steps.specs.Releasing.{with_events}
 use Rattle.run_steps.specs.Unnumbered.{IsMetUnnumbered, WasOpenedUnnumbered}
 use Rattle.run_steps.specs.Worked.{IsBegunWith, IsWorkedBy, Tolls}
 use Rattle.run_steps.specs.declared.met.Met.{Met}
 use Rattle.run_steps.specs.declared.met.Met.TheVariants.{DiskFault, Done, Epochs, FolderFault, NoMemory, NoNative, Stopped, Unreachable}
-use Rattle.run_steps.proofs.Serving.{ServesFrom, closed_told, got_at_end, got_still, opened_file, serves_from, with_more}
+use Rattle.run_steps.proofs.Serving.{ServesFrom, closed_told, got_at_end, got_still, serves_from, with_more}
 
 -- ---- as files are begun
 
 module _ {T W L : Type 0} (tails : TailWords T) (settings : Settings) (rows : List Row) (now : Moment) (listed : List Listed) (old new : Beginning T W L) where
+  abbrev WithoutAny : ListedFile → T → T → Type 0
+  WithoutAny file fresh asked = FailsToTell tails settings file fresh asked WithoutNumbers
+
   was_opened : (place : ℕ) (one : Listed) (mid : Beginning T W L) (before : FolderHistory) → old.folder.told ≡ Some before → ServesFrom tails settings rows now 0 (take place listed) before old mid →
-      ClosesFile tails (file_at rows place one now) (HasNoNumbers tails settings (file_at rows place one now)) mid new → IfSome new.folder.told (λ later. WasOpenedUnnumbered one.path before later)
-  was_opened place one mid before is serves closed =
+      (closed : ClosesFile tails settings (file_at rows place one now) (WithoutAny (file_at rows place one now)) mid new) → tails.numbers closed.fresh ≡ None →
+      IfSome new.folder.told (λ later. WasOpenedUnnumbered one.path before later)
+  was_opened place one mid before is serves closed none =
       let between = with_more before serves.events in
-      let opens = opened_file tails one.path closed.tail between mid.folder.told closed.mid.folder.told mid.folder.states mid.folder.present serves.told closed.opened.opens.told in
-      let told = closed_told tails settings rows now (file_at rows place one now) (HasNoNumbers tails settings (file_at rows place one now)) between mid new closed opens in
-      subst (λ (o : Option FolderHistory). IfSome o (λ later. WasOpenedUnnumbered one.path before later)) (sym told) (record {
+      let its = closed_told tails settings rows now (file_at rows place one now) (WithoutAny (file_at rows place one now)) between mid new closed (Err WithoutNumbers) closed.closed.why.asks serves.told in
+      let opens = its.opens in
+      subst (λ (o : Option FolderHistory). IfSome o (λ later. WasOpenedUnnumbered one.path before later)) (sym its.told) (record {
         opening = length between.events;
         since = let long = length-append before.events serves.events in omega (arith, long);
         number = opens.one.file;
         begun = sight_of opens.one;
-        is = got_at_end between.events (Opened one.path opens.one.file (sight_of opens.one)) (Closed (length between.events) [] (tails.faults closed.tail) ∷ []) (length between.events) refl;
+        is = got_at_end between.events (Opened one.path opens.one.file (sight_of opens.one)) (Closed (length between.events) its.looks (tails.faults closed.closed.asked) ∷ []) (length between.events) refl;
         file = opens.file;
         file_is = opens.file_is;
-        none = sym opens.numbers ∙ closed.why.none;
+        none = sym opens.numbers ∙ none;
       })
 
   where_told : (P : FolderHistory → Type 0) (o : Option FolderHistory) → ((before : FolderHistory) → o ≡ Some before → P before) → IfSome o P
@@ -48,14 +53,15 @@ module _ {T W L : Type 0} (tails : TailWords T) (settings : Settings) (rows : Li
   files_unnumbered : (met : Met) → EndsInFiles tails settings rows now listed met old new → IsMetUnnumbered settings listed old.folder.told new.folder.told met
   files_unnumbered (NoNative slot) (inl is) =
       let closed = is.ended.1 in
+      let asks = closed.closed.why.asks in
       record {
         one = is.one;
         listed_there = ap (λ (s : Slot). slice_get listed s.0) is.ended.0 ∙ is.is;
-        rule = closed.why.rule;
-        rule_is = closed.why.rule_is;
-        by_numbers = closed.why.by_numbers;
+        rule = asks.rule;
+        rule_is = asks.rule_is;
+        by_numbers = asks.refused.0;
         opened = where_told (λ before. IfSome new.folder.told (λ later. WasOpenedUnnumbered is.one.path before later)) old.folder.told
-            (λ before told. was_opened is.count is.one is.mid before told (serves_from tails settings rows now 0 (take is.count listed) is.passed before old is.mid told is.begins) closed);
+            (λ before told. was_opened is.count is.one is.mid before told (serves_from tails settings rows now 0 (take is.count listed) is.passed before old is.mid told is.begins) closed asks.refused.1);
       }
   files_unnumbered (NoNative slot) (inr is) = absurd (let q : NoNative slot ≡ NoMemory = is.0 in cc)
   files_unnumbered Done is = tt

@@ -1,15 +1,19 @@
--- How a listed file begins (Filebeat reference, filestream input, file identity; this project's profile): it is opened, its key is
--- looked at again, the keeper is told of it, and the lane of its slot has its harvester.
-use Rattle.std.specs.Prelude.{◌≡◌, ◌≢◌, ◌⊎◌, ℕ, ◌%◌, Bool, true, false, List, [], ◌∷◌, ◌++◌, length, slice_get, Option, Some, None, Result, Ok, Err, IsSome}
-use Rattle.event_tree.specs.declared.input_rule.IdentityRule.TheVariants.{Native}
+-- How a listed file begins (Filebeat reference, filestream input, file identity; this project's profile): it is opened and asked for its
+-- key, the keeper is told of it, and the lane of its slot has its harvester.
+use Rattle.std.specs.Prelude.{◌≡◌, ◌≢◌, ◌⊎◌, ℕ, ◌%◌, ◌≤◌, false, List, [], ◌∷◌, ◌++◌, length, slice_get, Option, Some, None, Result, Ok, Err, IfErr, IfOk, IfSome, IsErrOf, IsNone}
 use Rattle.event_tree.specs.declared.input_rule.InputRule.{InputRule}
 use Rattle.event_tree.specs.declared.settings.Settings.{Settings}
-use Rattle.file_identity.specs.Key.{named_key}
+use Rattle.file_identity.specs.Answers.{IsAnswer, IsAsked, IsRefusedOpened}
+use Rattle.file_identity.specs.declared.identity.Identity.{Identity}
+use Rattle.file_identity.specs.declared.identity.Identity.TheVariants.{Key, TooSmall}
+use Rattle.file_identity.specs.declared.identity_error.IdentityError.{IdentityError}
+use Rattle.file_identity.specs.declared.identity_error.IdentityError.TheVariants.{NoNative as WithoutNumbers, ReadFault}
 use Rattle.harvester.specs.HasTold.{HasTold, begin_of, looks_so_far}
 use Rattle.harvester.specs.History.{opened}
 use Rattle.harvester.specs.declared.harvester.Harvester.{Harvester}
 use Rattle.keeper.specs.Keeping.{Keeping}
 use Rattle.lanes.specs.Laning.{Laning}
+use Rattle.outside.specs.Counts.{Rose}
 use Rattle.outside.specs.declared.failed.FolderError.{FolderError}
 use Rattle.outside.specs.declared.failed.FolderError.TheVariants.{Failed, NoMemory as WithoutMemory}
 use Rattle.prospect.specs.declared.listed.Listed.{Listed}
@@ -94,39 +98,57 @@ pub record GivesUp {T W L : Type 0} (tails : TailWords T) (file : ListedFile) (t
 
 -- ---- the key of the file that was opened
 
-module _ {T : Type 0} (tails : TailWords T) (settings : Settings) (file : ListedFile) (tail : T) where
-  -- it is the one that was listed
-  pub record HasListedKey : Type 0 where
+module _ {T : Type 0} (tails : TailWords T) (settings : Settings) (file : ListedFile) where
+  -- the tail was asked for its key, by the rule of the file's input
+  pub record AsksKey (fresh asked : T) (result : Result Identity IdentityError) : Type 0 where
     pub rule : InputRule
     pub rule_is : slice_get settings.inputs file.listed.input ≡ Some rule
-    pub key_is : named_key rule.id rule.file_identity file.listed.path (tails.numbers tail) ≡ file.listed.key
+    pub answer : IfOk result (IsAnswer rule.id rule.file_identity file.listed.path (tails.numbers fresh))
+    pub told : IfSome (tails.told fresh) (λ told. IsAsked rule.id rule.file_identity file.listed.path (tails.numbers fresh) told result (tails.told asked))
+    pub untold : IsNone (tails.told fresh) → IsNone (tails.told asked)
+    pub refused : IfErr result (IsRefusedOpened rule.file_identity (tails.numbers fresh))
+    pub numbers_kept : tails.numbers asked ≡ tails.numbers fresh
+    pub faults_never_fall : tails.faults fresh ≤ tails.faults asked
+    pub failed_only_where_faults_rose : IsErrOf result ReadFault → Rose (tails.faults fresh) (tails.faults asked)
 
-  -- it is another; native numbers that are wanted were told
-  pub record HasOtherKey : Type 0 where
-    pub rule : InputRule
-    pub rule_is : slice_get settings.inputs file.listed.input ≡ Some rule
-    pub numbered : rule.file_identity ≡ Native → IsSome (tails.numbers tail)
-    pub other : named_key rule.id rule.file_identity file.listed.path (tails.numbers tail) ≢ file.listed.key
+  module _ (fresh asked : T) where
+    -- it is the one that was listed
+    pub record HasListedKey : Type 0 where
+      pub key : List ℕ
+      pub asks : AsksKey fresh asked (Ok (Key key))
+      pub listed : file.listed.key ≡ Some key
 
-  -- its input wants native numbers, and the tail told none
-  pub record HasNoNumbers : Type 0 where
-    pub rule : InputRule
-    pub rule_is : slice_get settings.inputs file.listed.input ≡ Some rule
-    pub by_numbers : rule.file_identity ≡ Native
-    pub none : tails.numbers tail ≡ None
+    -- it is another
+    pub record HasOtherKey : Type 0 where
+      pub key : List ℕ
+      pub asks : AsksKey fresh asked (Ok (Key key))
+      pub other : file.listed.key ≢ Some key
 
-  -- whether it is; or why that is not known
-  abbrev pub TellsKey : Result Bool Met → Type 0
-  TellsKey (Ok true) = HasListedKey
-  TellsKey (Ok false) = HasOtherKey
-  TellsKey (Err NoMemory) = Unit {0}
-  TellsKey (Err (NoNative slot)) = (slot ≡ file.slot) × HasNoNumbers
-  TellsKey (Err Done) = ⊥
-  TellsKey (Err Stopped) = ⊥
-  TellsKey (Err DiskFault) = ⊥
-  TellsKey (Err FolderFault) = ⊥
-  TellsKey (Err (Unreachable worker)) = ⊥
-  TellsKey (Err (Epochs slot)) = ⊥
+    -- not all bytes of its fingerprint were there
+    pub record IsTooSmall : Type 0 where
+      pub place : ℕ
+      pub asks : AsksKey fresh asked (Ok (TooSmall place))
+
+    -- or this is not known
+    pub record FailsToTell (error : IdentityError) : Type 0 where
+      pub asks : AsksKey fresh asked (Err error)
+
+    -- why the file is skipped, if it is; or why that is not known
+    abbrev pub TellsKey : Result (Option Why) Met → Type 0
+    TellsKey (Ok None) = HasListedKey
+    TellsKey (Ok (Some Moved)) = HasOtherKey
+    TellsKey (Ok (Some Small)) = IsTooSmall
+    TellsKey (Ok (Some Doubled)) = ⊥
+    TellsKey (Ok (Some Gone)) = ⊥
+    TellsKey (Ok (Some Old)) = ⊥
+    TellsKey (Err NoMemory) = (result : Result Identity IdentityError) × AsksKey fresh asked result
+    TellsKey (Err FolderFault) = FailsToTell ReadFault
+    TellsKey (Err (NoNative slot)) = (slot ≡ file.slot) × FailsToTell WithoutNumbers
+    TellsKey (Err Done) = ⊥
+    TellsKey (Err Stopped) = ⊥
+    TellsKey (Err DiskFault) = ⊥
+    TellsKey (Err (Unreachable worker)) = ⊥
+    TellsKey (Err (Epochs slot)) = ⊥
 
 -- ---- by what the folder answered
 
@@ -138,18 +160,20 @@ pub record HasOpened {T W L : Type 0} (tails : TailWords T) (file : ListedFile) 
 
 -- it is the listed one, and is followed
 pub record BeginsFile {T W L : Type 0} (tails : TailWords T) (settings : Settings) (file : ListedFile) (old new : Beginning T W L) : Type 0 where
+  pub fresh : T
   pub tail : T
   pub mid : Beginning T W L
-  pub opened : HasOpened tails file tail old mid
-  pub keyed : HasListedKey tails settings file tail
+  pub opened : HasOpened tails file fresh old mid
+  pub keyed : HasListedKey tails settings file fresh tail
   pub follows : Follows tails settings file tail mid new
 
 -- or was closed again
 pub record GivesFileUp {T W L : Type 0} (tails : TailWords T) (settings : Settings) (file : ListedFile) (old new : Beginning T W L) : Type 0 where
+  pub fresh : T
   pub tail : T
   pub mid : Beginning T W L
-  pub opened : HasOpened tails file tail old mid
-  pub keyed : HasListedKey tails settings file tail
+  pub opened : HasOpened tails file fresh old mid
+  pub keyed : HasListedKey tails settings file fresh tail
   pub gives_up : GivesUp tails file tail mid new
 
 -- its tail was closed, and the keeper was told nothing
@@ -158,13 +182,20 @@ pub record ClosesUntold {T W L : Type 0} (tails : TailWords T) (tail : T) (old n
   pub crew : new.crew ≡ old.crew
   pub keeper : new.keeper ≡ old.keeper
 
--- it was opened, and so closed again for this reason
-pub record ClosesFile {T W L : Type 0} (tails : TailWords T) (file : ListedFile) (Why : T → Type 0) (old new : Beginning T W L) : Type 0 where
-  pub tail : T
+-- it was asked for its key, and so closed again
+pub record ClosesAsked {T W L : Type 0} (tails : TailWords T) (settings : Settings) (file : ListedFile) (fresh : T) (Why : T → T → Type 0) (old new : Beginning T W L) : Type 0 where
+  pub asked : T
+  pub result : Result Identity IdentityError
+  pub asks : AsksKey tails settings file fresh asked result
+  pub closed : ClosesUntold tails asked old new
+  pub why : Why fresh asked
+
+-- it was opened, asked, and so closed again for this reason
+pub record ClosesFile {T W L : Type 0} (tails : TailWords T) (settings : Settings) (file : ListedFile) (Why : T → T → Type 0) (old new : Beginning T W L) : Type 0 where
+  pub fresh : T
   pub mid : Beginning T W L
-  pub opened : HasOpened tails file tail old mid
-  pub closed : ClosesUntold tails tail mid new
-  pub why : Why tail
+  pub opened : HasOpened tails file fresh old mid
+  pub closed : ClosesAsked tails settings file fresh Why mid new
 
 -- no file was opened, and nothing but the folder's list has changed
 pub record OpensNone {T W L : Type 0} (tails : TailWords T) (file : ListedFile) (result : Result (Option T) FolderError) (old new : Beginning T W L) : Type 0 where
@@ -172,34 +203,54 @@ pub record OpensNone {T W L : Type 0} (tails : TailWords T) (file : ListedFile) 
   pub crew : new.crew ≡ old.crew
   pub keeper : new.keeper ≡ old.keeper
 
--- the file of this key is followed, or was skipped for this reason, or ended the run
+-- the listed file was found by this tail, and is followed
+pub record FollowsAsked {T W L : Type 0} (tails : TailWords T) (settings : Settings) (file : ListedFile) (fresh : T) (old new : Beginning T W L) : Type 0 where
+  pub tail : T
+  pub keyed : HasListedKey tails settings file fresh tail
+  pub follows : Follows tails settings file tail old new
+
+-- or its tail was closed again
+pub record GivesAskedUp {T W L : Type 0} (tails : TailWords T) (settings : Settings) (file : ListedFile) (fresh : T) (old new : Beginning T W L) : Type 0 where
+  pub tail : T
+  pub keyed : HasListedKey tails settings file fresh tail
+  pub gives_up : GivesUp tails file tail old new
+
+-- any reason
+abbrev pub ForSomeReason : {T : Type 0} → T → T → Type 0
+ForSomeReason fresh asked = Unit {0}
+
+-- the file of this tail is followed, or was skipped for this reason, or ended the run
 abbrev pub FollowsListed : {T W L : Type 0} → TailWords T → Settings → ListedFile → T → Result (Option Why) Met → Beginning T W L → Beginning T W L → Type 0
-FollowsListed tails settings file tail (Ok None) old new = HasListedKey tails settings file tail × Follows tails settings file tail old new
-FollowsListed tails settings file tail (Ok (Some Moved)) old new = HasOtherKey tails settings file tail × ClosesUntold tails tail old new
-FollowsListed tails settings file tail (Ok (Some Doubled)) old new = ⊥
-FollowsListed tails settings file tail (Ok (Some Gone)) old new = ⊥
-FollowsListed tails settings file tail (Ok (Some Old)) old new = ⊥
-FollowsListed tails settings file tail (Ok (Some Small)) old new = ⊥
-FollowsListed tails settings file tail (Err NoMemory) old new = (HasListedKey tails settings file tail × GivesUp tails file tail old new) ⊎ ClosesUntold tails tail old new
-FollowsListed tails settings file tail (Err (NoNative slot)) old new = (slot ≡ file.slot) × HasNoNumbers tails settings file tail × ClosesUntold tails tail old new
-FollowsListed tails settings file tail (Err Done) old new = ⊥
-FollowsListed tails settings file tail (Err Stopped) old new = ⊥
-FollowsListed tails settings file tail (Err DiskFault) old new = ⊥
-FollowsListed tails settings file tail (Err FolderFault) old new = ⊥
-FollowsListed tails settings file tail (Err (Unreachable worker)) old new = ⊥
-FollowsListed tails settings file tail (Err (Epochs slot)) old new = ⊥
+FollowsListed tails settings file fresh (Ok None) old new = FollowsAsked tails settings file fresh old new
+FollowsListed tails settings file fresh (Ok (Some Moved)) old new = ClosesAsked tails settings file fresh (HasOtherKey tails settings file) old new
+FollowsListed tails settings file fresh (Ok (Some Small)) old new = ClosesAsked tails settings file fresh (IsTooSmall tails settings file) old new
+FollowsListed tails settings file fresh (Ok (Some Doubled)) old new = ⊥
+FollowsListed tails settings file fresh (Ok (Some Gone)) old new = ⊥
+FollowsListed tails settings file fresh (Ok (Some Old)) old new = ⊥
+FollowsListed tails settings file fresh (Err NoMemory) old new = GivesAskedUp tails settings file fresh old new ⊎ ClosesAsked tails settings file fresh ForSomeReason old new
+FollowsListed tails settings file fresh (Err FolderFault) old new =
+    ClosesAsked tails settings file fresh (λ fresh asked. FailsToTell tails settings file fresh asked ReadFault) old new
+FollowsListed tails settings file fresh (Err (NoNative slot)) old new =
+    (slot ≡ file.slot) × ClosesAsked tails settings file fresh (λ fresh asked. FailsToTell tails settings file fresh asked WithoutNumbers) old new
+FollowsListed tails settings file fresh (Err Done) old new = ⊥
+FollowsListed tails settings file fresh (Err Stopped) old new = ⊥
+FollowsListed tails settings file fresh (Err DiskFault) old new = ⊥
+FollowsListed tails settings file fresh (Err (Unreachable worker)) old new = ⊥
+FollowsListed tails settings file fresh (Err (Epochs slot)) old new = ⊥
 
 abbrev pub BeginsOne : {T W L : Type 0} → TailWords T → Settings → ListedFile → Result (Option Why) Met → Beginning T W L → Beginning T W L → Type 0
 BeginsOne tails settings file (Ok None) old new = BeginsFile tails settings file old new
 BeginsOne tails settings file (Ok (Some Gone)) old new = OpensNone tails file (Ok None) old new
-BeginsOne tails settings file (Ok (Some Moved)) old new = ClosesFile tails file (HasOtherKey tails settings file) old new
+BeginsOne tails settings file (Ok (Some Moved)) old new = ClosesFile tails settings file (HasOtherKey tails settings file) old new
+BeginsOne tails settings file (Ok (Some Small)) old new = ClosesFile tails settings file (IsTooSmall tails settings file) old new
 BeginsOne tails settings file (Ok (Some Doubled)) old new = ⊥
 BeginsOne tails settings file (Ok (Some Old)) old new = ⊥
-BeginsOne tails settings file (Ok (Some Small)) old new = ⊥
-BeginsOne tails settings file (Err FolderFault) old new = OpensNone tails file (Err Failed) old new
+BeginsOne tails settings file (Err FolderFault) old new =
+    OpensNone tails file (Err Failed) old new ⊎ ClosesFile tails settings file (λ fresh asked. FailsToTell tails settings file fresh asked ReadFault) old new
 BeginsOne tails settings file (Err NoMemory) old new =
-    OpensNone tails file (Err WithoutMemory) old new ⊎ (GivesFileUp tails settings file old new ⊎ ClosesFile tails file (λ tail. Unit {0}) old new)
-BeginsOne tails settings file (Err (NoNative slot)) old new = (slot ≡ file.slot) × ClosesFile tails file (HasNoNumbers tails settings file) old new
+    OpensNone tails file (Err WithoutMemory) old new ⊎ (GivesFileUp tails settings file old new ⊎ ClosesFile tails settings file ForSomeReason old new)
+BeginsOne tails settings file (Err (NoNative slot)) old new =
+    (slot ≡ file.slot) × ClosesFile tails settings file (λ fresh asked. FailsToTell tails settings file fresh asked WithoutNumbers) old new
 BeginsOne tails settings file (Err Done) old new = ⊥
 BeginsOne tails settings file (Err Stopped) old new = ⊥
 BeginsOne tails settings file (Err DiskFault) old new = ⊥

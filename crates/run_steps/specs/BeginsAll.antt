@@ -1,12 +1,12 @@
 -- What beginning all listed files does (this project's profile): file by file, in the order of their slots, each is opened and
--- followed, or skipped where none is there or its key is another; and then the keeper is told when each was changed.
+-- followed, or skipped where none is there, its key is another or it is too small for one; and then the keeper is told when each was
+-- changed.
 use Rattle.std.specs.Prelude.{◌≡◌, ◌⊎◌, ℕ, suc, ◌+◌, ◌-◌, ◌^◌, ◌<◌, ◌≤◌, List, [], ◌∷◌, ◌++◌, length, take, slice_get, Option, None, Some, Ok, Err}
 use Rattle.std.specs.List.{AllByRecursion}
 use Rattle.event_tree.specs.declared.input_rule.InputRule.{InputRule}
 use Rattle.event_tree.specs.declared.settings.Settings.{Settings}
 use Rattle.harvester.specs.HasTold.{begin_of}
 use Rattle.harvester.specs.declared.harvester.Harvester.{Harvester}
-use Rattle.kept_rows.specs.Scans.{IsNoFingerprint}
 use Rattle.lanes.specs.Laning.{Laning}
 use Rattle.multiline_core.specs.Rule.{IsGroupRule}
 use Rattle.outside.specs.Counts.{Rose}
@@ -99,11 +99,10 @@ module _ {T W L : Type 0} (tails : TailWords T) (settings : Settings) (rows : Li
     abbrev pub BeginsSome : Met → Beginning T W L → Beginning T W L → Type 0
     BeginsSome met old new = EndsInFile met old new ⊎ ((met ≡ NoMemory) × (EndsBehindFile old new ⊎ EndsInMoments old new))
 
--- a listed file of an input that knows its files without reading them
-pub record IsOfNamedInput (settings : Settings) (listed : Listed) : Type 0 where
+-- a listed file of an input whose rules are in their ranges
+pub record IsOfRuledInput (settings : Settings) (listed : Listed) : Type 0 where
   pub rule : InputRule
   pub rule_is : slice_get settings.inputs listed.input ≡ Some rule
-  pub named : IsNoFingerprint rule.file_identity
   pub in_range : IsGroupRule rule.multiline
 
 -- its input is one of the settings

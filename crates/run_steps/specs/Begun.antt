@@ -4,8 +4,7 @@ use Rattle.std.specs.Prelude.{◌≡◌, ℕ, ◌+◌, ◌≤◌, ◌<◌, List,
 use Rattle.std.specs.List.{AllByRecursion}
 use Rattle.accounts.specs.Opened.{Opened}
 use Rattle.event_tree.specs.declared.settings.Settings.{Settings}
-use Rattle.file_identity.specs.Key.{named_key}
-use Rattle.kept_rows.specs.Scans.{IsNoFingerprint}
+use Rattle.file_identity.specs.AskedAgain.{GivesKey}
 use Rattle.multiline_core.specs.Rule.{IsGroupRule}
 use Rattle.prospect.specs.declared.listed.Listed.{Listed}
 use Rattle.wire_base.specs.declared.note.Begin.{Begin as Beginning}
@@ -26,12 +25,11 @@ pub record IsOpenedAsListed (settings : Settings) (rows : List Row) (listed : Li
   pub keyed : one.key ≡ Some opened.begin.key
   pub begin_is : opened.begin ≡ begin_for opened.begin.slot one opened.begin.key (start_among rows one)
   pub rule_is : slice_get settings.inputs one.input ≡ Some opened.rule
-  pub named : IsNoFingerprint opened.rule.file_identity
   pub in_range : IsGroupRule opened.rule.multiline
 
--- its key is the one of its path, or of its numbers
+-- as it was opened, its file gave its key
 abbrev pub IsKeyed : Opened → Type 0
-IsKeyed opened = named_key opened.rule.id opened.rule.file_identity opened.begin.path opened.file.numbers ≡ Some opened.begin.key
+IsKeyed opened = GivesKey opened.rule opened.begin.key opened.begin.path opened.file opened.asked
 
 -- the slots rise from this one on
 abbrev pub AreSlotsFrom : ℕ → List Opened → Type 0

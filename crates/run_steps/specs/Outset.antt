@@ -15,7 +15,7 @@ use Rattle.settle_box.specs.Collector.{Collector}
 use Rattle.ship_core.specs.Rows.{IsInOrder}
 use Rattle.run_steps.specs.Areas.{BeganAtRest, GaveRows, HaveHeldFronts, IsAtRest}
 use Rattle.run_steps.specs.Began.{Began}
-use Rattle.run_steps.specs.BeginsAll.{IsOfNamedInput}
+use Rattle.run_steps.specs.BeginsAll.{IsOfRuledInput}
 
 pub record Outset (W D : Type 0) : Type 0 where
   pub settings : Settings
@@ -50,14 +50,14 @@ began_with {W} wires outset earlier = record {
   b = earlier.b;
 }
 
--- the clock gave its moment, its areas gave the rows of its store and, where they were at rest, have held no others since, and each listed file is of an input that
--- knows its files without reading them
+-- the clock gave its moment, its areas gave the rows of its store and, where they were at rest, have held no others since, and each listed file is of an input
+-- whose rules are in their ranges
 pub record SetsOut {W D : Type 0} (disks : DiskWords D) (start : Began D) (outset : Outset W D) : Type 0 where
   pub gives : GivesMoment start.moments start.moment outset.moments
   pub areas : BeganAtRest disks start → HaveHeldFronts disks start.opening [] start.a start.b outset.a outset.b
   pub gave : GaveRows disks start
   pub at_rest : BeganAtRest disks start → IsAtRest disks outset.keeper outset.a outset.b
-  pub of_inputs : AllByRecursion (IsOfNamedInput start.settings) start.listed
+  pub of_inputs : AllByRecursion (IsOfRuledInput start.settings) start.listed
 
 -- it was made over an open store, and its pass collected nothing
 pub record IsFirstKeeper (desk : TableId) (keeper : Keeping) : Type 0 where

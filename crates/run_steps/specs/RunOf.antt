@@ -7,28 +7,38 @@ use Rattle.kept_rows.specs.Scans.{listings_from}
 use Rattle.kept_rows.specs.Trace.{WireTold}
 use Rattle.outside.specs.Folders.{FolderHistory}
 use Rattle.outside.specs.Wires.{Outcome}
-use Rattle.prospect.specs.declared.listed.Listed.{Listed}
+use Rattle.prospect.specs.AskedFiles.{Answer, AskedFile, ByName, Gave, NotFound, TooFew}
 use Rattle.rounds.specs.Words.{WireWords}
 use Rattle.run_steps.specs.Began.{Began}
 
--- what the folder told as the run began, behind its scan and at its end
+-- what the folder told as the run began, behind its listings, behind its scan and at its end; and what asking the listed files for
+-- their keys came to
 pub record FolderTold : Type 0 where
   pub earlier : FolderHistory
+  pub listed : FolderHistory
   pub scanned : FolderHistory
   pub ended : FolderHistory
+  pub asked : List AskedFile
 
 -- ---- its scan
 
--- the input asked for the key of the path, by its entry alone
-abbrev pub asking_of : Listed → Asking
-asking_of listed = record { input = listed.input; path = listed.path; opening = None }
+-- at which opening the key was asked for, where the file was to be opened for it
+abbrev pub opening_by : Answer → Option ℕ
+opening_by ByName = None
+opening_by (Gave opening key) = Some opening
+opening_by (TooFew opening) = Some opening
+opening_by (NotFound opening) = Some opening
 
--- its listings are those of the folder's list between the start and what stands behind the scan; it asked for the keys of all listed files
+-- the input asked for the key of the path
+abbrev pub asking_of : AskedFile → Asking
+asking_of asked = record { input = asked.listed.input; path = asked.listed.path; opening = opening_by asked.answer }
+
+-- its listings are those of the folder's list between the start and what stands behind them; it asked for the keys of all listed files
 abbrev pub scan_of : {D : Type 0} → Began D → FolderTold → Scan
 scan_of start folder = record {
   moment = start.moment;
-  listings = listings_from (length folder.earlier.events) (drop (length folder.earlier.events) folder.scanned.events);
-  askings = map asking_of (start.listed ++ start.doubled);
+  listings = listings_from (length folder.earlier.events) (drop (length folder.earlier.events) folder.listed.events);
+  askings = map asking_of folder.asked;
 }
 
 -- ---- its wires

@@ -1,8 +1,8 @@
--- How a run scanned (this project's profile), in the words of the scan's own contract: settings within their ranges, whose inputs
--- know their files without reading them, the folder's list behind the scan, and which of the listed files are followed.
-use Rattle.std.specs.Prelude.{◌≡◌, All, List, Some}
+-- How a run scanned (this project's profile), in the words of the scan's own contracts: settings within their ranges, what its listings
+-- told, what asking the listed files for their keys came to, and which of those with a key are followed.
+use Rattle.std.specs.Prelude.{◌≡◌, All, List, Some, flat_map, map}
 use Rattle.beat_config.specs.InRange.{AreInRange}
-use Rattle.kept_rows.specs.Scans.{IsNoFingerprint}
+use Rattle.prospect.specs.AskedFiles.{AskedFile, AsksFrom, keyed_by}
 use Rattle.prospect.specs.Doubled.{PartsDoubled}
 use Rattle.prospect.specs.ListedFiles.{IsKeyed, ScansFiles}
 use Rattle.prospect.specs.declared.listed.Listed.{Listed}
@@ -11,9 +11,10 @@ use Rattle.run_steps.specs.RunOf.{FolderTold}
 
 pub record HasScanned {D : Type 0} (start : Began D) (folder : FolderTold) : Type 0 where
   pub in_range : AreInRange start.settings
-  pub named : All (λ input. IsNoFingerprint input.file_identity) start.settings.inputs
   pub shown : start.shown ≡ Some folder.scanned
   pub all : List Listed
-  pub scans : ScansFiles start.settings.inputs folder.earlier all start.shown
+  pub scans : ScansFiles start.settings.inputs folder.earlier all (Some folder.listed)
   pub keyed : All (IsKeyed start.settings.inputs) all
-  pub parts : PartsDoubled all start.listed start.doubled
+  pub asked_are : map (λ (one : AskedFile). one.listed) folder.asked ≡ all
+  pub asks : AsksFrom start.settings.inputs folder.asked folder.listed folder.scanned
+  pub parts : PartsDoubled (flat_map keyed_by folder.asked) start.listed start.doubled

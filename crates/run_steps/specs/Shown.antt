@@ -1,8 +1,9 @@
 -- What a run does with the folder behind its scan (this project's profile): it opens files and closes them, and lists nothing more.
--- Each opening is of a file that was begun, or its tail was closed unread.
+-- Each opening is of a file that was begun, or its tail was closed when it had been asked for its key, or unread.
 use Rattle.std.specs.Prelude.{◌≡◌, ◌⊎◌, ℕ, suc, ◌-◌, ◌≤◌, drop, List, [], ◌∷◌, ◌++◌, Contains, length, map, slice_get, Option, Some, None, IfSome}
 use Rattle.std.specs.List.{AllByRecursion, flat_map}
 use Rattle.accounts.specs.Opened.{Opened as OpenedFile}
+use Rattle.file_identity.specs.AskedAgain.{IsRead}
 use Rattle.kept_rows.specs.Scans.{AreDistinct, StandInOrder}
 use Rattle.kept_rows.specs.Trace.{closing_in}
 use Rattle.outside.specs.Folders.{Closed, Event, FolderHistory, Listed, ListingFailed, NotThere, Opened, OpeningFailed}
@@ -22,6 +23,17 @@ IsNoListing (Closed opening looks faults) = Unit {0}
 pub record WasClosedWith (told : FolderHistory) (opening : ℕ) (looks : List Look) : Type 0 where
   pub faults : ℕ
   pub closing : closing_in opening (drop (suc opening) told.events) ≡ Some (record { looks = looks; faults = faults })
+
+-- it told nothing but reads, as where it was asked for its key
+pub record WasOnlyAsked (told : FolderHistory) (opening : ℕ) : Type 0 where
+  pub looks : List Look
+  pub closed : WasClosedWith told opening looks
+  pub reads : AllByRecursion (λ look. IsRead look.question) looks
+
+-- so each tail was that was opened behind the first so many things that were done
+abbrev pub AreOnlyAsked : ℕ → FolderHistory → Type 0
+AreOnlyAsked since told = (opening : ℕ) (path : List ℕ) (number : ℕ) (begun : Sight) → since ≤ opening →
+    slice_get told.events opening ≡ Some (Opened path number begun) → WasOnlyAsked told opening
 
 abbrev pub IsStillOpen : FolderHistory → ℕ → Type 0
 IsStillOpen told opening = closing_in opening (drop (suc opening) told.events) ≡ None
@@ -47,7 +59,7 @@ pub record HasDone (before after : FolderHistory) (so_far : SoFar) : Type 0 wher
   pub opened : AllByRecursion (WasOpenedSince before after) so_far.opened
   pub apart : AreDistinct (openings_of so_far.opened)
   pub serve : (opening : ℕ) (path : List ℕ) (number : ℕ) (begun : Sight) → length before.events ≤ opening →
-      slice_get after.events opening ≡ Some (Opened path number begun) → Contains (openings_of so_far.opened) opening ⊎ WasClosedWith after opening []
+      slice_get after.events opening ≡ Some (Opened path number begun) → Contains (openings_of so_far.opened) opening ⊎ WasOnlyAsked after opening
   pub closed : AllByRecursion (λ (one : Left). IfSome one.told (λ tail. WasClosedWith after tail.opening tail.looks)) so_far.left
   pub still_open : (one : OpenedFile) → Contains so_far.opened one → IsTurnedIn so_far one → IsStillOpen after one.opening
 

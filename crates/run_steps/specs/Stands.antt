@@ -3,7 +3,7 @@
 use Rattle.std.specs.Prelude.{◌≡◌, ◌≢◌, ℕ, ◌^◌, ◌-◌, ◌<◌, min, List, [], ◌++◌, Contains, IsSome, count_by, length, map}
 use Rattle.std.specs.List.{AllByRecursion, flat_map}
 use Rattle.accounts.specs.Opened.{Opened}
-use Rattle.accounts.specs.ToldFile.{IsToldFile, IsToldToItsEnd}
+use Rattle.accounts.specs.ToldFile.{IsReadThrough, IsToldFile}
 use Rattle.accounts.specs.Turned.{Turned, notes_told, parcels_told, spans_in}
 use Rattle.accounts.specs.Turning.{IsTurnedSo, Pairs}
 use Rattle.event_tree.specs.declared.processor_rule.ProcessorRule.{ProcessorRule}
@@ -83,7 +83,7 @@ pub record Stands {T W L D : Type 0} (words : Words T W L D) (start : Began D) (
   pub turned : Pairs (AreTurnedIn words.tails start.settings.processors so_far.opened so_far.moments) so_far.lanes (lanings state.crew.lanes.items)
   pub left : AllByRecursion (IsLeftSo start.settings.processors so_far.opened so_far.moments) so_far.left
   pub reading : state.phase ≡ Reading → IsReading (lanings state.crew.lanes.items) so_far
-  pub finished : state.phase ≡ Finished → IsSome start.shown → AllByRecursion (λ turned. IsToldToItsEnd turned.history) (files_in so_far)
+  pub finished : state.phase ≡ Finished → IsSome start.shown → AllByRecursion (λ turned. IsReadThrough turned.history) (files_in so_far)
   -- where the folder tells, so do the tails
   pub tell : IsSome start.shown → AllByRecursion (TellIn words.tails) (lanings state.crew.lanes.items)
   pub left_tell : IsSome start.shown → AllByRecursion (λ (one : Left). IsSome one.told) so_far.left

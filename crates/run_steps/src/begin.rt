@@ -1,4 +1,4 @@
-ghost use Rattle.std.specs.Prelude.{◌≡◌, ◌∷◌, ◌++◌, ◌%◌, ◌<◌, ◌≤◌, ◌↔◌, [], All, IfErr, IfOk, IsTrue, OnErr, OnOk, length};
+ghost use Rattle.std.specs.Prelude.{◌≡◌, ◌∷◌, ◌++◌, ◌%◌, ◌<◌, ◌≤◌, ◌↔◌, [], All, IfErr, IfOk, IsTrue, OnErr, OnOk, Some, length};
 ghost use Rattle.beat_config.specs.InRange.{AreInRange};
 ghost use Rattle.prospect.specs.ListedFiles.{IsListedInRange};
 ghost use Rattle.rounds.specs.Crewed.{lanings};
@@ -13,10 +13,10 @@ use crate::leave::release;
 use crate::met::Met;
 use crate::opening::{Opening, begin_of};
 use crate::telling::tell_begin;
-use file_identity::{IdentityError, listed_key};
+use file_identity::{Identity, IdentityError, opened_key};
 use harvester::Harvester;
 use keeper::Keeper;
-use outside::{Entry, Folder, Link, Tail, Wire};
+use outside::{Folder, Link, Tail, Wire};
 use prospect::Listed;
 use report::{Passing, Why};
 use rounds::Crew;
@@ -39,8 +39,9 @@ pub fn pass_over(
     Ok(())
 }
 
-/// Opens the file and follows it in the lane of its slot; or why it is skipped. `Err` is `FolderFault` where the folder failed,
-/// `NoNative` where the file wants numbers and told none, and `NoMemory`; a file that was opened is closed again then.
+/// Opens the file, asks it for its key and follows it in the lane of its slot; or why it is skipped. `Err` is `FolderFault`
+/// where the folder or a read failed, `NoNative` where the file wants numbers and told none, and `NoMemory`; a file that was
+/// opened is closed again then.
 pub fn begin_one<F: Folder, L: Link, W: Wire<Link = L>>(
     context: Context<'_, '_>,
     opening: Opening<'_>,
@@ -71,11 +72,11 @@ pub fn begin_one<F: Folder, L: Link, W: Wire<Link = L>>(
     }
 }
 
-/// Follows an open file that has the key with which it was listed, or closes it.
+/// Asks an open file for its key, and follows it where that is the one with which it was listed, or closes it.
 fn follow_listed<F: Folder, L: Link, W: Wire<Link = L>>(
     context: Context<'_, '_>,
     opening: Opening<'_>,
-    tail: F::Tail,
+    mut tail: F::Tail,
     folder: &mut F,
     crew: &mut Crew<F::Tail, W, L>,
     keeper: &mut Keeper,
@@ -96,14 +97,14 @@ fn follow_listed<F: Folder, L: Link, W: Wire<Link = L>>(
         (beginning (folder_words F.told F.states F.present F.open_tails F.faults)
         folder.new crew.new keeper.new) }
 {
-    match has_listed_key(context, opening, &tail) {
-        Ok(true) => match follow_one(context, opening, tail, folder, crew, keeper) {
+    match ask_key(context, opening, &mut tail) {
+        Ok(None) => match follow_one(context, opening, tail, folder, crew, keeper) {
             Ok(()) => Ok(None),
             Err(NoMemory) => Err(Met::NoMemory),
         },
-        Ok(false) => {
+        Ok(Some(why)) => {
             folder.close(tail);
-            Ok(Some(Why::Moved))
+            Ok(Some(why))
         }
         Err(met) => {
             folder.close(tail);
@@ -112,36 +113,43 @@ fn follow_listed<F: Folder, L: Link, W: Wire<Link = L>>(
     }
 }
 
-/// Whether the open file has the key with which it was listed: by its numbers and its path, as a listing would show it now.
-fn has_listed_key<T: Tail>(
+/// Why the open file is skipped, if it does not give the key with which it was listed.
+fn ask_key<T: Tail>(
     context: Context<'_, '_>,
     opening: Opening<'_>,
-    tail: &T,
-) -> Result<bool, Met>
+    tail: &mut T,
+) -> Result<Option<Why>, Met>
+    requires settings { AreInRange context.settings.now }
     requires input { opening.listed.now.input < length context.settings.now.inputs }
     ensures { TellsKey (tail_words T.numbers T.told T.faults) context.entry.settings.now
         (listed_file opening.entry.slot opening.entry.listed.now opening.entry.start
-        opening.entry.now) tail.now result }
+        opening.entry.now) tail.old tail.new result }
 {
     let listed = opening.listed;
     let rule = &context.settings.inputs.as_slice()[listed.input as usize];
-    let entry = Entry {
-        path: listed.path.copy(context.alloc)?,
-        size: listed.size,
-        native: tail.native(),
-        changed: listed.changed,
-    };
-    match listed_key(context.alloc, &rule.id, &rule.file_identity, &entry) {
-        Ok(key) => Ok(is_same(&key, &listed.key)),
+    match opened_key(
+        context.alloc,
+        &rule.id,
+        &rule.file_identity,
+        &listed.path,
+        tail,
+    ) {
+        Ok(Identity::Key(key)) if is_same(&listed.key, &key) => Ok(None),
+        Ok(Identity::Key(_)) => Ok(Some(Why::Moved)),
+        Ok(Identity::TooSmall(_)) => Ok(Some(Why::Small)),
         Err(IdentityError::NoNative) => Err(Met::NoNative(opening.slot)),
-        Err(_) => Err(Met::NoMemory),
+        Err(IdentityError::ReadFault) => Err(Met::FolderFault),
+        Err(IdentityError::NoMemory) => Err(Met::NoMemory),
     }
 }
 
-fn is_same(key: &Option<Text>, listed: &Option<Text>) -> bool
-    ensures { IsTrue result ↔ key.now ≡ listed.now }
+fn is_same(listed: &Option<Text>, key: &Text) -> bool
+    ensures { IsTrue result ↔ listed.now ≡ Some key.now }
 {
-    key == listed
+    match listed {
+        Some(listed) => *listed == *key,
+        None => false,
+    }
 }
 
 /// Follows an open file in the lane of its slot, or closes it.

@@ -31,6 +31,10 @@ pub struct Scanned {
     pub listed: Vec<Listed>,
     /// The files that an earlier path led to.
     pub doubled: Vec<Listed>,
+    /// Those that were gone as the scan asked them for their keys.
+    pub gone: Vec<Listed>,
+    /// Those that are too small for their fingerprints.
+    pub small: Vec<Listed>,
     pub starts: Vec<Start>,
     pub now: Moment,
 }

@@ -42,7 +42,7 @@ use std::thread::Threads;
 /// What a run has done and met.
 #[derive(Drop)]
 pub struct Worked {
-    /// The paths that were listed and then not found.
+    /// The paths that were skipped as files were opened, each with why.
     pub passed: Vec<Passing>,
     pub met: Met,
 }

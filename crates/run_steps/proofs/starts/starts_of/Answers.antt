@@ -1,4 +1,4 @@
-use Rattle.std.proofs.Common.{◌≡◌, ◌+◌, ◌∙◌, length, true, Option, None, if◌then◌else◌, is_none, ℕ, ap, refl, subst, arith}
+use Rattle.std.proofs.Common.{◌≡◌, ◌+◌, ◌∙◌, length, Option, None, if◌then◌else◌, is_none, ℕ, ap, refl, subst, arith}
 use Rattle.std.proofs.lemmas.Option.{slice_get_read}
 use Rattle.restart_join.specs.Joining.{full_for}
 use Rattle.restart_join.specs.Starts.{start_of}
