@@ -1,29 +1,21 @@
 -- A run that ended before it opened a file is accounted for by what its scan listed, or by nothing; one that opened files by its account.
-use Rattle.std.proofs.Common.{◌≡◌, ◌≢◌, ◌≤◌, ◌⊎◌, inl, inr, ℕ, true, false, List, [], ◌∷◌, ◌++◌, length, map, All, Option, Some, None, IfSome, IsSome, Result, Ok, Err, IfErr, IfOk, refl, sym, ap, subst, ◌∙◌, arith}
+use Rattle.std.proofs.Common.{◌≡◌, ◌≢◌, ◌⊎◌, inl, inr, ℕ, true, false, List, [], ◌∷◌, length, map, Option, Some, None, IfSome, IsSome, refl, sym, ap, subst, ◌∙◌}
 use Rattle.std.specs.List.{AllByRecursion}
 use Rattle.batch_worker.specs.Seen.{Seen}
 use Rattle.accounts.specs.Numbers.{AreAllCounted, AreNumbersOf, ArePlacedIn}
 use Rattle.beat_config.specs.InRange.{AreInRange}
-use Rattle.event_tree.specs.declared.input_rule.InputRule.{InputRule}
 use Rattle.event_tree.specs.declared.settings.Settings.{Settings as SettingsOf}
 use Rattle.kept_rows.specs.Account.{SlotAccount}
-use Rattle.kept_rows.specs.Scans.{IsNoFingerprint}
 use Rattle.kept_rows.specs.Trace.{WireTold}
 use Rattle.outside.specs.Folders.{FolderHistory}
 use Rattle.outside.specs.Times.{GivesMoment}
 use Rattle.outside.specs.Wires.{Outcome}
-use Rattle.prospect.proofs.Doubled.{each_file, lengths_add}
-use Rattle.prospect.specs.Doubled.{PartsDoubled}
-use Rattle.prospect.specs.ListedFiles.{IsKeyed, ScansFiles}
-use Rattle.prospect.specs.Members.{globs_of}
-use Rattle.prospect.specs.Unfinished.{ListsSome}
 use Rattle.prospect.specs.declared.listed.Listed.{Listed}
 use Rattle.registry_store.specs.Choice.{GivesRows}
 use Rattle.registry_store.specs.Settled.{AreAtRest, AreSettled}
 use Rattle.registry_store.specs.Standing.{Standing, chosen_by}
 use Rattle.report.specs.declared.status.Status.{Status}
 use Rattle.report.specs.declared.status.Status.TheVariants.{Done, Stopped, Usage, Settings, RegistryBad, DiskFault, FolderFault, Unreachable, OutFault, SourceFault, TooMany, NoNative, NoMemory, Unbuilt}
-use Rattle.prospect.specs.Scan.{event_of}
 use Rattle.rounds.specs.Making.{all_seen}
 use Rattle.rounds.specs.Words.{DiskWords, WireWords}
 use Rattle.run_steps.specs.AccountedFor.{AccountedFor, Objects, RunObjects}
@@ -32,7 +24,6 @@ use Rattle.run_steps.specs.Began.{Began}
 use Rattle.run_steps.specs.Met.{IsMetOf}
 use Rattle.run_steps.specs.RunOf.{FolderTold}
 use Rattle.run_steps.specs.Scanned.{HasScanned}
-use Rattle.run_steps.specs.declared.beginning.Scanned.{Scanned}
 use Rattle.wire_base.specs.declared.limits.Full.TheVariants.{Epochs, Files, Slots}
 use Rattle.wire_base.specs.declared.row.Row.{Row}
 use Rattle.run_steps.specs.declared.met.Met.{Met}
@@ -40,21 +31,18 @@ use Rattle.run_steps.specs.declared.met.Met.TheVariants as met
 use Rattle.run_steps.specs.declared.registry_error.RegistryError.{RegistryError}
 use Rattle.run_steps.specs.declared.registry_error.RegistryError.TheVariants as registry
 use Rattle.run_steps.proofs.Giving.{first_given}
-use Rattle.run_steps.proofs.RunEarly.{early_is_accounted_for, listed_all, still_is_accounted_for}
+use Rattle.run_steps.proofs.RunEarly.{early_is_accounted_for, still_is_accounted_for}
 use Rattle.run_steps.proofs.HeldRows.{some_of}
 use Rattle.run_steps.proofs.Members.{some_is}
 use Rattle.run_steps.proofs.RunRows.{OneChoice}
 use Rattle.beat_run.specs.Accounted.{HasNoRoom, IsAccounted, IsAccountedByNamed, IsFullFor, IsMetFor, IsOpenedFrom, LeavesNoRemoved, RunLent, TellRows}
 use Rattle.beat_run.specs.Ended.{IsTelling, StandsForMet, StandsForRegistry}
-use Rattle.beat_run.specs.Ends.{FindsNoRoom, IsPartedEnd, IsPreparingEnd, IsPrintingEnd, IsReportEnd, IsRunEnd, IsStartEnd, ShowsScanEnd}
+use Rattle.beat_run.specs.Ends.{FindsNoRoom, IsPreparingEnd, IsPrintingEnd, IsReportEnd, IsRunEnd, ShowsScanEnd}
 use Rattle.beat_run.specs.Printed.{IsReportOver}
 use Rattle.beat_run.specs.Scanning.{ScansParted}
 use Rattle.beat_run.proofs.Causes.{named_so}
 use Rattle.beat_run.proofs.PrintedEnds.{never_reported}
-
-pub each_some : {A : Type 0} (o : Option A) (P Q : A → Type 0) → ((x : A) → P x → Q x) → IfSome o P → IfSome o Q
-each_some None P Q then is = tt
-each_some (Some x) P Q then is = then x is
+use Rattle.beat_run.proofs.ScanShown.{ScannedSome, each_some, scanned_folder}
 
 -- ---- what was met, by the status
 
@@ -184,97 +172,6 @@ full_for_scan disks settings objects rows (Unbuilt what) gave shows = tt
 
 -- ---- a run that opened no file
 
--- its listings are some
-pub some_listed : (inputs : List InputRule) (told : FolderHistory) (rows : List Row) (after : Option FolderHistory) (status : Status) → ShowsScanEnd inputs told rows after status → ListsSome (globs_of inputs) told after
-some_listed inputs told rows after Done shows = absurd shows
-some_listed inputs told rows after Stopped shows = absurd shows
-some_listed inputs told rows after Usage shows = absurd shows
-some_listed inputs told rows after (Settings fault) shows = absurd shows
-some_listed inputs told rows after (RegistryBad area at) shows = absurd shows
-some_listed inputs told rows after DiskFault shows = absurd shows
-some_listed inputs told rows after FolderFault shows = shows
-some_listed inputs told rows after (Unreachable worker failures) shows = absurd shows
-some_listed inputs told rows after OutFault shows = absurd shows
-some_listed inputs told rows after SourceFault shows = absurd shows
-some_listed inputs told rows after (TooMany Files path) (inl shows) = listed_all (globs_of inputs) told shows.listings after shows.listed_is
-some_listed inputs told rows after (TooMany Files path) (inr shows) = listed_all (globs_of inputs) told shows.scans.scans.listings after shows.scans.scans.listed_is
-some_listed inputs told rows after (TooMany Epochs path) shows = listed_all (globs_of inputs) told shows.scans.scans.listings after shows.scans.scans.listed_is
-some_listed inputs told rows after (TooMany Slots path) shows = absurd shows
-some_listed inputs told rows after (NoNative path) shows = listed_all (globs_of inputs) told shows.listings after shows.listed_is
-some_listed inputs told rows after NoMemory shows = shows
-some_listed inputs told rows after (Unbuilt what) shows = absurd shows
-
--- files that were parted, and could not all be started
-start_shows_one : (inputs : List InputRule) (told : FolderHistory) (rows : List Row) (after : Option FolderHistory) (files doubled : List Listed) (scans : ScansParted inputs told files doubled after) → length scans.all ≤ 65_536 → (status : Status) → IsStartEnd rows files status →
-    ShowsScanEnd inputs told rows after status
-start_shows_one inputs told rows after files doubled scans few Done ends = absurd ends
-start_shows_one inputs told rows after files doubled scans few Stopped ends = absurd ends
-start_shows_one inputs told rows after files doubled scans few Usage ends = absurd ends
-start_shows_one inputs told rows after files doubled scans few (Settings fault) ends = absurd ends
-start_shows_one inputs told rows after files doubled scans few (RegistryBad area at) ends = absurd ends
-start_shows_one inputs told rows after files doubled scans few DiskFault ends = absurd ends
-start_shows_one inputs told rows after files doubled scans few FolderFault ends = absurd ends
-start_shows_one inputs told rows after files doubled scans few (Unreachable worker failures) ends = absurd ends
-start_shows_one inputs told rows after files doubled scans few OutFault ends = absurd ends
-start_shows_one inputs told rows after files doubled scans few SourceFault ends = absurd ends
-start_shows_one inputs told rows after files doubled scans few (TooMany Files path) ends = inr (record { files = files; doubled = doubled; scans = scans; few = few; first = ends })
-start_shows_one inputs told rows after files doubled scans few (TooMany Epochs path) ends = record { files = files; doubled = doubled; scans = scans; few = few; first = ends }
-start_shows_one inputs told rows after files doubled scans few (TooMany Slots path) ends = absurd ends
-start_shows_one inputs told rows after files doubled scans few (NoNative path) ends = absurd ends
-start_shows_one inputs told rows after files doubled scans few NoMemory ends = listed_all (globs_of inputs) told scans.scans.listings after scans.scans.listed_is
-start_shows_one inputs told rows after files doubled scans few (Unbuilt what) ends = absurd ends
-
--- or could not be parted
-parted_shows_one : (inputs : List InputRule) (told : FolderHistory) (rows : List Row) (after : Option FolderHistory) (listed : List Listed) → length listed ≤ 65_536 → (scans : ScansFiles inputs told listed after) → All (IsKeyed inputs) listed → (status : Status) →
-    IsPartedEnd rows listed status → ShowsScanEnd inputs told rows after status
-parted_shows_one inputs told rows after listed few scans keyed status (inl memory) = subst (ShowsScanEnd inputs told rows after) (sym memory) (listed_all (globs_of inputs) told scans.listings after scans.listed_is)
-parted_shows_one inputs told rows after listed few scans keyed status (inr end) =
-    start_shows_one inputs told rows after end.files end.doubled (record { all = listed; scans = scans; keyed = keyed; parts = end.parts }) few status end.ends
-
-pub parted_shows : {A : Type 0} (inputs : List InputRule) (rows : List Row) (before after : Option FolderHistory) (listed : List Listed) → length listed ≤ 65_536 → (result : Result A Status) → IfSome before (λ told. ScansFiles inputs told listed after) →
-    All (IsKeyed inputs) listed → IfErr result (IsPartedEnd rows listed) → IfErr result (λ status. IfSome before (λ told. ShowsScanEnd inputs told rows after status))
-parted_shows inputs rows before after listed few (Ok scanned) scans keyed ends = tt
-parted_shows inputs rows None after listed few (Err status) scans keyed ends = tt
-parted_shows inputs rows (Some told) after listed few (Err status) scans keyed ends = parted_shows_one inputs told rows after listed few scans keyed status ends
-
--- ---- what is known of parted files
-
-pub files_are_few : (listed files doubled : List Listed) → PartsDoubled listed files doubled → length listed ≤ 65_536 → length files ≤ 65_536
-files_are_few listed files doubled parts few = omega (arith, few, lengths_add listed files doubled parts)
-
-pub refused_parted : {A : Type 0} (rows : List Row) (listed files doubled : List Listed) → PartsDoubled listed files doubled → (result : Result A Status) → IfErr result (IsStartEnd rows files) → IfErr result (IsPartedEnd rows listed)
-refused_parted rows listed files doubled parts (Ok scanned) ends = tt
-refused_parted rows listed files doubled parts (Err status) ends = inr (record { files = files; doubled = doubled; parts = parts; ends = ends })
-
-module _ (inputs : List InputRule) (before after : Option FolderHistory) (listed : List Listed) (result : Result Scanned Status)
-    (parts : IfOk result (λ scanned. PartsDoubled listed scanned.listed.items scanned.doubled.items)) where
-  pub scanned_parts : IfSome before (λ told. ScansFiles inputs told listed after) → All (IsKeyed inputs) listed →
-      IfOk result (λ scanned. IfSome before (λ told. ScansParted inputs told scanned.listed.items scanned.doubled.items after))
-  scanned_parts scans keyed = by_result result parts
-    where
-      by_result : (r : Result Scanned Status) → IfOk r (λ scanned. PartsDoubled listed scanned.listed.items scanned.doubled.items) →
-          IfOk r (λ scanned. IfSome before (λ told. ScansParted inputs told scanned.listed.items scanned.doubled.items after))
-      by_result (Ok scanned) parted =
-          each_some before (λ told. ScansFiles inputs told listed after) (λ told. ScansParted inputs told scanned.listed.items scanned.doubled.items after)
-          (λ told is. record { all = listed; scans = is; keyed = keyed; parts = parted }) scans
-      by_result (Err status) parted = tt
-
-  pub parted_each : (P : Listed → Type 0) → All P listed → IfOk result (λ scanned. All P scanned.listed.items)
-  parted_each P each = by_result result parts
-    where
-      by_result : (r : Result Scanned Status) → IfOk r (λ scanned. PartsDoubled listed scanned.listed.items scanned.doubled.items) → IfOk r (λ scanned. All P scanned.listed.items)
-      by_result (Ok scanned) parted = each_file listed scanned.listed.items scanned.doubled.items parted P each
-      by_result (Err status) parted = tt
-
-  pub parted_few : length listed ≤ 65_536 → IfOk result (λ scanned. length scanned.listed.items ≤ 65_536)
-  parted_few few = by_result result parts
-    where
-      by_result : (r : Result Scanned Status) → IfOk r (λ scanned. PartsDoubled listed scanned.listed.items scanned.doubled.items) → IfOk r (λ scanned. length scanned.listed.items ≤ 65_536)
-      by_result (Ok scanned) parted = files_are_few listed scanned.listed.items scanned.doubled.items parted few
-      by_result (Err status) parted = tt
-
--- ---- a run that opened no file
-
 nothing : (A : Type 0) → IsSome {T = A} None → ⊥
 nothing A some = let never : false ≡ true = some in cc
 
@@ -283,8 +180,7 @@ later_tells None later moment gives some = absurd (nothing (List ℕ) some)
 later_tells (Some moments) later moment (inl same) some = subst (λ (o : Option (List ℕ)). IsSome o) (sym same.1) refl
 later_tells (Some moments) later moment (inr grows) some = subst (λ (o : Option (List ℕ)). IsSome o) (sym grows.1) refl
 
-module _ {D : Type 0} (disks : DiskWords D) (one : OneChoice) (settings : SettingsOf) (in_range : AreInRange settings) (named : All (λ (input : InputRule). IsNoFingerprint input.file_identity) settings.inputs)
-    (opening : List Row) (from_a from_b a b : D) (gave : GiveTheRows disks from_a from_b opening)
+module _ {D : Type 0} (disks : DiskWords D) (one : OneChoice) (settings : SettingsOf) (opening : List Row) (from_a from_b a b : D) (gave : GiveTheRows disks from_a from_b opening)
     (held : AreAtRest disks.contents disks.images from_a from_b → HaveHeldFronts disks opening [] from_a from_b a b) (outcomes : List (Option (List Outcome))) where
   -- what all told before it, and behind it
   abbrev pub early_run : Option FolderHistory → Option FolderHistory → Option (List ℕ) → Option (List ℕ) → RunObjects D
@@ -295,21 +191,17 @@ module _ {D : Type 0} (disks : DiskWords D) (one : OneChoice) (settings : Settin
 
   -- it scanned
   pub early : {tells : List ℕ → Type 0} (told after : Option FolderHistory) (before later : Option (List ℕ)) (moment : ℕ) (status : Status) → IsSome told → IsSome before → GivesMoment before moment later →
-      IfSome told (λ history. ListsSome (globs_of settings.inputs) history after) → IsRunEnd status → IsFullFor disks settings (early_run told after before later) status →
+      IfSome told (λ history. ScannedSome settings history after) → IsRunEnd status → IsFullFor disks settings (early_run told after before later) status →
       IsAccounted disks settings (early_run told after before later) status tells
-  early None after before later moment status some clock gives lists ends full = absurd (nothing FolderHistory some)
-  early (Some history) after before later moment status some clock gives lists ends full =
-      let scanned : FolderHistory = record history { events = history.events ++ lists.more } in
+  early None after before later moment status some clock gives scans ends full = absurd (nothing FolderHistory some)
+  early (Some history) after before later moment status some clock gives scans ends full =
       let first = first_given moment before later gives in
-      let start : Began D = record { settings = settings; opening = opening; listed = []; doubled = []; moment = moment; shown = Some scanned; moments = before; heard = []; a = from_a; b = from_b } in
-      let folder : FolderTold = record { earlier = history; scanned = scanned; ended = scanned } in
+      let start : Began D = record { settings = settings; opening = opening; listed = []; doubled = []; moment = moment; shown = Some scans.scanned; moments = before; heard = []; a = from_a; b = from_b } in
       record {
         what = early_met status;
         met_for = early_met_for status ends;
-        accounted = subst (λ (o : Option FolderHistory). AccountedFor disks settings (early_run (Some history) o before later) (early_met status)) (sym lists.kept)
-            (early_is_accounted_for disks start folder
-            (record { in_range = in_range; named = named; lists = record { more = lists.more; in_order = lists.in_order; kept = refl } })
-            first.since later first.given (later_tells before later moment gives clock) outcomes a b one gave held (early_met status) (early_not_done status));
+        accounted = subst (λ (o : Option FolderHistory). AccountedFor disks settings (early_run (Some history) o before later) (early_met status)) (sym scans.after_is)
+            (early_is_accounted_for disks start (scanned_folder history scans.listed scans.scanned) scans.has first.since later first.given (later_tells before later moment gives clock) outcomes a b one gave held (early_met status) (early_not_done status));
         cleaned = λ rest telling. absurd (early_not_telling status telling);
         numbers = λ end. absurd (never_reported status ends end);
         counted = λ is_done. absurd (early_not_done status is_done);
@@ -361,8 +253,7 @@ pub record IsWorked {D : Type 0} (disks : DiskWords D) (settings : SettingsOf) (
   pub counted : what ≡ met.Done → AreAllCounted accounted.account
 
 -- with what the folder told, where it tells
-module _ {D : Type 0} (disks : DiskWords D) (start : Began D) (in_range : AreInRange start.settings) (named : All (λ (input : InputRule). IsNoFingerprint input.file_identity) start.settings.inputs)
-    (outcomes : List (Option (List Outcome))) (after : Objects D) (what : Met) (shipped dropped : ℕ) where
+module _ {D : Type 0} (disks : DiskWords D) (start : Began D) (in_range : AreInRange start.settings) (outcomes : List (Option (List Outcome))) (after : Objects D) (what : Met) (shipped dropped : ℕ) where
   abbrev pub worked_run : Option FolderHistory → RunObjects D
   worked_run told = record { before = record { folder = told; moments = start.moments; outcomes = outcomes; a = start.a; b = start.b }; after = after }
 
@@ -372,15 +263,15 @@ module _ {D : Type 0} (disks : DiskWords D) (start : Began D) (in_range : AreInR
       IsAccounted disks start.settings (worked_run told) status tells
   worked None status some scans is full reports accounted = absurd (nothing FolderHistory some)
   worked (Some history) status some scans is full reports accounted =
-      let scanned : FolderHistory = record history { events = history.events ++ map event_of scans.scans.listings } in
-      let folder : FolderTold = record { earlier = history; scanned = scanned; ended = scanned } in
+      let folder : FolderTold = record { earlier = history; listed = scans.listed; scanned = scans.scanned; ended = scans.scanned; asked = scans.asked } in
       let worked_so = accounted folder (record {
         in_range = in_range;
-        named = named;
-        shown = scans.scans.listed_is.kept;
+        shown = scans.after_is;
         all = scans.all;
         scans = scans.scans;
         keyed = scans.keyed;
+        asked_are = scans.asked_are;
+        asks = scans.asks;
         parts = scans.parts;
       }) in
       record {

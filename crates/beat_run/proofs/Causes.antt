@@ -1,19 +1,11 @@
 -- Why a run over its listed files ended as it did, by what it met; and how its areas are left.
-use Rattle.std.proofs.Common.{◌≡◌, ◌⊎◌, inl, inr, ℕ, zero, suc, ◌<◌, ◌≤◌, List, [], ◌∷◌, ◌++◌, length, drop, map, Any, Contains, Option, Some, None, IfSome, IsSome, refl, sym, ap, subst, ◌∙◌, arith, append-nil, length-append}
-use Rattle.std.proofs.Math.Seq.{drop-append_seam}
-use Rattle.std.proofs.lemmas.List.{drop-append-le}
-use Rattle.std.proofs.lemmas.List.Elements.{All-contains, Contains-append_left}
+use Rattle.std.proofs.Common.{◌≡◌, ◌⊎◌, inl, inr, ℕ, zero, suc, ◌<◌, ◌≤◌, List, [], ◌∷◌, length, Option, Some, None, IfSome, IsSome, refl, sym, ap, subst, ◌∙◌, arith, append-nil}
 use Rattle.std.specs.Prelude.{slice_get}
-use Rattle.accounts.proofs.Ground.{item_of}
 use Rattle.event_tree.specs.declared.input_rule.InputRule.{InputRule}
 use Rattle.event_tree.specs.declared.settings.Settings.{Settings as SettingsOf}
 use Rattle.outside.specs.Counts.{Rose}
-use Rattle.outside.specs.Files.{File}
 use Rattle.outside.specs.Folders.{Event, FolderHistory}
-use Rattle.prospect.proofs.Doubled.{file_is_listed}
-use Rattle.prospect.specs.ListedFiles.{FindsNoNumbers, FindsOneMore, IsListedBy, shown_in}
-use Rattle.prospect.specs.Members.{IsCovered}
-use Rattle.prospect.specs.Scan.{Listing, event_of}
+use Rattle.prospect.specs.ListedFiles.{FindsNoNumbers, FindsOneMore}
 use Rattle.prospect.specs.declared.listed.Listed.{Listed}
 use Rattle.registry_store.specs.Choice.{GivesRows, IsChoice}
 use Rattle.registry_store.specs.Settled.{AreAtRest, AreSettled}
@@ -22,24 +14,21 @@ use Rattle.report.specs.declared.status.Status.{Status}
 use Rattle.report.specs.declared.status.Status.TheVariants.{Done, Stopped, Usage, Settings, RegistryBad, DiskFault, FolderFault, Unreachable, OutFault, SourceFault, TooMany, NoNative, NoMemory, Unbuilt}
 use Rattle.rounds.specs.Words.{DiskWords}
 use Rattle.run_steps.specs.Met.{AreLeft, IsMetOf}
-use Rattle.run_steps.specs.Shown.{HasShown}
-use Rattle.run_steps.specs.SoFar.{SoFar}
-use Rattle.run_steps.proofs.Members.{some_is}
-use Rattle.run_steps.specs.Unnumbered.{IsMetUnnumbered, IsUnnumbered, WasOpenedUnnumbered}
+use Rattle.run_steps.specs.Unnumbered.{IsMetUnnumbered, IsUnnumbered}
 use Rattle.run_steps.specs.Worked.{IsMetByRun, Tolls}
 use Rattle.run_steps.specs.declared.met.Met.{Met}
 use Rattle.run_steps.specs.declared.met.Met.TheVariants as met
 use Rattle.run_steps.specs.declared.registry_error.RegistryError.{RegistryError}
 use Rattle.run_steps.specs.declared.registry_error.RegistryError.TheVariants as registry
-use Rattle.ship_core.proofs.Members.{first_there, later_there, none_there, there_cases}
 use Rattle.wire_base.specs.declared.limits.Full.{Full}
 use Rattle.wire_base.specs.declared.limits.Full.TheVariants.{Epochs, Files, Slots}
 use Rattle.wire_base.specs.declared.row.Row.{Row}
-use Rattle.beat_run.specs.Cause.{AllSigns, Cause, CauseBy, HasAreaFailed, HasFailedAt, LacksNumbers, Signs, WasListed, WasUnnumbered, without_sink}
+use Rattle.beat_run.specs.Cause.{AllSigns, Cause, CauseBy, HasAreaFailed, HasFailedAt, LacksNumbers, Signs, WasListed, without_sink}
 use Rattle.beat_run.specs.Ended.{IsTelling, StandsForMet, StandsForRegistry}
 use Rattle.beat_run.specs.Ends.{IsBehindOpening, IsBehindSettings, IsPreparingEnd, IsReportEnd, IsRunEnd, IsScanEnd, IsScannedEnd, FindsNoRoom, ListsTooMany, ShowsScanEnd}
 use Rattle.beat_run.specs.Named.{IsNamed}
 use Rattle.beat_run.specs.Scanning.{ScansParted}
+use Rattle.beat_run.proofs.PathsListed.{GoesFurther, was_listed, was_unnumbered}
 
 pub rose_since : (before mid now : ℕ) → before ≤ mid → Rose mid now → Rose before now
 rose_since before mid now no_less (inl more) = inl (omega (arith, no_less, more))
@@ -61,102 +50,6 @@ named_so listed place status names P within (inr full) wanting each = of_file (s
     of_file : (one : Option Listed) → slice_get listed place ≡ one → IfSome one (λ file. status ≡ names file.path) → P status
     of_file None none is = absurd (past listed place within none)
     of_file (Some file) some is = subst P (sym is) (each file some)
-
--- ---- what was listed
-
--- the folder did more behind its scan
-pub record GoesFurther (scanned after : Option FolderHistory) : Type 0 where
-  pub more : (history : FolderHistory) → scanned ≡ Some history → (events : List Event) × (after ≡ Some (record history { events = history.events ++ events }))
-
-pub shown_goes_further : (scanned after : Option FolderHistory) (so_far : SoFar) → HasShown scanned after so_far → GoesFurther scanned after
-shown_goes_further None after so_far shown = record { more = λ history none. absurd cc }
-shown_goes_further (Some before) None so_far shown = absurd shown
-shown_goes_further (Some before) (Some now) so_far shown = record {
-  more = λ history is.
-      let same : before ≡ history = cc in
-      subst (λ (h : FolderHistory). (events : List Event) × (Some now ≡ Some (record h { events = h.events ++ events }))) same
-      (shown.more, ap (λ (h : FolderHistory). Some h) (history_is now before shown.files shown.more shown.events));
-}
-  where
-    history_is : (one other : FolderHistory) → one.files ≡ other.files → (more : List Event) → one.events ≡ other.events ++ more → one ≡ record other { events = other.events ++ more }
-    history_is one other files more events = ap (λ (f : List File). record { files = f; events = one.events }) files ∙ ap (λ (e : List Event). record { files = other.files; events = e }) events
-
-in_rest : {A : Type 0} (front rest back : List A) (x : A) → Contains rest x → Contains (drop (length front) ((front ++ rest) ++ back)) x
-in_rest {A} front rest back x there =
-    subst (λ (l : List A). Contains l x) (sym (drop-append-le (length front) (front ++ rest) back (omega (arith, length-append front rest)) ∙ ap (λ (l : List A). l ++ back) (drop-append_seam front rest)))
-    (Contains-append_left rest back x there)
-
-map_there : {A B : Type 0} (f : A → B) (xs : List A) (x : A) → Contains xs x → Contains (map f xs) (f x)
-map_there f [] x there = absurd (none_there x there)
-map_there {A} {B} f (y ∷ xs) x there = by_case (there_cases y x xs there) (λ later. map_there f xs x later)
-  where
-    by_case : (y ≡ x) ⊎ Contains xs x → (Contains xs x → Contains (map f xs) (f x)) → Contains (map f (y ∷ xs)) (f x)
-    by_case (inl here) others = subst (λ (z : A). Contains (f y ∷ map f xs) (f z)) here (first_there (f y) (map f xs))
-    by_case (inr later) others = later_there (f y) (f x) (map f xs) (others later)
-
-pub got_there : {A : Type 0} (xs : List A) (k : ℕ) (x : A) → slice_get xs k ≡ Some x → Contains xs x
-got_there [] k x is = absurd (let q : None ≡ Some x = is in cc)
-got_there {A} (first ∷ xs) zero x is = subst (λ (y : A). Contains (first ∷ xs) y) (some_is first x is) (first_there first xs)
-got_there (first ∷ xs) (suc k) x is = later_there first x xs (got_there xs k x is)
-
-module _ (inputs : List InputRule) (told : FolderHistory) (files doubled : List Listed) (scanned after : Option FolderHistory) (scans : ScansParted inputs told files doubled scanned) (goes : GoesFurther scanned after)
-    (slot : ℕ) (one : Listed) (at : slice_get files slot ≡ Some one) where
-  abbrev behind_scan : FolderHistory
-  behind_scan = record told { events = told.events ++ map event_of scans.scans.listings }
-
-  listed_by : Any (λ shown. IsListedBy inputs one shown) (shown_in scans.scans.listings)
-  listed_by =
-      All-contains (λ (file : Listed). Any (λ shown. IsListedBy inputs file shown) (shown_in scans.scans.listings)) scans.all one scans.scans.only
-      (file_is_listed scans.all files doubled scans.parts one (got_there files slot one at))
-
-  was_listed : WasListed one.path told after
-  was_listed =
-      let by = listed_by in
-      let of = item_of (λ (listing : Listing). listing.shown) scans.scans.listings by.1 (by.0, by.2, by.3) in
-      let further = goes.more behind_scan scans.scans.listed_is.kept in
-      record {
-        now = record behind_scan { events = behind_scan.events ++ further.0 };
-        tells = further.1;
-        root = _;
-        depth = _;
-        shown = of.item.shown;
-        among = in_rest told.events (map event_of scans.scans.listings) further.0 (event_of of.item) (map_there event_of scans.scans.listings of.item of.among);
-        shows = (of.there.0, by.1, of.there.1, of.there.2, sym by.4.path_is);
-      }
-
-  -- it told no numbers as it was opened
-  was_unnumbered : (settings : SettingsOf) → settings.inputs ≡ inputs → IsUnnumbered settings files slot scanned after → WasUnnumbered inputs one.path told after
-  was_unnumbered settings inputs_are is =
-      let by = listed_by in
-      let further = goes.more behind_scan scans.scans.listed_is.kept in
-      let now : FolderHistory = record behind_scan { events = behind_scan.events ++ further.0 } in
-      let same : is.one ≡ one = some_is is.one one (sym is.listed_there ∙ at) in
-      let rule_is : slice_get inputs one.input ≡ Some is.rule = ap (λ (l : List InputRule). slice_get l one.input) (sym inputs_are) ∙ ap (λ (f : Listed). slice_get settings.inputs f.input) (sym same) ∙ is.rule_is in
-      let rules : by.4.rule ≡ is.rule = some_is by.4.rule is.rule (sym by.4.rule_is ∙ rule_is) in
-      let told_then : IfSome (Some behind_scan) (λ earlier. IfSome (Some now) (λ later. WasOpenedUnnumbered is.one.path earlier later)) =
-      subst (λ (o : Option FolderHistory). IfSome (Some behind_scan) (λ earlier. IfSome o (λ later. WasOpenedUnnumbered is.one.path earlier later))) further.1
-      (subst (λ (o : Option FolderHistory). IfSome o (λ earlier. IfSome after (λ later. WasOpenedUnnumbered is.one.path earlier later))) scans.scans.listed_is.kept is.opened) in
-      let opened : WasOpenedUnnumbered one.path behind_scan now = subst (λ (f : Listed). WasOpenedUnnumbered f.path behind_scan now) same told_then in
-      let longer = length-append told.events (map event_of scans.scans.listings) in
-      record {
-        now = now;
-        tells = further.1;
-        input = one.input;
-        rule = is.rule;
-        rule_is = rule_is;
-        covered = subst (λ (r : InputRule). IsCovered r.paths one.path) rules by.4.covered;
-        by_numbers = is.by_numbers;
-        opened = record {
-          opening = opened.opening;
-          since = omega (arith, opened.since, longer);
-          number = opened.number;
-          begun = opened.begun;
-          is = opened.is;
-          file = opened.file;
-          file_is = opened.file_is;
-          none = opened.none;
-        };
-      }
 
 -- ---- its cause
 

@@ -1,7 +1,7 @@
 -- A run over listed files that was accounted for is so still once rows of removed files were taken out of the registry.
-use Rattle.std.proofs.Common.{◌≡◌, ◌≢◌, ◌⊎◌, inl, inr, ⊎_elim, ℕ, zero, suc, ◌≤◌, true, All, Any, Contains, IfSome, IsSome, List, [], ◌∷◌, Option, Some, None, refl, sym, ap, subst, ◌∙◌, arith}
-use Rattle.std.proofs.lemmas.List.Elements.{All-contains, All-from_recursion, recursion_from_All}
-use Rattle.std.specs.Prelude.{slice_get}
+use Rattle.std.proofs.Common.{◌≡◌, ◌≢◌, ◌⊎◌, inl, inr, ⊎_elim, ℕ, zero, suc, ◌≤◌, true, All, Any, Contains, IfSome, IsSome, List, [], ◌∷◌, map, Option, Some, None, refl, sym, ap, subst, ◌∙◌, arith}
+use Rattle.std.proofs.lemmas.List.Elements.{All-from_recursion, recursion_from_All}
+use Rattle.std.specs.Prelude.{flat_map, slice_get}
 use Rattle.std.specs.List.{AllByRecursion}
 use Rattle.accounts.specs.AccountedFor.{HasItsRow, followings_in}
 use Rattle.event_tree.specs.declared.input_rule.IdentityRule.{IdentityRule}
@@ -14,11 +14,14 @@ use Rattle.kept_rows.specs.Followed.{IsKeyOf}
 use Rattle.kept_rows.specs.Kept.{IsKept, IsKeptInImage}
 use Rattle.kept_rows.specs.Premises.{Premises}
 use Rattle.kept_rows.specs.Run.{Run, Scan}
-use Rattle.kept_rows.specs.Scans.{IsNoFingerprint, ShowsKey}
+use Rattle.kept_rows.proofs.Showing.{both}
+use Rattle.kept_rows.specs.Scans.{ShowsKey}
 use Rattle.outside.specs.Counts.{Rose}
 use Rattle.outside.specs.Folders.{FolderHistory}
 use Rattle.prospect.proofs.Doubled.{each_file}
-use Rattle.prospect.specs.ListedFiles.{IsKeyed, IsListedBy, KeyIsTold, shown_in}
+use Rattle.file_identity.specs.Answers.{IsFingerprint}
+use Rattle.prospect.specs.AskedFiles.{Answer, AnswersSo, AskedFile, AsksFrom, ByName, Gave, NotFound, TooFew, keyed_as, keyed_by}
+use Rattle.prospect.specs.ListedFiles.{IsKeyed, KeyIsTold}
 use Rattle.prospect.specs.declared.listed.Listed.{Listed}
 use Rattle.registry_store.specs.Choice.{GivesRows}
 use Rattle.registry_store.specs.Standing.{chosen_by}
@@ -53,7 +56,7 @@ use Rattle.beat_run.specs.Accounted.{IsOfRemovedFile, LeavesNoRemoved}
 use Rattle.beat_run.specs.Cause.{Signs}
 use Rattle.beat_run.specs.Cleaning.{Cleaning, Cleans, HeldOnlyLeft, IsAtRestIn}
 use Rattle.beat_run.proofs.Accounts.{IsWorked}
-use Rattle.beat_run.proofs.Causes.{FailedIn, got_there, left_telling}
+use Rattle.beat_run.proofs.Causes.{FailedIn, left_telling}
 use Rattle.beat_run.proofs.GoneNumbers.{counted_with_gone, numbers_with_gone, placed_with_gone}
 
 -- ---- what is met
@@ -147,23 +150,33 @@ any_got P (first ∷ xs) (suc i) x at is = let later = any_got P xs i x at is in
 
 -- ---- the key of each file that is followed is known
 
-known_by : (identity : IdentityRule) (key : Option (List ℕ)) → IsNoFingerprint identity → KeyIsTold identity key → IsSome key
-known_by (Fingerprint offset count) key named told = absurd named
-known_by Native key named told = told
-known_by Path key named told = told
+known_by : (identity : IdentityRule) (key : Option (List ℕ)) → ¬ (IsFingerprint identity) → KeyIsTold identity key → IsSome key
+known_by (Fingerprint offset count) key by_entry told = absurd (by_entry tt)
+known_by Native key by_entry told = told
+known_by Path key by_entry told = told
+
+module _ (inputs : List InputRule) where
+  known_as : (rule : InputRule) (one : Listed) (answer : Answer) (before after : FolderHistory) → KeyIsTold rule.file_identity one.key → AnswersSo rule one answer before after →
+      AllByRecursion (λ (file : Listed). IsSome file.key) (keyed_as one answer)
+  known_as rule one ByName before after told so = (known_by rule.file_identity one.key so.0 told, tt)
+  known_as rule one (Gave opening key) before after told so = (refl, tt)
+  known_as rule one (TooFew opening) before after told so = tt
+  known_as rule one (NotFound opening) before after told so = tt
+
+  -- each file that was asked and has a key has one that is told
+  all_known : (asked : List AskedFile) (before after : FolderHistory) → AsksFrom inputs asked before after → AllByRecursion (IsKeyed inputs) (map (λ (one : AskedFile). one.listed) asked) →
+      AllByRecursion (λ (file : Listed). IsSome file.key) (flat_map keyed_by asked)
+  all_known [] before after asks keyed = tt
+  all_known (one ∷ asked) before after asks keyed =
+      both (λ (file : Listed). IsSome file.key) (keyed_by one) (flat_map keyed_by asked)
+      (known_as asks.1.rule one.listed one.answer before asks.0 (keyed.0 asks.1.rule asks.1.rule_is) asks.1.answered)
+      (all_known asked asks.0 after asks.2 keyed.1)
 
 pub keys_are_known : {D : Type 0} (start : Began D) (folder : FolderTold) → HasScanned start folder → All (λ (one : Listed). IsSome one.key) start.listed
 keys_are_known start folder has =
-    each_file has.all start.listed start.doubled has.parts (λ (one : Listed). IsSome one.key)
-    (All-from_recursion (λ (one : Listed). IsSome one.key) has.all (each_there (λ (one : Listed). IsSome one.key) has.all is_known))
-  where
-    is_known : (one : Listed) → Contains has.all one → IsSome one.key
-    is_known one there =
-        let by = All-contains (λ (file : Listed). Any (λ shown. IsListedBy start.settings.inputs file shown) (shown_in has.scans.listings)) has.all one has.scans.only there in
-        let rule : InputRule = by.4.rule in
-        known_by rule.file_identity one.key
-        (All-contains (λ (r : InputRule). IsNoFingerprint r.file_identity) start.settings.inputs rule has.named (got_there start.settings.inputs one.input rule by.4.rule_is))
-        (All-contains (IsKeyed start.settings.inputs) has.all one has.keyed there rule by.4.rule_is)
+    let keyed = subst (λ (l : List Listed). AllByRecursion (IsKeyed start.settings.inputs) l) (sym has.asked_are) (recursion_from_All (IsKeyed start.settings.inputs) has.all has.keyed) in
+    each_file (flat_map keyed_by folder.asked) start.listed start.doubled has.parts (λ (one : Listed). IsSome one.key)
+    (All-from_recursion (λ (one : Listed). IsSome one.key) (flat_map keyed_by folder.asked) (all_known start.settings.inputs folder.asked folder.listed folder.scanned has.asks keyed))
 
 -- ---- the run, with other areas behind it
 

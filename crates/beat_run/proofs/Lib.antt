@@ -5,11 +5,12 @@ pub mod Complete
 pub mod Endings
 pub mod FirstLacks
 pub mod GoneNumbers
+pub mod PathsListed
 pub mod PrintedEnds
 pub mod Printings
-pub mod ReadsNoFiles
 pub mod Refusals
 pub mod ReportEnds
+pub mod ScanShown
 pub mod SettingOut
 pub mod SettingsBytes
 pub mod Skipping

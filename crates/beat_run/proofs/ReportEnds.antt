@@ -27,7 +27,8 @@ use Rattle.beat_run.specs.Printed.{IsReportOf, IsReportOver, IsToBePrinted, Repo
 use Rattle.beat_run.specs.Scanning.{ScansParted}
 use Rattle.beat_run.specs.declared.ending.Ending.{Ending}
 use Rattle.beat_run.proofs.Accounts.{full_for_met, met_for_end}
-use Rattle.beat_run.proofs.Causes.{FailedIn, GoesFurther, caused_at_end, gives_its_rows, left_by, left_telling, scanned_end}
+use Rattle.beat_run.proofs.Causes.{FailedIn, caused_at_end, gives_its_rows, left_by, left_telling, scanned_end}
+use Rattle.beat_run.proofs.PathsListed.{GoesFurther}
 
 abbrev EndsBy : List Listed → ℕ → Met → Status → Type 0
 EndsBy listed attempts what status = (status ≡ NoMemory) ⊎ StandsForMet listed attempts what status

@@ -2,10 +2,8 @@
 use Rattle.std.proofs.Common.{◌≡◌, ℕ, All, List, [], Option, sym, ap, subst, ◌∙◌}
 use Rattle.atomic_table.specs.Seated.{TableId}
 use Rattle.beat_config.specs.InRange.{AreInRange}
-use Rattle.event_tree.specs.declared.input_rule.InputRule.{InputRule}
 use Rattle.event_tree.specs.declared.settings.Settings.{Settings}
 use Rattle.keeper.specs.Keeping.{Keeping}
-use Rattle.kept_rows.specs.Scans.{IsNoFingerprint}
 use Rattle.outside.specs.Folders.{FolderHistory}
 use Rattle.outside.specs.Times.{GivesMoment}
 use Rattle.prospect.specs.declared.listed.Listed.{Listed}
@@ -19,7 +17,7 @@ use Rattle.run_steps.specs.Outset.{Earlier, IsFirstKeeper, Outset, SetsOut, bega
 use Rattle.run_steps.proofs.OutsetMade.{sets_out}
 use Rattle.beat_run.specs.Accounted.{Areas, IsOpenedFrom}
 
-module _ {W D : Type 0} (disks : DiskWords D) (wires : WireWords W) (settings : Settings) (in_range : AreInRange settings) (named : All (λ (input : InputRule). IsNoFingerprint input.file_identity) settings.inputs)
+module _ {W D : Type 0} (disks : DiskWords D) (wires : WireWords W) (settings : Settings) (in_range : AreInRange settings)
     (desk : TableId) (keeper : Keeping) (store : Standing) (first : IsFirstKeeper desk keeper) (over : keeper.store ≡ store) (items : List W) (from : Areas D) (a b : D) (opened : IsOpenedFrom disks from store a b)
     (listed doubled : List Listed) (moment : ℕ) (before later : Option (List ℕ)) (gives : GivesMoment before moment later) (scanned : Option FolderHistory)
     (of_inputs : All (IsOfInputs settings) listed) where
@@ -38,4 +36,4 @@ module _ {W D : Type 0} (disks : DiskWords D) (wires : WireWords W) (settings : 
   pub set_out : SetsOut disks (began_with wires outset earlier) outset
   set_out = sets_out disks wires outset earlier first.store first.pass first.is gives (subst (GiveTheRows disks from.a from.b) its_rows opened.gave) (λ rest. subst (λ (rows : List Row). HaveHeldFronts disks rows [] from.a from.b a b) its_rows (opened.held rest))
       (λ rest. subst (λ (s : Standing). AreSettled disks.contents disks.images a b (chosen_by s)) its_store (opened.settled rest))
-      in_range named of_inputs
+      in_range of_inputs

@@ -3,14 +3,16 @@ use Rattle.std.proofs.Common.{◌≡◌, ◌<◌, ◌+◌, ℕ, List, [], ◌∷
 use Rattle.std.proofs.lemmas.List.{map-append, take_more}
 use Rattle.prospect.specs.declared.listed.Listed.{Listed}
 use Rattle.report.specs.declared.passing.Passing.{Passing}
-use Rattle.beat_run.specs.Skipped.{all_skipped, doubled_path}
+use Rattle.report.specs.declared.passing.Why.{Why}
+use Rattle.beat_run.specs.Skipped.{skipped_for}
 
 pub one_more : (listed : List Listed) (i : ℕ) (one : Listed) → i < length listed → one ≡ get_or listed i one → take (i + 1) listed ≡ take i listed ++ one ∷ []
 one_more listed i one inside is = take_more listed i one inside ∙ ap (λ (l : Listed). take i listed ++ l ∷ []) (sym is)
 
-pub skipped_more : (passed : List Passing) (front : List Listed) (one : Listed) (all new : List Passing) → all ≡ all_skipped passed front → new ≡ all ++ doubled_path one ∷ [] → new ≡ all_skipped passed (front ++ one ∷ [])
-skipped_more passed front one all new is more =
+pub skipped_more : (why : Why) (passed : List Passing) (front : List Listed) (one : Listed) (all new : List Passing) → all ≡ passed ++ map (skipped_for why) front → new ≡ all ++ skipped_for why one ∷ [] →
+    new ≡ passed ++ map (skipped_for why) (front ++ one ∷ [])
+skipped_more why passed front one all new is more =
     more
-    ∙ ap (λ (l : List Passing). l ++ doubled_path one ∷ []) is
-    ∙ append_assoc passed (map doubled_path front) (doubled_path one ∷ [])
-    ∙ ap (λ (l : List Passing). passed ++ l) (sym (map-append doubled_path front (one ∷ [])))
+    ∙ ap (λ (l : List Passing). l ++ skipped_for why one ∷ []) is
+    ∙ append_assoc passed (map (skipped_for why) front) (skipped_for why one ∷ [])
+    ∙ ap (λ (l : List Passing). passed ++ l) (sym (map-append (skipped_for why) front (one ∷ [])))

@@ -1,6 +1,8 @@
--- The status that a part of a run ended with, and the one that stands for what was met, and for what registry and scan answered (this
+-- The status that a part of a run ended with, and the one that stands for what was met, and for what registry, scan and asking answered (this
 -- project's profile).
 use Rattle.std.specs.Prelude.{◌≡◌, ◌⊎◌, ℕ, List, slice_get, IfSome, Result, Ok, Err}
+use Rattle.outside.specs.declared.failed.FolderError.{FolderError}
+use Rattle.outside.specs.declared.failed.FolderError.TheVariants.{Failed as FolderFailed, NoMemory as FolderNoMemory}
 use Rattle.prospect.specs.declared.listed.Listed.{Listed}
 use Rattle.prospect.specs.declared.scan_error.ScanError.{ScanError}
 use Rattle.prospect.specs.declared.scan_error.ScanError.TheVariants.{Failed as ScanFailed, NoMemory as ScanNoMemory, NoNative as ScanNoNative, TooMany as ScanTooMany}
@@ -53,6 +55,10 @@ StandsForScan ScanFailed status = status ≡ FolderFault
 StandsForScan ScanNoMemory status = status ≡ NoMemory
 StandsForScan (ScanNoNative path) status = status ≡ NoNative path
 StandsForScan (ScanTooMany path) status = status ≡ TooMany Files path
+
+abbrev pub StandsForAsking : FolderError → Status → Type 0
+StandsForAsking FolderFailed status = status ≡ FolderFault
+StandsForAsking FolderNoMemory status = status ≡ NoMemory
 
 abbrev pub StandsForJoin : JoinError → Status → Type 0
 StandsForJoin (JoinTooMany what path) status = status ≡ TooMany what path

@@ -18,7 +18,7 @@ use Rattle.report.specs.declared.status.Lack.TheVariants.{Key, Follow, Generate}
 use Rattle.report.specs.declared.status.Lack.{Lack}
 use Rattle.report.specs.declared.status.Status.{Status}
 use Rattle.report.specs.declared.status.Status.TheVariants.{Done, Stopped, Usage, Settings, RegistryBad, DiskFault, FolderFault, Unreachable, OutFault, SourceFault, TooMany, NoNative, NoMemory, Unbuilt}
-use Rattle.beat_run.specs.Scanning.{ScansParted}
+use Rattle.beat_run.specs.Scanning.{ScansAndAsks, ScansParted}
 
 -- reading the arguments
 abbrev pub IsWordsEnd : Status → Type 0
@@ -80,10 +80,14 @@ pub record ListsTooMany (inputs : List InputRule) (told : FolderHistory) (rows :
 abbrev pub FindsNoRoom : List InputRule → FolderHistory → List Row → List ℕ → Option FolderHistory → Type 0
 FindsNoRoom inputs told rows path after = FindsOneMore inputs told path after ⊎ ListsTooMany inputs told rows Files path after
 
--- what its listings show then: those that were made, what is too much for these rows, or a path without the numbers that its input wants
+-- its listings that were made, or all of them and some of its askings
+abbrev pub ScansSome : List InputRule → FolderHistory → Option FolderHistory → Type 0
+ScansSome inputs told after = ListsSome (globs_of inputs) told after ⊎ ScansAndAsks inputs told after
+
+-- what it shows then: what was listed and asked, what is too much for these rows, or a path without the numbers that its input wants
 abbrev pub ShowsScanEnd : List InputRule → FolderHistory → List Row → Option FolderHistory → Status → Type 0
-ShowsScanEnd inputs told rows after FolderFault = ListsSome (globs_of inputs) told after
-ShowsScanEnd inputs told rows after NoMemory = ListsSome (globs_of inputs) told after
+ShowsScanEnd inputs told rows after FolderFault = ScansSome inputs told after
+ShowsScanEnd inputs told rows after NoMemory = ScansSome inputs told after
 ShowsScanEnd inputs told rows after (TooMany Files path) = FindsNoRoom inputs told rows path after
 ShowsScanEnd inputs told rows after (TooMany Epochs path) = ListsTooMany inputs told rows Epochs path after
 ShowsScanEnd inputs told rows after (NoNative path) = FindsNoNumbers inputs told path after

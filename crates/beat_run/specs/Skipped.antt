@@ -1,12 +1,16 @@
 -- Which paths a run skipped (Filebeat reference, filestream input, file identity; this project's profile): those that it skipped as it opened
--- files, and those by which a file was listed again that an earlier path led to.
+-- files, behind these the paths of files that were gone as the scan asked them for their keys and of those that are too small for theirs, and
+-- those by which a file was listed again that an earlier path led to.
 use Rattle.std.specs.Prelude.{List, ◌++◌, map}
 use Rattle.prospect.specs.declared.listed.Listed.{Listed}
 use Rattle.report.specs.declared.passing.Passing.{Passing}
-use Rattle.report.specs.declared.passing.Why.TheVariants.{Doubled}
+use Rattle.report.specs.declared.passing.Why.{Why}
+use Rattle.report.specs.declared.passing.Why.TheVariants.{Doubled, Gone, Small}
+use Rattle.run_steps.specs.declared.beginning.Scanned.{Scanned}
 
-abbrev pub doubled_path : Listed → Passing
-doubled_path one = record { path = one.path; why = Doubled }
+abbrev pub skipped_for : Why → Listed → Passing
+skipped_for why one = record { path = one.path; why = why }
 
-abbrev pub all_skipped : List Passing → List Listed → List Passing
-all_skipped passed doubled = passed ++ map doubled_path doubled
+abbrev pub all_skipped : List Passing → Scanned → List Passing
+all_skipped passed scanned =
+    passed ++ map (skipped_for Gone) scanned.gone.items ++ map (skipped_for Small) scanned.small.items ++ map (skipped_for Doubled) scanned.doubled.items

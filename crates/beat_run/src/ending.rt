@@ -1,9 +1,9 @@
-ghost use Rattle.std.specs.Prelude.{◌≡◌, ◌⊎◌, length, IfErr, IfOk};
+ghost use Rattle.std.specs.Prelude.{◌≡◌, ◌⊎◌, ◌++◌, length, map, IfErr, IfOk, OnOk};
 ghost use Rattle.report.specs.Report.{IsReport};
 ghost use Rattle.run_steps.specs.Met.{IsMetOf};
 ghost use Rattle.beat_run.specs.Ended.{IsTelling, StandsForMet};
 ghost use Rattle.beat_run.specs.Ends.{IsReportEnd, IsRunEnd};
-ghost use Rattle.beat_run.specs.Skipped.{all_skipped};
+ghost use Rattle.beat_run.specs.Skipped.{all_skipped, skipped_for};
 
 use crate::status::status_of;
 use prospect::Listed;
@@ -40,7 +40,7 @@ pub fn ending_of(
     requires of_these { IsMetOf (length scanned.now.listed.items) worked.met }
     ensures telling { IfOk result (λ _. IsTelling worked.met) }
     ensures report { IfOk result (λ ending. IsReport store.now.rows
-        (all_skipped worked.passed.items scanned.entry.now.doubled.items)
+        (all_skipped worked.passed.items scanned.entry.now)
         totals.shipped totals.dropped ending.status ending.report) }
     ensures stands { IfOk result (λ ending.
         StandsForMet scanned.entry.now.listed.items attempts worked.met ending.status) }
@@ -53,7 +53,7 @@ pub fn ending_of(
     let status = status_of(alloc, met, scanned.listed.as_slice(), attempts);
     match met {
         Met::Done | Met::Stopped => {
-            let passed = with_doubled(alloc, passed, scanned.doubled.as_slice())?;
+            let passed = with_skipped(alloc, passed, scanned)?;
             let report = report_text(
                 alloc,
                 store.rows(),
@@ -68,17 +68,32 @@ pub fn ending_of(
     }
 }
 
-/// The skipped paths, and behind them those by which an earlier path's file was listed again.
-fn with_doubled(
+/// The paths that were skipped as files were opened, and behind them those of files that the scan skipped.
+fn with_skipped(
     alloc: Global,
     passed: Vec<Passing>,
-    doubled: &[Listed],
+    scanned: &Scanned,
 ) -> Result<Vec<Passing>, NoMemory>
-    ensures { IfOk result (λ all. all.items ≡ all_skipped passed.items doubled.now) }
+    ensures { IfOk result (λ all. all.items ≡ all_skipped passed.items scanned.entry.now) }
 {
     let mut all = passed;
-    for one in doubled {
-        pass_over(alloc, one, Why::Doubled, &mut all)?;
-    }
+    skip_for(alloc, Why::Gone, scanned.gone.as_slice(), &mut all)?;
+    skip_for(alloc, Why::Small, scanned.small.as_slice(), &mut all)?;
+    skip_for(alloc, Why::Doubled, scanned.doubled.as_slice(), &mut all)?;
     Ok(all)
+}
+
+/// Adds the paths of these files, which are skipped for this reason.
+fn skip_for(
+    alloc: Global,
+    why: Why,
+    files: &[Listed],
+    passed: &mut Vec<Passing>,
+) -> Result<(), NoMemory>
+    ensures { OnOk result (passed.new.items ≡ passed.old.items ++ map (skipped_for why) files.now) }
+{
+    for one in files {
+        pass_over(alloc, one, why, passed)?;
+    }
+    Ok(())
 }

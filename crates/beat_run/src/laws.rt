@@ -1,9 +1,7 @@
-ghost use Rattle.std.specs.Prelude.{◌≡◌, []};
 ghost use Rattle.accounts.specs.RunsInARow.{HaveOwnIds};
 ghost use Rattle.beat_config.specs.InRange.{AreInRange};
 ghost use Rattle.beat_run.specs.NextRun.{EndedRun, FindsAreasAsLeft, OpensKeptRows, OpensLastRows};
 ghost use Rattle.event_tree.specs.declared.settings.Settings.{Settings};
-ghost use Rattle.prospect.specs.Lacks.{lacks_of};
 ghost use Rattle.registry_log.specs.OnlyRead.{IsOnlyRead};
 ghost use Rattle.rounds.specs.Words.{disk_words};
 
@@ -28,6 +26,5 @@ pub fn next_run_opens_kept_rows<D: Disk>()
         earlier.objects later.objects →
         OpensLastRows (disk_words D.contents D.images D.moment D.images_since D.faults)
         earlier later }
-    ensures own_ids { (settings : Settings) → AreInRange settings → lacks_of settings ≡ [] →
-        HaveOwnIds settings.inputs }
+    ensures own_ids { (settings : Settings) → AreInRange settings → HaveOwnIds settings.inputs }
 {}

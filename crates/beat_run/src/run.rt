@@ -2,7 +2,7 @@ ghost use Rattle.std.specs.Prelude.{false, ◌≡◌, ◌⊎◌, [], All, IfErr,
 ghost use Rattle.beat_config.specs.Document.{AreSettingsOf, IsFirstFault};
 ghost use Rattle.beat_config.specs.InRange.{AreInRange};
 ghost use Rattle.command_line.specs.Words.{IsNoCommand};
-ghost use Rattle.prospect.specs.Lacks.{IsFirstLack, lacks_of};
+ghost use Rattle.prospect.specs.Lacks.{IsFirstLack};
 ghost use Rattle.registry_log.specs.OnlyRead.{IsOnlyRead};
 ghost use Rattle.registry_store.specs.Settled.{AreAtRest};
 ghost use Rattle.rounds.specs.Words.{disk_words, wire_words};
@@ -193,7 +193,6 @@ fn run_settings<
 where
     F::Tail: Send,
     requires in_range { AreInRange settings.now }
-    requires nothing_lacks { lacks_of settings.now ≡ [] }
     requires wires { vec_len outside.old.wires.now ≡ 16 }
     ensures registry_bad { (first second : List ℕ) (area : Which) (at : ℕ) →
         D.contents outside.old.a.now ≡ Some first → D.contents outside.old.b.now ≡ Some second →
@@ -309,7 +308,6 @@ fn run_store<
 where
     F::Tail: Send,
     requires in_range { AreInRange settings.now }
-    requires nothing_lacks { lacks_of settings.now ≡ [] }
     requires open { store.closed ≡ false }
     requires wires { vec_len outside.old.wires.now ≡ 16 }
     ensures cause { (from : Areas D) → IsOpenedFrom
@@ -428,7 +426,7 @@ fn finish<D: Disk>(
     ensures finished { (now : Met) × (store : Standing) ×
         Finishes (disk_words D.contents D.images D.moment D.images_since D.faults)
         context.entry.settings.now scanned.entry.now.listed.items
-        (all_skipped worked.passed.items scanned.entry.now.doubled.items) keeper
+        (all_skipped worked.passed.items scanned.entry.now) keeper
         (record { met = worked.met; store = keeper.store; a = a.old; b = b.old })
         (record { met = now; store = store; a = a.new; b = b.new }) result }
     ensures with_report { IfOk result (λ ending. IsReportEnd ending.status) }

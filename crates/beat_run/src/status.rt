@@ -1,9 +1,10 @@
 ghost use Rattle.std.specs.Prelude.{◌≡◌, ◌⊎◌, length};
 ghost use Rattle.run_steps.specs.Met.{IsMetOf};
 ghost use Rattle.wire_base.specs.declared.limits.Full.{Full};
-ghost use Rattle.beat_run.specs.Ended.{IsTelling, StandsForJoin, StandsForMet, StandsForRegistry, StandsForScan};
+ghost use Rattle.beat_run.specs.Ended.{IsTelling, StandsForAsking, StandsForJoin, StandsForMet, StandsForRegistry, StandsForScan};
 ghost use Rattle.beat_run.specs.Ends.{IsReportEnd, IsRunEnd};
 
+use outside::FolderError;
 use prospect::{Listed, ScanError};
 use report::Status;
 use restart_join::JoinError;
@@ -78,6 +79,16 @@ pub fn status_of_scan(error: ScanError) -> Status
             what: Full::Files,
             path,
         },
+    }
+}
+
+/// The status of files that could not all be asked for their keys.
+pub fn status_of_asking(error: FolderError) -> Status
+    ensures { StandsForAsking error result }
+{
+    match error {
+        FolderError::Failed => Status::FolderFault,
+        FolderError::NoMemory => Status::NoMemory,
     }
 }
 

@@ -1,6 +1,4 @@
-use Rattle.accounts.proofs.InARow.{named_have_own_ids}
-use Rattle.run_steps.proofs.NamedInputs.{inputs_are_named as are_named}
-use Rattle.beat_run.proofs.ReadsNoFiles.{inputs_are_named}
+use Rattle.run_steps.proofs.NamedInputs.{inputs_have_own_ids}
 use Rattle.beat_run.proofs.laws.next_run_opens_kept_rows.Goals as goal
 
 pub returns-clause-opening : goal.returns-clause-opening
@@ -14,5 +12,4 @@ returns-clause-opening_behind_last_steps g c = λ earlier later as_left are_left
     (earlier.accounted.rows as_left.were_at_rest as_left.first as_left.second later.accounted.run.opening as_left.a_left as_left.b_left gives).kept are_left
 
 pub returns-clause-own_ids : goal.returns-clause-own_ids
-returns-clause-own_ids g c = λ settings in_range supported.
-    named_have_own_ids settings.inputs (are_named settings in_range (inputs_are_named settings supported))
+returns-clause-own_ids g c = λ settings in_range. inputs_have_own_ids settings in_range

@@ -1,26 +1,33 @@
 use Rattle.std.proofs.Common.{◌≡◌, ◌∙◌, ℕ, ◌+◌, ◌-◌, ◌^◌, ◌<◌, ◌≤◌, Some, ap, length, map, refl, subst, sym, arith}
 use Rattle.std.proofs.lemmas.Result.{err_from_is_err_and}
 use Rattle.keeper.specs.Keeping.{Keeping}
-use Rattle.prospect.specs.Members.{globs_of}
 use Rattle.report.specs.declared.status.Status.TheVariants.{NoMemory}
 use Rattle.rounds.specs.Making.{all_seen}
 use Rattle.rounds.specs.declared.storing.Storing.{Storing}
 use Rattle.rounds.specs.Words.{disk_words, wire_words}
 use Rattle.run_steps.proofs.Clocks.{clock_by_two}
-use Rattle.run_steps.proofs.RunEarly.{listed_all}
+use Rattle.run_steps.proofs.NamedInputs.{inputs_are_askable}
 use Rattle.run_steps.specs.Outset.{began_with}
-use Rattle.beat_run.proofs.Accounts.{each_some, early, full_for_scan, outcomes_seen, some_listed, wires_tell, worked}
+use Rattle.beat_run.proofs.Accounts.{early, full_for_scan, outcomes_seen, wires_tell, worked}
 use Rattle.ship_core.specs.Rows.{IsInOrder}
 use Rattle.beat_run.specs.Cause.{Signs}
 use Rattle.beat_run.specs.Ended.{ended}
 use Rattle.beat_run.specs.Skipped.{all_skipped}
-use Rattle.beat_run.proofs.Causes.{at_rest, ends_without_report, is_met_of, scan_caused, scan_ended, shown_goes_further}
+use Rattle.beat_run.proofs.Causes.{at_rest, ends_without_report, is_met_of, scan_caused, scan_ended}
+use Rattle.beat_run.proofs.PathsListed.{shown_goes_further}
 use Rattle.beat_run.proofs.Cleaned.{accounted_and_cleaned, failed_after_cleaning, keys_are_known, left_before_cleaning, met_after_cleaning, of_these_after_cleaning, unnumbered_after_cleaning}
-use Rattle.beat_run.proofs.ReadsNoFiles.{inputs_are_named}
 use Rattle.beat_run.proofs.ReportEnds.{caused_ending, full_for_ending, left_by_ending, met_for_ending, report_of, report_over, reports_stored, scanned_ending}
+use Rattle.beat_run.proofs.ScanShown.{each_some, parted_told, scanned_some, scanned_whole}
 use Rattle.beat_run.proofs.SettingOut.{earlier, outset, set_out}
 use Rattle.beat_run.proofs.WiresFailed.{failed_by}
 use Rattle.beat_run.proofs.run.run_store.Goals as goal
+
+-- ---- its scan
+
+pub scan-requires-clause-askable : goal.scan-requires-clause-askable
+scan-requires-clause-askable g c =
+    let inputs : c.as_slice.result.now ≡ c.args.settings.now.inputs = c.as_slice.ensures in
+    rw inputs (inputs_are_askable c.args.settings.now c.requires.in_range)
 
 -- ---- the scan told no files
 
@@ -37,11 +44,10 @@ returns-in_err-scanned-clause-accounted g c = λ from opened tells.
     let p = err_from_is_err_and c.from_residual.result c.from_residual.ensures.1 in
     let disks = disk_words g.D.Disk.contents g.D.Disk.images g.D.Disk.moment g.D.Disk.images_since g.D.Disk.faults in
     rw (p.1, p.2)
-    (early disks c.one_choice.ensures c.args.settings.now c.requires.in_range (inputs_are_named c.args.settings.now c.requires.nothing_lacks)
-    c.args.store.rows from.a from.b c.args.outside.now.a.now c.args.outside.now.b.now opened.gave opened.held (map g.W.Wire.outcomes c.args.outside.now.wires.now.items)
+    (early disks c.one_choice.ensures c.args.settings.now c.args.store.rows from.a from.b c.args.outside.now.a.now c.args.outside.now.b.now opened.gave opened.held (map g.W.Wire.outcomes c.args.outside.now.wires.now.items)
     (g.F.Folder.told c.args.outside.now.folder.now) (g.F.Folder.told c.scan.new.folder) (g.K.Clock.moments c.args.outside.now.clock.now) (g.K.Clock.moments c.scan.new.clock)
     c.in_err-scanned.ensures.moment_given_first.0 _ tells.folder tells.moments c.in_err-scanned.ensures.moment_given_first.1
-    (each_some (g.F.Folder.told c.args.outside.now.folder.now) _ _ (λ history shows. some_listed c.args.settings.now.inputs history _ (g.F.Folder.told c.scan.new.folder) _ shows) (rw inputs at c.in_err-scanned.ensures.shows_end))
+    (each_some (g.F.Folder.told c.args.outside.now.folder.now) _ _ (λ history shows. scanned_some c.args.settings.now c.requires.in_range history _ (g.F.Folder.told c.scan.new.folder) _ shows) (rw inputs at c.in_err-scanned.ensures.shows_end))
     (ends_without_report _ (scan_ended _ _ _ c.in_err-scanned.ensures.ends))
     (full_for_scan disks c.args.settings.now _ _ _ opened.gave (rw (inputs, rows) at c.in_err-scanned.ensures.shows_end)))
 
@@ -53,11 +59,10 @@ returns-in_err-parts-clause-accounted g c = λ from opened tells.
     let p = err_from_is_err_and c.from_residual-in_err-parts.result c.from_residual-in_err-parts.ensures.1 in
     let disks = disk_words g.D.Disk.contents g.D.Disk.images g.D.Disk.moment g.D.Disk.images_since g.D.Disk.faults in
     rw (p.1, p.2)
-    (early disks c.one_choice.ensures c.args.settings.now c.requires.in_range (inputs_are_named c.args.settings.now c.requires.nothing_lacks)
-    c.args.store.rows from.a from.b c.args.outside.now.a.now c.args.outside.now.b.now opened.gave opened.held (map g.W.Wire.outcomes c.args.outside.now.wires.now.items)
+    (early disks c.one_choice.ensures c.args.settings.now c.args.store.rows from.a from.b c.args.outside.now.a.now c.args.outside.now.b.now opened.gave opened.held (map g.W.Wire.outcomes c.args.outside.now.wires.now.items)
     (g.F.Folder.told c.args.outside.now.folder.now) (g.F.Folder.told c.scan.new.folder) (g.K.Clock.moments c.args.outside.now.clock.now) (g.K.Clock.moments c.scan.new.clock)
     c.in_ok-scanned.scanned.now.0 NoMemory tells.folder tells.moments c.in_ok-scanned.ensures.moment_given
-    (each_some (g.F.Folder.told c.args.outside.now.folder.now) _ _ (λ history scans. listed_all (globs_of c.args.settings.now.inputs) history scans.scans.listings (g.F.Folder.told c.scan.new.folder) scans.scans.listed_is) (rw inputs at c.in_ok-scanned.ensures.scanned)) tt tt)
+    (each_some (g.F.Folder.told c.args.outside.now.folder.now) _ _ (λ history scans. scanned_whole c.args.settings.now c.requires.in_range history _ _ (g.F.Folder.told c.scan.new.folder) scans.parted) (rw inputs at c.in_ok-scanned.ensures.scanned)) tt tt)
 
 -- ---- or for a crew
 
@@ -71,11 +76,10 @@ returns-in_err-worked-clause-accounted g c = λ from opened tells.
     let a_same : c.run_over.new.storing.a.now ≡ c.args.outside.now.a.now = ap (λ (s : Storing g.row.D.Denot). s.a.now) c.in_err-worked.ensures.untouched.0 in
     let b_same : c.run_over.new.storing.b.now ≡ c.args.outside.now.b.now = ap (λ (s : Storing g.row.D.Denot). s.b.now) c.in_err-worked.ensures.untouched.0 in
     rw (p.1, p.2, a_same, b_same, c.in_err-worked.ensures.untouched.1, c.in_err-worked.ensures.untouched.2, back)
-    (early disks c.one_choice.ensures c.args.settings.now c.requires.in_range (inputs_are_named c.args.settings.now c.requires.nothing_lacks)
-    c.args.store.rows from.a from.b c.args.outside.now.a.now c.args.outside.now.b.now opened.gave opened.held (map g.W.Wire.outcomes c.args.outside.now.wires.now.items)
+    (early disks c.one_choice.ensures c.args.settings.now c.args.store.rows from.a from.b c.args.outside.now.a.now c.args.outside.now.b.now opened.gave opened.held (map g.W.Wire.outcomes c.args.outside.now.wires.now.items)
     (g.F.Folder.told c.args.outside.now.folder.now) (g.F.Folder.told c.scan.new.folder) (g.K.Clock.moments c.args.outside.now.clock.now) (g.K.Clock.moments c.scan.new.clock)
     c.in_ok-scanned.scanned.now.0 NoMemory tells.folder tells.moments c.in_ok-scanned.ensures.moment_given
-    (each_some (g.F.Folder.told c.args.outside.now.folder.now) _ _ (λ history scans. listed_all (globs_of c.args.settings.now.inputs) history scans.scans.listings (g.F.Folder.told c.scan.new.folder) scans.scans.listed_is) (rw inputs at c.in_ok-scanned.ensures.scanned)) tt tt)
+    (each_some (g.F.Folder.told c.args.outside.now.folder.now) _ _ (λ history scans. scanned_whole c.args.settings.now c.requires.in_range history _ _ (g.F.Folder.told c.scan.new.folder) scans.parted) (rw inputs at c.in_ok-scanned.ensures.scanned)) tt tt)
 
 -- ---- files were followed
 
@@ -98,14 +102,14 @@ returns-clause-cause g c = λ from opened.
       counts = record { a_faults = g.D.Disk.faults c.finish.new.a; b_faults = g.D.Disk.faults c.finish.new.b; folder_faults = g.F.Folder.faults c.run_over.new.around.folder.now; rings = g.B.Bell.rings c.run_over.new.around.bell.now };
     } in
     (caused_ending c.args.settings.now c.in_ok-scanned.scanned.listed.items c.in_ok-scanned.scanned.doubled.items before now (g.F.Folder.told c.scan.new.folder) (g.F.Folder.faults c.scan.new.folder) c.scan.ensures.folder_faults_never_fall
-    (rw inputs at c.in_ok-scanned.ensures.scanned)
+    (parted_told c.args.settings.now.inputs (g.F.Folder.told c.args.outside.now.folder.now) (g.F.Folder.told c.scan.new.folder) c.in_ok-scanned.scanned (rw inputs at c.in_ok-scanned.ensures.scanned))
     (λ some. shown_goes_further (g.F.Folder.told c.scan.new.folder) _ _
     (c.in_ok-worked.ensures.ends
-    (earlier disks wires c.args.settings.now c.requires.in_range (inputs_are_named c.args.settings.now c.requires.nothing_lacks)
+    (earlier disks wires c.args.settings.now c.requires.in_range
     c.in_ok-parts.parts.desk.id c.in_ok-parts.parts.keeper c.args.store c.in_ok-parts.ensures.keeper c.in_ok-parts.ensures.store c.args.outside.now.wires.now.items from
     c.args.outside.now.a.now c.args.outside.now.b.now opened c.in_ok-scanned.scanned.listed.items c.in_ok-scanned.scanned.doubled.items c.in_ok-scanned.scanned.now.0
     (g.K.Clock.moments c.args.outside.now.clock.now) (g.K.Clock.moments c.scan.new.clock) c.in_ok-scanned.ensures.moment_given (g.F.Folder.told c.scan.new.folder) (rw inputs at c.in_ok-scanned.ensures.of_inputs))
-    (set_out disks wires c.args.settings.now c.requires.in_range (inputs_are_named c.args.settings.now c.requires.nothing_lacks)
+    (set_out disks wires c.args.settings.now c.requires.in_range
     c.in_ok-parts.parts.desk.id c.in_ok-parts.parts.keeper c.args.store c.in_ok-parts.ensures.keeper c.in_ok-parts.ensures.store c.args.outside.now.wires.now.items from
     c.args.outside.now.a.now c.args.outside.now.b.now opened c.in_ok-scanned.scanned.listed.items c.in_ok-scanned.scanned.doubled.items c.in_ok-scanned.scanned.now.0
     (g.K.Clock.moments c.args.outside.now.clock.now) (g.K.Clock.moments c.scan.new.clock) c.in_ok-scanned.ensures.moment_given (g.F.Folder.told c.scan.new.folder) (rw inputs at c.in_ok-scanned.ensures.of_inputs))).1.ends.stands.shown)
@@ -126,26 +130,27 @@ returns-clause-accounted g c = λ from opened tells.
     let disks = disk_words g.D.Disk.contents g.D.Disk.images g.D.Disk.moment g.D.Disk.images_since g.D.Disk.faults in
     let wires = wire_words g.W.Wire.outcomes g.W.Wire.open_links g.W.Wire.faults g.W.Wire.idles in
     let of = of_these_after_cleaning disks _ _ _ _ cleans (length c.in_ok-scanned.scanned.listed.items) (is_met_of c.args.settings.now.output.workers _ _ _ c.in_ok-worked.worked.met c.in_ok-worked.ensures.cause) in
-    let before = earlier disks wires c.args.settings.now c.requires.in_range (inputs_are_named c.args.settings.now c.requires.nothing_lacks)
+    let before = earlier disks wires c.args.settings.now c.requires.in_range
     c.in_ok-parts.parts.desk.id c.in_ok-parts.parts.keeper c.args.store c.in_ok-parts.ensures.keeper c.in_ok-parts.ensures.store c.args.outside.now.wires.now.items from
     c.args.outside.now.a.now c.args.outside.now.b.now opened c.in_ok-scanned.scanned.listed.items c.in_ok-scanned.scanned.doubled.items c.in_ok-scanned.scanned.now.0
     (g.K.Clock.moments c.args.outside.now.clock.now) (g.K.Clock.moments c.scan.new.clock) c.in_ok-scanned.ensures.moment_given (g.F.Folder.told c.scan.new.folder) (rw inputs at c.in_ok-scanned.ensures.of_inputs) in
-    let sets = set_out disks wires c.args.settings.now c.requires.in_range (inputs_are_named c.args.settings.now c.requires.nothing_lacks)
+    let sets = set_out disks wires c.args.settings.now c.requires.in_range
     c.in_ok-parts.parts.desk.id c.in_ok-parts.parts.keeper c.args.store c.in_ok-parts.ensures.keeper c.in_ok-parts.ensures.store c.args.outside.now.wires.now.items from
     c.args.outside.now.a.now c.args.outside.now.b.now opened c.in_ok-scanned.scanned.listed.items c.in_ok-scanned.scanned.doubled.items c.in_ok-scanned.scanned.now.0
     (g.K.Clock.moments c.args.outside.now.clock.now) (g.K.Clock.moments c.scan.new.clock) c.in_ok-scanned.ensures.moment_given (g.F.Folder.told c.scan.new.folder) (rw inputs at c.in_ok-scanned.ensures.of_inputs) in
-    let start = began_with wires (outset disks wires c.args.settings.now c.requires.in_range (inputs_are_named c.args.settings.now c.requires.nothing_lacks)
+    let start = began_with wires (outset disks wires c.args.settings.now c.requires.in_range
     c.in_ok-parts.parts.desk.id c.in_ok-parts.parts.keeper c.args.store c.in_ok-parts.ensures.keeper c.in_ok-parts.ensures.store c.args.outside.now.wires.now.items from
     c.args.outside.now.a.now c.args.outside.now.b.now opened c.in_ok-scanned.scanned.listed.items c.in_ok-scanned.scanned.doubled.items c.in_ok-scanned.scanned.now.0
     (g.K.Clock.moments c.args.outside.now.clock.now) (g.K.Clock.moments c.scan.new.clock) c.in_ok-scanned.ensures.moment_given (g.F.Folder.told c.scan.new.folder) (rw inputs at c.in_ok-scanned.ensures.of_inputs)) before in
     let ends = c.in_ok-worked.ensures.ends before sets in
     let keeper = c.in_ok-parts.ensures.keeper in
     let keeper_is : c.keeper-2-1.given.0 ≡ c.run_over.new.storing.keeper.now = c.keeper-2-1.given.1 (sym c.run_over.ensures.same_keeper) in
-    (worked disks start c.requires.in_range (inputs_are_named c.args.settings.now c.requires.nothing_lacks) (map g.W.Wire.outcomes c.args.outside.now.wires.now.items) _ fin.0 c.keeper-2-1.given.0.shipped c.keeper-2-1.given.0.dropped
+    (worked disks start c.requires.in_range (map g.W.Wire.outcomes c.args.outside.now.wires.now.items) _ fin.0 c.keeper-2-1.given.0.shipped c.keeper-2-1.given.0.dropped
     (g.F.Folder.told c.args.outside.now.folder.now) (ended c.finish.result) tells.folder
-    (rw inputs at c.in_ok-scanned.ensures.scanned) (met_for_ending c.in_ok-scanned.scanned.listed.items c.args.settings.now.output.attempts fin.0 c.finish.result of fin.2.stands fin.2.refused)
+    (parted_told c.args.settings.now.inputs (g.F.Folder.told c.args.outside.now.folder.now) (g.F.Folder.told c.scan.new.folder) c.in_ok-scanned.scanned (rw inputs at c.in_ok-scanned.ensures.scanned))
+    (met_for_ending c.in_ok-scanned.scanned.listed.items c.args.settings.now.output.attempts fin.0 c.finish.result of fin.2.stands fin.2.refused)
     (full_for_ending disks c.args.settings.now _ c.in_ok-scanned.scanned.listed.items c.args.settings.now.output.attempts fin.0 c.finish.result of fin.2.stands fin.2.refused)
-    (report_over fin.1.rows (all_skipped c.in_ok-worked.worked.passed.items c.in_ok-scanned.scanned.doubled.items) c.keeper-2-1.given.0.shipped c.keeper-2-1.given.0.dropped fin.0 c.finish.result fin.2.telling fin.2.report)
+    (report_over fin.1.rows (all_skipped c.in_ok-worked.worked.passed.items c.in_ok-scanned.scanned) c.keeper-2-1.given.0.shipped c.keeper-2-1.given.0.dropped fin.0 c.finish.result fin.2.telling fin.2.report)
     (λ folder has.
     accounted_and_cleaned disks c.disk_images_are_counted.ensures.reads c.disk_images_are_counted.ensures.counts c.one_choice.ensures c.args.settings.now c.in_ok-parts.parts.keeper.store.rows
     (subst (λ (k : Keeping). IsInOrder k.store.rows) (sym keeper.is) keeper.in_order) c.in_ok-scanned.scanned.listed.items
@@ -170,11 +175,11 @@ returns-clause-at_rest g c = λ from opened some rest followed.
     let disks = disk_words g.D.Disk.contents g.D.Disk.images g.D.Disk.moment g.D.Disk.images_since g.D.Disk.faults in
     let wires = wire_words g.W.Wire.outcomes g.W.Wire.open_links g.W.Wire.faults g.W.Wire.idles in
     let ends = c.in_ok-worked.ensures.ends
-    (earlier disks wires c.args.settings.now c.requires.in_range (inputs_are_named c.args.settings.now c.requires.nothing_lacks)
+    (earlier disks wires c.args.settings.now c.requires.in_range
     c.in_ok-parts.parts.desk.id c.in_ok-parts.parts.keeper c.args.store c.in_ok-parts.ensures.keeper c.in_ok-parts.ensures.store c.args.outside.now.wires.now.items from
     c.args.outside.now.a.now c.args.outside.now.b.now opened c.in_ok-scanned.scanned.listed.items c.in_ok-scanned.scanned.doubled.items c.in_ok-scanned.scanned.now.0
     (g.K.Clock.moments c.args.outside.now.clock.now) (g.K.Clock.moments c.scan.new.clock) c.in_ok-scanned.ensures.moment_given (g.F.Folder.told c.scan.new.folder) (rw inputs at c.in_ok-scanned.ensures.of_inputs))
-    (set_out disks wires c.args.settings.now c.requires.in_range (inputs_are_named c.args.settings.now c.requires.nothing_lacks)
+    (set_out disks wires c.args.settings.now c.requires.in_range
     c.in_ok-parts.parts.desk.id c.in_ok-parts.parts.keeper c.args.store c.in_ok-parts.ensures.keeper c.in_ok-parts.ensures.store c.args.outside.now.wires.now.items from
     c.args.outside.now.a.now c.args.outside.now.b.now opened c.in_ok-scanned.scanned.listed.items c.in_ok-scanned.scanned.doubled.items c.in_ok-scanned.scanned.now.0
     (g.K.Clock.moments c.args.outside.now.clock.now) (g.K.Clock.moments c.scan.new.clock) c.in_ok-scanned.ensures.moment_given (g.F.Folder.told c.scan.new.folder) (rw inputs at c.in_ok-scanned.ensures.of_inputs)) in
@@ -190,17 +195,17 @@ returns-clause-reported g c = λ from opened some rest.
     let disks = disk_words g.D.Disk.contents g.D.Disk.images g.D.Disk.moment g.D.Disk.images_since g.D.Disk.faults in
     let wires = wire_words g.W.Wire.outcomes g.W.Wire.open_links g.W.Wire.faults g.W.Wire.idles in
     let ends = c.in_ok-worked.ensures.ends
-    (earlier disks wires c.args.settings.now c.requires.in_range (inputs_are_named c.args.settings.now c.requires.nothing_lacks)
+    (earlier disks wires c.args.settings.now c.requires.in_range
     c.in_ok-parts.parts.desk.id c.in_ok-parts.parts.keeper c.args.store c.in_ok-parts.ensures.keeper c.in_ok-parts.ensures.store c.args.outside.now.wires.now.items from
     c.args.outside.now.a.now c.args.outside.now.b.now opened c.in_ok-scanned.scanned.listed.items c.in_ok-scanned.scanned.doubled.items c.in_ok-scanned.scanned.now.0
     (g.K.Clock.moments c.args.outside.now.clock.now) (g.K.Clock.moments c.scan.new.clock) c.in_ok-scanned.ensures.moment_given (g.F.Folder.told c.scan.new.folder) (rw inputs at c.in_ok-scanned.ensures.of_inputs))
-    (set_out disks wires c.args.settings.now c.requires.in_range (inputs_are_named c.args.settings.now c.requires.nothing_lacks)
+    (set_out disks wires c.args.settings.now c.requires.in_range
     c.in_ok-parts.parts.desk.id c.in_ok-parts.parts.keeper c.args.store c.in_ok-parts.ensures.keeper c.in_ok-parts.ensures.store c.args.outside.now.wires.now.items from
     c.args.outside.now.a.now c.args.outside.now.b.now opened c.in_ok-scanned.scanned.listed.items c.in_ok-scanned.scanned.doubled.items c.in_ok-scanned.scanned.now.0
     (g.K.Clock.moments c.args.outside.now.clock.now) (g.K.Clock.moments c.scan.new.clock) c.in_ok-scanned.ensures.moment_given (g.F.Folder.told c.scan.new.folder) (rw inputs at c.in_ok-scanned.ensures.of_inputs)) in
     let keeper = c.keeper-2-1.given.0 in
     let keeper_is : keeper ≡ c.run_over.new.storing.keeper.now = c.keeper-2-1.given.1 (sym c.run_over.ensures.same_keeper) in
-    (reports_stored disks c.finish.new.a c.finish.new.b fin.1 (all_skipped c.in_ok-worked.worked.passed.items c.in_ok-scanned.scanned.doubled.items) keeper.shipped keeper.dropped fin.0 c.finish.result fin.2.telling fin.2.report
+    (reports_stored disks c.finish.new.a c.finish.new.b fin.1 (all_skipped c.in_ok-worked.worked.passed.items c.in_ok-scanned.scanned) keeper.shipped keeper.dropped fin.0 c.finish.result fin.2.telling fin.2.report
     (λ left. fin.2.cleans.at_rest left (rw (← keeper_is) at (ends.1.left.at_rest (left_before_cleaning disks _ _ _ _ fin.2.cleans left) rest).settled)))
 
 pub returns-clause-ends : goal.returns-clause-ends
@@ -213,14 +218,19 @@ returns-clause-ends g c =
 
 -- ---- what goes on
 
-tails_by_two : (before mid after files : ℕ) → mid ≡ before → files ≤ 65_536 → (mid + files < 2 ^ 64 - 1 → after ≡ mid) → before + 65_536 < 2 ^ 64 - 1 → after ≡ before
-tails_by_two before mid after files kept few closed room = closed (omega (arith, kept, few, room)) ∙ kept
+tails_by_one : (before after : ℕ) → (before < 2 ^ 64 - 1 → after ≡ before) → before + 65_536 < 2 ^ 64 - 1 → after ≡ before
+tails_by_one before after kept room = kept (omega (arith, room))
+
+tails_by_two : (before mid after files : ℕ) → (before < 2 ^ 64 - 1 → mid ≡ before) → files ≤ 65_536 → (mid + files < 2 ^ 64 - 1 → after ≡ mid) → before + 65_536 < 2 ^ 64 - 1 → after ≡ before
+tails_by_two before mid after files kept few closed room =
+    let same : mid ≡ before = tails_by_one before mid kept room in
+    closed (omega (arith, same, few, room)) ∙ same
 
 pub returns-in_err-scanned-clause-goes_on : goal.returns-in_err-scanned-clause-goes_on
 returns-in_err-scanned-clause-goes_on g c = record {
   clock = c.scan.ensures.clock_goes_on;
   wires = refl;
-  tails = λ few. c.scan.ensures.open_tails_kept;
+  tails = tails_by_one (g.F.Folder.open_tails c.args.outside.now.folder.now) (g.F.Folder.open_tails c.scan.new.folder) c.scan.ensures.open_tails_kept;
   a_told = λ told. told;
   b_told = λ told. told;
 }
@@ -229,7 +239,7 @@ pub returns-in_err-parts-clause-goes_on : goal.returns-in_err-parts-clause-goes_
 returns-in_err-parts-clause-goes_on g c = record {
   clock = c.scan.ensures.clock_goes_on;
   wires = refl;
-  tails = λ few. c.scan.ensures.open_tails_kept;
+  tails = tails_by_one (g.F.Folder.open_tails c.args.outside.now.folder.now) (g.F.Folder.open_tails c.scan.new.folder) c.scan.ensures.open_tails_kept;
   a_told = λ told. told;
   b_told = λ told. told;
 }
@@ -259,4 +269,4 @@ returns-clause-goes_on g c =
 pub returns-clause-report : goal.returns-clause-report
 returns-clause-report g c =
     let fin = c.finish.ensures.finished in
-    report_of fin.1.rows (all_skipped c.in_ok-worked.worked.passed.items c.in_ok-scanned.scanned.doubled.items) c.keeper-2-1.given.0.shipped c.keeper-2-1.given.0.dropped c.finish.result fin.2.report
+    report_of fin.1.rows (all_skipped c.in_ok-worked.worked.passed.items c.in_ok-scanned.scanned) c.keeper-2-1.given.0.shipped c.keeper-2-1.given.0.dropped c.finish.result fin.2.report

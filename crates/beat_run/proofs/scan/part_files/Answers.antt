@@ -1,8 +1,7 @@
-use Rattle.beat_run.proofs.Accounts.{files_are_few, refused_parted}
+use Rattle.beat_run.proofs.ScanShown.{files_are_few}
 use Rattle.beat_run.proofs.scan.part_files.Goals as goal
 
-pub start_files-requires-clause-few_files : goal.start_files-requires-clause-few_files
-start_files-requires-clause-few_files c = files_are_few c.args.listed.items c.in-Ok.parted.files.items c.in-Ok.parted.doubled.items c.in-Ok.ensures.parted c.requires.few_listed
-
-pub returns-in-Ok-clause-refused : goal.returns-in-Ok-clause-refused
-returns-in-Ok-clause-refused c = refused_parted c.args.rows.now c.args.listed.items c.in-Ok.parted.files.items c.in-Ok.parted.doubled.items c.in-Ok.ensures.parted c.start_files.result c.start_files.ensures.refused
+pub starts_by_rows-requires-clause-few_files : goal.starts_by_rows-requires-clause-few_files
+starts_by_rows-requires-clause-few_files c =
+    let few = files_are_few c.args.keyed.files.items c.in-Ok.parted.files.items c.in-Ok.parted.doubled.items c.in-Ok.ensures.parted c.requires.few_files in
+    rw c.as_slice.ensures.value few
