@@ -62,9 +62,11 @@ const REFUSALS: &[(Asked, u8, &str)] = &[
         GENERATE,
     ),
     (
-        Asked::Settings("[[inputs]]\nid = 'w'\npaths = ['/w/*']\n[output]\nhosts = ['h']\n"),
+        Asked::Settings(
+            "[[inputs]]\nid = 'w'\npaths = ['/w/*']\nclean_inactive = '71s'\n[output]\nhosts = ['h']\n",
+        ),
         13,
-        "status 13 unbuilt key inputs.0.file_identity\n",
+        "status 13 unbuilt key inputs.0.clean_inactive\n",
     ),
     (
         Asked::Input("ignore_older = '1m'"),

@@ -1,7 +1,7 @@
 //! Worked runs over what an earlier run left, by their names.
 
 use crate::tests::wanted::{Sent, Wanted, check_left, check_number, check_text};
-use crate::tests::world::{NATIVE, Object, PLAIN, Peer, Ran, Start, run, run_over};
+use crate::tests::world::{FINGERPRINT, NATIVE, Object, PLAIN, Peer, Ran, Start, run, run_over};
 use std::process::Abort;
 use std::sync::Wait;
 use std::test::Fail;
@@ -140,6 +140,28 @@ const RENAMED_FILE: Restart = Restart {
     },
 };
 
+/// It keeps its first 112 bytes, and grows behind them.
+const RENAMED_BY_FINGERPRINT: Restart = Restart {
+    name: "renamed_by_fingerprint",
+    first: FINGERPRINT,
+    second: Start {
+        files: &[(
+            "/w/b.log",
+            b"abcdefghbcdefghicdefghijdefghijkefghijklfghijklmghijklmnhijklmnoijklmnopjklmnopqklmnopqrlmnopqrsmnopqrstnopqrstu\nb\n",
+            &[],
+        )],
+        ..FINGERPRINT
+    },
+    wanted: Wanted {
+        rows: Some(
+            "file \"filestream::w::fingerprint::cf5b16a778af8380036ce59e7b0492370b249b11e8f07a51afac45037afee9d1\" 0 115 \"/w/b.log\"\n",
+        ),
+        printed: "shipped 1 dropped 0\nstatus 0 done\n",
+        sent: Sent::Events(1),
+        ..NOTHING_MORE
+    },
+};
+
 const UNREACHABLE_BEFORE: Restart = Restart {
     name: "unreachable_before",
     first: Start {
@@ -180,6 +202,7 @@ const RESTARTS: &[Restart] = &[
     ROW_IS_KEPT,
     ROW_OF_NO_INPUT_STAYS,
     RENAMED_FILE,
+    RENAMED_BY_FINGERPRINT,
     UNREACHABLE_BEFORE,
     PARTLY_ACKNOWLEDGED_BEFORE,
 ];

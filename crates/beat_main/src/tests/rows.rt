@@ -1,7 +1,7 @@
 //! Worked runs over one file, by their names.
 
 use crate::tests::wanted::{Case, Sent, Wanted, check_each};
-use crate::tests::world::{Later, NATIVE, Object, PLAIN, Peer, Start};
+use crate::tests::world::{FINGERPRINT, Later, NATIVE, Object, PLAIN, Peer, Start};
 use std::test::Fail;
 
 const ROW_AT_0: &str = "file \"filestream::w::path::/w/a.log\" 0 0 \"/w/a.log\"\n";
@@ -313,6 +313,67 @@ const SECOND_PATH_OF_A_FILE: Case = Case {
     },
 };
 
+/// A text of 112 bytes with a known SHA-256, and a file of its first 111.
+const FINGERPRINT_KEY: Case = Case {
+    name: "fingerprint_key",
+    start: Start {
+        files: &[
+            (
+                "/w/a.log",
+                b"abcdefghbcdefghicdefghijdefghijkefghijklfghijklmghijklmnhijklmnoijklmnopjklmnopqklmnopqrlmnopqrsmnopqrstnopqrstu\n",
+                &[],
+            ),
+            (
+                "/w/b.log",
+                b"abcdefghbcdefghicdefghijdefghijkefghijklfghijklmghijklmnhijklmnoijklmnopjklmnopqklmnopqrlmnopqrsmnopqrstnopqrst",
+                &[],
+            ),
+        ],
+        ..FINGERPRINT
+    },
+    wanted: Wanted {
+        rows: Some(
+            "file \"filestream::w::fingerprint::cf5b16a778af8380036ce59e7b0492370b249b11e8f07a51afac45037afee9d1\" 0 113 \"/w/a.log\"\n",
+        ),
+        printed: "passed \"/w/b.log\" small\nshipped 1 dropped 0\nstatus 0 done\n",
+        sent: Sent::Lines(&[(
+            0,
+            "abcdefghbcdefghicdefghijdefghijkefghijklfghijklmghijklmnhijklmnoijklmnopjklmnopqklmnopqrlmnopqrsmnopqrstnopqrstu",
+        )]),
+        ..BOTH
+    },
+};
+
+/// The file is removed once it was listed.
+const GONE_BEFORE_ITS_KEY_IS_ASKED: Case = Case {
+    name: "gone_before_its_key_is_asked",
+    start: Start {
+        files: &[("/w/a.log", b"a\nb\n", &[Later::Removed(1)])],
+        ..FINGERPRINT
+    },
+    wanted: Wanted {
+        rows: Some(""),
+        printed: "passed \"/w/a.log\" gone\nshipped 0 dropped 0\nstatus 0 done\n",
+        sent: Sent::Events(0),
+        ..BOTH
+    },
+};
+
+const FAULT_AS_ITS_KEY_IS_ASKED: Case = Case {
+    name: "fault_as_its_key_is_asked",
+    start: Start {
+        failing: &[(Object::Tail, 0)],
+        ..FINGERPRINT
+    },
+    wanted: Wanted {
+        status: 6,
+        rows: Some(""),
+        printed: "status 6 folder fault\n",
+        sent: Sent::Events(0),
+        ..BOTH
+    },
+};
+
 const CLOSED_AREA: Case = Case {
     name: "closed_area",
     start: Start { area: ".", ..PLAIN },
@@ -350,6 +411,9 @@ const CASES_OF_RUNS: &[Case] = &[
     NATIVE_WITHOUT_NUMBERS,
     MOVED_BEFORE_OPENING,
     SECOND_PATH_OF_A_FILE,
+    FINGERPRINT_KEY,
+    GONE_BEFORE_ITS_KEY_IS_ASKED,
+    FAULT_AS_ITS_KEY_IS_ASKED,
     CLOSED_AREA,
     OPEN_AREA_OF_ONE_BYTE,
 ];

@@ -110,6 +110,19 @@ pub const NATIVE: Start = Start {
     ..PLAIN
 };
 
+/// It knows files by the SHA-256 of their first 112 bytes.
+pub const FINGERPRINT: Start = Start {
+    settings: Some(
+        "[[inputs]]\nid = 'w'\npaths = ['/w/*.log']\nfingerprint.length = 112\n[output]\nhosts = ['h:5044']\n",
+    ),
+    files: &[(
+        "/w/a.log",
+        b"abcdefghbcdefghicdefghijdefghijkefghijklfghijklmghijklmnhijklmnoijklmnopjklmnopqklmnopqrlmnopqrsmnopqrstnopqrstu\n",
+        &[],
+    )],
+    ..PLAIN
+};
+
 /// What a run is given, and what it leaves of that.
 #[derive(Drop)]
 pub struct Objects {
