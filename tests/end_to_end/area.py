@@ -1,5 +1,6 @@
 """Registry areas, spelled and read by themselves: no line of the program's code is used."""
 
+import hashlib
 import json
 import os
 
@@ -20,6 +21,13 @@ def native_row(path, offset):
     """The row of a file that is known by its inode and device."""
     told = os.stat(path)
     return {**row(str(path), offset), "key": f"filestream::w::native::{told.st_ino}-{told.st_dev}"}
+
+
+def fingerprint_row(path, offset, input_id="w"):
+    """The row of a file that is known by the SHA-256 of its first 1,024 bytes."""
+    with open(path, "rb") as file:
+        digest = hashlib.sha256(file.read(1_024)).hexdigest()
+    return {**row(str(path), offset), "key": f"filestream::{input_id}::fingerprint::{digest}"}
 
 
 def changed(it):

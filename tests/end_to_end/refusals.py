@@ -4,7 +4,7 @@ import re
 from pathlib import Path
 
 import program
-from area import row
+from area import fingerprint_row, row
 from peer import Peer
 from shipping import Shipping
 
@@ -59,10 +59,9 @@ SETTINGS_REFUSED = (
         lambda valid: valid.replace("[output]", 'ignore_older = "1m"\nclean_inactive = "71s"\n[output]'),
         "status 13 unbuilt key inputs.0.clean_inactive",
     ),
-    (lambda valid: valid.replace("file_identity", "# file_identity"), "status 13 unbuilt key inputs.0.file_identity"),
 )
 
-# the example with every key: what it says of its user's machine, and the one default that is not built
+# the example with every key: what it says of its user's machine, and by what files are known
 EVERY_KEY = program.ROOT / "examples" / "every_key.toml"
 LOGS = '"/var/log/shop/*.log"'
 HOST = '"127.0.0.1:5044"'
@@ -133,21 +132,18 @@ class Refusals(Shipping):
         return self.replaced(settings, HOST, f'"{host}"')
 
     def test_every_key_with_its_default(self):
-        """An unknown key would be a fault, so each of them is read; with the one default that is not built replaced, the
-        file is shipped."""
-        Path(self.path).write_bytes(b"a\n")
+        """An unknown key would be a fault, so each of them is read; the file is known by its fingerprint, and shipped."""
+        Path(self.path).write_bytes(b"a" * 1_023 + b"\n")
         with Peer() as peer:
             settings = self.every_key(peer.host)
-            self.assert_wrote(self.run_settings(settings), "status 13 unbuilt key inputs.0.file_identity")
-            built = self.replaced(settings, IDENTITY, 'file_identity = "path"')
             for said, asked, key in EVERY_KEY_UNBUILT:
                 with self.subTest(key=key):
-                    asking = self.replaced(built, said, asked)
+                    asking = self.replaced(settings, said, asked)
                     self.assert_wrote(self.run_settings(asking), f"status 13 unbuilt key {key}")
             self.assertEqual(peer.connections, 0)
             self.assertFalse(self.area.exists())
-            ran = self.run_settings(built)
-        self.assert_done(ran, [row(self.path, 2, "services")], 1)
+            ran = self.run_settings(settings)
+        self.assert_done(ran, [fingerprint_row(self.path, 1_024, "services")], 1)
 
     def test_every_key_with_another_value(self):
         """With the table that the example has behind a hash mark, too."""

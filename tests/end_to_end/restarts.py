@@ -7,7 +7,7 @@ import subprocess
 from pathlib import Path
 
 import program
-from area import changed, native_row, row
+from area import changed, fingerprint_row, native_row, row
 from peer import CUT_OFF, Behaviour, Peer
 from shipping import Shipping, end_of, numbered_lines, places_of
 
@@ -121,6 +121,48 @@ class Restarts(Shipping):
             ran = self.ship_logs(peer, "native")
         self.assert_shipped(ran, peer, [changed(native_row(path, 6))], [(str(path), 0, "first")])
         self.assertIn(f'passed "{link}" doubled\n'.encode(), ran.stdout)
+
+    def ship_by_default(self, peer):
+        """A run whose settings say nothing of how files are known."""
+        settings = program.settings_text(self.logs / "*.log", peer.host)
+        self.write_settings(settings.replace('file_identity = "path"\n', ""))
+        return program.finish(self.start_prepared(), PATIENCE)
+
+    def test_files_are_known_by_fingerprints(self):
+        """By default a file goes on under another name while its first 1,024 bytes stay, one of fewer is told as small, and
+        one of other bytes is sent from its start, under its new key."""
+        path, small = self.logs / "a.log", self.logs / "b.log"
+        path.write_text(f"{'a' * 1_100}\nsecond\n")
+        small.write_text("b" * 1_022 + "\n")
+        with Peer() as peer:
+            ran = self.ship_by_default(peer)
+        self.assert_shipped(ran, peer, [changed(fingerprint_row(path, 1_108))], [(str(path), 0, "a" * 1_100), (str(path), 1_101, "second")])
+        self.assertIn(f'passed "{small}" small\n'.encode(), ran.stdout)
+
+        renamed = path.rename(self.logs / "c.log")
+        with small.open("a") as file:
+            file.write("\n")
+        with Peer() as peer:
+            ran = self.ship_by_default(peer)
+        rows = [changed(fingerprint_row(renamed, 1_108)), changed(fingerprint_row(small, 1_024))]
+        self.assert_shipped(ran, peer, rows, [(str(small), 0, "b" * 1_022)])
+        self.assertNotIn(b"passed", ran.stdout)
+
+        renamed.write_text(f"{'c' * 1_100}\n")
+        with Peer() as peer:
+            ran = self.ship_by_default(peer)
+        rows = [changed(fingerprint_row(renamed, 1_101)), changed(fingerprint_row(small, 1_024))]
+        self.assert_shipped(ran, peer, rows, [(str(renamed), 0, "c" * 1_100)])
+
+    def test_copies_by_fingerprints(self):
+        """A copy has the key of the file, and is told as doubled while both have the same first bytes."""
+        path, copy = self.logs / "a.log", self.logs / "b.log"
+        path.write_text(f"{'a' * 1_100}\n")
+        copy.write_text(f"{'a' * 1_100}\nother\n")
+        with Peer() as peer:
+            ran = self.ship_by_default(peer)
+        self.assert_shipped(ran, peer, [changed(fingerprint_row(path, 1_101))], [(str(path), 0, "a" * 1_100)])
+        self.assertIn(f'passed "{copy}" doubled\n'.encode(), ran.stdout)
 
     def run_and_kill(self, peer, seconds):
         """A run over the logs, killed after so many seconds where it has not ended by then."""
