@@ -21,6 +21,7 @@ from memory import memory_tables
 from rounds import rounds_tables
 from sink import sink_table
 from transport import peak_memory, transport_table
+from unchanged import unchanged_table
 from worker import worker_table
 
 ROOT = Path(__file__).resolve().parents[1]
@@ -312,11 +313,10 @@ def main():
         runs=RUNS,
         fixed=fixed * 1e3,
     )
-    leaves = [filter_table(), chain_table(fixed), harvester_table(), fingerprint_table(), scan_table()]
-    leaves += [container_table(), queue_table(), rounds_tables(), memory_tables(), covers_table(fixed)]
-    RESULTS.write_text(
-        head + transport_table() + worker_table() + sink_table() + cut_table(fixed) + payloads_table(fixed) + "".join(leaves)
-    )
+    tables = [transport_table(), unchanged_table(), worker_table(), sink_table(), cut_table(fixed), payloads_table(fixed)]
+    tables += [filter_table(), chain_table(fixed), harvester_table(), fingerprint_table(), scan_table(), container_table()]
+    tables += [queue_table(), rounds_tables(), memory_tables(), covers_table(fixed)]
+    RESULTS.write_text(head + "".join(tables))
     print(f"written to {RESULTS.relative_to(ROOT)}")
 
 
