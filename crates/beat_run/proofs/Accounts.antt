@@ -258,7 +258,7 @@ module _ {D : Type 0} (disks : DiskWords D) (start : Began D) (in_range : AreInR
   worked_run told = record { before = record { folder = told; moments = start.moments; outcomes = outcomes; a = start.a; b = start.b }; after = after }
 
   pub worked : {tells : List ℕ → Type 0} (told : Option FolderHistory) (status : Status) → IsSome told → IfSome told (λ history. ScansParted start.settings.inputs history start.listed start.doubled start.shown) → IsMetFor status what → IsFullFor disks start.settings (worked_run told) status →
-      ((account : List SlotAccount) (wires : List WireTold) → ArePlacedIn account wires → (IsTelling what → AreNumbersOf account shipped dropped) → IsReportEnd status → (text : List ℕ) → tells text → IsReportOver account wires status text) →
+      ((account : List SlotAccount) (wires : List WireTold) → ArePlacedIn account wires → (IsTelling what → AreNumbersOf account shipped dropped) → IsReportEnd status → (text : List ℕ) → tells text → IsReportOver start.settings (worked_run told) account wires status text) →
       ((folder : FolderTold) → HasScanned start folder → IsWorked disks start.settings what shipped dropped (worked_run (Some folder.earlier))) →
       IsAccounted disks start.settings (worked_run told) status tells
   worked None status some scans is full reports accounted = absurd (nothing FolderHistory some)

@@ -1,6 +1,6 @@
 -- A path that a run followed was listed by its scan, whatever the folder told behind that; and so was one whose file told no native numbers as
 -- it was opened.
-use Rattle.std.proofs.Common.{◌≡◌, ◌⊎◌, inl, inr, ℕ, zero, suc, List, [], ◌∷◌, ◌++◌, length, drop, map, Any, Contains, Option, Some, None, IfSome, sym, ap, subst, ◌∙◌, arith, append_assoc, length-append}
+use Rattle.std.proofs.Common.{◌≡◌, ◌⊎◌, inl, inr, ℕ, zero, suc, List, [], ◌∷◌, ◌++◌, length, drop, map, Any, Contains, Option, Some, None, IfSome, refl, sym, ap, subst, ◌∙◌, arith, append_assoc, length-append}
 use Rattle.std.proofs.Math.Seq.{drop-append_seam}
 use Rattle.std.proofs.lemmas.List.{drop-append-le}
 use Rattle.std.proofs.lemmas.List.Elements.{All-contains, Contains-append_left}
@@ -16,8 +16,11 @@ use Rattle.prospect.specs.ListedFiles.{IsListedBy, shown_in}
 use Rattle.prospect.specs.Members.{IsCovered}
 use Rattle.prospect.specs.Scan.{Listing, event_of, with_events}
 use Rattle.prospect.specs.declared.listed.Listed.{Listed}
+use Rattle.report.specs.declared.passing.Passing.{Passing}
+use Rattle.run_steps.specs.PassedOver.{ArePassedOver}
 use Rattle.run_steps.specs.Shown.{HasShown}
 use Rattle.run_steps.specs.SoFar.{SoFar}
+use Rattle.run_steps.specs.declared.beginning.Scanned.{Scanned}
 use Rattle.run_steps.proofs.AskedEvents.{all_asked}
 use Rattle.run_steps.proofs.KeyedFiles.{IsKeyedFrom, KeepsEntry, keeps_entry, keyed_from}
 use Rattle.run_steps.proofs.Members.{some_is}
@@ -25,11 +28,29 @@ use Rattle.run_steps.specs.ScannedSome.{HasOnlyAsked}
 use Rattle.run_steps.specs.Unnumbered.{IsUnnumbered, WasOpenedUnnumbered}
 use Rattle.ship_core.proofs.Members.{first_there, later_there, none_there, there_cases}
 use Rattle.beat_run.specs.Cause.{WasListed, WasUnnumbered}
-use Rattle.beat_run.specs.Scanning.{ScansParted}
+use Rattle.beat_run.specs.Scanning.{ScansParted, TellsScanned}
+use Rattle.beat_run.specs.Skipped.{AreSkipped, all_skipped}
 
 -- the folder did more behind its scan
 pub record GoesFurther (scanned after : Option FolderHistory) : Type 0 where
   pub more : (history : FolderHistory) → scanned ≡ Some history → (events : List Event) × (after ≡ Some (record history { events = history.events ++ events }))
+
+-- so it skipped the paths that this scan told, and those that were skipped as its files were opened
+pub are_skipped : (inputs : List InputRule) (before scanned after : Option FolderHistory) (scan : Scanned) (opened : List Passing) → IfSome before (λ told. TellsScanned inputs told scan scanned) → GoesFurther scanned after →
+    ArePassedOver scan.listed.items opened → IfSome before (λ told. AreSkipped inputs told after (all_skipped opened scan))
+are_skipped inputs None scanned after scan opened tells goes over = tt
+are_skipped inputs (Some told) scanned after scan opened tells goes over =
+    let more = goes.more tells.parted.scanned tells.parted.after_is in
+    record {
+      scan = scan;
+      scanned = tells.parted.scanned;
+      tells = subst (λ (o : Option FolderHistory). TellsScanned inputs told scan o) tells.parted.after_is tells;
+      later = more.0;
+      after_is = more.1;
+      opened = opened;
+      passed_over = over;
+      are = refl;
+    }
 
 pub shown_goes_further : (scanned after : Option FolderHistory) (so_far : SoFar) → HasShown scanned after so_far → GoesFurther scanned after
 shown_goes_further None after so_far shown = record { more = λ history none. absurd cc }

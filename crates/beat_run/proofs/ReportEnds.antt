@@ -25,6 +25,7 @@ use Rattle.beat_run.specs.Ended.{IsTelling, StandsForMet, ended}
 use Rattle.beat_run.specs.Ends.{IsBehindOpening, IsReportEnd, IsRunEnd, IsScannedEnd}
 use Rattle.beat_run.specs.Printed.{IsReportOf, IsReportOver, IsToBePrinted, ReportsStored}
 use Rattle.beat_run.specs.Scanning.{ScansParted}
+use Rattle.beat_run.specs.Skipped.{AreSkipped}
 use Rattle.beat_run.specs.declared.ending.Ending.{Ending}
 use Rattle.beat_run.proofs.Accounts.{full_for_met, met_for_end}
 use Rattle.beat_run.proofs.Causes.{FailedIn, caused_at_end, gives_its_rows, left_by, left_telling, scanned_end}
@@ -75,11 +76,12 @@ pub report_of : (rows : List Row) (passed : List Passing) (shipped dropped : ℕ
 report_of rows passed shipped dropped (Ok ending) report = record { rows = rows; passed = passed; shipped = shipped; dropped = dropped; report = report }
 report_of rows passed shipped dropped (Err status) report = tt
 
--- its numbers are those of the account
-pub report_over : (rows : List Row) (passed : List Passing) (shipped dropped : ℕ) (what : Met) (result : Result Ending Status) → IfOk result (λ _. IsTelling what) →
-    IfOk result (λ ending. IsReport rows passed shipped dropped ending.status ending.report) → (account : List SlotAccount) (wires : List WireTold) → ArePlacedIn account wires →
-    (IsTelling what → AreNumbersOf account shipped dropped) → IsReportEnd (ended result) → (text : List ℕ) → IsToBePrinted result text → IsReportOver account wires (ended result) text
-report_over rows passed shipped dropped what (Ok ending) telling report account wires placed numbers end text same = record {
+-- its numbers are those of the account, and its skipped paths those that the run skipped
+pub report_over : {D : Type 0} (settings : SettingsOf) (objects : RunObjects D) (rows : List Row) (passed : List Passing) (shipped dropped : ℕ) (what : Met) (result : Result Ending Status) → IfOk result (λ _. IsTelling what) →
+    IfOk result (λ ending. IsReport rows passed shipped dropped ending.status ending.report) → IfSome objects.before.folder (λ told. AreSkipped settings.inputs told objects.after.folder passed) →
+    (account : List SlotAccount) (wires : List WireTold) → ArePlacedIn account wires →
+    (IsTelling what → AreNumbersOf account shipped dropped) → IsReportEnd (ended result) → (text : List ℕ) → IsToBePrinted result text → IsReportOver settings objects account wires (ended result) text
+report_over settings objects rows passed shipped dropped what (Ok ending) telling report skipped account wires placed numbers end text same = record {
   rows = rows;
   passed = passed;
   shipped = shipped;
@@ -87,5 +89,6 @@ report_over rows passed shipped dropped what (Ok ending) telling report account 
   report = subst (IsReport rows passed shipped dropped ending.status) same report;
   placed = placed;
   numbers = numbers telling;
+  skipped = skipped;
 }
-report_over rows passed shipped dropped what (Err status) telling report account wires placed numbers end text same = absurd same
+report_over settings objects rows passed shipped dropped what (Err status) telling report skipped account wires placed numbers end text same = absurd same

@@ -63,13 +63,14 @@ abbrev pub LeavesNoRemoved : {D : Type 0} → DiskWords D → RunObjects D → M
 LeavesNoRemoved disks objects what run =
     WereAtRest disks objects → IsTelling what → AreRowsBy disks objects.after (λ rows. AllByRecursion (λ row. ¬ (IsOfRemovedFile run row)) rows)
 
--- the numbers of the report that it tells are those of the account; where it is done, these are all of its events
+-- the numbers of the report that it tells are those of the account, and its skipped paths those that the run skipped; where it is done,
+-- the numbers are of all events
 pub record IsAccounted {D : Type 0} (disks : DiskWords D) (settings : Settings) (objects : RunObjects D) (status : Status) (tells : List ℕ → Type 0) : Type 0 where
   pub what : Met
   pub met_for : IsMetFor status what
   pub accounted : AccountedFor disks settings objects what
   pub cleaned : LeavesNoRemoved disks objects what accounted.run
-  pub numbers : IsReportEnd status → (text : List ℕ) → tells text → IsReportOver accounted.account accounted.run.trace.wires status text
+  pub numbers : IsReportEnd status → (text : List ℕ) → tells text → IsReportOver settings objects accounted.account accounted.run.trace.wires status text
   pub counted : what ≡ met.Done → AreAllCounted accounted.account
   pub full_for : IsFullFor disks settings objects status
 

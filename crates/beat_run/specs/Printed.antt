@@ -1,6 +1,7 @@
 -- What a run prints (this project's profile): where it is done or stopped, the report; else the status line alone.
-use Rattle.std.specs.Prelude.{◌≡◌, ◌⊎◌, ℕ, List, ◌++◌, take, MatchResult, Option, Result, Some}
+use Rattle.std.specs.Prelude.{◌≡◌, ◌⊎◌, ℕ, List, ◌++◌, take, IfSome, MatchResult, Option, Result, Some}
 use Rattle.accounts.specs.Numbers.{AreNumbersOf, ArePlacedIn}
+use Rattle.event_tree.specs.declared.settings.Settings.{Settings}
 use Rattle.kept_rows.specs.Account.{SlotAccount}
 use Rattle.kept_rows.specs.Trace.{WireTold}
 use Rattle.report.specs.Report.{IsReport, status_bytes}
@@ -9,8 +10,10 @@ use Rattle.report.specs.declared.status.Status.{Status}
 use Rattle.report.specs.declared.status.Status.TheVariants.{Done, OutFault, Stopped}
 use Rattle.registry_store.specs.Choice.{GivesRows}
 use Rattle.rounds.specs.Words.{DiskWords}
+use Rattle.run_steps.specs.AccountedFor.{RunObjects}
 use Rattle.wire_base.specs.declared.row.Row.{Row}
 use Rattle.beat_run.specs.Ends.{IsReportEnd, IsRunEnd}
+use Rattle.beat_run.specs.Skipped.{AreSkipped}
 use Rattle.beat_run.specs.declared.ending.Ending.{Ending}
 
 -- the text is the report of a run that ended so
@@ -21,8 +24,9 @@ pub record IsReportOf (status : Status) (text : List ℕ) : Type 0 where
   pub dropped : ℕ
   pub report : IsReport rows passed shipped dropped status text
 
--- and its numbers are those of the account, whose events are placed as the wires acknowledge their payloads
-pub record IsReportOver (account : List SlotAccount) (wires : List WireTold) (status : Status) (text : List ℕ) : Type 0 where
+-- and its numbers are those of the account, whose events are placed as the wires acknowledge their payloads; its skipped paths are those
+-- that the run skipped, where the folder tells
+pub record IsReportOver {D : Type 0} (settings : Settings) (objects : RunObjects D) (account : List SlotAccount) (wires : List WireTold) (status : Status) (text : List ℕ) : Type 0 where
   pub rows : List Row
   pub passed : List Passing
   pub shipped : ℕ
@@ -30,6 +34,7 @@ pub record IsReportOver (account : List SlotAccount) (wires : List WireTold) (st
   pub report : IsReport rows passed shipped dropped status text
   pub placed : ArePlacedIn account wires
   pub numbers : AreNumbersOf account shipped dropped
+  pub skipped : IfSome objects.before.folder (λ told. AreSkipped settings.inputs told objects.after.folder passed)
 
 -- its rows are those that both areas give
 pub record ReportsStored {D : Type 0} (disks : DiskWords D) (a b : D) (status : Status) (text : List ℕ) : Type 0 where

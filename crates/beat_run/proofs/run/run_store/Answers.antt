@@ -14,7 +14,7 @@ use Rattle.beat_run.specs.Cause.{Signs}
 use Rattle.beat_run.specs.Ended.{ended}
 use Rattle.beat_run.specs.Skipped.{all_skipped}
 use Rattle.beat_run.proofs.Causes.{at_rest, ends_without_report, is_met_of, scan_caused, scan_ended}
-use Rattle.beat_run.proofs.PathsListed.{shown_goes_further}
+use Rattle.beat_run.proofs.PathsListed.{are_skipped, shown_goes_further}
 use Rattle.beat_run.proofs.Cleaned.{accounted_and_cleaned, failed_after_cleaning, keys_are_known, left_before_cleaning, met_after_cleaning, of_these_after_cleaning, unnumbered_after_cleaning}
 use Rattle.beat_run.proofs.ReportEnds.{caused_ending, full_for_ending, left_by_ending, met_for_ending, report_of, report_over, reports_stored, scanned_ending}
 use Rattle.beat_run.proofs.ScanShown.{each_some, parted_told, scanned_some, scanned_whole}
@@ -150,7 +150,9 @@ returns-clause-accounted g c = λ from opened tells.
     (parted_told c.args.settings.now.inputs (g.F.Folder.told c.args.outside.now.folder.now) (g.F.Folder.told c.scan.new.folder) c.in_ok-scanned.scanned (rw inputs at c.in_ok-scanned.ensures.scanned))
     (met_for_ending c.in_ok-scanned.scanned.listed.items c.args.settings.now.output.attempts fin.0 c.finish.result of fin.2.stands fin.2.refused)
     (full_for_ending disks c.args.settings.now _ c.in_ok-scanned.scanned.listed.items c.args.settings.now.output.attempts fin.0 c.finish.result of fin.2.stands fin.2.refused)
-    (report_over fin.1.rows (all_skipped c.in_ok-worked.worked.passed.items c.in_ok-scanned.scanned) c.keeper-2-1.given.0.shipped c.keeper-2-1.given.0.dropped fin.0 c.finish.result fin.2.telling fin.2.report)
+    (report_over c.args.settings.now _ fin.1.rows (all_skipped c.in_ok-worked.worked.passed.items c.in_ok-scanned.scanned) c.keeper-2-1.given.0.shipped c.keeper-2-1.given.0.dropped fin.0 c.finish.result fin.2.telling fin.2.report
+    (are_skipped c.args.settings.now.inputs (g.F.Folder.told c.args.outside.now.folder.now) (g.F.Folder.told c.scan.new.folder) (g.F.Folder.told c.run_over.new.around.folder.now) c.in_ok-scanned.scanned c.in_ok-worked.worked.passed.items
+    (rw inputs at c.in_ok-scanned.ensures.scanned) (shown_goes_further (g.F.Folder.told c.scan.new.folder) _ _ ends.1.ends.stands.shown) c.in_ok-worked.ensures.passed_over))
     (λ folder has.
     accounted_and_cleaned disks c.disk_images_are_counted.ensures.reads c.disk_images_are_counted.ensures.counts c.one_choice.ensures c.args.settings.now c.in_ok-parts.parts.keeper.store.rows
     (subst (λ (k : Keeping). IsInOrder k.store.rows) (sym keeper.is) keeper.in_order) c.in_ok-scanned.scanned.listed.items
