@@ -1,4 +1,4 @@
-ghost use Rattle.std.specs.Prelude.{false, ◌≡◌, ◌⊎◌, [], All, IfErr, IfOk, IfSome, IsErrOf, IsSome, List, MatchResult, OnOk, Some, ℕ, length, take, vec_len};
+ghost use Rattle.std.specs.Prelude.{false, ◌≡◌, All, IfErr, IfOk, IfSome, IsErrOf, IsSome, List, MatchResult, OnOk, Some, ℕ, length, take, vec_len};
 ghost use Rattle.beat_config.specs.Document.{AreSettingsOf, IsFirstFault};
 ghost use Rattle.beat_config.specs.InRange.{AreInRange};
 ghost use Rattle.command_line.specs.Words.{IsNoCommand};

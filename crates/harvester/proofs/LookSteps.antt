@@ -3,7 +3,6 @@ use Rattle.std.proofs.Common.{◌≡◌, ℕ, ◌+◌, ◌<◌, ◌≤◌, List,
 use Rattle.std.proofs.lemmas.List.{length-take-le}
 use Rattle.file_identity.specs.Answers.{with_numbers}
 use Rattle.file_identity.specs.Key.{WantsBytes}
-use Rattle.file_looks.specs.Segment.{Segment}
 use Rattle.file_looks.specs.Segment as segment
 use Rattle.outside.specs.declared.failed.Failed.{Failed}
 use Rattle.outside.specs.declared.history.Look.{Look}

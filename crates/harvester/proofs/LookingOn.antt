@@ -18,7 +18,7 @@ use Rattle.told_events.proofs.Going.{all_behind}
 use Rattle.told_events.specs.Licence.{LieApart}
 use Rattle.told_events.specs.Told.{ToldEvent}
 use Rattle.harvester.specs.Found.{FoundEnd}
-use Rattle.harvester.specs.History.{Asks, Changed, Ended, History, Over, Reads, Stage, Telling, beginning, with_bytes, with_epoch, with_events, with_licences, with_present, with_stage}
+use Rattle.harvester.specs.History.{Asks, Changed, Ended, History, Over, Reads, Stage, Telling, with_bytes, with_epoch, with_events, with_licences, with_present, with_stage}
 use Rattle.harvester.specs.History as history
 use Rattle.harvester.specs.Looked.{AreReadBy, HasFallen, IsLicensedIn, IsLookedAt, IsReadBy, IsUnanswered, StandBehind}
 use Rattle.harvester.specs.Standing.{EndsLines}

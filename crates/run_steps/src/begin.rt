@@ -1,4 +1,4 @@
-ghost use Rattle.std.specs.Prelude.{◌≡◌, ◌∷◌, ◌++◌, ◌%◌, ◌<◌, ◌≤◌, ◌↔◌, [], All, IfErr, IfOk, IsTrue, OnErr, OnOk, Some, length};
+ghost use Rattle.std.specs.Prelude.{◌≡◌, ◌∷◌, ◌++◌, ◌%◌, ◌<◌, ◌≤◌, ◌↔◌, [], IfErr, IfOk, IsTrue, OnErr, OnOk, Some, length};
 ghost use Rattle.beat_config.specs.InRange.{AreInRange};
 ghost use Rattle.prospect.specs.ListedFiles.{IsListedInRange};
 ghost use Rattle.rounds.specs.Crewed.{lanings};
