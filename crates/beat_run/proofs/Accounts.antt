@@ -1,19 +1,23 @@
 -- A run that ended before it opened a file is accounted for by what its scan listed, or by nothing; one that opened files by its account.
 use Rattle.std.proofs.Common.{◌≡◌, ◌≢◌, ◌⊎◌, inl, inr, ℕ, true, false, List, [], ◌∷◌, length, map, Option, Some, None, IfSome, IsSome, refl, sym, ap, subst, ◌∙◌}
+use Rattle.std.specs.Prelude.{flat_map}
 use Rattle.std.specs.List.{AllByRecursion}
 use Rattle.batch_worker.specs.Seen.{Seen}
 use Rattle.accounts.specs.Numbers.{AreAllCounted, AreNumbersOf, ArePlacedIn}
 use Rattle.beat_config.specs.InRange.{AreInRange}
 use Rattle.event_tree.specs.declared.settings.Settings.{Settings as SettingsOf}
 use Rattle.kept_rows.specs.Account.{SlotAccount}
-use Rattle.kept_rows.specs.Trace.{WireTold}
+use Rattle.kept_rows.specs.Run.{Run}
 use Rattle.outside.specs.Folders.{FolderHistory}
 use Rattle.outside.specs.Times.{GivesMoment}
 use Rattle.outside.specs.Wires.{Outcome}
+use Rattle.prospect.specs.AskedFiles.{keyed_by}
+use Rattle.prospect.specs.Doubled.{PartsDoubled}
 use Rattle.prospect.specs.declared.listed.Listed.{Listed}
 use Rattle.registry_store.specs.Choice.{GivesRows}
 use Rattle.registry_store.specs.Settled.{AreAtRest, AreSettled}
 use Rattle.registry_store.specs.Standing.{Standing, chosen_by}
+use Rattle.report.specs.declared.passing.Passing.{Passing}
 use Rattle.report.specs.declared.status.Status.{Status}
 use Rattle.report.specs.declared.status.Status.TheVariants.{Done, Stopped, Usage, Settings, RegistryBad, DiskFault, FolderFault, Unreachable, OutFault, SourceFault, TooMany, NoNative, NoMemory, Unbuilt}
 use Rattle.rounds.specs.Making.{all_seen}
@@ -21,28 +25,34 @@ use Rattle.rounds.specs.Words.{DiskWords, WireWords}
 use Rattle.run_steps.specs.AccountedFor.{AccountedFor, Objects, RunObjects}
 use Rattle.run_steps.specs.Areas.{GiveTheRows, HaveHeldFronts}
 use Rattle.run_steps.specs.Began.{Began}
-use Rattle.run_steps.specs.Met.{IsMetOf}
+use Rattle.run_steps.specs.FollowedOrSkipped.{AreFollowedOrSkipped}
+use Rattle.run_steps.specs.Met.{IsMetOf, IsTelling}
 use Rattle.run_steps.specs.RunOf.{FolderTold}
 use Rattle.run_steps.specs.Scanned.{HasScanned}
 use Rattle.wire_base.specs.declared.limits.Full.TheVariants.{Epochs, Files, Slots}
 use Rattle.wire_base.specs.declared.row.Row.{Row}
+use Rattle.run_steps.specs.declared.beginning.Scanned.{Scanned}
 use Rattle.run_steps.specs.declared.met.Met.{Met}
-use Rattle.run_steps.specs.declared.met.Met.TheVariants as met
 use Rattle.run_steps.specs.declared.registry_error.RegistryError.{RegistryError}
-use Rattle.run_steps.specs.declared.registry_error.RegistryError.TheVariants as registry
 use Rattle.run_steps.proofs.Giving.{first_given}
 use Rattle.run_steps.proofs.RunEarly.{early_is_accounted_for, still_is_accounted_for}
 use Rattle.run_steps.proofs.HeldRows.{some_of}
 use Rattle.run_steps.proofs.Members.{some_is}
 use Rattle.run_steps.proofs.RunRows.{OneChoice}
-use Rattle.beat_run.specs.Accounted.{HasNoRoom, IsAccounted, IsAccountedByNamed, IsFullFor, IsMetFor, IsOpenedFrom, LeavesNoRemoved, RunLent, TellRows}
-use Rattle.beat_run.specs.Ended.{IsTelling, StandsForMet, StandsForRegistry}
-use Rattle.beat_run.specs.Ends.{FindsNoRoom, IsPreparingEnd, IsPrintingEnd, IsReportEnd, IsRunEnd, ShowsScanEnd}
+use Rattle.beat_run.specs.Accounted.{HasNoRoom, IsAccounted, IsAccountedByNamed, IsFullFor, IsMetFor, IsOpenedFrom, LeavesNoRemoved, RunLent, TellRows, HasNoEpoch}
+use Rattle.beat_run.specs.Ended.{StandsForMet, StandsForRegistry}
+use Rattle.beat_run.specs.Ends.{FindsNoRoom, IsPreparingEnd, IsPrintingEnd, IsReportEnd, IsRunEnd, ShowsScanEnd, ListsTooMany}
+use Rattle.beat_run.specs.EpochsLeft.{FindsNoEpoch}
 use Rattle.beat_run.specs.Printed.{IsReportOver}
-use Rattle.beat_run.specs.Scanning.{ScansParted}
+use Rattle.beat_run.specs.Scanning.{TellsScanned}
+use Rattle.beat_run.specs.Skipped.{AreSkipped, all_skipped}
 use Rattle.beat_run.proofs.Causes.{named_so}
+use Rattle.beat_run.proofs.EpochsOut.{HasNoneFor}
+use Rattle.beat_run.proofs.PathsListed.{GoesFurther, are_skipped}
 use Rattle.beat_run.proofs.PrintedEnds.{never_reported}
 use Rattle.beat_run.proofs.ScanShown.{ScannedSome, each_some, scanned_folder}
+use Rattle.run_steps.specs.declared.met.Met.TheVariants as met
+use Rattle.run_steps.specs.declared.registry_error.RegistryError.TheVariants as registry
 
 -- ---- what was met, by the status
 
@@ -104,28 +114,31 @@ pub met_for_end : (listed : List Listed) (attempts : ℕ) (what : Met) (status :
 met_for_end listed attempts what status of (inl memory) = subst (λ (s : Status). IsMetFor s what) (sym memory) tt
 met_for_end listed attempts what status of (inr stands) = met_for listed attempts what status of stands
 
--- ---- only a scan finds too many files
+-- ---- only a scan finds too many files, and a run of which one was met in its last epoch beside these rows
 
-pub full_for_met : {D : Type 0} (disks : DiskWords D) (settings : SettingsOf) (objects : RunObjects D) (listed : List Listed) (attempts : ℕ) (what : Met) (status : Status) → IsMetOf (length listed) what →
+pub full_for_met : {D : Type 0} (disks : DiskWords D) (settings : SettingsOf) (objects : RunObjects D) (rows : List Row) (gave : GiveTheRows disks objects.before.a objects.before.b rows) (listed : List Listed) (attempts : ℕ) (what : Met) (status : Status) →
+    IsMetOf (length listed) what → HasNoneFor settings rows listed objects.before.folder objects.after.folder what →
     (status ≡ NoMemory) ⊎ StandsForMet listed attempts what status → IsFullFor disks settings objects status
-full_for_met {D} disks settings objects listed attempts what status of ends = by_end ends
+full_for_met {D} disks settings objects rows gave listed attempts what status of none ends = by_end ends
   where
     IsFull : Status → Type 0
     IsFull s = IsFullFor disks settings objects s
 
-    by_met : (m : Met) → IsMetOf (length listed) m → StandsForMet listed attempts m status → IsFullFor disks settings objects status
-    by_met met.Done of_it stands = subst IsFull (sym stands) tt
-    by_met met.Stopped of_it stands = subst IsFull (sym stands) tt
-    by_met met.NoMemory of_it stands = subst IsFull (sym stands) tt
-    by_met met.DiskFault of_it stands = subst IsFull (sym stands) tt
-    by_met met.FolderFault of_it stands = subst IsFull (sym stands) tt
-    by_met (met.Unreachable worker) of_it stands = subst IsFull (sym stands) tt
-    by_met (met.Epochs slot) of_it stands = named_so listed slot.0 status (TooMany Epochs) IsFull of_it stands tt (λ one is. tt)
-    by_met (met.NoNative slot) of_it stands = named_so listed slot.0 status NoNative IsFull of_it stands tt (λ one is. tt)
+    by_met : (m : Met) → IsMetOf (length listed) m → HasNoneFor settings rows listed objects.before.folder objects.after.folder m → StandsForMet listed attempts m status → IsFullFor disks settings objects status
+    by_met met.Done of_it none_for stands = subst IsFull (sym stands) tt
+    by_met met.Stopped of_it none_for stands = subst IsFull (sym stands) tt
+    by_met met.NoMemory of_it none_for stands = subst IsFull (sym stands) tt
+    by_met met.DiskFault of_it none_for stands = subst IsFull (sym stands) tt
+    by_met met.FolderFault of_it none_for stands = subst IsFull (sym stands) tt
+    by_met (met.Unreachable worker) of_it none_for stands = subst IsFull (sym stands) tt
+    by_met (met.Epochs slot) of_it none_for stands = named_so listed slot.0 status (TooMany Epochs) IsFull of_it stands tt
+        (λ one is. each_some objects.before.folder (λ told. FindsNoEpoch settings.inputs told rows one.path objects.after.folder) (λ told. HasNoEpoch disks settings objects told one.path)
+        (λ told finds. record { rows = rows; given = gave; finds = finds }) (none_for one is))
+    by_met (met.NoNative slot) of_it none_for stands = named_so listed slot.0 status NoNative IsFull of_it stands tt (λ one is. tt)
 
     by_end : (status ≡ NoMemory) ⊎ StandsForMet listed attempts what status → IsFullFor disks settings objects status
     by_end (inl memory) = subst IsFull (sym memory) tt
-    by_end (inr stands) = by_met what of stands
+    by_end (inr stands) = by_met what of none stands
 
 pub full_for_registry : {D : Type 0} (disks : DiskWords D) (settings : SettingsOf) (objects : RunObjects D) (error : RegistryError) (status : Status) → StandsForRegistry error status → IsFullFor disks settings objects status
 full_for_registry disks settings objects (registry.Bad area at) status stands = subst (λ (s : Status). IsFullFor disks settings objects s) (sym stands) tt
@@ -164,7 +177,9 @@ full_for_scan disks settings objects rows SourceFault gave shows = tt
 full_for_scan disks settings objects rows (TooMany Files path) gave shows =
     each_some objects.before.folder (λ told. FindsNoRoom settings.inputs told rows path objects.after.folder) (λ told. HasNoRoom disks settings objects told path)
     (λ told finds. record { rows = rows; given = gave; finds = finds }) shows
-full_for_scan disks settings objects rows (TooMany Epochs path) gave shows = tt
+full_for_scan disks settings objects rows (TooMany Epochs path) gave shows =
+    each_some objects.before.folder (λ told. ListsTooMany settings.inputs told rows Epochs path objects.after.folder) (λ told. HasNoEpoch disks settings objects told path)
+    (λ told lists. record { rows = rows; given = gave; finds = inl lists }) shows
 full_for_scan disks settings objects rows (TooMany Slots path) gave shows = tt
 full_for_scan disks settings objects rows (NoNative path) gave shows = tt
 full_for_scan disks settings objects rows NoMemory gave shows = tt
@@ -203,7 +218,7 @@ module _ {D : Type 0} (disks : DiskWords D) (one : OneChoice) (settings : Settin
         accounted = subst (λ (o : Option FolderHistory). AccountedFor disks settings (early_run (Some history) o before later) (early_met status)) (sym scans.after_is)
             (early_is_accounted_for disks start (scanned_folder history scans.listed scans.scanned) scans.has first.since later first.given (later_tells before later moment gives clock) outcomes a b one gave held (early_met status) (early_not_done status));
         cleaned = λ rest telling. absurd (early_not_telling status telling);
-        numbers = λ end. absurd (never_reported status ends end);
+        reported = λ end. absurd (never_reported status ends end);
         counted = λ is_done. absurd (early_not_done status is_done);
         full_for = full;
       }
@@ -226,7 +241,7 @@ module _ {D : Type 0} (disks : DiskWords D) (one : OneChoice) (settings : Settin
     met_for = early_met_for status ends;
     accounted = still_is_accounted_for disks settings opening history moments outcomes from_a from_b a b one gave held (early_met status) (early_not_done status);
     cleaned = λ rest telling. absurd (early_not_telling status telling);
-    numbers = λ end. absurd (never_reported status ends end);
+    reported = λ end. absurd (never_reported status ends end);
     counted = λ is_done. absurd (early_not_done status is_done);
     full_for = full;
   }
@@ -244,42 +259,56 @@ pub wires_tell : {W : Type 0} (outcomes : W → Option (List Outcome)) (wires : 
 wires_tell outcomes [] tell = tt
 wires_tell outcomes (w ∷ wires) tell = (tell.0, wires_tell outcomes wires tell.1)
 
--- a run that is accounted for, of which no row of a removed file is left, and whose numbers are those of its account
-pub record IsWorked {D : Type 0} (disks : DiskWords D) (settings : SettingsOf) (what : Met) (shipped dropped : ℕ) (objects : RunObjects D) : Type 0 where
+-- a run that is accounted for, of which no row of a removed file is left, whose numbers are those of its account, and which follows each listed file
+-- or skipped it
+pub record IsWorked {D : Type 0} (disks : DiskWords D) (settings : SettingsOf) (what : Met) (shipped dropped : ℕ) (listed : List Listed) (scanned : ℕ) (passed : List Passing) (objects : RunObjects D) : Type 0 where
   pub accounted : AccountedFor disks settings objects what
   pub cleaned : LeavesNoRemoved disks objects what accounted.run
   pub placed : ArePlacedIn accounted.account accounted.run.trace.wires
   pub numbers : IsTelling what → AreNumbersOf accounted.account shipped dropped
   pub counted : what ≡ met.Done → AreAllCounted accounted.account
+  pub followed_or_skipped : IsTelling what → AreFollowedOrSkipped accounted.run accounted.account scanned listed passed
 
--- with what the folder told, where it tells
-module _ {D : Type 0} (disks : DiskWords D) (start : Began D) (in_range : AreInRange start.settings) (outcomes : List (Option (List Outcome))) (after : Objects D) (what : Met) (shipped dropped : ℕ) where
+-- with what the folder told, where it tells, and what its scan told
+module _ {D : Type 0} (disks : DiskWords D) (start : Began D) (in_range : AreInRange start.settings) (outcomes : List (Option (List Outcome))) (after : Objects D) (what : Met) (shipped dropped : ℕ)
+    (scan : Scanned) (listed_are : scan.listed.items ≡ start.listed) (doubled_are : scan.doubled.items ≡ start.doubled) (passed : List Passing) where
   abbrev pub worked_run : Option FolderHistory → RunObjects D
   worked_run told = record { before = record { folder = told; moments = start.moments; outcomes = outcomes; a = start.a; b = start.b }; after = after }
 
-  pub worked : {tells : List ℕ → Type 0} (told : Option FolderHistory) (status : Status) → IsSome told → IfSome told (λ history. ScansParted start.settings.inputs history start.listed start.doubled start.shown) → IsMetFor status what → IsFullFor disks start.settings (worked_run told) status →
-      ((account : List SlotAccount) (wires : List WireTold) → ArePlacedIn account wires → (IsTelling what → AreNumbersOf account shipped dropped) → IsReportEnd status → (text : List ℕ) → tells text → IsReportOver start.settings (worked_run told) account wires status text) →
-      ((folder : FolderTold) → HasScanned start folder → IsWorked disks start.settings what shipped dropped (worked_run (Some folder.earlier))) →
+  -- the report that it tells is one over each such account
+  abbrev pub ReportsOver : (List ℕ → Type 0) → Option FolderHistory → Status → Type 0
+  ReportsOver tells told status = (run : Run) (account : List SlotAccount) → ArePlacedIn account run.trace.wires → (IsTelling what → AreNumbersOf account shipped dropped) →
+      (IsTelling what → IfSome told (λ history. AreSkipped run account history after.folder (all_skipped passed scan))) → IsReportEnd status → (text : List ℕ) → tells text →
+      IsReportOver (worked_run told) run account status text
+
+  pub worked : {tells : List ℕ → Type 0} (told : Option FolderHistory) (status : Status) → IsSome told → IfSome told (λ history. TellsScanned start.settings.inputs history scan start.shown) → GoesFurther start.shown after.folder →
+      IsMetFor status what → IsFullFor disks start.settings (worked_run told) status → ReportsOver tells told status →
+      ((folder : FolderTold) → HasScanned start folder → IsWorked disks start.settings what shipped dropped start.listed (length folder.scanned.events) passed (worked_run (Some folder.earlier))) →
       IsAccounted disks start.settings (worked_run told) status tells
-  worked None status some scans is full reports accounted = absurd (nothing FolderHistory some)
-  worked (Some history) status some scans is full reports accounted =
-      let folder : FolderTold = record { earlier = history; listed = scans.listed; scanned = scans.scanned; ended = scans.scanned; asked = scans.asked } in
+  worked None status some scans goes is full reports accounted = absurd (nothing FolderHistory some)
+  worked (Some history) status some scans goes is full reports accounted =
+      let parted = scans.parted in
+      let folder : FolderTold = record { earlier = history; listed = parted.listed; scanned = parted.scanned; ended = parted.scanned; asked = parted.asked } in
       let worked_so = accounted folder (record {
         in_range = in_range;
-        shown = scans.after_is;
-        all = scans.all;
-        scans = scans.scans;
-        keyed = scans.keyed;
-        asked_are = scans.asked_are;
-        asks = scans.asks;
-        parts = scans.parts;
+        shown = parted.after_is;
+        all = parted.all;
+        scans = parted.scans;
+        keyed = parted.keyed;
+        asked_are = parted.asked_are;
+        asks = parted.asks;
+        parts = subst (λ (l : List Listed). PartsDoubled (flat_map keyed_by parted.asked) l start.doubled) listed_are
+            (subst (PartsDoubled (flat_map keyed_by parted.asked) scan.listed.items) doubled_are parted.parts);
       }) in
       record {
         what = what;
         met_for = is;
         accounted = worked_so.accounted;
         cleaned = worked_so.cleaned;
-        numbers = reports worked_so.accounted.account worked_so.accounted.run.trace.wires worked_so.placed worked_so.numbers;
+        reported = reports worked_so.accounted.run worked_so.accounted.account worked_so.placed worked_so.numbers
+            (λ telling.
+            are_skipped start.settings worked_so.accounted.run worked_so.accounted.account history start.shown after.folder scan passed worked_so.accounted.by_settings scans goes
+            (subst (λ (l : List Listed). AreFollowedOrSkipped worked_so.accounted.run worked_so.accounted.account (length parted.scanned.events) l passed) (sym listed_are) (worked_so.followed_or_skipped telling)));
         counted = worked_so.counted;
         full_for = full;
       }
@@ -300,7 +329,7 @@ module _ {F W D : Type 0} (disks : DiskWords D) (source : Option (List ℕ)) (le
       met_for = by.is.met_for;
       accounted = by.is.accounted;
       cleaned = by.is.cleaned;
-      numbers = λ end text told. by.is.numbers end text (was end text told);
+      reported = λ end text told. by.is.reported end text (was end text told);
       counted = by.is.counted;
       full_for = by.is.full_for;
     };
@@ -314,7 +343,7 @@ module _ {F W D : Type 0} (disks : DiskWords D) (source : Option (List ℕ)) (le
     named_or_unused = by.named_or_unused;
     supported = by.supported;
     in_range = by.in_range;
-    is = record { what = by.is.what; met_for = tt; accounted = by.is.accounted; cleaned = by.is.cleaned; numbers = λ end. absurd end; counted = by.is.counted; full_for = tt };
+    is = record { what = by.is.what; met_for = tt; accounted = by.is.accounted; cleaned = by.is.cleaned; reported = λ end. absurd end; counted = by.is.counted; full_for = tt };
   }
 
   -- a status alone

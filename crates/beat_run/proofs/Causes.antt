@@ -13,7 +13,7 @@ use Rattle.registry_store.specs.Standing.{Standing, chosen_by}
 use Rattle.report.specs.declared.status.Status.{Status}
 use Rattle.report.specs.declared.status.Status.TheVariants.{Done, Stopped, Usage, Settings, RegistryBad, DiskFault, FolderFault, Unreachable, OutFault, SourceFault, TooMany, NoNative, NoMemory, Unbuilt}
 use Rattle.rounds.specs.Words.{DiskWords}
-use Rattle.run_steps.specs.Met.{AreLeft, IsMetOf}
+use Rattle.run_steps.specs.Met.{AreLeft, IsMetOf, IsTelling}
 use Rattle.run_steps.specs.Unnumbered.{IsMetUnnumbered, IsUnnumbered}
 use Rattle.run_steps.specs.Worked.{IsMetByRun, Tolls}
 use Rattle.run_steps.specs.declared.met.Met.{Met}
@@ -24,7 +24,7 @@ use Rattle.wire_base.specs.declared.limits.Full.{Full}
 use Rattle.wire_base.specs.declared.limits.Full.TheVariants.{Epochs, Files, Slots}
 use Rattle.wire_base.specs.declared.row.Row.{Row}
 use Rattle.beat_run.specs.Cause.{AllSigns, Cause, CauseBy, HasAreaFailed, HasFailedAt, LacksNumbers, Signs, WasListed, without_sink}
-use Rattle.beat_run.specs.Ended.{IsTelling, StandsForMet, StandsForRegistry}
+use Rattle.beat_run.specs.Ended.{StandsForMet, StandsForRegistry}
 use Rattle.beat_run.specs.Ends.{IsBehindOpening, IsBehindSettings, IsPreparingEnd, IsReportEnd, IsRunEnd, IsScanEnd, IsScannedEnd, FindsNoRoom, ListsTooMany, ShowsScanEnd}
 use Rattle.beat_run.specs.Named.{IsNamed}
 use Rattle.beat_run.specs.Scanning.{ScansParted}

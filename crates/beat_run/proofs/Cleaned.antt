@@ -11,7 +11,7 @@ use Rattle.event_tree.specs.declared.settings.Settings.{Settings}
 use Rattle.kept_rows.specs.Account.{SlotAccount, key_of}
 use Rattle.kept_rows.specs.Drained.{IsDrained}
 use Rattle.kept_rows.specs.Followed.{IsKeyOf}
-use Rattle.kept_rows.specs.Kept.{IsKept, IsKeptInImage}
+use Rattle.kept_rows.specs.Kept.{IsKept, IsKeptInImage, IsUnbegun}
 use Rattle.kept_rows.specs.Premises.{Premises}
 use Rattle.kept_rows.specs.Run.{Run, Scan}
 use Rattle.kept_rows.proofs.Showing.{both}
@@ -32,32 +32,42 @@ use Rattle.removed_rows.proofs.GoneKept.{kept_in_image_with_gone, kept_with_gone
 use Rattle.removed_rows.proofs.GoneLost.{lost}
 use Rattle.removed_rows.proofs.GoneRows.{each_is_gone_of, each_there, gones, may_all_go, removed_is_gone}
 use Rattle.removed_rows.proofs.GoneSlots.{has_with_gone}
-use Rattle.removed_rows.specs.Gone.{Gone, IsApartFrom, MayAllGo, gone_key, with_gone}
-use Rattle.removed_rows.specs.Leaving.{MayHoldLeft}
+use Rattle.removed_rows.specs.Gone.{Gone, IsApartFrom, MayAllGo, MayGo, gone_accounts, gone_key, next_slot, with_gone}
+use Rattle.removed_rows.specs.Leaving.{GiveLeft, MayHoldLeft}
+use Rattle.removed_rows.specs.OneArea.{WritesOneArea}
 use Rattle.removed_rows.specs.Removed.{IsRemoved, LeavesRows, RemovesRows}
+use Rattle.report.specs.declared.passing.Passing.{Passing}
 use Rattle.rounds.specs.Words.{DiskWords}
+use Rattle.told_events.proofs.Going.{all_front}
 use Rattle.run_steps.proofs.Members.{member_is, some_is}
 use Rattle.run_steps.proofs.RunRows.{OneChoice, not_shut, opened_rows, rows_of_store, same_rows}
-use Rattle.run_steps.proofs.Whole.{left_or_not}
-use Rattle.run_steps.specs.AccountedFor.{AccountedFor, AreImageRows, FitsObjects, GiveRows, HasRowOf, HoldKeptRows, LostKey, NoKey, RowsBy, RunObjects, WereAtRest}
+use Rattle.run_steps.proofs.Together.{areas_at, give_by_one, give_on, give_others}
+use Rattle.run_steps.proofs.Whole.{left_or_not, telling_before}
+use Rattle.run_steps.specs.AccountedFor.{AccountedFor, AreImageRows, FitsObjects, GiveImageRows, GiveRows, HasRowOf, ImagesHoldKeptRows, LostKey, NoKey, RowsBy, RunObjects, TogetherHoldKeptRows, WereAtRest, areas_of}
 use Rattle.run_steps.specs.AccountedOver.{AccountedOver}
 use Rattle.run_steps.specs.Began.{Began}
 use Rattle.run_steps.specs.Met.{AreLeft, IsMetOf}
 use Rattle.run_steps.specs.RunOf.{FolderTold}
 use Rattle.run_steps.specs.Scanned.{HasScanned}
 use Rattle.run_steps.specs.Settling.{IsMetByStoring}
+use Rattle.run_steps.specs.Together.{Areas, GiveThroughout, area_in}
 use Rattle.run_steps.specs.Unnumbered.{IsMetUnnumbered}
+use Rattle.run_steps.specs.UnusedArea.{IsOfUnusedArea}
 use Rattle.run_steps.specs.Worked.{IsMetByRun, Tolls}
 use Rattle.run_steps.specs.declared.met.Met.{Met}
 use Rattle.run_steps.specs.declared.met.Met.TheVariants.{DiskFault, Done, Epochs, FolderFault, NoMemory, NoNative, Stopped, Unreachable}
 use Rattle.ship_core.specs.Rows.{IsInOrder}
+use Rattle.wire_base.specs.declared.limits.Which.{Which}
+use Rattle.wire_base.specs.declared.limits.Which.TheVariants.{A, B}
 use Rattle.wire_base.specs.declared.row.Row.{Row}
 use Rattle.beat_run.specs.Accounted.{IsOfRemovedFile, LeavesNoRemoved}
 use Rattle.beat_run.specs.Cause.{Signs}
 use Rattle.beat_run.specs.Cleaning.{Cleaning, Cleans, HeldOnlyLeft, IsAtRestIn}
 use Rattle.beat_run.proofs.Accounts.{IsWorked}
 use Rattle.beat_run.proofs.Causes.{FailedIn, left_telling}
+use Rattle.beat_run.proofs.EpochsOut.{HasNoneFor}
 use Rattle.beat_run.proofs.GoneNumbers.{counted_with_gone, numbers_with_gone, placed_with_gone}
+use Rattle.beat_run.proofs.GoneSkipped.{followed_or_skipped_with_gone}
 
 -- ---- what is met
 
@@ -99,6 +109,9 @@ module _ {D : Type 0} (disks : DiskWords D) (inputs : List InputRule) (listed : 
 
   pub unnumbered_after_cleaning : (settings : Settings) (before now : Option FolderHistory) → IsMetUnnumbered settings listed before now old.met → IsMetUnnumbered settings listed before now new.met
   unnumbered_after_cleaning settings before now unnumbered = other_met (IsMetUnnumbered settings listed before now) tt tt unnumbered
+
+  pub none_after_cleaning : (settings : Settings) (rows : List Row) (files : List Listed) (told after : Option FolderHistory) → HasNoneFor settings rows files told after old.met → HasNoneFor settings rows files told after new.met
+  none_after_cleaning settings rows files told after none = other_met (HasNoneFor settings rows files told after) tt tt none
 
   pub failed_after_cleaning : (settings : Settings) (before now : Signs) → FailedIn settings before now old.met → FailedIn settings before now new.met
   failed_after_cleaning settings before now failed = other_met (FailedIn settings before now) tt tt failed
@@ -186,7 +199,8 @@ with_areas objects a b = record { before = objects.before; after = record object
 module _ {D : Type 0} (disks : DiskWords D) (reads : (disk : D) → IfSome (disks.contents disk) (disks.images disk))
     (counts : (disk : D) (since : ℕ) (image : List ℕ) → since ≤ disks.moment disk → disks.images disk image → disks.images_since disk since image) (one : OneChoice)
     (settings : Settings) (opening : List Row) (ordered : IsInOrder opening) (listed : List Listed) (known : All (λ (listing : Listed). IsSome listing.key) listed)
-    (objects : RunObjects D) (old new : Cleaning D) (shipped dropped : ℕ) (over : AccountedOver disks settings opening listed (with_areas objects old.a old.b) old.met shipped dropped)
+    (scanned : ℕ) (objects : RunObjects D) (old new : Cleaning D) (passed : List Passing) (shipped dropped : ℕ)
+    (over : AccountedOver disks settings opening listed scanned (with_areas objects old.a old.b) old.met passed shipped dropped)
     (cleans : Cleans disks settings.inputs listed old new) (later_a : WereAtRest disks objects → disks.moment objects.before.a ≤ disks.moment old.a)
     (later_b : WereAtRest disks objects → disks.moment objects.before.b ≤ disks.moment old.b)
     (at_rest : AreLeft old.met → WereAtRest disks objects → IsAtRestIn disks old) where
@@ -234,7 +248,11 @@ module _ {D : Type 0} (disks : DiskWords D) (reads : (disk : D) → IfSome (disk
 
   image_left : (rows left : List Row) → AreImageRows NoKey run account rows → ((row : Row) → Contains left row → Contains rows row) →
       ((row : Row) → Contains rows row → Contains left row ⊎ IsRemoved inputs listed row.key) → AreImageRows LostKey run behind left
-  image_left rows left is of_these others = record { kept = each_there (IsKeptInImage behind run.opening run.trace.wires) left kept; stay = each_there (λ (row : Row). HasRowOf left row.key ⊎ LostKey run behind row.key) run.opening stay }
+  image_left rows left is of_these others = record {
+    kept = each_there (IsKeptInImage behind run.opening run.trace.wires) left kept;
+    stay = each_there (λ (row : Row). HasRowOf left row.key ⊎ LostKey run behind row.key) run.opening stay;
+    unbegun = each_there (λ (row : Row). IsUnbegun behind row.key → Contains left row) run.opening unbegun;
+  }
     where
       kept : (row : Row) → Contains left row → IsKeptInImage behind run.opening run.trace.wires row
       kept row there = kept_in_image_with_gone account went run.opening run.trace.wires row (member_is (IsKeptInImage account run.opening run.trace.wires) rows row is.kept (of_these row there))
@@ -248,6 +266,16 @@ module _ {D : Type 0} (disks : DiskWords D) (reads : (disk : D) → IfSome (disk
               ⊎_elim (λ still. inl (record { row = has.row; of_rows = still; key_is = has.key_is }))
               (λ removed. inr (lost_where_removed row there (subst (IsRemoved inputs listed) has.key_is removed)))
               (others has.row has.of_rows)
+
+      -- a key that lost its row has a slot behind the others
+      has_slot : (key : List ℕ) → LostKey run behind key → IsUnbegun behind key → ⊥
+      has_slot key gone none = member_is (λ (slot : SlotAccount). key_of slot ≢ key) behind gone.lost.one none gone.lost.of_account gone.lost.key_is
+
+      unbegun : (row : Row) → Contains run.opening row → IsUnbegun behind row.key → Contains left row
+      unbegun row there none =
+          let before = all_front (λ (slot : SlotAccount). key_of slot ≢ row.key) account (gone_accounts (next_slot account) went) none in
+          let stands = member_is (λ (r : Row). IsUnbegun account r.key → Contains rows r) run.opening row is.unbegun there before in
+          ⊎_elim (λ still. still) (λ removed. absurd (has_slot row.key (lost_where_removed row there removed) none)) (others row stands)
 
   abbrev leaves_of : {rows left : List Row} → LeavesRows inputs listed rows left → (row : Row) → Contains left row → Contains rows row
   leaves_of {rows} {left} leaves row there = member_is (Contains rows) left row (recursion_from_All (Contains rows) left leaves.of_these) there
@@ -356,24 +384,73 @@ module _ {D : Type 0} (disks : DiskWords D) (reads : (disk : D) → IfSome (disk
 
   -- ---- what a crash leaves
 
-  module _ (were : WereAtRest disks objects) (began : D) where
-    images_after : (before now : D) → HoldKeptRows NoKey disks (record { began = began; now = before }) run account → disks.moment began ≤ disks.moment before →
-        (AreLeft old.met → HeldOnlyLeft disks inputs listed old.store before now) → (¬ (AreLeft old.met) → now ≡ before) → HoldKeptRows LostKey disks (record { began = began; now = now }) run behind
-    images_after before now held later left kept image generation rows end since opened = by_left (left_or_not old.met)
-      where
-        earlier : disks.images_since before (disks.moment began) image → (disks.contents began ≡ Some image) ⊎ AreImageRows LostKey run behind rows
-        earlier was = ⊎_elim inl (λ is. inr (image_same rows is)) (held image generation rows end was opened)
+  module _ (were : WereAtRest disks objects) where
+    abbrev began : Areas D
+    began = areas_of objects.before
 
-        meanwhile : AreLeft old.met → MayHoldLeft inputs listed old.store.rows (disks.contents before) image → (disks.contents began ≡ Some image) ⊎ AreImageRows LostKey run behind rows
-        meanwhile are_left (inl was) = earlier (counts before (disks.moment began) image later (subst (λ (o : Option (List ℕ)). IfSome o (disks.images before)) was (reads before)))
+    -- before the removal, and behind it
+    abbrev then : Areas D
+    then = areas_at old.a old.b
+
+    abbrev now : Areas D
+    now = areas_at new.a new.b
+
+    later : (area : Which) → disks.moment (area_in began area) ≤ disks.moment (area_in then area)
+    later A = later_a were
+    later B = later_b were
+
+    held_left : AreLeft old.met → (area : Which) → HeldOnlyLeft disks inputs listed old.store (area_in then area) (area_in now area)
+    held_left are_left A = cleaned.of_a are_left (at_rest are_left were)
+    held_left are_left B = cleaned.of_b are_left (at_rest are_left were)
+
+    abbrev Holds : Which → List ℕ → ℕ → List Row → Type 0
+    Holds area image generation rows = IsOfUnusedArea disks began area image generation ⊎ AreImageRows LostKey run behind rows
+
+    images_after : (area : Which) → ImagesHoldKeptRows LostKey disks (with_areas objects new.a new.b) run behind area
+    images_after area image generation rows end since opened = by_left (left_or_not old.met)
+      where
+        earlier : disks.images_since (area_in then area) (disks.moment (area_in began area)) image → Holds area image generation rows
+        earlier was = ⊎_elim inl (λ is. inr (image_same rows is)) (over.accounted.images were area image generation rows end was opened)
+
+        meanwhile : AreLeft old.met → MayHoldLeft inputs listed old.store.rows (disks.contents (area_in then area)) image → Holds area image generation rows
+        meanwhile are_left (inl was) =
+            earlier (counts (area_in then area) (disks.moment (area_in began area)) image (later area)
+            (subst (λ (o : Option (List ℕ)). IfSome o (disks.images (area_in then area))) was (reads (area_in then area))))
         meanwhile are_left (inr (inl shut)) = absurd (not_shut one image generation rows end opened shut)
         meanwhile are_left (inr (inr is)) =
             inr (subst (AreImageRows LostKey run behind) (opened_rows one image is.generation generation is.left rows is.end end is.opened opened)
             (image_leaves old.store.rows is.left (rows_before were (at_rest are_left were)).in_image is.leaves))
 
-        by_left : AreLeft old.met ⊎ (¬ AreLeft old.met) → (disks.contents began ≡ Some image) ⊎ AreImageRows LostKey run behind rows
-        by_left (inl are_left) = ⊎_elim earlier (meanwhile are_left) ((left are_left).before (disks.moment began) image later since)
-        by_left (inr not) = earlier (subst (λ (d : D). disks.images_since d (disks.moment began) image) (kept not) since)
+        by_left : AreLeft old.met ⊎ (¬ AreLeft old.met) → Holds area image generation rows
+        by_left (inl are_left) = ⊎_elim earlier (meanwhile are_left) ((held_left are_left area).before (disks.moment (area_in began area)) image (later area) since)
+        by_left (inr not) =
+            earlier (subst (λ (s : Cleaning D). disks.images_since (area_in (areas_at s.a s.b) area) (disks.moment (area_in began area)) image) (same_state not) since)
+
+    abbrev Gives : List ℕ → List ℕ → Type 0
+    Gives = GiveImageRows LostKey run behind
+
+    together_after : TogetherHoldKeptRows LostKey disks (with_areas objects new.a new.b) run behind
+    together_after = by_left (left_or_not old.met)
+      where
+        before_it : GiveThroughout disks Gives began then
+        before_it =
+            give_others disks (GiveImageRows NoKey run account) Gives (λ first second gives. record { rows = gives.rows; given = gives.given; are = image_same gives.rows gives.are }) began then
+            (over.accounted.together were)
+
+        -- the removal writes one area alone
+        meanwhile : AreLeft old.met → WritesOneArea disks.images disks.moment disks.images_since inputs listed old.store.rows old.a old.b new.a new.b → GiveThroughout disks Gives then now
+        meanwhile are_left writes =
+            give_others disks (GiveLeft inputs listed old.store.rows) Gives
+            (λ first second gives. record {
+              rows = gives.left;
+              given = gives.given;
+              are = image_leaves old.store.rows gives.left (rows_before were (at_rest are_left were)).in_image gives.leaves;
+            }) then now
+            (give_by_one disks (GiveLeft inputs listed old.store.rows) counts then now writes.written (record { other_same = writes.other_kept; leaves = writes.each_moment }))
+
+        by_left : AreLeft old.met ⊎ (¬ AreLeft old.met) → GiveThroughout disks Gives began now
+        by_left (inl are_left) = give_on disks Gives began then now before_it (meanwhile are_left (cleaned.together are_left (at_rest are_left were)))
+        by_left (inr not) = subst (λ (s : Cleaning D). GiveThroughout disks Gives began (areas_at s.a s.b)) (sym (same_state not)) before_it
 
   -- ---- together
 
@@ -392,7 +469,7 @@ module _ {D : Type 0} (disks : DiskWords D) (reads : (disk : D) → IfSome (disk
       ((over.accounted.supposing premises).drained were was_done rest.first rest.second old.store.rows rest.a_holds rest.b_holds (store_gives were rest)))
 
   fits : FitsObjects (with_areas objects new.a new.b) run
-  fits = let was = over.accounted.fits in record { once = was.once; one_scan = was.one_scan; folder = was.folder; moments = was.moments; wires = was.wires }
+  fits = let was = over.accounted.fits in record { once = was.once; one_scan = was.one_scan; folder = was.folder; moments = was.moments; wires_go_on = was.wires_go_on; wires = was.wires }
 
   abbrev cleaned_is_accounted_for : AccountedFor disks settings (with_areas objects new.a new.b) new.met
   cleaned_is_accounted_for = record {
@@ -405,12 +482,8 @@ module _ {D : Type 0} (disks : DiskWords D) (reads : (disk : D) → IfSome (disk
     opened = over.accounted.opened;
     given = given;
     rows = rows_after;
-    images = λ were.
-        let held = over.accounted.images were in
-        record {
-          of_a = images_after were objects.before.a old.a new.a held.of_a (later_a were) (λ are_left. cleaned.of_a are_left (at_rest are_left were)) (λ not. ap (λ (s : Cleaning D). s.a) (same_state not));
-          of_b = images_after were objects.before.b old.b new.b held.of_b (later_b were) (λ are_left. cleaned.of_b are_left (at_rest are_left were)) (λ not. ap (λ (s : Cleaning D). s.b) (same_state not));
-        };
+    images = images_after;
+    together = together_after;
     supposing = λ premises.
         let before = premises_before run over.scan went may account premises in
         record {
@@ -437,11 +510,17 @@ module _ {D : Type 0} (disks : DiskWords D) (reads : (disk : D) → IfSome (disk
       subst (AllByRecursion (λ (row : Row). ¬ (IsOfRemovedFile run row))) (rows_of_store one disks new.a new.b new.store first second rows (cleaned.at_rest still rest) a_is b_is gives)
       (each_there (λ (row : Row). ¬ (IsOfRemovedFile run row)) new.store.rows (λ row there of. none_left old.store.rows new.store.rows (cleaned.rows still) row there (is_removed row of)))
 
-  pub accounted_and_cleaned : IsWorked disks settings new.met shipped dropped (with_areas objects new.a new.b)
+  -- no row that went had the key of a listed file
+  listed_stays : (one : Listed) → Contains listed one → (gone : Gone) → Contains went gone → one.key ≢ Some (gone_key gone)
+  listed_stays one there gone among is = (member_is (MayGo run over.scan) went gone may.each among).hidden (over.lists one (gone_key gone) there is)
+
+  pub accounted_and_cleaned : IsWorked disks settings new.met shipped dropped listed scanned passed (with_areas objects new.a new.b)
   accounted_and_cleaned = record {
     accounted = cleaned_is_accounted_for;
     cleaned = none_of_removed_files;
     placed = placed_with_gone account went run.trace.wires over.placed;
     numbers = λ telling. numbers_with_gone account went shipped dropped (over.numbers (left_before (left_telling new.met telling)));
     counted = λ is_done. counted_with_gone account went (over.counted (was_done_before is_done));
+    followed_or_skipped = λ telling. followed_or_skipped_with_gone run account went scanned listed passed listed_stays
+        (over.followed_or_skipped (telling_before disks (record { a = old.a; b = old.b; new_a = new.a; new_b = new.b }) old.met new.met cleaned.met telling));
   }

@@ -38,7 +38,7 @@ use Rattle.told_events.specs.Licence.{LieApart}
 use Rattle.wire_base.specs.declared.limits.Full.TheVariants.{Epochs, Files, Slots}
 use Rattle.wire_base.specs.declared.limits.Which.{Which}
 use Rattle.wire_base.specs.declared.row.Row.{Row}
-use Rattle.beat_run.specs.Accounted.{HasNoRoom, IsAccountedWhereTold, RunLent}
+use Rattle.beat_run.specs.Accounted.{HasNoEpoch, HasNoRoom, IsAccountedByNamed, IsAccountedWhereTold, RunLent}
 use Rattle.beat_run.specs.Asked.{IsAsked}
 use Rattle.beat_run.specs.Cause.{AllSigns, Cause, HasFailedSince, IsFailedWorker, LacksNumbers, Signs}
 use Rattle.beat_run.specs.Completeness.{AskForFiles, EachSince, GivenRun, HasRoom, HaveNumbers, IsNotIdle, IsServed, IsUntroubled, IsUntroubledEnd, OfEachWire, PeersServe, TellsBuilt}
@@ -319,20 +319,33 @@ module _ {F W D : Type 0} (disks : DiskWords D) (run : ShownRun F W D) (one : On
       no_worker_fails other run.before.signs run.now.signs ranges.attempts.0 ranges.workers.1
       (subst (λ (o : OutputRule). PeersServe o.timeout run.before.signs run.now.signs) (output_too other named) untroubled.peers) ends.sixteen ends.as_many worker failures failed
 
+  -- as all tell
+  accounted_so : (status : Status) → EndsWith disks run status → IsAccountedByNamed disks run.given.source run.lent
+      (record { before = objects_by run.given.a run.given.b run.before.signs; after = objects_by run.a run.b run.now.signs }) status (StandsBehind run.written run.printed)
+  accounted_so status ends = ends.accounted (record {
+    tell = record {
+      folder = ap (λ (o : Option FolderHistory). is_some o) untroubled.room.told_is;
+      moments = ap (λ (o : Option (List ℕ)). is_some o) untroubled.peers.first_are;
+      wires = all_tell run.before.signs.wires run.now.signs.wires ends.as_many untroubled.peers.served;
+    };
+    areas = untroubled.rows;
+  })
+
   room_for_files : (path : List ℕ) → EndsWith disks run (TooMany Files path) → ⊥
   room_for_files path ends =
-      let by = ends.accounted (record {
-        tell = record {
-          folder = ap (λ (o : Option FolderHistory). is_some o) untroubled.room.told_is;
-          moments = ap (λ (o : Option (List ℕ)). is_some o) untroubled.peers.first_are;
-          wires = all_tell run.before.signs.wires run.now.signs.wires ends.as_many untroubled.peers.served;
-        };
-        areas = untroubled.rows;
-      }) in
+      let by = accounted_so (TooMany Files path) ends in
       let room = subst (λ (i : List InputRule). HasRoom disks run.given.a run.given.b i run.before.signs.folder run.now.signs.folder) (inputs_too by.settings (by.named tt)) untroubled.room in
       let objects : RunObjects D = record { before = objects_by run.given.a run.given.b run.before.signs; after = objects_by run.a run.b run.now.signs } in
       let full = at_some run.before.signs.folder room.told (λ told. HasNoRoom disks by.settings objects told path) room.told_is by.is.full_for in
       finds_room disks run.given.a run.given.b by.settings.inputs run.before.signs.folder run.now.signs.folder room full.rows path full.given full.finds
+
+  epochs_for_files : (path : List ℕ) → EndsWith disks run (TooMany Epochs path) → ⊥
+  epochs_for_files path ends =
+      let by = accounted_so (TooMany Epochs path) ends in
+      let room = subst (λ (i : List InputRule). HasRoom disks run.given.a run.given.b i run.before.signs.folder run.now.signs.folder) (inputs_too by.settings (by.named tt)) untroubled.room in
+      let objects : RunObjects D = record { before = objects_by run.given.a run.given.b run.before.signs; after = objects_by run.a run.b run.now.signs } in
+      let none = at_some run.before.signs.folder room.told (λ told. HasNoEpoch disks by.settings objects told path) room.told_is by.is.full_for in
+      room.epochs_left none.rows none.given path none.finds
 
   numbers_are_told : (path : List ℕ) → EndsWith disks run (NoNative path) → ⊥
   numbers_are_told path ends =
@@ -340,7 +353,7 @@ module _ {F W D : Type 0} (disks : DiskWords D) (run : ShownRun F W D) (one : On
       at_some run.before.signs.folder untroubled.room.told (λ told. (path : List ℕ) → ¬ (LacksNumbers ends.cause.settings.inputs path told run.now.signs.folder)) untroubled.room.told_is told_numbers path
       (at_some run.before.signs.folder untroubled.room.told (λ told. LacksNumbers ends.cause.settings.inputs path told run.now.signs.folder) untroubled.room.told_is ends.cause.by)
 
-  pub ends_untroubled : (status : Status) → EndsWith disks run status → IsUntroubledEnd run.before.signs.folder run.now.signs.folder status
+  pub ends_untroubled : (status : Status) → EndsWith disks run status → IsUntroubledEnd status
   ends_untroubled Done ends = tt
   ends_untroubled Stopped ends = absurd (untroubled.counts.rings ends.cause)
   ends_untroubled Usage ends = absurd (taken_or_not run.given.words untroubled.words.asked untroubled.words.taken (ends.usage refl))
@@ -359,7 +372,7 @@ module _ {F W D : Type 0} (disks : DiskWords D) (run : ShownRun F W D) (one : On
   ends_untroubled OutFault ends = absurd (untroubled.counts.sink ends.cause)
   ends_untroubled SourceFault ends = absurd (untroubled.counts.source ends.cause)
   ends_untroubled (TooMany Files path) ends = absurd (room_for_files path ends)
-  ends_untroubled (TooMany Epochs path) ends = ends.cause.by
+  ends_untroubled (TooMany Epochs path) ends = absurd (epochs_for_files path ends)
   ends_untroubled (TooMany Slots path) ends = absurd ends.cause.by
   ends_untroubled (NoNative path) ends = absurd (numbers_are_told path ends)
   ends_untroubled NoMemory ends = tt

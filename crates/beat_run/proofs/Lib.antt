@@ -2,9 +2,12 @@ pub mod Accounts
 pub mod Causes
 pub mod Cleaned
 pub mod Complete
+pub mod CrashedRuns
 pub mod Endings
+pub mod EpochsOut
 pub mod FirstLacks
 pub mod GoneNumbers
+pub mod GoneSkipped
 pub mod PathsListed
 pub mod PrintedEnds
 pub mod Printings
@@ -17,3 +20,4 @@ pub mod Skipping
 pub mod Untroubled
 pub mod WiresFailed
 mod Worked
+mod WorkedEpochs

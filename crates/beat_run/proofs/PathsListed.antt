@@ -1,6 +1,6 @@
 -- A path that a run followed was listed by its scan, whatever the folder told behind that; and so was one whose file told no native numbers as
 -- it was opened.
-use Rattle.std.proofs.Common.{◌≡◌, ◌⊎◌, inl, inr, ℕ, zero, suc, List, [], ◌∷◌, ◌++◌, length, drop, map, Any, Contains, Option, Some, None, IfSome, refl, sym, ap, subst, ◌∙◌, arith, append_assoc, length-append}
+use Rattle.std.proofs.Common.{◌≡◌, ◌⊎◌, inl, inr, ℕ, zero, suc, List, [], ◌∷◌, ◌++◌, length, drop, map, Any, Contains, Option, Some, None, IfSome, refl, sym, ap, subst, ◌∙◌, arith, append_assoc, length-append, ◌≤◌}
 use Rattle.std.proofs.Math.Seq.{drop-append_seam}
 use Rattle.std.proofs.lemmas.List.{drop-append-le}
 use Rattle.std.proofs.lemmas.List.Elements.{All-contains, Contains-append_left}
@@ -8,6 +8,8 @@ use Rattle.std.specs.Prelude.{flat_map, slice_get}
 use Rattle.accounts.proofs.Ground.{item_of}
 use Rattle.event_tree.specs.declared.input_rule.InputRule.{InputRule}
 use Rattle.event_tree.specs.declared.settings.Settings.{Settings as SettingsOf}
+use Rattle.kept_rows.specs.Account.{SlotAccount}
+use Rattle.kept_rows.specs.Run.{Run}
 use Rattle.outside.specs.Files.{File}
 use Rattle.outside.specs.Folders.{Event, FolderHistory}
 use Rattle.prospect.proofs.Doubled.{file_is_listed}
@@ -17,7 +19,7 @@ use Rattle.prospect.specs.Members.{IsCovered}
 use Rattle.prospect.specs.Scan.{Listing, event_of, with_events}
 use Rattle.prospect.specs.declared.listed.Listed.{Listed}
 use Rattle.report.specs.declared.passing.Passing.{Passing}
-use Rattle.run_steps.specs.PassedOver.{ArePassedOver}
+use Rattle.run_steps.specs.FollowedOrSkipped.{AreFollowedOrSkipped}
 use Rattle.run_steps.specs.Shown.{HasShown}
 use Rattle.run_steps.specs.SoFar.{SoFar}
 use Rattle.run_steps.specs.declared.beginning.Scanned.{Scanned}
@@ -35,20 +37,21 @@ use Rattle.beat_run.specs.Skipped.{AreSkipped, all_skipped}
 pub record GoesFurther (scanned after : Option FolderHistory) : Type 0 where
   pub more : (history : FolderHistory) → scanned ≡ Some history → (events : List Event) × (after ≡ Some (record history { events = history.events ++ events }))
 
--- so it skipped the paths that this scan told, and those that were skipped as its files were opened
-pub are_skipped : (inputs : List InputRule) (before scanned after : Option FolderHistory) (scan : Scanned) (opened : List Passing) → IfSome before (λ told. TellsScanned inputs told scan scanned) → GoesFurther scanned after →
-    ArePassedOver scan.listed.items opened → IfSome before (λ told. AreSkipped inputs told after (all_skipped opened scan))
-are_skipped inputs None scanned after scan opened tells goes over = tt
-are_skipped inputs (Some told) scanned after scan opened tells goes over =
+-- so it skipped the paths that this scan told, and those of listed files that it does not follow
+pub are_skipped : (settings : SettingsOf) (run : Run) (account : List SlotAccount) (told : FolderHistory) (scanned after : Option FolderHistory) (scan : Scanned) (opened : List Passing) → run.settings ≡ settings →
+    (tells : TellsScanned settings.inputs told scan scanned) → GoesFurther scanned after → AreFollowedOrSkipped run account (length tells.parted.scanned.events) scan.listed.items opened →
+    AreSkipped run account told after (all_skipped opened scan)
+are_skipped settings run account told scanned after scan opened same tells goes came =
     let more = goes.more tells.parted.scanned tells.parted.after_is in
     record {
       scan = scan;
       scanned = tells.parted.scanned;
-      tells = subst (λ (o : Option FolderHistory). TellsScanned inputs told scan o) tells.parted.after_is tells;
+      tells = subst (λ (s : SettingsOf). TellsScanned s.inputs told scan (Some tells.parted.scanned)) (sym same)
+          (subst (λ (o : Option FolderHistory). TellsScanned settings.inputs told scan o) tells.parted.after_is tells);
       later = more.0;
       after_is = more.1;
       opened = opened;
-      passed_over = over;
+      followed_or_skipped = came;
       are = refl;
     }
 
@@ -82,6 +85,15 @@ pub got_there : {A : Type 0} (xs : List A) (k : ℕ) (x : A) → slice_get xs k 
 got_there [] k x is = absurd (let q : None ≡ Some x = is in cc)
 got_there {A} (first ∷ xs) zero x is = subst (λ (y : A). Contains (first ∷ xs) y) (some_is first x is) (first_there first xs)
 got_there (first ∷ xs) (suc k) x is = later_there first x xs (got_there xs k x is)
+
+-- what the folder told behind its scan begins with what it told before
+pub scanned_later : (inputs : List InputRule) (told : FolderHistory) (files doubled : List Listed) (scanned : Option FolderHistory) (scans : ScansParted inputs told files doubled scanned) →
+    length told.events ≤ length scans.scanned.events
+scanned_later inputs told files doubled scanned scans =
+    let asks = all_asked inputs scans.asked scans.listed scans.scanned scans.asks in
+    let all = ap length asks.events in
+    let listed = ap (λ (h : FolderHistory). length h.events) (some_is scans.listed (with_events told (map event_of scans.scans.listings)) scans.scans.listed_is.kept) in
+    omega (arith, all, listed, length-append scans.listed.events asks.more, length-append told.events (map event_of scans.scans.listings))
 
 module _ (inputs : List InputRule) (told : FolderHistory) (files doubled : List Listed) (scanned after : Option FolderHistory) (scans : ScansParted inputs told files doubled scanned) (goes : GoesFurther scanned after)
     (slot : ℕ) (one : Listed) (at : slice_get files slot ≡ Some one) where

@@ -3,7 +3,7 @@ use Rattle.std.proofs.Common.{◌≡◌, ◌⊎◌, inr, ℕ, ◌≤◌, List, l
 use Rattle.accounts.specs.Numbers.{AreNumbersOf, ArePlacedIn}
 use Rattle.event_tree.specs.declared.settings.Settings.{Settings as SettingsOf}
 use Rattle.kept_rows.specs.Account.{SlotAccount}
-use Rattle.kept_rows.specs.Trace.{WireTold}
+use Rattle.kept_rows.specs.Run.{Run}
 use Rattle.outside.specs.Folders.{FolderHistory}
 use Rattle.prospect.specs.declared.listed.Listed.{Listed}
 use Rattle.registry_store.specs.Settled.{AreSettled}
@@ -14,14 +14,15 @@ use Rattle.report.specs.declared.status.Status.{Status}
 use Rattle.report.specs.declared.status.Status.TheVariants.{NoMemory}
 use Rattle.rounds.specs.Words.{DiskWords}
 use Rattle.run_steps.specs.AccountedFor.{RunObjects}
-use Rattle.run_steps.specs.Met.{AreLeft, IsMetOf}
+use Rattle.run_steps.specs.Areas.{GiveTheRows}
+use Rattle.run_steps.specs.Met.{AreLeft, IsMetOf, IsTelling}
 use Rattle.run_steps.specs.Unnumbered.{IsMetUnnumbered}
 use Rattle.run_steps.specs.Worked.{IsMetByRun}
 use Rattle.run_steps.specs.declared.met.Met.{Met}
 use Rattle.wire_base.specs.declared.row.Row.{Row}
 use Rattle.beat_run.specs.Accounted.{IsFullFor, IsMetFor}
 use Rattle.beat_run.specs.Cause.{CauseBy, Signs}
-use Rattle.beat_run.specs.Ended.{IsTelling, StandsForMet, ended}
+use Rattle.beat_run.specs.Ended.{StandsForMet, ended}
 use Rattle.beat_run.specs.Ends.{IsBehindOpening, IsReportEnd, IsRunEnd, IsScannedEnd}
 use Rattle.beat_run.specs.Printed.{IsReportOf, IsReportOver, IsToBePrinted, ReportsStored}
 use Rattle.beat_run.specs.Scanning.{ScansParted}
@@ -29,6 +30,7 @@ use Rattle.beat_run.specs.Skipped.{AreSkipped}
 use Rattle.beat_run.specs.declared.ending.Ending.{Ending}
 use Rattle.beat_run.proofs.Accounts.{full_for_met, met_for_end}
 use Rattle.beat_run.proofs.Causes.{FailedIn, caused_at_end, gives_its_rows, left_by, left_telling, scanned_end}
+use Rattle.beat_run.proofs.EpochsOut.{HasNoneFor}
 use Rattle.beat_run.proofs.PathsListed.{GoesFurther}
 
 abbrev EndsBy : List Listed → ℕ → Met → Status → Type 0
@@ -43,9 +45,11 @@ pub met_for_ending : (listed : List Listed) (attempts : ℕ) (what : Met) (resul
     IfErr result (EndsBy listed attempts what) → IsMetFor (ended result) what
 met_for_ending listed attempts what result of stands refused = met_for_end listed attempts what (ended result) of (by listed attempts what result stands refused)
 
-pub full_for_ending : {D : Type 0} (disks : DiskWords D) (settings : SettingsOf) (objects : RunObjects D) (listed : List Listed) (attempts : ℕ) (what : Met) (result : Result Ending Status) → IsMetOf (length listed) what →
+pub full_for_ending : {D : Type 0} (disks : DiskWords D) (settings : SettingsOf) (objects : RunObjects D) (rows : List Row) (gave : GiveTheRows disks objects.before.a objects.before.b rows) (listed : List Listed) (attempts : ℕ) (what : Met) (result : Result Ending Status) →
+    IsMetOf (length listed) what → HasNoneFor settings rows listed objects.before.folder objects.after.folder what →
     IfOk result (λ ending. StandsForMet listed attempts what ending.status) → IfErr result (EndsBy listed attempts what) → IsFullFor disks settings objects (ended result)
-full_for_ending disks settings objects listed attempts what result of stands refused = full_for_met disks settings objects listed attempts what (ended result) of (by listed attempts what result stands refused)
+full_for_ending disks settings objects rows gave listed attempts what result of none stands refused =
+    full_for_met disks settings objects rows gave listed attempts what (ended result) of none (by listed attempts what result stands refused)
 
 pub left_by_ending : (listed : List Listed) (attempts : ℕ) (what : Met) (result : Result Ending Status) → IfOk result (λ ending. StandsForMet listed attempts what ending.status) →
     IfErr result (EndsBy listed attempts what) → IsBehindOpening (ended result) → AreLeft what
@@ -77,11 +81,11 @@ report_of rows passed shipped dropped (Ok ending) report = record { rows = rows;
 report_of rows passed shipped dropped (Err status) report = tt
 
 -- its numbers are those of the account, and its skipped paths those that the run skipped
-pub report_over : {D : Type 0} (settings : SettingsOf) (objects : RunObjects D) (rows : List Row) (passed : List Passing) (shipped dropped : ℕ) (what : Met) (result : Result Ending Status) → IfOk result (λ _. IsTelling what) →
-    IfOk result (λ ending. IsReport rows passed shipped dropped ending.status ending.report) → IfSome objects.before.folder (λ told. AreSkipped settings.inputs told objects.after.folder passed) →
-    (account : List SlotAccount) (wires : List WireTold) → ArePlacedIn account wires →
-    (IsTelling what → AreNumbersOf account shipped dropped) → IsReportEnd (ended result) → (text : List ℕ) → IsToBePrinted result text → IsReportOver settings objects account wires (ended result) text
-report_over settings objects rows passed shipped dropped what (Ok ending) telling report skipped account wires placed numbers end text same = record {
+pub report_over : {D : Type 0} (objects : RunObjects D) (rows : List Row) (passed : List Passing) (shipped dropped : ℕ) (what : Met) (result : Result Ending Status) → IfOk result (λ _. IsTelling what) →
+    IfOk result (λ ending. IsReport rows passed shipped dropped ending.status ending.report) → (run : Run) (account : List SlotAccount) → ArePlacedIn account run.trace.wires →
+    (IsTelling what → AreNumbersOf account shipped dropped) → (IsTelling what → IfSome objects.before.folder (λ told. AreSkipped run account told objects.after.folder passed)) → IsReportEnd (ended result) → (text : List ℕ) →
+    IsToBePrinted result text → IsReportOver objects run account (ended result) text
+report_over objects rows passed shipped dropped what (Ok ending) telling report run account placed numbers skipped end text same = record {
   rows = rows;
   passed = passed;
   shipped = shipped;
@@ -89,6 +93,6 @@ report_over settings objects rows passed shipped dropped what (Ok ending) tellin
   report = subst (IsReport rows passed shipped dropped ending.status) same report;
   placed = placed;
   numbers = numbers telling;
-  skipped = skipped;
+  skipped = skipped telling;
 }
-report_over settings objects rows passed shipped dropped what (Err status) telling report skipped account wires placed numbers end text same = absurd same
+report_over objects rows passed shipped dropped what (Err status) telling report run account placed numbers skipped end text same = absurd same

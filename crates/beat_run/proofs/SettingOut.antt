@@ -15,7 +15,8 @@ use Rattle.run_steps.specs.Areas.{GiveTheRows, HaveHeldFronts}
 use Rattle.run_steps.specs.BeginsAll.{IsOfInputs}
 use Rattle.run_steps.specs.Outset.{Earlier, IsFirstKeeper, Outset, SetsOut, began_with}
 use Rattle.run_steps.proofs.OutsetMade.{sets_out}
-use Rattle.beat_run.specs.Accounted.{Areas, IsOpenedFrom}
+use Rattle.run_steps.specs.Together.{Areas}
+use Rattle.beat_run.specs.Accounted.{IsOpenedFrom}
 
 module _ {W D : Type 0} (disks : DiskWords D) (wires : WireWords W) (settings : Settings) (in_range : AreInRange settings)
     (desk : TableId) (keeper : Keeping) (store : Standing) (first : IsFirstKeeper desk keeper) (over : keeper.store ≡ store) (items : List W) (from : Areas D) (a b : D) (opened : IsOpenedFrom disks from store a b)

@@ -26,9 +26,9 @@ use Rattle.beat_run.proofs.Endings.{report_cases}
 
 -- with a report
 pub report_untroubled : {D : Type 0} (disks : DiskWords D) (given : GivenRun D) (before now : AllSigns) → IsUntroubled disks given before now → (sink sink_now : ℕ) (ended status : Status) → IsReportEnd ended →
-    IsPrintingEnd sink sink_now ended status → Cause given.source before now status → IsUntroubledEnd before.signs.folder now.signs.folder status
+    IsPrintingEnd sink sink_now ended status → Cause given.source before now status → IsUntroubledEnd status
 report_untroubled disks given before now untroubled sink sink_now ended status report ends cause =
-    report_cases sink sink_now (λ s. Cause given.source before now s → IsUntroubledEnd before.signs.folder now.signs.folder s)
+    report_cases sink sink_now (λ s. Cause given.source before now s → IsUntroubledEnd s)
     (λ done. tt) (λ rang. absurd (untroubled.counts.rings rang)) (λ rose failed. absurd (untroubled.counts.sink failed)) ended status report ends cause
 
 -- with a status line alone
@@ -47,7 +47,7 @@ module _ {F W D : Type 0} (disks : DiskWords D) (wires : WireWords W) where
         before = record { folder = before.signs.folder; moments = before.signs.moments; outcomes = map wires.outcomes olds; a = given.a; b = given.b };
         after = record { folder = now.signs.folder; moments = now.signs.moments; outcomes = map wires.outcomes news; a = a; b = b };
       }) status (StandsBehind written printed) →
-      IsUntroubledEnd before.signs.folder now.signs.folder status
+      IsUntroubledEnd status
   line_untroubled given before now untroubled olds news lent a b written printed status before_is now_is sixteen as_many one usage unbuilt settings registry cause accounted =
       let run : ShownRun F W D = record { given = given; lent = lent; a = a; b = b; before = before; now = now; written = written; printed = printed } in
       let earlier = outcomes_of_all wires olds ∙ ap (λ (l : List Seen). map (λ (wire : Seen). wire.outcomes) l) (sym before_is) in

@@ -16,17 +16,18 @@ use Rattle.registry_store.specs.Standing.{Standing, chosen_by}
 use Rattle.report.specs.declared.status.Status.{Status}
 use Rattle.report.specs.declared.status.Status.TheVariants.{Done, FolderFault, NoNative, Stopped, TooMany, Unreachable}
 use Rattle.rounds.specs.Words.{DiskWords}
-use Rattle.wire_base.specs.declared.limits.Full.TheVariants.{Files}
+use Rattle.wire_base.specs.declared.limits.Full.TheVariants.{Files, Epochs}
 use Rattle.wire_base.specs.declared.row.Row.{Row}
 use Rattle.run_steps.specs.AccountedFor.{AccountedFor, AreRowsBy, Objects, RunObjects, WereAtRest}
 use Rattle.run_steps.specs.Areas.{GiveTheRows, HaveHeldFronts}
-use Rattle.run_steps.specs.Met.{AreLeft}
+use Rattle.run_steps.specs.Met.{AreLeft, IsTelling}
+use Rattle.run_steps.specs.Together.{Areas}
 use Rattle.run_steps.specs.declared.met.Met.{Met}
-use Rattle.run_steps.specs.declared.met.Met.TheVariants as met
-use Rattle.beat_run.specs.Ended.{IsTelling}
 use Rattle.beat_run.specs.Ends.{FindsNoRoom, IsBehindSettings, IsReportEnd}
+use Rattle.beat_run.specs.EpochsLeft.{FindsNoEpoch}
 use Rattle.beat_run.specs.Named.{IsNamed}
 use Rattle.beat_run.specs.Printed.{IsReportOver}
+use Rattle.run_steps.specs.declared.met.Met.TheVariants as met
 
 -- what a run with this status may have met; where it was refused, found no memory, or a disk or the sink failed, anything
 abbrev pub IsMetFor : Status → Met → Type 0
@@ -44,9 +45,16 @@ pub record HasNoRoom {D : Type 0} (disks : DiskWords D) (settings : Settings) (o
   pub given : GiveTheRows disks objects.before.a objects.before.b rows
   pub finds : FindsNoRoom settings.inputs told rows path objects.after.folder
 
--- a run that ended since there were too many files tells the path of one for which there was no room
+-- and beside these rows there is no epoch for the file
+pub record HasNoEpoch {D : Type 0} (disks : DiskWords D) (settings : Settings) (objects : RunObjects D) (told : FolderHistory) (path : List ℕ) : Type 0 where
+  pub rows : List Row
+  pub given : GiveTheRows disks objects.before.a objects.before.b rows
+  pub finds : FindsNoEpoch settings.inputs told rows path objects.after.folder
+
+-- a run that ended since there were too many files, or for want of epochs, tells the path of a file for which there was no room, or no epoch
 abbrev pub IsFullFor : {D : Type 0} → DiskWords D → Settings → RunObjects D → Status → Type 0
 IsFullFor disks settings objects (TooMany Files path) = IfSome objects.before.folder (λ told. HasNoRoom disks settings objects told path)
+IsFullFor disks settings objects (TooMany Epochs path) = IfSome objects.before.folder (λ told. HasNoEpoch disks settings objects told path)
 IsFullFor disks settings objects _ = Unit {0}
 
 -- a row of a removed file: of an input that cleans such rows, while no scan showed its key
@@ -63,14 +71,14 @@ abbrev pub LeavesNoRemoved : {D : Type 0} → DiskWords D → RunObjects D → M
 LeavesNoRemoved disks objects what run =
     WereAtRest disks objects → IsTelling what → AreRowsBy disks objects.after (λ rows. AllByRecursion (λ row. ¬ (IsOfRemovedFile run row)) rows)
 
--- the numbers of the report that it tells are those of the account, and its skipped paths those that the run skipped; where it is done,
--- the numbers are of all events
+-- the numbers of the report that it tells are those of the account, and its skipped paths those that the run skipped, each for its reason;
+-- where it is done, the numbers are of all events
 pub record IsAccounted {D : Type 0} (disks : DiskWords D) (settings : Settings) (objects : RunObjects D) (status : Status) (tells : List ℕ → Type 0) : Type 0 where
   pub what : Met
   pub met_for : IsMetFor status what
   pub accounted : AccountedFor disks settings objects what
   pub cleaned : LeavesNoRemoved disks objects what accounted.run
-  pub numbers : IsReportEnd status → (text : List ℕ) → tells text → IsReportOver settings objects accounted.account accounted.run.trace.wires status text
+  pub reported : IsReportEnd status → (text : List ℕ) → tells text → IsReportOver objects accounted.run accounted.account status text
   pub counted : what ≡ met.Done → AreAllCounted accounted.account
   pub full_for : IsFullFor disks settings objects status
 
@@ -121,12 +129,8 @@ IsAccountedWhereTold disks source lent objects status tells = AllTell disks obje
 
 -- ---- within a run
 
--- the areas as the run began
-pub record Areas (D : Type 0) : Type 0 where
-  pub a : D
-  pub b : D
-
--- the store was opened from them, which gave its rows: where they were at rest they gave no others since, and make the store's choice now
+-- the store was opened from these areas, as the run began, and they gave its rows: where they were at rest they gave no others since, and
+-- make the store's choice now
 pub record IsOpenedFrom {D : Type 0} (disks : DiskWords D) (from : Areas D) (store : Standing) (a b : D) : Type 0 where
   pub gave : GiveTheRows disks from.a from.b store.rows
   pub held : AreAtRest disks.contents disks.images from.a from.b → HaveHeldFronts disks store.rows [] from.a from.b a b

@@ -9,16 +9,17 @@ use Rattle.prospect.specs.declared.listed.Listed.{Listed}
 use Rattle.registry_store.specs.Settled.{AreSettled}
 use Rattle.registry_store.specs.Standing.{Standing, chosen_by}
 use Rattle.removed_rows.specs.Leaving.{GiveLeft, MayHoldLeft}
+use Rattle.removed_rows.specs.OneArea.{WritesOneArea}
 use Rattle.removed_rows.specs.Removed.{RemovesRows}
 use Rattle.report.specs.Report.{IsReport}
 use Rattle.report.specs.declared.passing.Passing.{Passing}
 use Rattle.report.specs.declared.status.Status.{Status}
 use Rattle.report.specs.declared.status.Status.TheVariants.{NoMemory}
 use Rattle.rounds.specs.Words.{DiskWords}
-use Rattle.run_steps.specs.Met.{AreLeft}
+use Rattle.run_steps.specs.Met.{AreLeft, IsTelling}
 use Rattle.run_steps.specs.Settling.{IsMetByStoring}
 use Rattle.run_steps.specs.declared.met.Met.{Met}
-use Rattle.beat_run.specs.Ended.{IsTelling, StandsForMet}
+use Rattle.beat_run.specs.Ended.{StandsForMet}
 use Rattle.beat_run.specs.declared.ending.Ending.{Ending}
 
 -- what was met, the store, and both areas
@@ -45,6 +46,7 @@ module _ {D : Type 0} (disks : DiskWords D) where
       pub at_rest : AreLeft new.met → IsAtRestIn old → IsAtRestIn new
       pub of_a : AreLeft old.met → IsAtRestIn old → HeldOnlyLeft inputs listed old.store old.a new.a
       pub of_b : AreLeft old.met → IsAtRestIn old → HeldOnlyLeft inputs listed old.store old.b new.b
+      pub together : AreLeft old.met → IsAtRestIn old → WritesOneArea disks.images disks.moment disks.images_since inputs listed old.store.rows old.a old.b new.a new.b
       pub left : AreLeft old.met → IsAtRestIn old → (first second : List ℕ) → disks.contents new.a ≡ Some first → disks.contents new.b ≡ Some second → GiveLeft inputs listed old.store.rows first second
       pub a_told : IsSome (disks.contents old.a) → IsSome (disks.contents new.a)
       pub b_told : IsSome (disks.contents old.b) → IsSome (disks.contents new.b)

@@ -1,7 +1,6 @@
 -- When a run has to be done (this project's profile): nothing that it is given is refused or not built, no count of faults rises, the bell
--- does not ring, files are no more than there may be and have the native numbers that are asked for, and peers send nothing but
--- acknowledgements within their windows, in time as far as the clock tells. Then it ends with `Done`, or for want of memory; or the epochs
--- of a file are at their end, of which a run tells no more than that the file was listed.
+-- does not ring, files are no more than there may be, have epochs left and the native numbers that are asked for, and peers send nothing
+-- but acknowledgements within their windows, in time as far as the clock tells. Then it ends with `Done`, or for want of memory.
 use Rattle.std.specs.Prelude.{◌≡◌, ◌⊎◌, ◌≤◌, ◌-◌, ℕ, true, false, List, [], drop, length, slice_get, take, Option, None, Some, IfSome, IsSomeAnd}
 use Rattle.std.specs.List.{AllByRecursion}
 use Rattle.batch_worker.specs.Seen.{Seen}
@@ -21,15 +20,15 @@ use Rattle.prospect.specs.Scan.{AreListed, Listing}
 use Rattle.prospect.specs.declared.files.TheConstants.{MAX_FILES}
 use Rattle.prospect.specs.declared.listed.Listed.{Listed}
 use Rattle.report.specs.declared.status.Status.{Status}
-use Rattle.report.specs.declared.status.Status.TheVariants.{Done, NoMemory, TooMany}
+use Rattle.report.specs.declared.status.Status.TheVariants.{Done, NoMemory}
 use Rattle.rounds.specs.Words.{DiskWords}
 use Rattle.run_steps.specs.Areas.{GiveTheRows}
 use Rattle.run_steps.specs.Starting.{AreFewFiles}
 use Rattle.told_events.specs.Licence.{LieApart}
-use Rattle.wire_base.specs.declared.limits.Full.TheVariants.{Epochs}
 use Rattle.wire_base.specs.declared.row.Row.{Row}
 use Rattle.beat_run.specs.Accounted.{TellRows}
-use Rattle.beat_run.specs.Cause.{AllSigns, LacksNumbers, Signs, WasListed}
+use Rattle.beat_run.specs.Cause.{AllSigns, LacksNumbers, Signs}
+use Rattle.beat_run.specs.EpochsLeft.{HaveEpochsLeft}
 use Rattle.beat_run.specs.Scanning.{ScansParted}
 use Rattle.beat_run.specs.declared.settings.TheConstants.{LIMIT}
 
@@ -105,12 +104,14 @@ abbrev pub ListFewFiles : List InputRule → FolderHistory → Option FolderHist
 ListFewFiles inputs told after = (listings : List Listing) (files : List Listed) → AreListed (globs_of inputs) told listings after → AreOfShown inputs listings files →
     AreInOrder files → AreApart files → length files ≤ MAX_FILES
 
--- nor are there more of those that are followed, and of the rows that the areas gave, than there may be
+-- nor are there more of those that are followed, and of the rows that the areas gave, than there may be; and none of them needs an epoch
+-- above the last one
 pub record HasRoom {D : Type 0} (disks : DiskWords D) (a b : D) (inputs : List InputRule) (before after : Option FolderHistory) : Type 0 where
   pub told : FolderHistory
   pub told_is : before ≡ Some told
   pub few_listed : ListFewFiles inputs told after
   pub few_known : (rows : List Row) (files doubled : List Listed) → GiveTheRows disks a b rows → ScansParted inputs told files doubled after → AreFewFiles rows files
+  pub epochs_left : (rows : List Row) → GiveTheRows disks a b rows → HaveEpochsLeft inputs told rows after
 
 -- ---- their native numbers
 
@@ -132,8 +133,7 @@ pub record IsUntroubled {D : Type 0} (disks : DiskWords D) (given : GivenRun D) 
   pub numbers : HaveNumbers settings.inputs before.signs.folder now.signs.folder
 
 -- how it ends then
-abbrev pub IsUntroubledEnd : Option FolderHistory → Option FolderHistory → Status → Type 0
-IsUntroubledEnd before now Done = Unit {0}
-IsUntroubledEnd before now NoMemory = Unit {0}
-IsUntroubledEnd before now (TooMany Epochs path) = IfSome before (λ told. WasListed path told now)
-IsUntroubledEnd before now _ = ⊥
+abbrev pub IsUntroubledEnd : Status → Type 0
+IsUntroubledEnd Done = Unit {0}
+IsUntroubledEnd NoMemory = Unit {0}
+IsUntroubledEnd _ = ⊥

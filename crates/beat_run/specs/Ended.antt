@@ -34,17 +34,6 @@ StandsForMet listed attempts (met.Epochs slot) status =
 StandsForMet listed attempts (met.NoNative slot) status =
     (status ≡ NoMemory) ⊎ IfSome (slice_get listed slot.0) (λ one. status ≡ NoNative one.path)
 
--- a run that met it tells a report
-abbrev pub IsTelling : Met → Type 0
-IsTelling met.Done = Unit {0}
-IsTelling met.Stopped = Unit {0}
-IsTelling met.NoMemory = ⊥
-IsTelling met.DiskFault = ⊥
-IsTelling met.FolderFault = ⊥
-IsTelling (met.Unreachable worker) = ⊥
-IsTelling (met.Epochs slot) = ⊥
-IsTelling (met.NoNative slot) = ⊥
-
 abbrev pub StandsForRegistry : RegistryError → Status → Type 0
 StandsForRegistry (registry.Bad area at) status = status ≡ RegistryBad area at
 StandsForRegistry registry.DiskFault status = status ≡ DiskFault

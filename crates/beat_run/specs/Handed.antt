@@ -1,6 +1,6 @@
 -- The objects that a run is handed (this project's profile): what shows of them at one moment, in the words of their contracts, and what
 -- goes on whatever a run does with them.
-use Rattle.std.specs.Prelude.{◌≡◌, ℕ, ◌+◌, ◌-◌, ◌^◌, ◌<◌, length, map, List, Option, IsSome}
+use Rattle.std.specs.Prelude.{◌≡◌, ℕ, ◌+◌, ◌-◌, ◌^◌, ◌<◌, All, length, map, List, Option, IsSome}
 use Rattle.event_tree.specs.declared.settings.Settings.{Settings}
 use Rattle.outside.specs.Folders.{FolderHistory}
 use Rattle.report.specs.declared.status.Status.{Status}
@@ -71,11 +71,12 @@ module _ {F W D K B : Type 0} (words : OutsideWords F W D K B) where
   abbrev pub CausedIn : Settings → Outside F W D K B → Outside F W D K B → Status → Type 0
   CausedIn settings old new status = CauseBy settings (signs_of old) (signs_of new) status
 
-  -- the clock's list stays in front, the wires are as many, each tail is closed where the folder can count them, and an area that told
-  -- what it holds still tells it
+  -- the clock's list stays in front, the wires are as many, each tail is closed and each link finished where folder and wires can count
+  -- them, and an area that told what it holds still tells it
   pub record GoesOn (old new : Outside F W D K B) : Type 0 where
     pub clock : MomentsGoOn (words.moments old.clock.now) (words.moments new.clock.now)
     pub wires : length new.wires.now.items ≡ length old.wires.now.items
     pub tails : words.open_tails old.folder.now + 65_536 < 2 ^ 64 - 1 → words.open_tails new.folder.now ≡ words.open_tails old.folder.now
+    pub links : All (λ (w : W). words.wires.open_links w < 2 ^ 64 - 1) old.wires.now.items → map words.wires.open_links new.wires.now.items ≡ map words.wires.open_links old.wires.now.items
     pub a_told : IsSome (words.disks.contents old.a.now) → IsSome (words.disks.contents new.a.now)
     pub b_told : IsSome (words.disks.contents old.b.now) → IsSome (words.disks.contents new.b.now)

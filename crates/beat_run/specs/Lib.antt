@@ -1,10 +1,12 @@
 pub mod Accounted
+pub mod AfterCrash
 pub mod Asked
 pub mod Cause
 pub mod Cleaning
 pub mod Completeness
 pub mod Ended
 pub mod Ends
+pub mod EpochsLeft
 pub mod Handed
 pub mod Named
 pub mod NextRun
@@ -12,3 +14,4 @@ pub mod Printed
 pub mod Scanning
 pub mod Skipped
 pub mod Untouched
+pub mod UsedImages

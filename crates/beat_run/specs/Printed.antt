@@ -1,9 +1,8 @@
 -- What a run prints (this project's profile): where it is done or stopped, the report; else the status line alone.
 use Rattle.std.specs.Prelude.{◌≡◌, ◌⊎◌, ℕ, List, ◌++◌, take, IfSome, MatchResult, Option, Result, Some}
 use Rattle.accounts.specs.Numbers.{AreNumbersOf, ArePlacedIn}
-use Rattle.event_tree.specs.declared.settings.Settings.{Settings}
 use Rattle.kept_rows.specs.Account.{SlotAccount}
-use Rattle.kept_rows.specs.Trace.{WireTold}
+use Rattle.kept_rows.specs.Run.{Run}
 use Rattle.report.specs.Report.{IsReport, status_bytes}
 use Rattle.report.specs.declared.passing.Passing.{Passing}
 use Rattle.report.specs.declared.status.Status.{Status}
@@ -24,17 +23,17 @@ pub record IsReportOf (status : Status) (text : List ℕ) : Type 0 where
   pub dropped : ℕ
   pub report : IsReport rows passed shipped dropped status text
 
--- and its numbers are those of the account, whose events are placed as the wires acknowledge their payloads; its skipped paths are those
--- that the run skipped, where the folder tells
-pub record IsReportOver {D : Type 0} (settings : Settings) (objects : RunObjects D) (account : List SlotAccount) (wires : List WireTold) (status : Status) (text : List ℕ) : Type 0 where
+-- and its numbers are those of the account, whose events are placed as the run's wires acknowledge their payloads; its skipped paths are those
+-- that the run skipped, each for its reason, where the folder told before it
+pub record IsReportOver {D : Type 0} (objects : RunObjects D) (run : Run) (account : List SlotAccount) (status : Status) (text : List ℕ) : Type 0 where
   pub rows : List Row
   pub passed : List Passing
   pub shipped : ℕ
   pub dropped : ℕ
   pub report : IsReport rows passed shipped dropped status text
-  pub placed : ArePlacedIn account wires
+  pub placed : ArePlacedIn account run.trace.wires
   pub numbers : AreNumbersOf account shipped dropped
-  pub skipped : IfSome objects.before.folder (λ told. AreSkipped settings.inputs told objects.after.folder passed)
+  pub skipped : IfSome objects.before.folder (λ told. AreSkipped run account told objects.after.folder passed)
 
 -- its rows are those that both areas give
 pub record ReportsStored {D : Type 0} (disks : DiskWords D) (a b : D) (status : Status) (text : List ℕ) : Type 0 where

@@ -1,7 +1,7 @@
 ghost use Rattle.std.specs.Prelude.{◌≡◌, ◌⊎◌, ◌++◌, length, map, IfErr, IfOk, OnOk};
 ghost use Rattle.report.specs.Report.{IsReport};
-ghost use Rattle.run_steps.specs.Met.{IsMetOf};
-ghost use Rattle.beat_run.specs.Ended.{IsTelling, StandsForMet};
+ghost use Rattle.run_steps.specs.Met.{IsMetOf, IsTelling};
+ghost use Rattle.beat_run.specs.Ended.{StandsForMet};
 ghost use Rattle.beat_run.specs.Ends.{IsReportEnd, IsRunEnd};
 ghost use Rattle.beat_run.specs.Skipped.{all_skipped, skipped_for};
 

@@ -1,4 +1,4 @@
-ghost use Rattle.std.specs.Prelude.{◌≡◌, ◌⊎◌, ◌+◌, ◌-◌, ◌^◌, ◌<◌, ◌≤◌, IfSome, IsSome, List, Ok, Some, ℕ, map, take, vec_len};
+ghost use Rattle.std.specs.Prelude.{◌≡◌, ◌⊎◌, ◌+◌, ◌-◌, ◌^◌, ◌<◌, ◌≤◌, IfSome, IsSome, List, Ok, Some, ℕ, map, take, vec_len, All};
 ghost use Rattle.beat_config.specs.Document.{AreSettingsOf, IsFirstFault};
 ghost use Rattle.command_line.specs.Words.{IsNoCommand};
 ghost use Rattle.event_tree.specs.declared.settings.Settings.{Settings};
@@ -238,13 +238,15 @@ where
           source_faults = R.faults settings.new;
           sink_faults = S.faults out.new;
         }) →
-        IsUntroubledEnd (F.told folder.old) (F.told folder.new) result }
+        IsUntroubledEnd result }
 
     // What is closed, and what goes on.
     ensures clock_goes_on { MomentsGoOn (K.moments clock.old) (K.moments clock.new) }
     ensures as_many_wires { vec_len wires.new ≡ vec_len wires.old }
     ensures tails_closed { F.open_tails folder.old + 65_536 < 2 ^ 64 - 1 →
         F.open_tails folder.new ≡ F.open_tails folder.old }
+    ensures links_finished { All (λ wire. W.open_links wire < 2 ^ 64 - 1) wires.old.items →
+        map W.open_links wires.new.items ≡ map W.open_links wires.old.items }
 {
     one_choice();
     let mut outside = Outside {

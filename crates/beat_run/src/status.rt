@@ -1,7 +1,7 @@
 ghost use Rattle.std.specs.Prelude.{◌≡◌, ◌⊎◌, length};
-ghost use Rattle.run_steps.specs.Met.{IsMetOf};
+ghost use Rattle.run_steps.specs.Met.{IsMetOf, IsTelling};
 ghost use Rattle.wire_base.specs.declared.limits.Full.{Full};
-ghost use Rattle.beat_run.specs.Ended.{IsTelling, StandsForAsking, StandsForJoin, StandsForMet, StandsForRegistry, StandsForScan};
+ghost use Rattle.beat_run.specs.Ended.{StandsForAsking, StandsForJoin, StandsForMet, StandsForRegistry, StandsForScan};
 ghost use Rattle.beat_run.specs.Ends.{IsReportEnd, IsRunEnd};
 
 use outside::FolderError;

@@ -227,7 +227,7 @@ module _ {T W L D : Type 0} (words : Words T W L D) (reads : (disk : D) → IfSo
         subst (λ (s : Beginning T W L). Further words start (at_phase words start moments a b s.folder.told s.crew s.keeper Leaving)) (sym is.others)
         (record {
           so_far = told.0;
-          stands = stands_at words start moments a b is.mid.folder.told is.mid.folder.told is.mid.crew new.keeper Leaving told.0 (λ e. let no : Leaving ≡ Finished = e in cc) told.1.shown told.1;
+          stands = stands_at words start moments a b is.mid.folder.told is.mid.folder.told is.mid.crew new.keeper Leaving told.0 (λ e. let no : Leaving ≡ Finished = e in cc) tt told.1.shown told.1;
         })
 
     -- by what beginning them answered

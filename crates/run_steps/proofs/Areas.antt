@@ -1,5 +1,5 @@
 -- What the areas may have held at any moment, over several turns of the keeper.
-use Rattle.std.proofs.Common.{◌≡◌, inl, inr, ⊎_elim, ℕ, zero, suc, ◌≤◌, List, ◌++◌, Option, Some, IfSome, sym, subst, arith}
+use Rattle.std.proofs.Common.{◌≡◌, inl, inr, ℕ, zero, suc, ◌≤◌, List, ◌++◌, Option, Some, IfSome, sym, subst, arith}
 use Rattle.kept_rows.proofs.Images.{fronts_go_on}
 use Rattle.outside.specs.DiskImages.{LeavesOnly}
 use Rattle.rounds.specs.Images.{GivesFronts, MayHoldFronts, TurnsLeave}
@@ -8,24 +8,8 @@ use Rattle.rounds.specs.Words.{DiskWords}
 use Rattle.wire_base.specs.declared.note.Note.{Note}
 use Rattle.wire_base.specs.declared.row.Row.{Row}
 use Rattle.run_steps.specs.Areas.{HaveHeldFronts, HeldOnlyFronts}
-
--- ---- moments
-
-module _ {D : Type 0} (moment : D → ℕ) (images_since : D → ℕ → List ℕ → Type 0) where
-  -- what a crash may leave from one state to a third
-  pub behind : (old mid new : D) (P : List ℕ → Type 0) → LeavesOnly moment images_since old mid P → LeavesOnly moment images_since mid new P → LeavesOnly moment images_since old new P
-  behind old mid new P first second = record {
-    later = omega (arith, first.later, second.later);
-    each = λ image left. ⊎_elim (first.each image) (λ is. is) (second.before (moment old) image first.later left);
-    before = λ start image le left. ⊎_elim (first.before start image le) inr (second.before start image (omega (arith, le, first.later)) left);
-  }
-
-  pub weaker : (old new : D) (P Q : List ℕ → Type 0) → LeavesOnly moment images_since old new P → ((image : List ℕ) → P image → Q image) → LeavesOnly moment images_since old new Q
-  weaker old new P Q leaves holds = record {
-    later = leaves.later;
-    each = λ image left. holds image (leaves.each image left);
-    before = λ start image le left. ⊎_elim inl (λ is. inr (holds image is)) (leaves.before start image le left);
-  }
+use Rattle.run_steps.proofs.CrashMoments.{behind, weaker}
+use Rattle.run_steps.proofs.Together.{areas_at, give_by_one, give_on, give_others}
 
 -- ---- notes
 
@@ -54,6 +38,7 @@ module _ {D : Type 0} (disks : DiskWords D) (reads : (disk : D) → IfSome (disk
       of_a = held_on start_a a held.of_a;
       of_b = held_on start_b b held.of_b;
       both = λ first second one other. gives_on opening notes more first second (held.both first second one other);
+      together = give_others disks (GivesFronts opening notes) (GivesFronts opening (notes ++ more)) (gives_on opening notes more) (areas_at start_a start_b) (areas_at a b) held.together;
     }
       where
         held_on : (start now : D) → HeldOnlyFronts disks opening notes start now → HeldOnlyFronts disks opening (notes ++ more) start now
@@ -93,4 +78,7 @@ module _ {D : Type 0} (disks : DiskWords D) (reads : (disk : D) → IfSome (disk
           of_a = by_turn notes start_a old.a leave.0.a old.keeper.store.generation held.of_a leave.1.of_a;
           of_b = by_turn notes start_b old.b leave.0.b old.keeper.store.generation held.of_b leave.1.of_b;
           both = leave.1.left;
+          together = give_on disks (GivesFronts opening notes) (areas_at start_a start_b) (areas_at old.a old.b) (areas_at leave.0.a leave.0.b) held.together
+              (give_by_one disks (GivesFronts opening notes) counts (areas_at old.a old.b) (areas_at leave.0.a leave.0.b) leave.1.written
+              (record { other_same = leave.1.other_same; leaves = leave.1.leaves }));
         })

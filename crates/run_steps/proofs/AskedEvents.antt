@@ -28,6 +28,7 @@ use Rattle.prospect.specs.AskedFiles.{Answer, AnswersSo, AskedFile, AsksFrom, As
 use Rattle.prospect.specs.Scan.{with_events}
 use Rattle.prospect.specs.declared.listed.Listed.{Listed}
 use Rattle.ship_core.proofs.Members.{first_there, given_there, later_there, none_there, there_cases, there_given}
+use Rattle.run_steps.specs.FolderOn.{FolderGoesOn}
 use Rattle.run_steps.specs.RunOf.{asking_of, opening_by}
 use Rattle.run_steps.specs.ScannedSome.{HasOnlyAsked}
 use Rattle.run_steps.specs.Shown.{HasDone, IsNoListing, WasOnlyAsked}
@@ -65,18 +66,20 @@ stays_behind opening events more closing within is =
 
 -- ---- a folder's list that goes on
 
-pub record GoesOn (now later : FolderHistory) : Type 0 where
-  pub files : later.files ≡ now.files
-  pub more : List Event
-  pub events : later.events ≡ now.events ++ more
-
-pub goes_on_asking : (now later : FolderHistory) → HasOnlyAsked now later → GoesOn now later
+pub goes_on_asking : (now later : FolderHistory) → HasOnlyAsked now later → FolderGoesOn now later
 goes_on_asking now later asks = record { files = asks.files; more = asks.more; events = asks.events }
 
-pub goes_on_doing : (now later : FolderHistory) (so_far : SoFar) → HasDone now later so_far → GoesOn now later
+pub goes_on_doing : (now later : FolderHistory) (so_far : SoFar) → HasDone now later so_far → FolderGoesOn now later
 goes_on_doing now later so_far done = record { files = done.files; more = done.more; events = done.events }
 
-module _ (now later : FolderHistory) (on : GoesOn now later) where
+pub goes_on_further : (one two three : FolderHistory) → FolderGoesOn one two → FolderGoesOn two three → FolderGoesOn one three
+goes_on_further one two three first second = record {
+  files = second.files ∙ first.files;
+  more = first.more ++ second.more;
+  events = second.events ∙ ap (λ (l : List Event). l ++ second.more) first.events ∙ append_assoc one.events first.more second.more;
+}
+
+module _ (now later : FolderHistory) (on : FolderGoesOn now later) where
   pub longer : length now.events ≤ length later.events
   longer = let is = ap length on.events in let sum = length-append now.events on.more in omega (arith, is, sum)
 
@@ -221,7 +224,7 @@ same_opening first second is = cc
 
 -- ---- and stays there
 
-module _ (now later : FolderHistory) (on : GoesOn now later) (rule : InputRule) (one : Listed) where
+module _ (now later : FolderHistory) (on : FolderGoesOn now later) (rule : InputRule) (one : Listed) where
   asked_still : (opening : ℕ) (key : Option (List ℕ)) → HasAsked rule one opening key now → HasAsked rule one opening key later
   asked_still opening key has = record {
     by_bytes = has.by_bytes;
@@ -244,7 +247,7 @@ module _ (now later : FolderHistory) (on : GoesOn now later) (rule : InputRule) 
   answer_stays (NotFound opening) stands = record { by_bytes = stands.by_bytes; is = event_stays now later on opening (NotThere one.path) stands.is }
 
 -- where fewer things were done before, and more later
-pub answered_still : (inputs : List InputRule) (before since : ℕ) (now later : FolderHistory) (asked : AskedFile) → before ≤ since → GoesOn now later → IsAnsweredIn inputs since now asked →
+pub answered_still : (inputs : List InputRule) (before since : ℕ) (now later : FolderHistory) (asked : AskedFile) → before ≤ since → FolderGoesOn now later → IsAnsweredIn inputs since now asked →
     IsAnsweredIn inputs before later asked
 answered_still inputs before since now later asked fewer on answered = record {
   rule = answered.rule;
@@ -342,7 +345,7 @@ module _ (inputs : List InputRule) where
       let mid = asks.0 in
       let first = goes_on_asking before mid (one_asked one before mid asks.1) in
       let rest = goes_on_asking mid after (all_asked asked mid after asks.2) in
-      let same : GoesOn after after = goes_on_asking after after (asked_none after) in (
+      let same : FolderGoesOn after after = goes_on_asking after after (asked_none after) in (
         answered_still inputs (length before.events) (length before.events) mid after one (omega arith) rest (one_answered one before mid asks.1),
         each_then (IsAnsweredIn inputs (length mid.events) after) (IsAnsweredIn inputs (length before.events) after) asked
             (λ other answered. answered_still inputs (length before.events) (length mid.events) after after other (longer before mid first) same answered)

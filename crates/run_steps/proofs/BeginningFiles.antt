@@ -73,7 +73,7 @@ module _ {T W L D : Type 0} (words : Words T W L D) (reads : (disk : D) → IfSo
   pub leaves : (state : Beginning T W L) (slot : ℕ) → BeginsBelow slot state → Leaves state
   leaves state slot begins = record {
     so_far = begins.so_far;
-    stands = stands_at words start moments a b state.folder.told state.folder.told state.crew state.keeper Leaving begins.so_far (λ is. let no : Leaving ≡ Finished = is in cc) begins.stands.shown begins.stands;
+    stands = stands_at words start moments a b state.folder.told state.folder.told state.crew state.keeper Leaving begins.so_far (λ is. let no : Leaving ≡ Finished = is in cc) tt begins.stands.shown begins.stands;
   }
 
   -- the slots below the next one
@@ -92,7 +92,7 @@ module _ {T W L D : Type 0} (words : Words T W L D) (reads : (disk : D) → IfSo
     with_shown : (later : Option FolderHistory) → HasShown start.shown later begins.so_far → Begins words start moments a b now later old.crew old.keeper slot
     with_shown later has = record {
       so_far = begins.so_far;
-      stands = stands_at words start moments a b old.folder.told later old.crew old.keeper Reading begins.so_far (λ is. let no : Reading ≡ Finished = is in cc) has begins.stands;
+      stands = stands_at words start moments a b old.folder.told later old.crew old.keeper Reading begins.so_far (λ is. let no : Reading ≡ Finished = is in cc) tt has begins.stands;
       below = begins.below;
       begun_are = begins.begun_are;
       none_collected = begins.none_collected;
@@ -260,7 +260,7 @@ module _ {T W L D : Type 0} (words : Words T W L D) (reads : (disk : D) → IfSo
         by_case : (new.keeper ≡ is.mid.keeper) ⊎ TellsBegin (record { 0 = slot }) listed (start_among start.opening listed) is.mid.keeper new.keeper → Leaves new
         by_case (inl same) =
             at_end old.keeper begins.so_far (same ∙ is.opened.keeper)
-            (stands_at words start moments a b old.folder.told new.folder.told old.crew old.keeper Leaving begins.so_far (λ e. let no : Leaving ≡ Finished = e in cc)
+            (stands_at words start moments a b old.folder.told new.folder.told old.crew old.keeper Leaving begins.so_far (λ e. let no : Leaving ≡ Finished = e in cc) tt
             (shown_closed is.fresh is.tail (Ok (Key is.keyed.key)) is.keyed.asks is.mid.folder.told new.folder.told is.opened.opens.told is.gives_up.closes.told)
             begins.stands)
         by_case (inr told) =

@@ -25,6 +25,7 @@ use Rattle.wire_base.specs.declared.numbers.Slot.{Slot}
 use Rattle.run_steps.specs.Began.{Began}
 use Rattle.run_steps.specs.Beginning.{SameLanes}
 use Rattle.run_steps.specs.Begun.{AreBeginNotes, AreSlotsFrom, IsKeyed, IsOpenedAsListed, noted_begin}
+use Rattle.run_steps.specs.LastEpoch.{HaveOneOver}
 use Rattle.run_steps.specs.RunState.{Finished, Phase, Reading, RunState}
 use Rattle.run_steps.specs.Shown.{HasShown, IsTurnedIn}
 use Rattle.run_steps.specs.SoFar.{Left, SoFar, files_in}
@@ -71,9 +72,9 @@ module _ {T W L D : Type 0} (words : Words T W L D) (start : Began D) (moments :
   at_phase shown crew keeper phase = record { shown = shown; moments = moments; crew = crew; keeper = keeper; a = a; b = b; phase = phase }
 
   -- what was done with the folder, and whether files are read on
-  pub stands_at : (shown later : Option FolderHistory) (crew : Crew T W L) (keeper : Keeping) (phase : Phase) (so_far : SoFar) → phase ≢ Finished → HasShown start.shown later so_far →
+  pub stands_at : (shown later : Option FolderHistory) (crew : Crew T W L) (keeper : Keeping) (phase : Phase) (so_far : SoFar) → phase ≢ Finished → HaveOneOver phase (files_in so_far) → HasShown start.shown later so_far →
       Stands words start (at_phase shown crew keeper Reading) so_far → Stands words start (at_phase later crew keeper phase) so_far
-  stands_at shown later crew keeper phase so_far not_finished has stands = record {
+  stands_at shown later crew keeper phase so_far not_finished over has stands = record {
     opened = stands.opened;
     keyed = stands.keyed;
     each_once = stands.each_once;
@@ -81,6 +82,7 @@ module _ {T W L D : Type 0} (words : Words T W L D) (start : Began D) (moments :
     left = stands.left;
     reading = λ is. stands.reading refl;
     finished = λ is some. absurd (not_finished is);
+    over = over;
     tell = stands.tell;
     left_tell = stands.left_tell;
     shown = has;
@@ -114,6 +116,7 @@ module _ {T W L D : Type 0} (words : Words T W L D) (start : Began D) (moments :
         left = stands.left;
         reading = λ is. by (λ l. IsReading l so_far) (stands.reading is);
         finished = stands.finished;
+        over = stands.over;
         tell = λ some. by (AllByRecursion (TellIn words.tails)) (stands.tell some);
         left_tell = stands.left_tell;
         shown = stands.shown;

@@ -121,6 +121,7 @@ module _ {T W L D : Type 0} (words : Words T W L D) (reads : (disk : D) → IfSo
         none_over = each_still harvester number olds news admits (λ (h : Harvester T). h.reader.stage ≢ stage.Over) not_over (begins.stands.reading refl).none_over;
       };
       finished = λ is some. absurd (let no : Reading ≡ Finished = is in cc);
+      over = tt;
       tell = λ some. each_still harvester number olds news admits (λ (h : Harvester T). IsSome (words.tails.told h.tail))
           (shown_tells was one (words.tails.told harvester.tail) start.shown shown later begins.stands.shown shows some) (begins.stands.tell some);
       left_tell = begins.stands.left_tell;
@@ -193,6 +194,7 @@ module _ {T W L D : Type 0} (words : Words T W L D) (reads : (disk : D) → IfSo
           (sym (none_left words start moments a b now shown crew keeper slot begins)) (is_left, tt);
       reading = λ is. absurd (let no : Leaving ≡ Reading = is in cc);
       finished = λ is some. absurd (let no : Leaving ≡ Finished = is in cc);
+      over = tt;
       tell = begins.stands.tell;
       left_tell = λ some. each_last (λ (l : Left). IsSome l.told) was.left left_one (begins.stands.left_tell some) (shown_tells was one told start.shown shown mid begins.stands.shown shows some);
       shown = left_shown was one told only_reads faults (all_turned words start moments a b now shown crew keeper slot begins) turned left_after refl refl

@@ -17,6 +17,7 @@ use Rattle.lanes.specs.Steps.{IsMade, Run}
 use Rattle.lanes.specs.Turned.{IsKnown}
 use Rattle.lanes.specs.declared.run.When.{When}
 use Rattle.outside.specs.Tails.{TailHistory}
+use Rattle.restart_join.specs.declared.start.TheConstants.{MAX_EPOCH}
 use Rattle.rounds.specs.Causes.{MetFault, WasOver}
 use Rattle.rounds.specs.Crewed.{bare_lanes}
 use Rattle.rounds.specs.Pairs.{SomeOf}
@@ -39,7 +40,7 @@ some_still P index [] old new was keep some = absurd some
 some_still P zero (x ∷ xs) old new was keep some = ⊎_elim (λ here. inl (keep (subst P (let is : x ≡ old = cc in is) here))) (λ later. inr later) some
 some_still P (suc index) (x ∷ xs) old new was keep some = ⊎_elim (λ here. inl here) (λ later. inr (some_still P index xs old new was keep later)) some
 
-some_parted : {A : Type 0} (P : A → Type 0) (xs ys : List A) → SomeOf P (xs ++ ys) → SomeOf P xs ⊎ SomeOf P ys
+pub some_parted : {A : Type 0} (P : A → Type 0) (xs ys : List A) → SomeOf P (xs ++ ys) → SomeOf P xs ⊎ SomeOf P ys
 some_parted P [] ys some = inr some
 some_parted P (x ∷ xs) ys some = ⊎_elim (λ here. inl (inl here)) (λ later. ⊎_elim (λ one. inl (inr one)) (λ other. inr other) (some_parted P xs ys later)) some
 
@@ -131,11 +132,12 @@ module _ {T : Type 0} (numbers : T → Option (ℕ × ℕ)) (told : T → Option
 
   pub over_shows : (slot : Slot) → Shows numbers told faults (WasOver slot) (IsOverOf slot)
   over_shows slot = record {
-    shows = λ step olds news made met known. (
-      ap (λ (b : Begin). b.slot) made.turned.begin_kept ∙ sym made.of_slot ∙ met.of_slot,
-      is_over step olds news made met known,
-    );
-    stays = λ step olds news made was. absurd (made.goes_on (inr was.1));
+    shows = λ step olds news made met known. record {
+      of_slot = ap (λ (b : Begin). b.slot) made.turned.begin_kept ∙ sym made.of_slot ∙ met.of_slot;
+      over = is_over step olds news made met known;
+      last = was_last step olds news made met known;
+    };
+    stays = λ step olds news made was. absurd (made.goes_on (inr was.over));
   }
     where
       over_only : (s : ReaderStage) → stage_of s ≡ Over → s ≡ stage.Over
@@ -154,3 +156,14 @@ module _ {T : Type 0} (numbers : T → Option (ℕ × ℕ)) (told : T → Option
           subst (λ (t : Turn). stage_of made.after.reader.stage ≡ (after_did step.now.0 t g.did h).stage) met.turn g.has_told.held.holds.follows.stage in
           let caused = subst (λ (t : Turn). IsCaused told step.now.0 (step.last || known.0.ends) h g.did (after_did step.now.0 t g.did h) made.before t made.after) met.turn g.caused in
           over_only made.after.reader.stage (stage_is ∙ caused.0)
+
+      -- a turn that answers so begins no epoch
+      was_last : (step : Step) (olds news : List (Harvester T)) (made : IsMade numbers told faults step olds news) → WasOver slot step → IsKnown numbers told made.before →
+          made.after.reader.epoch.0 ≡ MAX_EPOCH
+      was_last step olds news made met known =
+          let h = with_turn step.now.0 step.last known.0 in
+          let g = made.turned.goes known.0 known.1 in
+          let epoch_is : made.after.reader.epoch.0 ≡ known.0.present.epoch =
+          subst (λ (t : Turn). made.after.reader.epoch.0 ≡ (after_did step.now.0 t g.did h).present.epoch) met.turn g.has_told.held.holds.follows.epoch in
+          let caused = subst (λ (t : Turn). IsCaused told step.now.0 (step.last || known.0.ends) h g.did (after_did step.now.0 t g.did h) made.before t made.after) met.turn g.caused in
+          epoch_is ∙ caused.1

@@ -254,6 +254,7 @@ module _ {T W L D : Type 0} (words : Words T W L D) (start : Began D) (crew : Cr
       left = tt;
       reading = λ is. record { none_left = refl; none_over = each_of_none (λ (h : Harvester T). h.reader.stage ≢ stage.Over) (lanings crew.lanes.items) none };
       finished = λ is some. absurd (let no : Reading ≡ Finished = is in cc);
+      over = tt;
       tell = λ some. each_of_none (λ (h : Harvester T). IsSome (words.tails.told h.tail)) (lanings crew.lanes.items) none;
       left_tell = λ some. tt;
       shown = has_shown;

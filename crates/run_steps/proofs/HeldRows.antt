@@ -1,6 +1,6 @@
 -- What the areas of a run have held since it began to open its registry: where they gave rows they give the same rows still, and each
 -- area is as it was, or holds nothing that is read, or is opened with no row.
-use Rattle.std.proofs.Common.{◌≡◌, ◌≢◌, ◌⊎◌, inl, inr, ⊎_elim, ℕ, ◌≤◌, Bool, true, false, List, [], Option, Some, None, IfSome, IsSome, nat_lt, if◌then◌else◌, refl, sym, ap, subst, ◌∙◌, arith}
+use Rattle.std.proofs.Common.{◌≡◌, ◌≢◌, ◌⊎◌, inl, inr, ⊎_elim, ℕ, ◌≤◌, Bool, true, false, List, [], ◌∷◌, Option, Some, None, IfSome, IsSome, nat_lt, if◌then◌else◌, refl, sym, ap, subst, ◌∙◌, arith}
 use Rattle.kept_rows.specs.Backed.{AreRowsOverFronts}
 use Rattle.outside.specs.DiskImages.{LeavesOnly, Only}
 use Rattle.registry_log.specs.OnlyRead.{IsOnlyRead}
@@ -11,20 +11,23 @@ use Rattle.registry_store.specs.Settled.{AreAtRest}
 use Rattle.registry_store.specs.Standing.{IsOpenedBy, Standing}
 use Rattle.registry_store.specs.declared.store_error.StoreError.{StoreError}
 use Rattle.registry_store.specs.declared.store_error.StoreError.TheVariants.{Bad as StoreBad, Closed, DiskFault as StoreDiskFault, NoMemory as StoreNoMemory}
-use Rattle.rounds.specs.Images.{MayHoldFronts}
+use Rattle.rounds.specs.Images.{GivesFronts, MayHoldFronts}
 use Rattle.rounds.specs.Words.{DiskWords}
 use Rattle.ship_core.specs.Rows.{IsInOrder}
 use Rattle.wire_base.specs.declared.limits.Which.{Which}
 use Rattle.wire_base.specs.declared.limits.Which.TheVariants.{A, B}
+use Rattle.wire_base.specs.declared.note.Note.{Note}
 use Rattle.wire_base.specs.declared.row.Row.{Row}
 use Rattle.run_steps.specs.Areas.{HaveHeldFronts, HeldOnlyFronts}
 use Rattle.run_steps.specs.Registry.{RefusesAreas}
 use Rattle.run_steps.specs.RegistryErrors.{IsErrorOfStore}
+use Rattle.run_steps.specs.Together.{GiveThroughout}
 use Rattle.run_steps.specs.declared.registry_error.RegistryError.{RegistryError}
 use Rattle.run_steps.proofs.RowsFound.{ordered_after}
-use Rattle.run_steps.proofs.Areas.{weaker}
+use Rattle.run_steps.proofs.CrashMoments.{weaker}
 use Rattle.run_steps.proofs.Members.{some_is}
 use Rattle.run_steps.proofs.RunRows.{OneChoice}
+use Rattle.run_steps.proofs.Together.{areas_at}
 
 pub some_of : {A : Type 0} (o : Option A) → IsSome o → (x : A) × (o ≡ Some x)
 some_of None some = cc some
@@ -85,8 +88,9 @@ rows_in_order first second rows gives =
     (subst ChoosesOrdered gives.chosen.chosen (choice_ordered gives.chosen.first_state gives.chosen.second_state
     (state_ordered first gives.chosen.first_state gives.chosen.first_is) (state_ordered second gives.chosen.second_state gives.chosen.second_is))) gives.given
 
-pub over_none : (rows : List Row) → IsInOrder rows → AreRowsOverFronts rows [] rows
-over_none rows ordered = record { in_order = ordered; each = λ key. record { front = []; rest = []; notes_are = refl; is = refl } }
+-- opening rows are over none of the notes, whichever follow
+pub over_none : (notes : List Note) (rows : List Row) → IsInOrder rows → AreRowsOverFronts rows notes rows
+over_none notes rows ordered = record { in_order = ordered; each = λ key. record { front = []; rest = notes; notes_are = refl; is = refl } }
 
 -- ---- an empty registry
 
@@ -139,7 +143,7 @@ holds_beside before image rows (Opened generation others start end) ordered is c
       end = end;
       later = omega arith;
       opened = subst (λ (l : List Row). IsOpened image generation l end) same is.1;
-      fronts = over_none rows ordered;
+      fronts = over_none [] rows ordered;
     }))
 holds_beside before image rows (Broken at) ordered is choice given chosen = absurd (let same : None ≡ Some rows = ap rows_of chosen ∙ given in cc)
 
@@ -159,19 +163,50 @@ module _ {D : Type 0} (disks : DiskWords D) where
     ordered : IsInOrder rows
     ordered = rows_in_order first second rows gives
 
+    gives_fronts : (one other : List ℕ) → GivesRows one other rows → GivesFronts rows [] one other
+    gives_fronts one other given = record { rows = rows; given = given; fronts = over_none [] rows ordered }
+
+    as_held : (one other : List ℕ) → disks.contents a ≡ Some one → disks.contents b ≡ Some other → GivesFronts rows [] one other
+    as_held one other one_is other_is =
+        let same_first : first ≡ one = some_is first one (sym a_is ∙ one_is) in
+        let same_second : second ≡ other = some_is second other (sym b_is ∙ other_is) in
+        gives_fronts one other (subst (λ (l : List ℕ). GivesRows one l rows) same_second (subst (λ (l : List ℕ). GivesRows l second rows) same_first gives))
+
+    -- as a crash leaves both before they are opened
+    as_left : (one other : List ℕ) → disks.images a one → disks.images b other → GivesFronts rows [] one other
+    as_left one other left_a left_b = as_held one other (rest.a_settled one left_a) (rest.b_settled other left_b)
+
+    -- area A was started or read, and then area B was read
+    opened_together : (new_a new_b : D) → Read b new_b →
+        LeavesOnly disks.moment disks.images_since a new_a (λ image. (other : List ℕ) → disks.images b other → GivesFronts rows [] image other) →
+        ((one other : List ℕ) → disks.images new_a one → disks.images b other → GivesFronts rows [] one other) →
+        GiveThroughout disks (GivesFronts rows []) (areas_at a b) (areas_at new_a new_b)
+    opened_together new_a new_b read_b leaves behind_a = record {
+      writes = record { area = A; after = areas_at new_a b } ∷ record { area = B; after = areas_at new_a new_b } ∷ [];
+      lead = (
+        record { other_same = refl; leaves = leaves },
+        (
+          record {
+            other_same = refl;
+            leaves = weaker disks.moment disks.images_since b new_b (disks.images b) (λ image. (other : List ℕ) → disks.images new_a other → GivesFronts rows [] other image) read_b.each_moment
+                (λ image left other beside. behind_a other image beside left);
+          },
+          refl,
+        ),
+      );
+      at_end = λ one other left_a left_b. behind_a one other left_a (read_b.images_kept other left_b);
+    }
+
     -- both were only read
     pub rows_held_as_read : (new_a new_b : D) → Read a new_a → Read b new_b → HaveHeldFronts disks rows [] a b new_a new_b
     rows_held_as_read new_a new_b read_a read_b = record {
       of_a = held_as_read rows a new_a rest.a_settled read_a;
       of_b = held_as_read rows b new_b rest.b_settled read_b;
-      both = λ one other one_is other_is.
-          let same_first : first ≡ one = some_is first one (sym a_is ∙ sym read_a.contents_kept ∙ one_is) in
-          let same_second : second ≡ other = some_is second other (sym b_is ∙ sym read_b.contents_kept ∙ other_is) in
-          record {
-            rows = rows;
-            given = subst (λ (l : List ℕ). GivesRows one l rows) same_second (subst (λ (l : List ℕ). GivesRows l second rows) same_first gives);
-            fronts = over_none rows ordered;
-          };
+      both = λ one other one_is other_is. as_held one other (sym read_a.contents_kept ∙ one_is) (sym read_b.contents_kept ∙ other_is);
+      together = opened_together new_a new_b read_b
+          (weaker disks.moment disks.images_since a new_a (disks.images a) (λ image. (other : List ℕ) → disks.images b other → GivesFronts rows [] image other) read_a.each_moment
+          (λ image left other beside. as_left image other left beside))
+          (λ one other left_a left_b. as_left one other (read_a.images_kept one left_a) left_b);
     }
 
     -- the store was opened, or its opening failed
@@ -192,16 +227,16 @@ module _ {D : Type 0} (disks : DiskWords D) where
         of_a = weaker disks.moment disks.images_since a new_a _ (MayHoldFronts rows [] (disks.contents a) 0) leaves
             (λ image given. beside_blank image (given second (as_it_reads b second b_is)));
         of_b = held_as_read rows b new_b rest.b_settled read_b;
-        both = λ one other one_is other_is.
-            let same_second : second ≡ other = some_is second other (sym b_is ∙ sym read_b.contents_kept ∙ other_is) in
-            record {
-              rows = rows;
-              given = subst (λ (l : List ℕ). GivesRows one l rows) same_second
-                  (leaves.each one (counts new_a (disks.moment a) one leaves.later (as_it_reads new_a one one_is)) second (as_it_reads b second b_is));
-              fronts = over_none rows ordered;
-            };
+        both = λ one other one_is other_is. started one other (as_it_reads new_a one one_is) (as_it_reads b other (sym read_b.contents_kept ∙ other_is));
+        together = opened_together new_a new_b read_b
+            (weaker disks.moment disks.images_since a new_a (λ image. (beside : List ℕ) → disks.images b beside → GivesRows image beside rows)
+            (λ image. (other : List ℕ) → disks.images b other → GivesFronts rows [] image other) leaves (λ image given other beside. gives_fronts image other (given other beside))) started;
       }
         where
+          -- once area A is started, beside area B as it was
+          started : (one other : List ℕ) → disks.images new_a one → disks.images b other → GivesFronts rows [] one other
+          started one other left_a left_b = gives_fronts one other (leaves.each one (counts new_a (disks.moment a) one leaves.later left_a) other left_b)
+
           blank : IsBlank second
           blank = blank_beside gives.chosen.first_state gives.chosen.second_state second (gives.chosen.chosen ∙ fresh) gives.chosen.second_is
 

@@ -25,6 +25,7 @@ use Rattle.pass_sums.specs.Weight.{AsOften, weigh}
 use Rattle.pass_sums.proofs.Weights.{weigh-append}
 use Rattle.rounds.specs.Books.{AreBooked, ArePlaced, carried_by, flat, held_notes, held_parcels, owed_notes}
 use Rattle.rounds.specs.Crewed.{carriers_passes, lanes_passes, lanings}
+use Rattle.rounds.specs.Pairs.{SomeOf}
 use Rattle.rounds.specs.Passes.{Passes, entries, senders}
 use Rattle.rounds.specs.Settled.{spans_told}
 use Rattle.rounds.specs.Words.{Words}
@@ -39,13 +40,16 @@ use Rattle.wire_base.specs.declared.parcel.Parcel.{Parcel}
 use Rattle.run_steps.specs.Began.{Began}
 use Rattle.run_steps.specs.Begun.{AreSlotsFrom}
 use Rattle.run_steps.specs.Releasing.{all_closings, released, with_events}
-use Rattle.run_steps.specs.RunState.{Finished, Leaving, Phase, Reading, RunState, phase_left}
+use Rattle.run_steps.specs.LastEpoch.{IsLastOver, HaveOneOver}
+use Rattle.run_steps.specs.RunState.{Finished, Leaving, OutOfEpochs, Phase, Reading, RunState, phase_left}
 use Rattle.run_steps.specs.Shown.{HasDone, HasShown, IsNoListing, IsStillOpen, WasClosedWith, WasOnlyAsked, WasOpenedSince, openings_of}
 use Rattle.run_steps.specs.SoFar.{Left, SoFar, files_in}
 use Rattle.run_steps.specs.Stands.{AreEachOnce, AreTurnedIn, Further, IsLeftSo, Stands, TellIn}
+use Rattle.run_steps.proofs.Causing.{some_parted}
 use Rattle.run_steps.proofs.Closing.{ClosesOne, HasClosing, HasOne, all_close, all_have, closed_now, closed_still, each_closed}
 use Rattle.run_steps.proofs.Filing.{given_as_often, same_slot, tells_slots}
 use Rattle.run_steps.proofs.Lanes.{spans_of_both}
+use Rattle.run_steps.proofs.LastOver.{some_behind, some_first}
 use Rattle.run_steps.proofs.Members.{member_is}
 use Rattle.run_steps.proofs.Releasing.{each_left, each_left_so, each_left_tells, emptied, left_of_all, none_of_all, none_tell, none_turned}
 
@@ -239,11 +243,22 @@ module _ {T W L D : Type 0} (words : Words T W L D) (start : Began D) (so_far : 
   finished Reading was is some = absurd (let no : Leaving ≡ Finished = is in cc)
   finished Leaving was is some = absurd (let no : Leaving ≡ Finished = is in cc)
   finished Finished was is some = read_through (stands.finished was some)
+  finished (OutOfEpochs slot) was is some = absurd (let no : OutOfEpochs slot ≡ Finished = is in cc)
+
+  -- one of the files is one of them still
+  some_over : (phase : Phase) → HaveOneOver phase (files_in so_far) → HaveOneOver (phase_left phase) (files_in after)
+  some_over Reading over = tt
+  some_over Finished over = tt
+  some_over Leaving over = tt
+  some_over (OutOfEpochs slot) over = subst (SomeOf (IsLastOver slot)) (sym files_are)
+      (⊎_elim (λ one. some_behind (IsLastOver slot) left_files all_files one) (λ one. some_first (IsLastOver slot) left_files all_files one)
+      (some_parted (IsLastOver slot) all_files left_files over))
 
   not_reading : (phase : Phase) → phase_left phase ≡ Reading → ⊥
   not_reading Reading is = let no : Leaving ≡ Reading = is in cc
   not_reading Leaving is = let no : Leaving ≡ Reading = is in cc
   not_reading Finished is = let no : Finished ≡ Reading = is in cc
+  not_reading (OutOfEpochs slot) is = let no : OutOfEpochs slot ≡ Reading = is in cc
 
   spans_are : spans_told (lanings crew.lanes.items) < 2 ^ 64 - 1 → spans_in (files_in after) ≡ spans_told (lanings crew.lanes.items)
   spans_are few =
@@ -426,6 +441,7 @@ module _ {T W L D : Type 0} (words : Words T W L D) (start : Began D) (so_far : 
       left = left;
       reading = λ is. absurd (not_reading before.phase is);
       finished = λ is some. finished before.phase refl is some;
+      over = some_over before.phase stands.over;
       tell = λ some. subst (AllByRecursion (TellIn words.tails)) (sym lanes_are) (none_tell words.tails processors so_far.opened so_far.moments lanes);
       left_tell = λ some. both (λ (one : Left). IsSome one.told) so_far.left new_left (stands.left_tell some)
           (each_left_tells words.tails processors so_far.opened so_far.moments so_far.lanes lanes (stands.tell some));

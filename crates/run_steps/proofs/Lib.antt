@@ -14,9 +14,11 @@ pub mod BegunCrews
 pub mod BegunFolder
 pub mod BegunNotes
 pub mod BegunReady
+pub mod CarriersGoOn
 pub mod Causing
 pub mod Clocks
 pub mod Closing
+pub mod CrashMoments
 pub mod Ended
 pub mod Epochs
 pub mod FailingRounds
@@ -24,14 +26,17 @@ pub mod Filing
 pub mod Finishing
 pub mod First
 pub mod FirstPaths
+pub mod FollowedOrSkipped
 pub mod Giving
 pub mod Grounds
 pub mod Having
 pub mod HeldRows
+pub mod ImagesHold
 pub mod Keeps
 pub mod KeyedFiles
 pub mod KnownKeys
 pub mod Lanes
+pub mod LastOver
 pub mod Leaving
 pub mod Letting
 pub mod LinksStay
@@ -47,6 +52,7 @@ pub mod OfInputs
 pub mod Onward
 pub mod Openings
 pub mod Ordering
+pub mod OutOfEpochs
 pub mod OutsetMade
 pub mod PassedOver
 pub mod Released
@@ -67,6 +73,7 @@ pub mod RunNotes
 pub mod RunNumbers
 pub mod RunRows
 pub mod RunServed
+pub mod RunSkipped
 pub mod RunTails
 pub mod RunToldOf
 pub mod RunWires
@@ -78,11 +85,19 @@ pub mod SeenMoments
 pub mod Serving
 pub mod SettingOut
 pub mod Settling
+pub mod SkippedFor
 pub mod Starting
+pub mod StillServed
 pub mod TailOpened
 pub mod Tails
+pub mod Together
 pub mod ToldMoments
 pub mod Turning
+pub mod Unbegun
 pub mod Unnumbered
 pub mod Unreached
+pub mod UnusedAreas
 pub mod Whole
+pub mod WireOn
+pub mod WorkedEpochs
+mod WorkedTogether

@@ -1,5 +1,5 @@
--- The last steps touch no wire, and make no link.
-use Rattle.std.proofs.Common.{◌≡◌, ℕ, List, [], ◌∷◌, Option, Some, None, refl, sym, ap, subst, ◌∙◌, arith}
+-- The last steps touch no wire, and make and end no link.
+use Rattle.std.proofs.Common.{◌≡◌, ℕ, List, [], ◌∷◌, Option, Some, None, is_some, refl, sym, ap, subst, ◌∙◌, arith}
 use Rattle.batch_worker.specs.Seen.{Seen, with_link}
 use Rattle.mem_queue.specs.BoundedQueue.{BoundedQueue}
 use Rattle.rounds.specs.Crewed.{bare_carriers}
@@ -12,17 +12,20 @@ use Rattle.rounds.specs.declared.carrier.Carrier.{Carrier}
 use Rattle.settle_box.specs.BoundedBox.{BoundedBox}
 use Rattle.run_steps.specs.CarriersFail.{KeepsLink, LinksStay}
 
-abbrev nothing_seen : Seen
-nothing_seen = record { outcomes = None; open_links = 0; faults = 0; idles = 0 }
+-- what a wire would show that had no links of others
+abbrev alone : {L : Type 0} → Option L → Seen
+alone link = record { outcomes = None; open_links = with_link 0 link; faults = 0; idles = 0 }
 
-none_by_count : {L : Type 0} (link : Option L) → 0 ≡ with_link 0 link → link ≡ None
-none_by_count None is = refl
-none_by_count (Some link) is = absurd (omega (arith, is))
+linked_by_count : {L : Type 0} (old new : Option L) → with_link 0 old ≡ with_link 0 new → is_some new ≡ is_some old
+linked_by_count None None is = refl
+linked_by_count None (Some link) is = absurd (omega (arith, is))
+linked_by_count (Some link) None is = absurd (omega (arith, is))
+linked_by_count (Some link) (Some other) is = refl
 
 module _ {W L : Type 0} where
   stay_same : (carriers : List (Carrier W L)) → Pairs KeepsLink carriers carriers
   stay_same [] = tt
-  stay_same (x ∷ carriers) = (record { wire = refl; unlinked = λ none. none }, stay_same carriers)
+  stay_same (x ∷ carriers) = (record { wire = refl; linked = refl }, stay_same carriers)
 
   pub links_same : (carriers : List (Carrier W L)) → LinksStay carriers carriers
   unfolding LinksStay
@@ -35,7 +38,7 @@ module _ {W L : Type 0} where
   stay_on (x ∷ xs) [] zs first then = absurd first
   stay_on (x ∷ xs) (y ∷ ys) [] first then = absurd then
   stay_on (x ∷ xs) (y ∷ ys) (z ∷ zs) first then =
-      (record { wire = then.0.wire ∙ first.0.wire; unlinked = λ none. then.0.unlinked (first.0.unlinked none) }, stay_on xs ys zs first.1 then.1)
+      (record { wire = then.0.wire ∙ first.0.wire; linked = then.0.linked ∙ first.0.linked }, stay_on xs ys zs first.1 then.1)
 
   pub links_on : (xs ys zs : List (Carrier W L)) → LinksStay xs ys → LinksStay ys zs → LinksStay xs zs
   unfolding LinksStay
@@ -47,20 +50,20 @@ module _ {W L : Type 0} where
   from_bare [] [] stay = tt
   from_bare [] (y ∷ ys) stay = absurd stay
   from_bare (x ∷ xs) [] stay = absurd stay
-  from_bare (x ∷ xs) (y ∷ ys) stay = (record { wire = stay.0.wire; unlinked = stay.0.unlinked }, from_bare xs ys stay.1)
+  from_bare (x ∷ xs) (y ∷ ys) stay = (record { wire = stay.0.wire; linked = stay.0.linked }, from_bare xs ys stay.1)
 
   to_bare : (xs ys : List (Carrier W L)) → Pairs KeepsLink xs ys → Pairs KeepsLink xs (bare_carriers ys)
   to_bare [] [] stay = tt
   to_bare [] (y ∷ ys) stay = absurd stay
   to_bare (x ∷ xs) [] stay = absurd stay
-  to_bare (x ∷ xs) (y ∷ ys) stay = (record { wire = stay.0.wire; unlinked = stay.0.unlinked }, to_bare xs ys stay.1)
+  to_bare (x ∷ xs) (y ∷ ys) stay = (record { wire = stay.0.wire; linked = stay.0.linked }, to_bare xs ys stay.1)
 
   -- ---- as notes are handed on
 
   handed_stays : (links : LinkWords L) (box : ℕ) (x y : Carrier W L) → CarrierHandedOn links box x y → KeepsLink x y
   handed_stays links box x y handed = record {
     wire = ap (λ (c : Carrier W L). c.wire) handed.others;
-    unlinked = λ none. none_by_count y.worker.link ((handed.goes nothing_seen).keeps.open_links 0 (ap (with_link 0) (sym none)) (λ end. omega (arith, end)));
+    linked = linked_by_count x.worker.link y.worker.link ((handed.goes (alone x.worker.link)).keeps.open_links 0 refl (λ end. omega (arith, end)));
   }
 
   all_stay : (links : LinkWords L) (box : ℕ) (xs ys : List (Carrier W L)) → Pairs (CarrierHandedOn links box) xs ys → Pairs KeepsLink xs ys

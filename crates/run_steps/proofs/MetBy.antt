@@ -1,5 +1,5 @@
 -- What a round met, by what shows of it.
-use Rattle.std.proofs.Common.{◌≡◌, ◌⊎◌, inl, inr, ⊎_elim, ℕ, ◌≤◌, false, List, [], ◌∷◌, Option, Some, None, IfSome, arith}
+use Rattle.std.proofs.Common.{◌≡◌, ◌⊎◌, inl, inr, ⊎_elim, ℕ, ◌≤◌, false, List, [], ◌∷◌, Option, Some, None, IfSome, subst, arith}
 use Rattle.std.proofs.lemmas.List.Elements.{recursion_from_All}
 use Rattle.std.specs.List.{AllByRecursion}
 use Rattle.lanes.specs.Done.{IsDone}
@@ -17,9 +17,10 @@ use Rattle.rounds.specs.Running.{IsLaneReady}
 use Rattle.rounds.specs.Words.{Words}
 use Rattle.rounds.specs.declared.answer.Round.{Round}
 use Rattle.settle_box.specs.BoundedBox.{BoundedBox}
-use Rattle.run_steps.specs.MetBy.{GoesOn, HasFaults, IsMetBy, IsOverOf, Since, phase_of}
+use Rattle.wire_base.specs.declared.numbers.Slot.{Slot}
+use Rattle.run_steps.specs.MetBy.{GoesOn, HasFaults, IsMetBy, IsOverOf, Since, SomeHarvester, phase_of}
 use Rattle.run_steps.specs.MetIn.{IsMetIn}
-use Rattle.run_steps.specs.RunState.{Finished, Leaving, Reading}
+use Rattle.run_steps.specs.RunState.{Finished, Leaving, OutOfEpochs, Reading}
 use Rattle.run_steps.specs.declared.met.Met.{Met}
 use Rattle.run_steps.specs.declared.met.Met.TheVariants.{DiskFault, Done, Epochs, FolderFault, NoMemory, Stopped, Unreachable, NoNative}
 use Rattle.run_steps.proofs.Causing.{faults_show, over_shows, round_shows}
@@ -80,7 +81,7 @@ module _ {T W L D : Type 0} (words : Words T W L D) (queue : BoundedQueue) (desk
   none_out (Some DiskFault) is phase = absurd (⊎_elim not_reading not_finished phase)
   none_out (Some FolderFault) is phase = absurd (⊎_elim not_reading not_finished phase)
   none_out (Some (Unreachable worker)) is phase = absurd (⊎_elim not_reading not_finished phase)
-  none_out (Some (Epochs slot)) is phase = absurd (⊎_elim not_reading not_finished phase)
+  none_out (Some (Epochs slot)) is phase = absurd (⊎_elim (λ (reads : OutOfEpochs slot ≡ Reading). cc) (λ (done : OutOfEpochs slot ≡ Finished). cc) phase)
   none_out (Some (NoNative slot)) is phase = absurd is
 
   pub all_done : (result : Option Met) → IsMetIn attempts (crew_of new) new.storing.keeper.now round result → phase_of result ≡ Finished → AllByRecursion IsDone (lanings new.lanes.items)
@@ -91,8 +92,23 @@ module _ {T W L D : Type 0} (words : Words T W L D) (queue : BoundedQueue) (desk
   all_done (Some DiskFault) is phase = absurd (not_finished phase)
   all_done (Some FolderFault) is phase = absurd (not_finished phase)
   all_done (Some (Unreachable worker)) is phase = absurd (not_finished phase)
-  all_done (Some (Epochs slot)) is phase = absurd (not_finished phase)
+  all_done (Some (Epochs slot)) is phase = absurd (let no : OutOfEpochs slot ≡ Finished = phase in cc)
   all_done (Some (NoNative slot)) is phase = absurd is
+
+  -- and whether epochs are at their end
+  pub some_out : (result : Option Met) → IsMetIn attempts (crew_of new) new.storing.keeper.now round result → (slot : Slot) → phase_of result ≡ OutOfEpochs slot →
+      SomeHarvester (IsOverOf slot) (lanings new.lanes.items)
+  some_out None is slot phase = absurd (let no : Reading ≡ OutOfEpochs slot = phase in cc)
+  some_out (Some Done) is slot phase = absurd (let no : Finished ≡ OutOfEpochs slot = phase in cc)
+  some_out (Some Stopped) is slot phase = absurd is
+  some_out (Some NoMemory) is slot phase = absurd (let no : Leaving ≡ OutOfEpochs slot = phase in cc)
+  some_out (Some DiskFault) is slot phase = absurd (let no : Leaving ≡ OutOfEpochs slot = phase in cc)
+  some_out (Some FolderFault) is slot phase = absurd (let no : Leaving ≡ OutOfEpochs slot = phase in cc)
+  some_out (Some (Unreachable worker)) is slot phase = absurd (let no : Leaving ≡ OutOfEpochs slot = phase in cc)
+  some_out (Some (NoNative other)) is slot phase = absurd is
+  some_out (Some (Epochs other)) is slot phase =
+      let same : other ≡ slot = let q : OutOfEpochs other ≡ OutOfEpochs slot = phase in cc in
+      subst (λ (s : Slot). SomeHarvester (IsOverOf s) (lanings new.lanes.items)) same (round_met (Epochs other) is)
 
   -- memory was there, and no disk failed
   pub stored_well : (result : Option Met) → IsMetIn attempts (crew_of new) new.storing.keeper.now round result → GoesOn result → (round.memory ≡ false) × (round.disk ≡ false)

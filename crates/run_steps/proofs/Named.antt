@@ -38,7 +38,7 @@ same_place f (first ∷ xs) (suc k) zero x y apart at there same =
 same_place f (first ∷ xs) (suc k) (suc other) x y apart at there same = ap suc (same_place f xs k other x y apart.1 at there same)
 
 -- no key is that of two places
-later_has_other : (listed : List Listed) (k other : ℕ) (one later : Listed) (key : List ℕ) → AreKeysApart listed → k < other → slice_get listed k ≡ Some one → slice_get listed other ≡ Some later →
+pub later_has_other : (listed : List Listed) (k other : ℕ) (one later : Listed) (key : List ℕ) → AreKeysApart listed → k < other → slice_get listed k ≡ Some one → slice_get listed other ≡ Some later →
     one.key ≡ Some key → later.key ≡ Some key → ⊥
 later_has_other [] k other one later key apart before at there keyed same = absurd (let q : None ≡ Some one = at in cc)
 later_has_other (first ∷ listed) zero zero one later key apart before at there keyed same = absurd (omega (arith, before))

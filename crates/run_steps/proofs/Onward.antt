@@ -16,9 +16,11 @@ use Rattle.rounds.specs.declared.answer.Round.{Round}
 use Rattle.rounds.specs.declared.crew.Crew.{Crew}
 use Rattle.rounds.specs.declared.storing.Storing.{Storing}
 use Rattle.settle_box.specs.BoundedBox.{BoundedBox}
+use Rattle.wire_base.specs.declared.numbers.Slot.{Slot}
 use Rattle.run_steps.specs.Areas.{IsAtRest}
+use Rattle.run_steps.specs.MetBy.{IsOverOf, SomeHarvester}
 use Rattle.run_steps.specs.Onward.{Onward}
-use Rattle.run_steps.specs.RunState.{Finished, Phase, Reading, RunState, within}
+use Rattle.run_steps.specs.RunState.{Finished, OutOfEpochs, Phase, Reading, RunState, within}
 use Rattle.run_steps.proofs.Rounding.{stands_on}
 use Rattle.run_steps.proofs.Settling.{stands_settled}
 
@@ -40,10 +42,11 @@ module _ {T W L D : Type 0} (words : Words T W L D) where
     pub round_onward : (when : When) → when.last ≡ true → (moments later : Option (List ℕ)) (phase : Phase) → GivesMoment moments when.now.0 later →
         Rounds words queue desk when (crewing old before) (crewing new after) round → RoundKeeps words queue desk when (crewing old before) (crewing new after) round →
         ((phase ≡ Reading) ⊎ (phase ≡ Finished) → round.epochs ≡ None) → (phase ≡ Finished → AllByRecursion IsDone (lanings new.lanes.items)) →
+        ((slot : Slot) → phase ≡ OutOfEpochs slot → SomeHarvester (IsOverOf slot) (lanings new.lanes.items)) →
         Onward words (within shown moments old before Reading) (within shown later new after phase)
     unfolding Onward
-    round_onward when last moments later phase gives ran keeps none_out done start so_far stands began =
-        stands_on words queue desk when last (crewing old before) (crewing new after) round ran keeps start so_far shown moments later stands gives phase none_out done reads counts began
+    round_onward when last moments later phase gives ran keeps none_out done out start so_far stands began =
+        stands_on words queue desk when last (crewing old before) (crewing new after) round ran keeps start so_far shown moments later stands gives phase none_out done out reads counts began
 
     pub settle_onward : (moments : Option (List ℕ)) (phase : Phase) → SettlingKeeps words queue desk (crewing old before) (crewing new after) round →
         Onward words (within shown moments old before phase) (within shown moments new after phase)

@@ -40,7 +40,9 @@ use Rattle.wire_base.specs.declared.numbers.Slot.{Slot}
 use Rattle.wire_base.specs.declared.row.Row.{Row}
 use Rattle.run_steps.specs.Areas.{BeganAtRest, HaveHeldFronts, IsAtRest}
 use Rattle.run_steps.specs.Began.{Began}
-use Rattle.run_steps.specs.RunState.{Finished, Phase, Reading, RunState}
+use Rattle.run_steps.specs.LastEpoch.{IsLastOver, HaveOneOver}
+use Rattle.run_steps.specs.MetBy.{IsOverOf, SomeHarvester}
+use Rattle.run_steps.specs.RunState.{Finished, Leaving, OutOfEpochs, Phase, Reading, RunState}
 use Rattle.run_steps.specs.Shown.{HasShown}
 use Rattle.run_steps.specs.SoFar.{Left, SoFar, files_in}
 use Rattle.run_steps.specs.Stands.{AreCounted, AreEachOnce, AreNoted, AreTurnedIn, Further, HaveGiven, IsLeftSo, IsReading, Stands, TellIn}
@@ -49,6 +51,7 @@ use Rattle.run_steps.proofs.Finishing.{all_end}
 use Rattle.run_steps.proofs.Epochs.{no_turn_out}
 use Rattle.run_steps.proofs.Giving.{GivenOn, given_on}
 use Rattle.run_steps.proofs.Grounds.{have_ground}
+use Rattle.run_steps.proofs.LastOver.{over_in_lanes, some_first}
 use Rattle.run_steps.proofs.Lanes.{LanesTellOn, lanes_later, lanes_spans, lanes_tell, pairs_but_passes, same_but_passes, spans_but_passes, spans_of_both}
 use Rattle.run_steps.proofs.Noting.{collected_on, dropped_on, noted_on, shipped_on}
 use Rattle.run_steps.proofs.Ordering.{all_in_epochs, notes_are_orderly}
@@ -281,12 +284,21 @@ module _ {T W L D : Type 0} (words : Words T W L D) (queue : BoundedQueue) (desk
     -- ---- all of it
 
     -- the phase behind it, with what it wants
-    module _ (phase : Phase) (none_out : (phase ≡ Reading) ⊎ (phase ≡ Finished) → round.epochs ≡ None) (done : phase ≡ Finished → AllByRecursion IsDone (lanings new.lanes.items)) where
+    module _ (phase : Phase) (none_out : (phase ≡ Reading) ⊎ (phase ≡ Finished) → round.epochs ≡ None) (done : phase ≡ Finished → AllByRecursion IsDone (lanings new.lanes.items))
+        (out : (slot : Slot) → phase ≡ OutOfEpochs slot → SomeHarvester (IsOverOf slot) (lanings new.lanes.items)) where
       finished : phase ≡ Finished → IsSome start.shown → AllByRecursion (λ (t : Turned). IsReadThrough t.history) (files_in after)
       finished is some = subst (λ (l : List Left). AllByRecursion (λ (t : Turned). IsReadThrough t.history) (all_of told.after ++ map (λ (one : Left). one.turned) l)) (sym reading.none_left)
           (subst (λ (l : List Turned). AllByRecursion (λ (t : Turned). IsReadThrough t.history) l) (sym (append-nil (all_of told.after)))
           (all_end words.tails.numbers words.tails.told start.settings.processors so_far.opened since told.after (lanings new.lanes.items) turned
           (none_over (none_out (inr is))) (done is)))
+
+      some_over : (at : Phase) → phase ≡ at → HaveOneOver at (files_in after)
+      some_over Reading is = tt
+      some_over Finished is = tt
+      some_over Leaving is = tt
+      some_over (OutOfEpochs slot) is =
+          some_first (IsLastOver slot) (all_of told.after) left_files
+          (over_in_lanes words.tails start.settings.processors so_far.opened since slot told.after (lanings new.lanes.items) turned (out slot is))
 
       module _ (reads : (disk : D) → IfSome (words.disks.contents disk) (words.disks.images disk))
           (counts : (disk : D) (at : ℕ) (image : List ℕ) → at ≤ words.disks.moment disk → words.disks.images disk image → words.disks.images_since disk at image)
@@ -313,6 +325,7 @@ module _ {T W L D : Type 0} (words : Words T W L D) (queue : BoundedQueue) (desk
             left = left;
             reading = λ is. record { none_left = reading.none_left; none_over = none_over (none_out (inl is)) };
             finished = finished;
+            over = some_over phase refl;
             tell = tell;
             left_tell = stands.left_tell;
             shown = has_shown;

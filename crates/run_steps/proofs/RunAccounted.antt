@@ -1,5 +1,5 @@
 -- A run is accounted for, however it ends.
-use Rattle.std.proofs.Common.{◌≡◌, ◌⊎◌, inl, inr, ⊎_elim, ℕ, List, [], ◌∷◌, ◌++◌, map, Option, Some, refl, sym, ap, subst, ◌∙◌, arith}
+use Rattle.std.proofs.Common.{◌≡◌, ◌⊎◌, inl, ℕ, List, [], ◌∷◌, ◌++◌, map, Option, Some, refl, sym, ap, subst, ◌∙◌, arith, length}
 use Rattle.std.specs.List.{AllByRecursion}
 use Rattle.accounts.proofs.AccountingFor.{IsAccountedFor, is_accounted_for}
 use Rattle.accounts.proofs.BegunRows.{have_ground}
@@ -22,32 +22,37 @@ use Rattle.kept_rows.specs.Scans.{ShowsKey}
 use Rattle.outside.specs.Folders.{FolderHistory}
 use Rattle.outside.specs.Wires.{Outcome}
 use Rattle.registry_store.specs.Choice.{GivesRows}
+use Rattle.rounds.specs.Pairs.{Pairs}
+use Rattle.report.specs.declared.passing.Passing.{Passing}
 use Rattle.rounds.specs.Words.{Words}
 use Rattle.ship_core.specs.Orderly.{AreOrderly}
 use Rattle.ship_core.specs.Rows.{IsInOrder}
 use Rattle.ship_core.specs.RowsOver.{AreRowsOver}
 use Rattle.wire_base.specs.declared.note.Note.{Note}
 use Rattle.wire_base.specs.declared.row.Row.{Row}
-use Rattle.run_steps.specs.AccountedFor.{AccountedWith, AreImageRows, FitsFolders, FitsObjects, HoldKeptRows, NoKey, RowsBy, RunObjects}
+use Rattle.run_steps.specs.AccountedFor.{AccountedWith, AreImageRows, FitsFolders, FitsObjects, NoKey, RowsBy, RunObjects}
 use Rattle.run_steps.specs.AccountedOver.{AccountedOver}
-use Rattle.run_steps.specs.Areas.{BeganAtRest, GaveRows, HaveHeldFronts, HeldOnlyFronts}
+use Rattle.run_steps.specs.Areas.{BeganAtRest, GaveRows, HaveHeldFronts}
 use Rattle.run_steps.specs.Began.{Began}
-use Rattle.run_steps.specs.Ends.{Ending, Ends}
-use Rattle.run_steps.specs.Met.{AreLeft}
+use Rattle.run_steps.specs.Ends.{Ending, Ends, with_crew}
+use Rattle.run_steps.specs.Met.{AreLeft, IsTelling}
 use Rattle.run_steps.specs.RunEnds.{AreLeftSo}
 use Rattle.run_steps.specs.RunOf.{FolderTold, starts_of, wires_behind}
 use Rattle.run_steps.specs.Scanned.{HasScanned}
 use Rattle.run_steps.specs.Served.{AreServed}
 use Rattle.run_steps.specs.Tells.{DoTell}
+use Rattle.run_steps.specs.WireOn.{OutcomesGoOn}
 use Rattle.run_steps.specs.declared.met.Met.{Met}
 use Rattle.run_steps.specs.declared.met.Met.TheVariants.{Done}
-use Rattle.run_steps.proofs.HeldRows.{rows_in_order, some_of}
+use Rattle.run_steps.proofs.ImagesHold.{images_hold, ordered_at_rest, together_hold}
 use Rattle.run_steps.proofs.RowsStay.{rows_stay}
 use Rattle.run_steps.proofs.RunDoneOf.{run_done}
 use Rattle.run_steps.proofs.RunFits.{moments_since}
 use Rattle.run_steps.proofs.RunNumbers.{all_are_counted, numbers_are, placed_so}
-use Rattle.run_steps.proofs.RunRows.{OneChoice, given_over_fronts, opened_over_fronts, rows_of_store}
-use Rattle.run_steps.proofs.RunToldOf.{keys_are_shown, only_listed_shown, run, run_files, run_told, scan, the_full_scan, workers}
+use Rattle.run_steps.proofs.RunRows.{OneChoice, given_over_fronts, rows_of_store}
+use Rattle.run_steps.proofs.RunSkipped.{followed_or_skipped}
+use Rattle.run_steps.proofs.RunToldOf.{keys_are_shown, only_listed_shown, run, run_files, run_told, scan, the_full_scan, workers, fit, wires_told, folder_goes_on}
+use Rattle.run_steps.proofs.Unbegun.{begins_none, unbegun_stand}
 
 module _ {T W L D : Type 0} (words : Words T W L D) (start : Began D) (ending : Ending D) (met : Met) (unused wires : List W) (ends : Ends words start ending met unused wires)
     (left : AreLeftSo words.disks start ending met ends.crew) (folder : FolderTold) (has : HasScanned start folder) (tell : DoTell words.wires ending folder wires) where
@@ -112,10 +117,7 @@ module _ {T W L D : Type 0} (words : Words T W L D) (start : Began D) (ending : 
 
     -- the opening rows are in the order of their keys, since the areas gave them
     opening_ordered : IsInOrder start.opening
-    opening_ordered =
-        let (before, a_is) = some_of (words.disks.contents start.a) at_rest.a_told in
-        let (beside, b_is) = some_of (words.disks.contents start.b) at_rest.b_told in
-        rows_in_order before beside start.opening (gave before beside a_is b_is)
+    opening_ordered = ordered_at_rest words.disks start.a start.b start.opening at_rest gave
 
     -- and each of them stays, since no note forgets one
     image_rows : (rows : List Row) → AreRowsOverFronts start.opening notes rows → AreImageRows NoKey the_run account rows
@@ -123,7 +125,12 @@ module _ {T W L D : Type 0} (words : Words T W L D) (start : Began D) (ending : 
         let fronts = subst (λ (l : List Note). AreRowsOverFronts start.opening l rows) ends.stands.noted.are over in
         let none = none_forgotten the_files (acknowledged_in the_workers) begun collected (slots_apart 0 the_files the_run_told.followed.slots) the_run_told.noted
         (have_ground the_run the_scan the_files the_workers begun collected the_run_told) in
-        record { kept = accounted.accounts.images rows fronts; stay = rows_stay start.opening (begun ++ collected) rows opening_ordered fronts none NoKey the_run account }
+        record {
+          kept = accounted.accounts.images rows fronts;
+          stay = rows_stay start.opening (begun ++ collected) rows opening_ordered fronts none NoKey the_run account;
+          unbegun = unbegun_stand start.opening (begun ++ collected) rows opening_ordered fronts account (λ key. begins_none key the_files (acknowledged_in the_workers) begun collected the_run_told.noted
+              (have_ground the_run the_scan the_files the_workers begun collected the_run_told) accounted.placed);
+        }
 
     rows_by : (first second : List ℕ) (rows : List Row) → words.disks.contents ending.a ≡ Some first → words.disks.contents ending.b ≡ Some second →
         GivesRows first second rows → RowsBy NoKey the_run account met rows
@@ -132,10 +139,6 @@ module _ {T W L D : Type 0} (words : Words T W L D) (start : Began D) (ending : 
       kept = λ are_left. accounted.accounts.ends rows (rows_over are_left first second rows a_is b_is gives);
       begun = λ are_left. each_then (HasItsRow rows) (λ one. HasItsRow rows one ⊎ ⊥) account (λ one has. inl has) (accounted.accounts.begun rows (rows_over are_left first second rows a_is b_is gives));
     }
-
-    images_of : (began now : D) → HeldOnlyFronts words.disks start.opening notes began now → HoldKeptRows NoKey words.disks (record { began = began; now = now }) the_run account
-    images_of began now only image generation rows end since opened =
-        ⊎_elim inl (λ over. inr (image_rows rows over)) (opened_over_fronts one start.opening notes (words.disks.contents began) image generation rows end (only.each image since) opened)
 
   -- ---- what its objects told
 
@@ -146,22 +149,28 @@ module _ {T W L D : Type 0} (words : Words T W L D) (start : Began D) (ending : 
       after = record { folder = ending.shown; moments = ending.moments; outcomes = map words.wires.outcomes wires; a = ending.a; b = ending.b };
     }
 
-    fits : FitsObjects objects the_run
-    fits = record {
+    fits : Pairs OutcomesGoOn outcomes (map words.wires.outcomes wires) → FitsObjects objects the_run
+    fits go_on = record {
       once = refl;
       one_scan = omega arith;
       folder = subst (λ (o : Option FolderHistory). FitsFolders (Some folder.earlier) o the_run.trace) (sym tell.shown)
-          (record { files = refl; events = refl; began = refl; none_open = refl });
+          (record { goes_on = folder_goes_on words start ending met unused wires ends left folder has tell; files = refl; events = refl; began = refl; none_open = refl });
       moments = moments_since start.moments ending.moments start.moment ends.so_far.moments ends.stands.given tell.clock_tells;
+      wires_go_on = go_on;
       wires = ap (λ (l : List ℕ). wires_behind l (map words.wires.outcomes wires)) (sym starts);
     }
 
-    module _ (one : OneChoice) (gave : GaveRows words.disks start) (served : met ≡ Done → AreServed start.settings start.opening start.listed notes folder) where
+    module _ (one : OneChoice) (gave : GaveRows words.disks start) (passed : List Passing)
+        (served : IsTelling met → AreServed start.settings start.opening start.listed passed notes folder)
+        (go_on : Pairs OutcomesGoOn outcomes (map words.wires.outcomes wires)) where
+      served_where_done : met ≡ Done → AreServed start.settings start.opening start.listed passed notes folder
+      served_where_done is_done = served (subst IsTelling (sym is_done) tt)
+
       drained : BeganAtRest words.disks start → met ≡ Done → Premises the_run (followings_in account) → (first second : List ℕ) (rows : List Row) →
           words.disks.contents ending.a ≡ Some first → words.disks.contents ending.b ≡ Some second → GivesRows first second rows → IsDrained the_run account rows
       drained at_rest is_done premises first second rows a_is b_is gives =
           is_drained the_run the_scan the_files the_workers begun collected the_run_told
-          (run_done words start ending met unused wires ends left folder has tell is_done (served is_done)) accounted.placed premises rows
+          (run_done words start ending met unused wires ends left folder has tell is_done passed (served_where_done is_done)) accounted.placed premises rows
           (rows_over one gave at_rest (subst AreLeft (sym is_done) tt) first second rows a_is b_is gives)
 
       abbrev accounted_for : AccountedWith NoKey words.disks start.settings objects met
@@ -169,17 +178,18 @@ module _ {T W L D : Type 0} (words : Words T W L D) (start : Began D) (ending : 
         run = the_run;
         by_settings = refl;
         account = account;
-        fits = fits;
+        fits = fits go_on;
         followed = accounted.accounts.followed;
         sent = accounted.accounts.sent;
         opened = gave;
         given = given one gave;
         rows = rows_by one gave;
-        images = λ at_rest. record { of_a = images_of one gave at_rest start.a ending.a (held one gave at_rest).of_a; of_b = images_of one gave at_rest start.b ending.b (held one gave at_rest).of_b };
+        images = λ at_rest. images_hold one NoKey the_run account words.disks objects at_rest start.opening gave notes (held one gave at_rest) (image_rows one gave at_rest);
+        together = λ at_rest. together_hold one NoKey the_run account words.disks objects at_rest start.opening gave notes (held one gave at_rest) (image_rows one gave at_rest);
         supposing = λ premises. record { is = accounted.accounts.is premises; drained = λ at_rest is_done. drained at_rest is_done premises };
       }
 
-      pub accounted_over : AccountedOver words.disks start.settings start.opening start.listed objects met ending.keeper.shipped ending.keeper.dropped
+      pub accounted_over : AccountedOver words.disks start.settings start.opening start.listed (length folder.scanned.events) objects met passed ending.keeper.shipped ending.keeper.dropped
       accounted_over = record {
         accounted = accounted_for;
         opening_is = refl;
@@ -192,5 +202,9 @@ module _ {T W L D : Type 0} (words : Words T W L D) (start : Began D) (ending : 
         placed = placed_so words start ending met unused wires ends left folder has tell accounted.placed accounted.places;
         numbers = λ are_left. numbers_are words start ending met unused wires ends left folder has tell are_left accounted.placed accounted.places;
         counted = λ is_done. all_are_counted words start ending met unused wires ends left folder has tell (subst AreLeft (sym is_done) tt) accounted.placed accounted.places
-            (run_done words start ending met unused wires ends left folder has tell is_done (served is_done));
+            (run_done words start ending met unused wires ends left folder has tell is_done passed (served_where_done is_done));
+        followed_or_skipped = λ telling.
+            followed_or_skipped words start (with_crew ending ends.crew) ends.so_far ends.stands left.released folder has tell.shown
+            (wires_told words start ending met unused wires ends left folder has tell) the_workers (fit words start ending met unused wires ends left folder has tell).fits passed (served telling)
+            accounted.placed;
       }

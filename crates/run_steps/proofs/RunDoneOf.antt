@@ -10,6 +10,7 @@ use Rattle.accounts.specs.Taken.{Taken}
 use Rattle.kept_rows.specs.Trace.{WireTold}
 use Rattle.accounts.specs.ToldFile.{IsReadThrough}
 use Rattle.accounts.specs.Turned.{Turned, notes_told, parcels_told}
+use Rattle.report.specs.declared.passing.Passing.{Passing}
 use Rattle.rounds.specs.Settled.{AreSettledIn}
 use Rattle.rounds.specs.Words.{Words}
 use Rattle.run_steps.specs.Began.{Began}
@@ -30,7 +31,7 @@ use Rattle.run_steps.proofs.RunToldOf.{fit, run, run_files, scan, the_full_scan,
 
 module _ {T W L D : Type 0} (words : Words T W L D) (start : Began D) (ending : Ending D) (met : Met) (unused wires : List W) (ends : Ends words start ending met unused wires)
     (left : AreLeftSo words.disks start ending met ends.crew) (folder : FolderTold) (has : HasScanned start folder) (tell : DoTell words.wires ending folder wires)
-    (is_done : met ≡ Done) (served : AreServed start.settings start.opening start.listed ending.keeper.tracked.notes folder) where
+    (is_done : met ≡ Done) (passed : List Passing) (served : AreServed start.settings start.opening start.listed passed ending.keeper.tracked.notes folder) where
   abbrev all_workers : List Taken
   all_workers = workers words start ending met unused wires ends left folder has tell
 
@@ -72,9 +73,9 @@ module _ {T W L D : Type 0} (words : Words T W L D) (start : Began D) (ending : 
     full = the_full_scan words start ending met unused wires ends left folder has tell;
     served = each_entry words start (with_crew ending ends.crew) ends.so_far ends.stands left.released folder has tell.shown
         all_wires all_workers
-        (fit words start ending met unused wires ends left folder has tell).fits served;
+        (fit words start ending met unused wires ends left folder has tell).fits passed served;
     whole = each_whole words start (with_crew ending ends.crew) ends.so_far ends.stands left.released folder has tell.shown
         all_wires all_workers
-        (fit words start ending met unused wires ends left folder has tell).fits served finished;
+        (fit words start ending met unused wires ends left folder has tell).fits passed served finished;
     settled = files_collected;
   }

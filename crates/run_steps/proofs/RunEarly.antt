@@ -1,6 +1,6 @@
 -- A run that ended before it followed a file is accounted for, too: what it opened it only asked for keys, it sent nothing, and its areas
 -- give the rows that they gave before.
-use Rattle.std.proofs.Common.{◌≡◌, ◌≢◌, ◌⊎◌, inl, inr, ⊎_elim, ℕ, zero, suc, ◌-◌, ◌≤◌, ◌<◌, true, List, [], ◌∷◌, ◌++◌, Contains, drop, length, map, append_assoc, append-nil, Option, Some, None, IsSome, refl, sym, ap, subst, ◌∙◌, arith}
+use Rattle.std.proofs.Common.{◌≡◌, ◌≢◌, ◌⊎◌, inl, inr, ℕ, zero, suc, ◌-◌, ◌≤◌, ◌<◌, true, List, [], ◌∷◌, ◌++◌, Contains, drop, length, map, append_assoc, append-nil, Option, Some, None, IsSome, refl, sym, ap, subst, ◌∙◌, arith}
 use Rattle.std.proofs.Math.Seq.{drop-append_seam, drop-length}
 use Rattle.std.proofs.lemmas.Bool.{cases_lt}
 use Rattle.std.proofs.lemmas.Option.{slice_get_past}
@@ -46,23 +46,26 @@ use Rattle.ship_core.specs.Rows.{IsInOrder}
 use Rattle.ship_core.specs.RowsOver.{AreRowsOver, row_for}
 use Rattle.wire_base.specs.declared.note.Note.{Note}
 use Rattle.wire_base.specs.declared.row.Row.{Row}
-use Rattle.run_steps.specs.AccountedFor.{AccountedFor, AreImageRows, HoldKeptRows, LostKey, RowsBy, RunObjects}
-use Rattle.run_steps.specs.Areas.{BeganAtRest, GaveRows, GiveTheRows, HaveHeldFronts, HeldOnlyFronts}
+use Rattle.run_steps.specs.AccountedFor.{AccountedFor, AreImageRows, LostKey, RowsBy, RunObjects}
+use Rattle.run_steps.specs.Areas.{BeganAtRest, GaveRows, GiveTheRows, HaveHeldFronts}
 use Rattle.run_steps.specs.Began.{Began}
+use Rattle.run_steps.specs.FolderOn.{FolderGoesOn}
 use Rattle.run_steps.specs.RunOf.{FolderTold, run_of, scan_of, wires_behind}
 use Rattle.run_steps.specs.ScannedSome.{HasOnlyAsked, HasScannedSome}
 use Rattle.run_steps.specs.Shown.{HasGiven}
 use Rattle.run_steps.specs.declared.met.Met.{Met}
 use Rattle.run_steps.specs.declared.met.Met.TheVariants.{Done}
-use Rattle.run_steps.proofs.AskedEvents.{all_asked, asked_none, event_was, goes_on_asking, some_asked}
+use Rattle.run_steps.proofs.AskedEvents.{all_asked, asked_none, event_was, goes_on_asking, some_asked, goes_on_further}
 use Rattle.run_steps.proofs.NamedInputs.{inputs_have_own_ids}
-use Rattle.run_steps.proofs.HeldRows.{rows_in_order, some_of}
+use Rattle.run_steps.proofs.ImagesHold.{images_hold, ordered_at_rest, together_hold}
 use Rattle.run_steps.proofs.Members.{some_is}
 use Rattle.run_steps.proofs.RowsStay.{rows_stay}
 use Rattle.run_steps.proofs.RunFits.{moments_since}
-use Rattle.run_steps.proofs.RunRows.{OneChoice, given_over_fronts, opened_over_fronts}
+use Rattle.run_steps.proofs.RunRows.{OneChoice, given_over_fronts}
 use Rattle.run_steps.proofs.RunWires.{acknowledged_none, of_no_worker, took_none}
 use Rattle.run_steps.proofs.Scanning.{AreAt, are_at, no_more_listings}
+use Rattle.run_steps.proofs.Unbegun.{unbegun_stand}
+use Rattle.run_steps.proofs.WireOn.{all_told_stay}
 
 -- ---- its listings
 
@@ -163,13 +166,6 @@ over_no_notes opening rows over = record {
   each = λ key. let of = over.each key in of.is ∙ ap (λ (l : List Note). row_for opening l key) (nil_front of.front of.rest of.notes_are);
 }
 
--- rows that areas at rest gave are in the order of their keys
-ordered_at_rest : {D : Type 0} (disks : DiskWords D) (a b : D) (rows : List Row) → AreAtRest disks.contents disks.images a b → GiveTheRows disks a b rows → IsInOrder rows
-ordered_at_rest disks a b rows rest gave =
-    let (first, a_is) = some_of (disks.contents a) rest.a_told in
-    let (second, b_is) = some_of (disks.contents b) rest.b_told in
-    rows_in_order first second rows (gave first second a_is b_is)
-
 given_by : {opening : List Row} {first second : List ℕ} → GivesFronts opening [] first second → (rows : List Row) × GivesRows first second rows
 given_by fronts = (fronts.rows, fronts.given)
 
@@ -197,8 +193,16 @@ module _ {D : Type 0} (disks : DiskWords D) (start : Began D) (folder : FolderTo
   abbrev began : ℕ
   began = length folder.earlier.events
 
+  listed_is : folder.listed ≡ record folder.earlier { events = folder.earlier.events ++ has.lists.more }
+  listed_is = some_is folder.listed (record folder.earlier { events = folder.earlier.events ++ has.lists.more }) has.lists.kept
+
   listed_events : folder.listed.events ≡ folder.earlier.events ++ has.lists.more
-  listed_events = ap (λ (h : FolderHistory). h.events) (some_is folder.listed (record folder.earlier { events = folder.earlier.events ++ has.lists.more }) has.lists.kept)
+  listed_events = ap (λ (h : FolderHistory). h.events) listed_is
+
+  folder_goes_on : FolderGoesOn folder.earlier folder.scanned
+  folder_goes_on =
+      goes_on_further folder.earlier folder.listed folder.scanned (record { files = ap (λ (h : FolderHistory). h.files) listed_is; more = has.lists.more; events = listed_events })
+      (goes_on_asking folder.listed folder.scanned has.asks)
 
   events_are : folder.scanned.events ≡ folder.earlier.events ++ (has.lists.more ++ has.asks.more)
   events_are = has.asks.events ∙ ap (λ (l : List Event). l ++ has.asks.more) listed_events ∙ append_assoc folder.earlier.events has.lists.more has.asks.more
@@ -278,11 +282,11 @@ module _ {D : Type 0} (disks : DiskWords D) (start : Began D) (folder : FolderTo
     }
 
     image_rows : IsInOrder start.opening → (rows : List Row) → AreRowsOverFronts start.opening [] rows → AreImageRows LostKey early_run [] rows
-    image_rows ordered rows over = record { kept = early_accounts.images rows over; stay = rows_stay start.opening [] rows ordered over tt LostKey early_run [] }
-
-    images_of : IsInOrder start.opening → (from now : D) → HeldOnlyFronts disks start.opening [] from now → HoldKeptRows LostKey disks (record { began = from; now = now }) early_run []
-    images_of ordered from now only image generation rows end since opened =
-        ⊎_elim inl (λ over. inr (image_rows ordered rows over)) (opened_over_fronts one start.opening [] (disks.contents from) image generation rows end (only.each image since) opened)
+    image_rows ordered rows over = record {
+      kept = early_accounts.images rows over;
+      stay = rows_stay start.opening [] rows ordered over tt LostKey early_run [];
+      unbegun = unbegun_stand start.opening [] rows ordered over [] (λ key none. refl);
+    }
 
     rows_by : IsInOrder start.opening → (met : Met) (rows : List Row) → AreRowsOverFronts start.opening [] rows → RowsBy LostKey early_run [] met rows
     rows_by ordered met rows over = record {
@@ -299,8 +303,9 @@ module _ {D : Type 0} (disks : DiskWords D) (start : Began D) (folder : FolderTo
       fits = record {
         once = refl;
         one_scan = omega arith;
-        folder = record { files = refl; events = refl; began = refl; none_open = refl };
+        folder = record { goes_on = folder_goes_on; files = refl; events = refl; began = refl; none_open = refl };
         moments = moments_since start.moments later start.moment moments given clock_tells;
+        wires_go_on = all_told_stay outcomes;
         wires = refl;
       };
       followed = early_accounts.followed;
@@ -308,7 +313,8 @@ module _ {D : Type 0} (disks : DiskWords D) (start : Began D) (folder : FolderTo
       opened = gave;
       given = λ at_rest first second a_is b_is. given_by ((areas at_rest).both first second a_is b_is);
       rows = λ at_rest first second rows a_is b_is gives. rows_by (ordered_at_rest disks start.a start.b start.opening at_rest gave) met rows (given_over_fronts one start.opening [] first second rows ((areas at_rest).both first second a_is b_is) gives);
-      images = λ at_rest. let ordered = ordered_at_rest disks start.a start.b start.opening at_rest gave in record { of_a = images_of ordered start.a a (areas at_rest).of_a; of_b = images_of ordered start.b b (areas at_rest).of_b };
+      images = λ at_rest. images_hold one LostKey early_run [] disks early_objects at_rest start.opening gave [] (areas at_rest) (image_rows (ordered_at_rest disks start.a start.b start.opening at_rest gave));
+      together = λ at_rest. together_hold one LostKey early_run [] disks early_objects at_rest start.opening gave [] (areas at_rest) (image_rows (ordered_at_rest disks start.a start.b start.opening at_rest gave));
       supposing = λ premises. record { is = early_accounts.is premises; drained = λ at_rest is_done. absurd (not_done is_done) };
     }
 
@@ -360,11 +366,11 @@ module _ {D : Type 0} (disks : DiskWords D) (settings : Settings) (opening : Lis
     }
 
     still_image_rows : IsInOrder opening → (rows : List Row) → AreRowsOverFronts opening [] rows → AreImageRows LostKey still_run [] rows
-    still_image_rows ordered rows over = record { kept = still_accounts.images rows over; stay = rows_stay opening [] rows ordered over tt LostKey still_run [] }
-
-    still_images : IsInOrder opening → (from now : D) → HeldOnlyFronts disks opening [] from now → HoldKeptRows LostKey disks (record { began = from; now = now }) still_run []
-    still_images ordered from now only image generation rows end since opened =
-        ⊎_elim inl (λ over. inr (still_image_rows ordered rows over)) (opened_over_fronts one opening [] (disks.contents from) image generation rows end (only.each image since) opened)
+    still_image_rows ordered rows over = record {
+      kept = still_accounts.images rows over;
+      stay = rows_stay opening [] rows ordered over tt LostKey still_run [];
+      unbegun = unbegun_stand opening [] rows ordered over [] (λ key none. refl);
+    }
 
     still_rows : IsInOrder opening → (met : Met) (rows : List Row) → AreRowsOverFronts opening [] rows → RowsBy LostKey still_run [] met rows
     still_rows ordered met rows over = record {
@@ -381,8 +387,9 @@ module _ {D : Type 0} (disks : DiskWords D) (settings : Settings) (opening : Lis
       fits = record {
         once = refl;
         one_scan = omega arith;
-        folder = record { files = refl; events = refl; began = refl; none_open = refl };
+        folder = record { goes_on = record { files = refl; more = []; events = sym (append-nil told.events) }; files = refl; events = refl; began = refl; none_open = refl };
         moments = refl;
+        wires_go_on = all_told_stay outcomes;
         wires = refl;
       };
       followed = still_accounts.followed;
@@ -390,6 +397,7 @@ module _ {D : Type 0} (disks : DiskWords D) (settings : Settings) (opening : Lis
       opened = gave;
       given = λ at_rest first second a_is b_is. given_by ((areas at_rest).both first second a_is b_is);
       rows = λ at_rest first second rows a_is b_is gives. still_rows (ordered_at_rest disks from_a from_b opening at_rest gave) met rows (given_over_fronts one opening [] first second rows ((areas at_rest).both first second a_is b_is) gives);
-      images = λ at_rest. let ordered = ordered_at_rest disks from_a from_b opening at_rest gave in record { of_a = still_images ordered from_a a (areas at_rest).of_a; of_b = still_images ordered from_b b (areas at_rest).of_b };
+      images = λ at_rest. images_hold one LostKey still_run [] disks still_objects at_rest opening gave [] (areas at_rest) (still_image_rows (ordered_at_rest disks from_a from_b opening at_rest gave));
+      together = λ at_rest. together_hold one LostKey still_run [] disks still_objects at_rest opening gave [] (areas at_rest) (still_image_rows (ordered_at_rest disks from_a from_b opening at_rest gave));
       supposing = λ premises. record { is = still_accounts.is premises; drained = λ at_rest is_done. absurd (not_done is_done) };
     }

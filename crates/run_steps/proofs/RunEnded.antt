@@ -1,16 +1,19 @@
 -- From what is known of a run as it has ended, and of its scan, to its account: what its folder and its clock tell then is known by
 -- what they told before.
-use Rattle.std.proofs.Common.{◌≡◌, ℕ, List, map, Option, Some, None, IsSome, refl, sym, subst, ◌∙◌}
+use Rattle.std.proofs.Common.{◌≡◌, ℕ, List, length, map, Option, Some, None, IsSome, refl, sym, subst, ◌∙◌}
 use Rattle.std.specs.List.{AllByRecursion}
 use Rattle.batch_worker.specs.Standing.{length_of}
 use Rattle.outside.specs.Folders.{FolderHistory}
 use Rattle.outside.specs.Wires.{Outcome}
+use Rattle.rounds.specs.Pairs.{Pairs}
+use Rattle.report.specs.declared.passing.Passing.{Passing}
 use Rattle.rounds.specs.Words.{Words}
 use Rattle.run_steps.specs.Areas.{GaveRows}
 use Rattle.run_steps.specs.AccountedFor.{RunObjects}
 use Rattle.run_steps.specs.AccountedOver.{AccountedOver}
 use Rattle.run_steps.specs.Began.{Began}
 use Rattle.run_steps.specs.Ends.{Ending}
+use Rattle.run_steps.specs.Met.{IsTelling}
 use Rattle.run_steps.specs.RunEnds.{HasEnded}
 use Rattle.run_steps.specs.RunOf.{FolderTold, starts_of}
 use Rattle.run_steps.specs.Scanned.{HasScanned}
@@ -18,12 +21,12 @@ use Rattle.run_steps.specs.Served.{AreServed}
 use Rattle.run_steps.specs.Shown.{HasGiven, HasShown}
 use Rattle.run_steps.specs.SoFar.{SoFar}
 use Rattle.run_steps.specs.Tells.{DoTell}
+use Rattle.run_steps.specs.WireOn.{OutcomesGoOn}
 use Rattle.run_steps.specs.declared.met.Met.{Met}
-use Rattle.run_steps.specs.declared.met.Met.TheVariants.{Done}
 use Rattle.run_steps.proofs.Members.{some_is}
 use Rattle.run_steps.proofs.RunAccounted.{accounted_over}
 use Rattle.run_steps.proofs.RunRows.{OneChoice}
-use Rattle.run_steps.proofs.Serving.{IsServedAtEnd}
+use Rattle.run_steps.proofs.StillServed.{IsServedAtEnd}
 
 -- it tells still
 shown_after : (scanned : FolderHistory) (shown : Option FolderHistory) (so_far : SoFar) → HasShown (Some scanned) shown so_far → (ended : FolderHistory) × (shown ≡ Some ended)
@@ -71,11 +74,15 @@ module _ {T W L D : Type 0} (words : Words T W L D) (start : Began D) (ending : 
       after = record { folder = ending.shown; moments = ending.moments; outcomes = map words.wires.outcomes wires; a = ending.a; b = ending.b };
     }
 
-    pub ended_is_accounted_for : OneChoice → GaveRows words.disks start → (met ≡ Done → IsServedAtEnd start.settings start.opening start.listed ending.keeper.tracked.notes folder ending.shown) → AccountedOver words.disks start.settings start.opening start.listed ended_objects met ending.keeper.shipped ending.keeper.dropped
-    ended_is_accounted_for one gave served =
-        accounted_over words start ending met unused wires ended.ends ended.left whole has_whole do_tell outcomes starts one gave
-        (λ is_done. by_served (served is_done))
+    pub ended_is_accounted_for : OneChoice → GaveRows words.disks start → (passed : List Passing) →
+        (IsTelling met → IsServedAtEnd start.settings start.opening start.listed passed ending.keeper.tracked.notes folder ending.shown) →
+        Pairs OutcomesGoOn outcomes (map words.wires.outcomes wires) →
+        AccountedOver words.disks start.settings start.opening start.listed (length folder.scanned.events) ended_objects met passed ending.keeper.shipped ending.keeper.dropped
+    ended_is_accounted_for one gave passed served go_on =
+        accounted_over words start ending met unused wires ended.ends ended.left whole has_whole do_tell outcomes starts one gave passed
+        (λ telling. by_served (served telling)) go_on
       where
-        by_served : IsServedAtEnd start.settings start.opening start.listed ending.keeper.tracked.notes folder ending.shown → AreServed start.settings start.opening start.listed ending.keeper.tracked.notes whole
+        by_served : IsServedAtEnd start.settings start.opening start.listed passed ending.keeper.tracked.notes folder ending.shown →
+            AreServed start.settings start.opening start.listed passed ending.keeper.tracked.notes whole
         by_served at_end =
-            subst (λ (e : FolderHistory). AreServed start.settings start.opening start.listed ending.keeper.tracked.notes (record folder { ended = e })) (some_is at_end.ended told.0 (sym at_end.is ∙ told.1)) at_end.served
+            subst (λ (e : FolderHistory). AreServed start.settings start.opening start.listed passed ending.keeper.tracked.notes (record folder { ended = e })) (some_is at_end.ended told.0 (sym at_end.is ∙ told.1)) at_end.served

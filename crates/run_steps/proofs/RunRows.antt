@@ -24,7 +24,7 @@ module _ (one : OneChoice) where
       some_is rows others (sym gives.given ∙ ap rows_of (one first second gives.choice given.choice gives.chosen given.chosen) ∙ given.given)
 
   -- beside a blank area it is chosen
-  chosen_alone : (area : List ℕ) (generation : ℕ) (rows : List Row) (end : ℕ) → IsOpened area generation rows end → IsChoice area [] (Chosen A generation rows 29 end)
+  pub chosen_alone : (area : List ℕ) (generation : ℕ) (rows : List Row) (end : ℕ) → IsOpened area generation rows end → IsChoice area [] (Chosen A generation rows 29 end)
   chosen_alone area generation rows end opened =
       record { first_state = Opened generation rows 29 end; second_state = Blank; first_is = (refl, opened); second_is = omega arith; chosen = refl }
 

@@ -1,10 +1,10 @@
 -- Of a run that is done each entry that an input covers was followed or skipped for its reason, and each file that was begun is read
 -- through, with the moment of its change.
-use Rattle.std.proofs.Common.{◌≡◌, ◌⊎◌, inl, inr, ⊎_elim, ℕ, ◌<◌, ◌≤◌, All, List, [], Contains, append-nil, length, Option, Some, None, IfSome, refl, sym, ap, subst, ◌∙◌, arith}
+use Rattle.std.proofs.Common.{◌≡◌, ◌⊎◌, inl, inr, ⊎_elim, ℕ, ◌+◌, ◌<◌, ◌≤◌, All, List, [], Contains, append-nil, length, Option, Some, None, IfSome, refl, sym, ap, subst, ◌∙◌, arith}
 use Rattle.std.proofs.lemmas.Bool.{cases_lt}
 use Rattle.std.proofs.lemmas.List.Elements.{Contains-append_cases, Contains-append_left}
 use Rattle.std.proofs.lemmas.Option.{slice_get-get_or}
-use Rattle.std.specs.Prelude.{option_map, slice_get}
+use Rattle.std.specs.Prelude.{slice_get}
 use Rattle.std.specs.List.{AllByRecursion}
 use Rattle.std.specs.declared.cmp.Ordering.TheVariants.{Less}
 use Rattle.accounts.proofs.Grounded.{each_has_ground, each_member, of_map}
@@ -21,11 +21,14 @@ use Rattle.file_identity.specs.Asking.{IsAsking, given_key}
 use Rattle.kept_rows.specs.Drained.{IsDoubled, IsGone, IsMoved, IsOfNoOther, IsPassedOver, IsSmall, WasOpenedWith}
 use Rattle.kept_rows.specs.Run.{Run, Scan}
 use Rattle.kept_rows.specs.Scans.{Gave, IsCovered, ShowsEntry}
-use Rattle.kept_rows.specs.Trace.{Closing, WireTold, first_of_two, open_looks_in}
+use Rattle.kept_rows.specs.Trace.{Trace, WasGone, WireTold}
 use Rattle.outside.specs.Folders.{NotThere, Opened as OpenedAs}
 use Rattle.outside.specs.declared.history.Shown.{Shown}
 use Rattle.prospect.specs.AskedFiles.{Answer, ByName, Gave as KeyGiven, NotFound, TooFew, keyed_as, keyed_by, with_key}
 use Rattle.prospect.specs.declared.listed.Listed.{Listed}
+use Rattle.report.specs.declared.passing.Passing.{Passing}
+use Rattle.report.specs.declared.passing.Why.{Why}
+use Rattle.report.specs.declared.passing.Why.TheVariants.{Doubled, Gone, Moved, Old, Small}
 use Rattle.rounds.specs.Crewed.{lanings}
 use Rattle.rounds.specs.Words.{Words}
 use Rattle.ship_core.proofs.Members.{first_there}
@@ -41,12 +44,14 @@ use Rattle.run_steps.specs.Releasing.{HasNoHarvesters}
 use Rattle.run_steps.specs.RunOf.{FolderTold, asking_of, opening_by, run_of, scan_of}
 use Rattle.run_steps.specs.RunState.{RunState}
 use Rattle.run_steps.specs.Scanned.{HasScanned}
-use Rattle.run_steps.specs.Served.{AreServed, HasBegin, WasAskedAsOpened, WasMoved, WasNotThere, WasTooSmall}
+use Rattle.run_steps.specs.Served.{AreServed, HasBegin, WasSkippedBy, folder_trace}
+use Rattle.run_steps.specs.SkippedFor.{GaveAsOpened, IsSkippedFor, WasMoved, WasTooSmall}
 use Rattle.run_steps.specs.Shown.{HasDone}
 use Rattle.run_steps.specs.SoFar.{SoFar, files_in}
 use Rattle.run_steps.specs.Stands.{Stands}
 use Rattle.run_steps.proofs.AskedEvents.{AnswerStands, HasAsked, HasMissed}
 use Rattle.run_steps.proofs.FirstPaths.{double_has_earlier}
+use Rattle.run_steps.proofs.FollowedOrSkipped.{IsSkippedSince, came_so}
 use Rattle.run_steps.proofs.KeyedFiles.{KeepsEntry, keeps_entry}
 use Rattle.run_steps.proofs.Members.{member_is, some_is}
 use Rattle.run_steps.proofs.RunFiles.{as_listed, done, files, is_joined, joined, moment_is, moment_noted_is, of_entry, path_is, input_is, was_opened}
@@ -61,7 +66,7 @@ got_some P o x is all = subst (λ (q : Option _). IfSome q P) is all
 module _ {T W L D : Type 0} (words : Words T W L D) (start : Began D) (state : RunState T W L D) (so_far : SoFar) (stands : Stands words start state so_far)
     (released : All HasNoHarvesters (lanings state.crew.lanes.items)) (folder : FolderTold) (has : HasScanned start folder) (shown : state.shown ≡ Some folder.ended)
     (wires : List WireTold) (workers : List Taken) (fits : FitBooks (files_in so_far) workers so_far.collected)
-    (served : AreServed start.settings start.opening start.listed state.keeper.tracked.notes folder) where
+    (passed : List Passing) (served : AreServed start.settings start.opening start.listed passed state.keeper.tracked.notes folder) where
   abbrev run : Run
   run = run_of start folder so_far.moments wires
 
@@ -83,12 +88,12 @@ module _ {T W L D : Type 0} (words : Words T W L D) (start : Began D) (state : R
   -- ---- each entry
 
   -- the file of this slot
-  record HasFileAt (slot : ℕ) : Type 0 where
-    file : Filed
-    among : Contains run_files file
-    slot_is : slot_in file ≡ slot
+  pub record HasFileAt (slot : ℕ) : Type 0 where
+    pub file : Filed
+    pub among : Contains run_files file
+    pub slot_is : slot_in file ≡ slot
 
-  file_of_begin : (slot : ℕ) → HasBegin notes slot → HasFileAt slot
+  pub file_of_begin : (slot : ℕ) → HasBegin notes slot → HasFileAt slot
   file_of_begin slot begun =
       let opened =
       begin_opened (files_in so_far) (acknowledged_in workers) so_far.begun so_far.collected notes stands.noted.are ground start.opening start.listed so_far.opened stands.begun begun.begin begun.noted in
@@ -100,6 +105,17 @@ module _ {T W L D : Type 0} (words : Words T W L D) (start : Began D) (state : R
         among = of.among;
         slot_is = ap (λ (o : Opened). o.begin.slot.0) of.is ∙ ap (λ (s : Slot). s.0) opened.slot_is ∙ begun.slot_is;
       }
+
+  abbrev told_trace : Trace
+  told_trace = folder_trace (length folder.earlier.events) folder.ended
+
+  -- each listed file was begun or skipped
+  pub came_of : (slot : ℕ) (one : Listed) → slice_get start.listed slot ≡ Some one →
+      HasBegin notes slot ⊎ IsSkippedSince (WasSkippedBy start.settings.inputs notes told_trace) (length folder.scanned.events) slot one
+  came_of slot one at =
+      let same : 0 + slot ≡ slot = omega arith in
+      subst (λ (n : ℕ). HasBegin notes n ⊎ IsSkippedSince (WasSkippedBy start.settings.inputs notes told_trace) (length folder.scanned.events) n one) same
+      (came_so (λ other listed. HasBegin notes other) (WasSkippedBy start.settings.inputs notes told_trace) 0 (length folder.scanned.events) start.listed passed served.each slot one at)
 
   -- behind the scan no opening was made for an asking
   behind_listings : (opening : ℕ) → length folder.scanned.events ≤ opening → length folder.listed.events ≤ opening
@@ -181,45 +197,43 @@ module _ {T W L D : Type 0} (words : Words T W L D) (start : Began D) (state : R
             shows = shows.shows;
           }
 
-      is_gone : WasNotThere folder one.path → IsGone run scan shown_entry.entry.path input
-      is_gone gone = record {
-        opening = gone.opening;
-        since = is_before start folder has so_far has_done wires gone.opening (behind_listings gone.opening gone.since);
-        of_input = of_no_asking start folder has so_far has_done wires gone.opening input gone.since;
-        was = record {
-          in_this_run = in_this_run start folder has so_far has_done wires gone.opening (behind_listings gone.opening gone.since);
-          not_there = gone.is ∙ ap (λ (path : List ℕ). Some (NotThere path)) its_path;
-        };
+      is_gone : (opening : ℕ) → length folder.scanned.events ≤ opening → WasGone told_trace opening one.path → IsGone run scan shown_entry.entry.path input
+      is_gone opening behind gone = record {
+        opening = opening;
+        since = is_before start folder has so_far has_done wires opening (behind_listings opening behind);
+        of_input = of_no_asking start folder has so_far has_done wires opening input behind;
+        was = record { in_this_run = gone.in_this_run; not_there = gone.not_there ∙ ap (λ (path : List ℕ). Some (NotThere path)) its_path };
       }
 
       -- as it was opened, its tail gave this key, or none
-      opened_with : (key : Option (List ℕ)) → WasAskedAsOpened start.settings folder one key → WasOpenedWith run rule scan input shown_entry.entry.path key
-      opened_with key asked = record {
-        opening = asked.opening;
-        since = is_before start folder has so_far has_done wires asked.opening (behind_listings asked.opening asked.since);
-        of_input = of_no_asking start folder has so_far has_done wires asked.opening input asked.since;
-        number = asked.number;
-        looks = asked.looks;
+      opened_with : (key : Option (List ℕ)) (opening : ℕ) → length folder.scanned.events ≤ opening → GaveAsOpened start.settings.inputs told_trace one opening key →
+          WasOpenedWith run rule scan input shown_entry.entry.path key
+      opened_with key opening behind opened = record {
+        opening = opening;
+        since = is_before start folder has so_far has_done wires opening (behind_listings opening behind);
+        of_input = of_no_asking start folder has so_far has_done wires opening input behind;
+        number = opened.number;
+        looks = opened.gave.looks;
         tail = record {
-          in_this_run = in_this_run start folder has so_far has_done wires asked.opening (behind_listings asked.opening asked.since);
-          begun = asked.begun;
-          opened = asked.is ∙ ap (λ (path : List ℕ). Some (OpenedAs path asked.number asked.begun)) its_path;
-          tells = ap (λ (o : Option Closing). first_of_two (option_map (λ (c : Closing). c.looks) o) (open_looks_in asked.opening [])) asked.closed.closing;
+          in_this_run = opened.gave.tail.in_this_run;
+          begun = opened.gave.tail.begun;
+          opened = opened.gave.tail.opened ∙ ap (λ (path : List ℕ). Some (OpenedAs path opened.number opened.gave.tail.begun)) its_path;
+          tells = opened.gave.tail.tells;
         };
-        file = asked.file;
-        file_is = asked.file_is;
-        asked = asked.looks;
+        file = opened.gave.file;
+        file_is = opened.gave.file_is;
+        asked = opened.gave.looks;
         behind = [];
-        looks_are = sym (append-nil asked.looks);
-        asking = subst (λ (r : InputRule). IsAsking r.file_identity asked.looks) same_rule asked.asking;
-        gave = sym asked.gave ∙ (λ k. given_key (same_rule k).id (same_rule k).file_identity (its_path k) asked.file asked.looks);
+        looks_are = sym (append-nil opened.gave.looks);
+        asking = subst (λ (r : InputRule). IsAsking r.file_identity opened.gave.looks) same_rule opened.gave.asking;
+        gave = opened.gave.gave ∙ (λ k. given_key (same_rule k).id (same_rule k).file_identity (its_path k) opened.gave.file opened.gave.looks);
       }
         where
-          same_rule : asked.rule ≡ rule
-          same_rule = some_is asked.rule rule (sym asked.rule_is ∙ its_rule)
+          same_rule : opened.rule ≡ rule
+          same_rule = some_is opened.rule rule (sym opened.rule_is ∙ its_rule)
 
-      is_moved : WasMoved start.settings folder one → IsMoved run rule scan shown_entry input
-      is_moved moved =
+      is_moved : (opening : ℕ) → length folder.scanned.events ≤ opening → WasMoved start.settings.inputs told_trace one opening → IsMoved run rule scan shown_entry input
+      is_moved opening behind moved =
           let its_key = key_is_told start folder has so_far has_done wires one among_all in
           let shows = shows_it its_key.0 its_key.1 in
           record {
@@ -227,15 +241,22 @@ module _ {T W L D : Type 0} (words : Words T W L D) (start : Began D) (state : R
             number = shows.number;
             shows = shows.shows;
             other = moved.other;
-            opened = opened_with (Some moved.other) moved.asked;
+            opened = opened_with (Some moved.other) opening behind moved.opened;
             other_key = λ same. moved.other_key (its_key.1 ∙ ap (λ (key : List ℕ). Some key) (sym same));
           }
 
-      is_small : WasTooSmall start.settings folder one → IsSmall run rule scan shown_entry input
-      is_small small = record {
-        by_bytes = subst (λ (r : InputRule). IsFingerprint r.file_identity) (some_is small.asked.rule rule (sym small.asked.rule_is ∙ its_rule)) small.by_bytes;
-        gave_none = inr (opened_with None small.asked);
+      is_small : (opening : ℕ) → length folder.scanned.events ≤ opening → WasTooSmall start.settings.inputs told_trace one opening → IsSmall run rule scan shown_entry input
+      is_small opening behind small = record {
+        by_bytes = subst (λ (r : InputRule). IsFingerprint r.file_identity) (some_is small.opened.rule rule (sym small.opened.rule_is ∙ its_rule)) small.by_bytes;
+        gave_none = inr (opened_with None opening behind small.opened);
       }
+
+      is_passed_over : (why : Why) (opening : ℕ) → length folder.scanned.events ≤ opening → IsSkippedFor start.settings.inputs told_trace one opening why → IsPassedOver run rule scan shown_entry input
+      is_passed_over Gone opening behind reason = inr (inr (inl (is_gone opening behind reason)))
+      is_passed_over Moved opening behind reason = inr (inr (inr (inl (is_moved opening behind reason))))
+      is_passed_over Small opening behind reason = inr (inr (inr (inr (is_small opening behind reason))))
+      is_passed_over Doubled opening behind reason = absurd reason
+      is_passed_over Old opening behind reason = absurd reason
 
       is_doubled : Contains start.doubled one → IsDoubled run scan shown_entry input
       is_doubled double =
@@ -261,10 +282,7 @@ module _ {T W L D : Type 0} (words : Words T W L D) (start : Began D) (state : R
           by_slot : Contains start.listed one → IsAmongFiles run scan run_files shown_entry input ⊎ IsPassedOver run rule scan shown_entry input
           by_slot file =
               let at = slice_get-get_or start.listed file.0 one file.1 ∙ ap (λ (l : Listed). Some l) file.2 in
-              ⊎_elim (λ begun. inl (among_files file.0 at (file_of_begin file.0 begun)))
-              (λ skipped. inr (⊎_elim (λ gone. inr (inr (inl (is_gone gone))))
-              (λ other. ⊎_elim (λ moved. inr (inr (inr (inl (is_moved moved))))) (λ small. inr (inr (inr (inr (is_small small))))) other) skipped))
-              (served.each file.0 one at)
+              ⊎_elim (λ begun. inl (among_files file.0 at (file_of_begin file.0 begun))) (λ skipped. inr (is_passed_over skipped.why skipped.opening skipped.since skipped.skips.reason)) (came_of file.0 one at)
 
     -- ---- by what was answered
 

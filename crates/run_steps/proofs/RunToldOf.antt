@@ -18,6 +18,7 @@ use Rattle.rounds.specs.Crewed.{lanings}
 use Rattle.rounds.specs.Words.{Words}
 use Rattle.run_steps.specs.Began.{Began}
 use Rattle.run_steps.specs.Ends.{Ending, Ends, with_crew}
+use Rattle.run_steps.specs.FolderOn.{FolderGoesOn}
 use Rattle.run_steps.specs.RunEnds.{AreLeftSo}
 use Rattle.run_steps.specs.RunOf.{FolderTold, run_of, scan_of, starts_of, wires_behind}
 use Rattle.run_steps.specs.Scanned.{HasScanned}
@@ -28,6 +29,7 @@ use Rattle.run_steps.proofs.RunBooks.{FitWith, books_fit, first_notes}
 use Rattle.run_steps.proofs.RunFiles.{are_followed_files, done, files, joined}
 use Rattle.run_steps.proofs.RunWires.{acknowledged_are, carried_are, of_workers, took_each, took_none}
 use Rattle.run_steps.proofs.ScanAsked.{is_by_one_scan}
+use Rattle.run_steps.proofs.ScanList.{goes_on}
 use Rattle.run_steps.proofs.ScanOf.{is_full_scan, key_is_shown, only_listed}
 
 module _ {T W L D : Type 0} (words : Words T W L D) (start : Began D) (ending : Ending D) (met : Met) (unused wires : List W) (ends : Ends words start ending met unused wires)
@@ -64,6 +66,10 @@ module _ {T W L D : Type 0} (words : Words T W L D) (start : Began D) (ending : 
       books_fit (lanings ends.crew.lanes.items) ends.crew.carriers.items ending.keeper so_far ends.stands.gave ends.stands.placed start.opening ends.stands.noted workers
       (acknowledged_are words.links words.wires unused so_far.told.acknowledged ends.crew.carriers.items ends.stands.booked.acknowledged)
       (carried_are words.links words.wires unused so_far.told.acknowledged ends.crew.carriers.items ends.stands.booked.acknowledged)
+
+  pub folder_goes_on : FolderGoesOn folder.earlier folder.ended
+  folder_goes_on =
+      goes_on start folder has so_far (done words start (with_crew ending ends.crew) so_far ends.stands left.released folder has tell.shown wires_told) wires_told
 
   pub the_full_scan : IsFullScan run scan
   the_full_scan =

@@ -22,12 +22,13 @@ use Rattle.prospect.specs.ListedFiles.{AreOfShown, IsListedBy, shown_in}
 use Rattle.prospect.specs.Scan.{Listing, event_of, with_events}
 use Rattle.prospect.specs.declared.listed.Listed.{Listed}
 use Rattle.run_steps.specs.Began.{Began}
+use Rattle.run_steps.specs.FolderOn.{FolderGoesOn}
 use Rattle.run_steps.specs.RunOf.{FolderTold, run_of, scan_of}
 use Rattle.run_steps.specs.Scanned.{HasScanned}
 use Rattle.run_steps.specs.ScannedSome.{HasOnlyAsked}
 use Rattle.run_steps.specs.Shown.{HasDone, IsNoListing, WasOnlyAsked}
 use Rattle.run_steps.specs.SoFar.{SoFar}
-use Rattle.run_steps.proofs.AskedEvents.{GoesOn, IsAnsweredIn, all_asked, answered_still, asked_at, each_answered, event_was, goes_on_asking, goes_on_doing, longer, only_asked_still, openings_asked}
+use Rattle.run_steps.proofs.AskedEvents.{IsAnsweredIn, all_asked, answered_still, asked_at, each_answered, event_was, goes_on_asking, goes_on_doing, longer, only_asked_still, openings_asked, goes_on_further}
 use Rattle.run_steps.proofs.KeyedFiles.{IsKeyedFrom, keeps_entry, keyed_from, keyed_there, listed_of}
 use Rattle.run_steps.proofs.NamedInputs.{each_of}
 use Rattle.run_steps.proofs.Members.{member_is, some_is}
@@ -63,6 +64,14 @@ pub record IsOfEntry (inputs : List InputRule) (listings : List Listing) (asked 
   pub input_is : one.input ≡ of.listed.input
   pub size_is : one.size ≡ shown.entry.size
   pub changed_is : one.changed ≡ shown.entry.changed
+
+-- the scan stands behind what was done before the run
+pub since_earlier : {D : Type 0} (start : Began D) (folder : FolderTold) → HasScanned start folder → length folder.earlier.events ≤ length folder.scanned.events
+since_earlier start folder has =
+    let listed = ap (λ (h : FolderHistory). length h.events) (some_is folder.listed (with_events folder.earlier (map event_of has.scans.listings)) has.scans.listed_is.kept) in
+    let long = length-append folder.earlier.events (map event_of has.scans.listings) in
+    let asked = longer folder.listed folder.scanned (goes_on_asking folder.listed folder.scanned (all_asked start.settings.inputs folder.asked folder.listed folder.scanned has.asks)) in
+    omega (arith, listed, long, asked)
 
 module _ {D : Type 0} (start : Began D) (folder : FolderTold) (has : HasScanned start folder) (so_far : SoFar) (done : HasDone folder.scanned folder.ended so_far)
     (wires : List WireTold) where
@@ -102,11 +111,18 @@ module _ {D : Type 0} (start : Began D) (folder : FolderTold) (has : HasScanned 
   pub only_asks : HasOnlyAsked folder.listed folder.scanned
   only_asks = all_asked inputs folder.asked folder.listed folder.scanned has.asks
 
-  pub asking_goes_on : GoesOn folder.listed folder.scanned
+  pub asking_goes_on : FolderGoesOn folder.listed folder.scanned
   asking_goes_on = goes_on_asking folder.listed folder.scanned only_asks
 
-  pub run_goes_on : GoesOn folder.scanned folder.ended
+  pub run_goes_on : FolderGoesOn folder.scanned folder.ended
   run_goes_on = goes_on_doing folder.scanned folder.ended so_far done
+
+  -- what was told before the run stands in front of all that
+  pub goes_on : FolderGoesOn folder.earlier folder.ended
+  goes_on =
+      goes_on_further folder.earlier folder.listed folder.ended
+      (record { files = ap (λ (h : FolderHistory). h.files) listed_is; more = listed_events; events = events_listed })
+      (goes_on_further folder.listed folder.scanned folder.ended asking_goes_on run_goes_on)
 
   -- and the askings behind them
   pub since_listed : length folder.listed.events ≤ length folder.scanned.events

@@ -1,5 +1,5 @@
 -- A crew as it is made may make rounds, and what stands of a run stands as it sets out and once its files are begun.
-use Rattle.std.proofs.Common.{◌≡◌, ◌≢◌, ℕ, ◌≤◌, ◌+◌, All, List, [], ◌∷◌, ◌++◌, length, map, take, drop, Option, None, IfSome, IsSome, Result, Ok, Err, IfOk, IfErr, Vec, Global, refl, sym, ap, subst, ◌∙◌, arith}
+use Rattle.std.proofs.Common.{◌≡◌, ℕ, ◌≤◌, ◌+◌, All, List, [], ◌∷◌, ◌++◌, length, map, take, drop, Option, None, IfSome, IsSome, Result, Ok, Err, IfOk, IfErr, Vec, Global, refl, sym, ap, subst, ◌∙◌, arith}
 use Rattle.std.specs.List.{AllByRecursion}
 use Rattle.std.proofs.Math.Seq.{take-append_seam}
 use Rattle.std.proofs.lemmas.List.{length-map, length-append, take-append-drop}
@@ -20,6 +20,7 @@ use Rattle.report.specs.declared.passing.Passing.{Passing}
 use Rattle.rounds.specs.Crewed.{lane_passes, lanes_passes, lanings}
 use Rattle.rounds.specs.Crewing.{crewing}
 use Rattle.rounds.specs.Making.{IsBegunCarrier, IsBegunLane, StandsForNothing, wires_of}
+use Rattle.rounds.specs.Pairs.{Pairs}
 use Rattle.rounds.specs.Passes.{AreAllOf, AreOf}
 use Rattle.rounds.specs.Rounds.{IsReady}
 use Rattle.rounds.specs.Running.{IsLaneReady}
@@ -34,6 +35,7 @@ use Rattle.run_steps.specs.Began.{Began}
 use Rattle.run_steps.specs.Beginning.{Beginning}
 use Rattle.run_steps.specs.BeginsAll.{BeginsAll, BeginsSome}
 use Rattle.run_steps.specs.BegunCrew.{IsBegunCrew}
+use Rattle.run_steps.specs.Met.{IsTelling}
 use Rattle.run_steps.specs.Outset.{Earlier, IsFirstKeeper, Outset, SetsOut, began_with}
 use Rattle.run_steps.specs.Ends.{Ending}
 use Rattle.run_steps.specs.Releasing.{with_events}
@@ -42,16 +44,17 @@ use Rattle.run_steps.specs.RunOf.{FolderTold, starts_of}
 use Rattle.run_steps.specs.RunState.{Reading}
 use Rattle.run_steps.specs.Scanned.{HasScanned}
 use Rattle.run_steps.specs.Stands.{Further, Stands}
-use Rattle.run_steps.specs.Worked.{phase_begun}
+use Rattle.run_steps.specs.WireOn.{OutcomesGoOn}
+use Rattle.run_steps.specs.Worked.{HasPassed, phase_begun}
 use Rattle.run_steps.specs.declared.met.Met.{Met}
-use Rattle.run_steps.specs.declared.met.Met.TheVariants.{Done}
 use Rattle.run_steps.proofs.AllBegun.{all_are_seen, stands_begun}
 use Rattle.run_steps.proofs.BeginningOne.{at_phase}
 use Rattle.run_steps.proofs.BegunReady.{rest_begun}
 use Rattle.run_steps.proofs.First.{IsMade, given, so_far, stands_first}
 use Rattle.run_steps.proofs.RunEnded.{ended_is_accounted_for, ended_objects}
 use Rattle.run_steps.proofs.RunRows.{OneChoice}
-use Rattle.run_steps.proofs.Serving.{IsServedAtEnd, served_at_end}
+use Rattle.run_steps.proofs.ScanList.{since_earlier}
+use Rattle.run_steps.proofs.StillServed.{IsServedAtEnd, served_at_end}
 
 -- ---- lists
 
@@ -169,20 +172,24 @@ module _ {T W L D : Type 0} (words : Words T W L D) (reads : (disk : D) → IfSo
         starts = map_twice length_of words.wires.outcomes wires ∙ ap (map (λ (w : W). length_of (words.wires.outcomes w))) parted
             ∙ map_both (λ (w : W). length_of (words.wires.outcomes w)) (take settings.output.workers wires) left
 
-        served : met ≡ Done → IfErr result (λ _. met ≢ Done) → Collects new.keeper ending.keeper → new.keeper.held ≡ None → (events : List Event) → ending.shown ≡ with_events events new.folder.told →
-            IsServedAtEnd settings old.keeper.store.rows listed ending.keeper.tracked.notes folder ending.shown
-        served is_done not_done collects none_held events then = by_result result begins not_done
+        served : (passed : List Passing) → HasPassed result passed → IsTelling met → IfErr result (λ _. ¬ (IsTelling met)) → Collects new.keeper ending.keeper → new.keeper.held ≡ None →
+            (events : List Event) → ending.shown ≡ with_events events new.folder.told → IsServedAtEnd settings old.keeper.store.rows listed passed ending.keeper.tracked.notes folder ending.shown
+        served passed has_passed telling untold collects none_held events then = by_result result begins has_passed untold
           where
-            by_result : (r : Result (Vec Passing Global) Met) → IfOk r (λ passed. BeginsAll words.tails settings old.keeper.store.rows now listed passed.items old new) → IfErr r (λ _. met ≢ Done) →
-                IsServedAtEnd settings old.keeper.store.rows listed ending.keeper.tracked.notes folder ending.shown
-            by_result (Ok passed) all not = served_at_end words.tails settings old.keeper.store.rows now listed passed.items folder old new has.shown all
+            by_result : (r : Result (Vec Passing Global) Met) → IfOk r (λ all. BeginsAll words.tails settings old.keeper.store.rows now listed all.items old new) → HasPassed r passed →
+                IfErr r (λ _. ¬ (IsTelling met)) → IsServedAtEnd settings old.keeper.store.rows listed passed ending.keeper.tracked.notes folder ending.shown
+            by_result (Ok paths) all are not = subst (λ (l : List Passing). IsServedAtEnd settings old.keeper.store.rows listed l ending.keeper.tracked.notes folder ending.shown) (sym are)
+                (served_at_end words.tails settings old.keeper.store.rows now listed paths.items folder old new has.shown (since_earlier start folder has)
+                (ap (λ (k : Keeping). k.tracked.notes) first.is) all
                 (all_are_seen words reads counts start moments a b now old (so_far words start old.crew first.store first.pass a b moments settings.output made) stands_out refl
-                (given words start old.crew first.store first.pass a b moments settings.output made).ends sets.of_inputs passed.items new all)
-                ending.keeper collects none_held events ending.shown then
-            by_result (Err what) all not = absurd (not is_done)
+                (given words start old.crew first.store first.pass a b moments settings.output made).ends sets.of_inputs paths.items new all)
+                ending.keeper collects none_held events ending.shown then)
+            by_result (Err what) all are not = absurd (not telling)
 
-        pub accounted : OneChoice → IfErr result (λ _. met ≢ Done) → Collects new.keeper ending.keeper → new.keeper.held ≡ None → (events : List Event) → ending.shown ≡ with_events events new.folder.told →
-            AccountedOver words.disks settings old.keeper.store.rows listed (ended_objects words start ending met left after has_ended folder has clock_tells wires_tell (map words.wires.outcomes wires) starts) met ending.keeper.shipped ending.keeper.dropped
-        accounted one not_done collects none_held events then =
-            ended_is_accounted_for words start ending met left after has_ended folder has clock_tells wires_tell (map words.wires.outcomes wires) starts one sets.gave
-            (λ is_done. served is_done not_done collects none_held events then)
+        pub accounted : OneChoice → (passed : List Passing) → HasPassed result passed → IfErr result (λ _. ¬ (IsTelling met)) → Collects new.keeper ending.keeper → new.keeper.held ≡ None →
+            (events : List Event) → ending.shown ≡ with_events events new.folder.told → Pairs OutcomesGoOn (map words.wires.outcomes wires) (map words.wires.outcomes after) →
+            AccountedOver words.disks settings old.keeper.store.rows listed (length folder.scanned.events)
+            (ended_objects words start ending met left after has_ended folder has clock_tells wires_tell (map words.wires.outcomes wires) starts) met passed ending.keeper.shipped ending.keeper.dropped
+        accounted one passed has_passed untold collects none_held events then go_on =
+            ended_is_accounted_for words start ending met left after has_ended folder has clock_tells wires_tell (map words.wires.outcomes wires) starts one sets.gave passed
+            (λ telling. served passed has_passed telling untold collects none_held events then) go_on

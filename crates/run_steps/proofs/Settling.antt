@@ -181,6 +181,7 @@ module _ {T W L D : Type 0} (words : Words T W L D) (queue : BoundedQueue) (desk
             none_over = lanes_kept NoneOver (lanings old.lanes.items) (lanings new.lanes.items) keeps.lanes (stands.reading is).none_over;
           };
           finished = stands.finished;
+          over = stands.over;
           tell = λ some. lanes_kept AllTell (lanings old.lanes.items) (lanings new.lanes.items) keeps.lanes (stands.tell some);
           left_tell = stands.left_tell;
           shown = has_shown;

@@ -88,6 +88,7 @@ module _ {T W L D : Type 0} (words : Words T W L D) (reads : (disk : D) → IfSo
     left = stands.left;
     reading = λ is. record { none_left = (stands.reading is).none_left; none_over = (stands.reading is).none_over };
     finished = stands.finished;
+    over = stands.over;
     tell = stands.tell;
     left_tell = stands.left_tell;
     shown = by_case start.shown shown stands.shown;

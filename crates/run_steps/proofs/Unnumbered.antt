@@ -20,7 +20,8 @@ use Rattle.run_steps.specs.Unnumbered.{IsMetUnnumbered, WasOpenedUnnumbered}
 use Rattle.run_steps.specs.Worked.{IsBegunWith, IsWorkedBy, Tolls}
 use Rattle.run_steps.specs.declared.met.Met.{Met}
 use Rattle.run_steps.specs.declared.met.Met.TheVariants.{DiskFault, Done, Epochs, FolderFault, NoMemory, NoNative, Stopped, Unreachable}
-use Rattle.run_steps.proofs.Serving.{ServesFrom, closed_told, got_at_end, got_still, serves_from, with_more}
+use Rattle.run_steps.proofs.Serving.{ServesFrom, closed_told, got_at_end, serves_from, with_more}
+use Rattle.run_steps.proofs.SkippedFor.{got_still}
 
 -- ---- as files are begun
 
@@ -28,10 +29,10 @@ module _ {T W L : Type 0} (tails : TailWords T) (settings : Settings) (rows : Li
   abbrev WithoutAny : ListedFile → T → T → Type 0
   WithoutAny file fresh asked = FailsToTell tails settings file fresh asked WithoutNumbers
 
-  was_opened : (place : ℕ) (one : Listed) (mid : Beginning T W L) (before : FolderHistory) → old.folder.told ≡ Some before → ServesFrom tails settings rows now 0 (take place listed) before old mid →
+  was_opened : (place : ℕ) (one : Listed) (mid : Beginning T W L) (passed : List Passing) (before : FolderHistory) → old.folder.told ≡ Some before → ServesFrom tails settings rows now 0 0 0 (take place listed) passed before old mid →
       (closed : ClosesFile tails settings (file_at rows place one now) (WithoutAny (file_at rows place one now)) mid new) → tails.numbers closed.fresh ≡ None →
       IfSome new.folder.told (λ later. WasOpenedUnnumbered one.path before later)
-  was_opened place one mid before is serves closed none =
+  was_opened place one mid passed before is serves closed none =
       let between = with_more before serves.events in
       let its = closed_told tails settings rows now (file_at rows place one now) (WithoutAny (file_at rows place one now)) between mid new closed (Err WithoutNumbers) closed.closed.why.asks serves.told in
       let opens = its.opens in
@@ -61,7 +62,9 @@ module _ {T W L : Type 0} (tails : TailWords T) (settings : Settings) (rows : Li
         rule_is = asks.rule_is;
         by_numbers = asks.refused.0;
         opened = where_told (λ before. IfSome new.folder.told (λ later. WasOpenedUnnumbered is.one.path before later)) old.folder.told
-            (λ before told. was_opened is.count is.one is.mid before told (serves_from tails settings rows now 0 (take is.count listed) is.passed before old is.mid told is.begins) closed asks.refused.1);
+            (λ before told.
+            was_opened is.count is.one is.mid is.passed before told
+            (serves_from tails settings rows now 0 0 0 (take is.count listed) is.passed before old is.mid told (omega arith) (omega arith) is.begins) closed asks.refused.1);
       }
   files_unnumbered (NoNative slot) (inr is) = absurd (let q : NoNative slot ≡ NoMemory = is.0 in cc)
   files_unnumbered Done is = tt

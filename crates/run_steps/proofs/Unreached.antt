@@ -1,5 +1,5 @@
 -- A worker that is called unreachable failed as often in a row as it may, and so its wire tells at the end.
-use Rattle.std.proofs.Common.{◌≡◌, ◌≢◌, ◌⊎◌, ⊎_elim, inl, inr, ℕ, zero, suc, ◌<◌, ◌≤◌, List, [], ◌∷◌, drop, length, map, slice_get, Option, Some, None, IfErr, IfSome, Result, Ok, Err, Vec, Global, refl, sym, ap, subst, ◌∙◌, arith}
+use Rattle.std.proofs.Common.{◌≡◌, ◌≢◌, ◌⊎◌, ⊎_elim, inl, inr, ℕ, zero, suc, ◌<◌, ◌≤◌, List, [], ◌∷◌, drop, length, map, slice_get, true, false, Option, Some, None, is_some, IfErr, IfSome, Result, Ok, Err, Vec, Global, refl, sym, ap, subst, ◌∙◌, arith}
 use Rattle.std.specs.List.{AllByRecursion}
 use Rattle.std.proofs.lemmas.List.{length-drop}
 use Rattle.std.proofs.lemmas.List.Elements.{All-from_recursion, recursion_from_All}
@@ -86,6 +86,10 @@ module _ {W L : Type 0} (links : LinkWords L) (wires : WireWords W) (attempts ti
   no_link carrier (inl left) enough = absurd (omega (arith, left, enough))
   no_link carrier (inr none) enough = none
 
+  still_unlinked : (old new : Option L) → is_some new ≡ is_some old → old ≡ None → new ≡ None
+  still_unlinked old None linked none = refl
+  still_unlinked old (Some link) linked none = absurd (let q : true ≡ false = linked ∙ ap is_some none in cc)
+
   by_list : (list : List ℕ) (worker : ℕ) → (earlier < length list) × Pairs (CarrierFails links wires attempts timeout (drop earlier list)) starts one → HasFailed attempts one worker → Pairs KeepsLink one three → EndsCarriers links wires three unused all →
       (start : Option ℕ) (wire : W) → slice_get starts worker ≡ Some start → slice_get all worker ≡ Some wire → FailedWhereTold wires attempts timeout (drop earlier list) start wire
   by_list list worker failing failed stay ended start wire started got =
@@ -93,7 +97,7 @@ module _ {W L : Type 0} (links : LinkWords L) (wires : WireWords W) (attempts ti
       let unlinked = no_link failed.one fails.tries failed.failed in
       let kept = paired_at KeepsLink one three worker failed.one stay failed.is in
       let at = paired_at (EndsCarrier links wires) three ended.ended worker kept.other ended.each kept.is in
-      let same = ended_same links wires attempts timeout (drop earlier list) kept.other at.other at.stands (kept.stands.unlinked unlinked) in
+      let same = ended_same links wires attempts timeout (drop earlier list) kept.other at.other at.stands (still_unlinked failed.one.worker.link kept.other.worker.link kept.stands.linked unlinked) in
       let is : at.other ≡ wire = some_is at.other wire (sym (got_in_front ended.ended unused worker at.other at.is) ∙ ap (λ (l : List W). slice_get l worker) (sym ended.is) ∙ got) in
       subst (λ (w : W). FailedWhereTold wires attempts timeout (drop earlier list) start w) is
       (seen_failed links wires attempts timeout (drop earlier list) start failed.one.wire at.other (same ∙ ap (seen_of wires) kept.stands.wire)

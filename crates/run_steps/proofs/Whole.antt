@@ -1,5 +1,5 @@
 -- What a run does behind the beginning of its files, step by step.
-use Rattle.std.proofs.Common.{◌≡◌, ◌≢◌, ◌⊎◌, inl, inr, ⊎_elim, ℕ, zero, suc, ◌≤◌, ◌<◌, false, All, Any, List, [], ◌∷◌, ◌++◌, length, map, Option, Some, IfErr, IfOk, Result, Ok, Err, Vec, refl, sym, ap, subst, ◌∙◌, arith}
+use Rattle.std.proofs.Common.{◌≡◌, ◌⊎◌, inl, inr, ⊎_elim, ℕ, zero, suc, ◌≤◌, ◌<◌, false, All, Any, List, [], ◌∷◌, ◌++◌, length, map, Option, Some, IfErr, IfOk, Result, Ok, Err, Vec, refl, sym, ap, subst, ◌∙◌, arith}
 use Rattle.std.specs.Prelude.{slice_get}
 use Rattle.std.specs.declared.alloc.Global.{Global}
 use Rattle.harvester.specs.HasTold.{begin_of}
@@ -24,12 +24,12 @@ use Rattle.run_steps.specs.Areas.{BeganAtRest, IsAtRest}
 use Rattle.run_steps.specs.Began.{Began}
 use Rattle.run_steps.specs.CarriersEnd.{EndsCarriers}
 use Rattle.run_steps.specs.Ends.{IsAllSettled}
-use Rattle.run_steps.specs.Met.{AreLeft}
+use Rattle.run_steps.specs.Met.{AreLeft, IsTelling}
 use Rattle.run_steps.specs.MetBy.{HasFaults, IsMetBy, IsOverOf, Since, SomeHarvester, phase_met}
 use Rattle.run_steps.specs.Onward.{Onward}
 use Rattle.run_steps.specs.Releasing.{CountsFaults, HasNoHarvesters, all_closings, harvesters_of, released, with_events}
 use Rattle.run_steps.specs.RunEnds.{HasEnded}
-use Rattle.run_steps.specs.RunState.{Finished, Phase, phase_left, within}
+use Rattle.run_steps.specs.RunState.{Finished, Phase, phase_left, within, OutOfEpochs}
 use Rattle.run_steps.specs.Settling.{IsMetByStoring, Written}
 use Rattle.run_steps.specs.SoFar.{SoFar}
 use Rattle.run_steps.specs.Stands.{Further, Stands}
@@ -56,6 +56,10 @@ pub done_before : {D : Type 0} (disks : DiskWords D) (written : Written D) (met 
 done_before disks written met now (inl same) is = sym same ∙ is
 done_before disks written met now (inr by) is = absurd (subst (IsMetByStoring disks written) is by)
 
+pub epochs_before : {D : Type 0} (disks : DiskWords D) (written : Written D) (met now : Met) (slot : Slot) → (now ≡ met) ⊎ IsMetByStoring disks written now → now ≡ Epochs slot → met ≡ Epochs slot
+epochs_before disks written met now slot (inl same) is = sym same ∙ is
+epochs_before disks written met now slot (inr by) is = absurd (subst (IsMetByStoring disks written) is by)
+
 -- what the last steps met leaves none to be made
 pub left_still : {D : Type 0} (disks : DiskWords D) (written : Written D) (met now : Met) → (now ≡ met) ⊎ IsMetByStoring disks written now → AreLeft now → AreLeft met
 left_still disks written met now (inl same) left = subst AreLeft same left
@@ -73,10 +77,38 @@ pub finished_by : (begun : Result (Vec Passing Global) Met) (met : Met) → IfEr
 finished_by (Ok passed) met ends first is = ap (λ (m : Met). phase_left (phase_met m)) is
 finished_by (Err other) met ends first is = absurd (subst IsBeginEnd (sym first ∙ is) ends)
 
--- what ended the beginning of files is not that all is done
-pub not_done_by : (begun : Result (Vec Passing Global) Met) (met now : Met) → IfErr begun IsBeginEnd → (IfErr begun (λ first. met ≡ first)) → (now ≡ Done → met ≡ Done) → IfErr begun (λ _. now ≢ Done)
-not_done_by (Ok passed) met now ends first was = tt
-not_done_by (Err other) met now ends first was = λ is. subst IsBeginEnd (sym first ∙ was is) ends
+-- what ended the beginning of files tells no report
+ends_untold : (met : Met) → IsBeginEnd met → ¬ (IsTelling met)
+ends_untold Done ends telling = absurd ends
+ends_untold Stopped ends telling = absurd ends
+ends_untold NoMemory ends telling = telling
+ends_untold DiskFault ends telling = telling
+ends_untold FolderFault ends telling = telling
+ends_untold (Unreachable worker) ends telling = telling
+ends_untold (Epochs slot) ends telling = telling
+ends_untold (NoNative slot) ends telling = telling
+
+-- nor does what the last steps met
+pub telling_before : {D : Type 0} (disks : DiskWords D) (written : Written D) (met now : Met) → (now ≡ met) ⊎ IsMetByStoring disks written now → IsTelling now → IsTelling met
+telling_before disks written met now (inl same) telling = subst IsTelling same telling
+telling_before disks written met Done (inr by) telling = absurd by
+telling_before disks written met Stopped (inr by) telling = absurd by
+telling_before disks written met NoMemory (inr by) telling = absurd telling
+telling_before disks written met DiskFault (inr by) telling = absurd telling
+telling_before disks written met FolderFault (inr by) telling = absurd by
+telling_before disks written met (Unreachable worker) (inr by) telling = absurd by
+telling_before disks written met (Epochs slot) (inr by) telling = absurd by
+telling_before disks written met (NoNative slot) (inr by) telling = absurd by
+
+pub untold_by : {D : Type 0} (disks : DiskWords D) (written : Written D) (begun : Result (Vec Passing Global) Met) (met now : Met) → IfErr begun IsBeginEnd → IfErr begun (λ first. met ≡ first) →
+    (now ≡ met) ⊎ IsMetByStoring disks written now → IfErr begun (λ _. ¬ (IsTelling now))
+untold_by disks written (Ok passed) met now ends first stored = tt
+untold_by disks written (Err other) met now ends first stored = λ telling. ends_untold other ends (subst IsTelling first (telling_before disks written met now stored telling))
+
+pub out_by : (begun : Result (Vec Passing Global) Met) (met : Met) (slot : Slot) → IfErr begun IsBeginEnd → (IfErr begun (λ first. met ≡ first)) → met ≡ Epochs slot →
+    phase_left (phase_worked begun met) ≡ OutOfEpochs slot
+out_by (Ok passed) met slot ends first is = ap (λ (m : Met). phase_left (phase_met m)) is
+out_by (Err other) met slot ends first is = absurd (subst IsBeginEnd (sym first ∙ is) ends)
 
 -- ---- the end
 
@@ -101,6 +133,7 @@ module _ {T W L D : Type 0} (words : Words T W L D) (start : Began D) (begun : R
     pub ended : EndsCarriers words.links words.wires three.carriers.items old new
     pub done : now ≡ Done → IsDoneIn one first.keeper.now
     pub finished : now ≡ Done → phase_left (phase_worked begun met) ≡ Finished
+    pub out_of_epochs : (slot : Slot) → now ≡ Epochs slot → phase_left (phase_worked begun met) ≡ OutOfEpochs slot
 
   module _ (steps : Steps) (so_far : SoFar) (stands : Stands words start (within shown moments crew storing (phase_begun begun)) so_far)
       (began : BeganAtRest words.disks start → IsAtRest words.disks storing.keeper.now storing.a.now storing.b.now) where
@@ -137,6 +170,7 @@ module _ {T W L D : Type 0} (words : Words T W L D) (start : Began D) (begun : R
         stands = after_all.stands;
         ended = steps.ended;
         finished = steps.finished;
+        out_of_epochs = steps.out_of_epochs;
         all_settled = λ is. steps.all_settled (told_all is);
         stored = steps.stored;
       };
@@ -177,7 +211,7 @@ has_slot : {T : Type 0} (slot : Slot) (lanes : List (Laning T)) → SomeHarveste
 has_slot {T} slot [] some = absurd some
 has_slot {T} slot (lane ∷ lanes) some =
     ⊎_elim (λ here. inl (some_mapped (λ (b : Begin). b.slot ≡ slot) begin_of lane.harvesters
-    (some_as (IsOverOf slot) (λ (h : Harvester T). (begin_of h).slot ≡ slot) lane.harvesters (λ h is. is.0) here))) (λ later. inr (has_slot slot lanes later)) some
+    (some_as (IsOverOf slot) (λ (h : Harvester T). (begin_of h).slot ≡ slot) lane.harvesters (λ h is. is.of_slot) here))) (λ later. inr (has_slot slot lanes later)) some
 
 some_any : {A : Type 0} (P : A → Type 0) (xs : List A) → SomeOf P xs → Any P xs
 some_any P [] some = absurd some

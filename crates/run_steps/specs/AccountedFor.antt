@@ -1,9 +1,9 @@
 -- A run that is accounted for (this project's profile): a run by its settings that fits what its objects told before and after it, and
--- an account of it. Its opening rows are those that its areas gave. Its files are followed so, only told events were sent, the rows that
--- its areas give are kept, and so is each row that any image of an area had since it began, but for images that are as that area was. A
--- key that had a row has one or lost it rightly, and so has one that was begun, where the last steps were made. Where files keep their
--- identities and truncations are seen, the account is one of the run, and a run that is done drained its folder. It is said where the
--- folder, the clock and each wire tell.
+-- an account of it. Its opening rows are those that its areas gave. Its files are followed so, only told events were sent, and the rows that
+-- its areas give are kept. So are those that both areas gave together since it began, in one order of its writes, and those of each image of one
+-- area by itself, but for an area that it did not use then and that is as it was. A key that had a row has one or lost it rightly, the same one where it was not
+-- begun; and so has one that was begun, where the last steps were made. Where files keep their identities and truncations are seen, the
+-- account is one of the run, and a run that is done drained its folder. It is said where the folder, the clock and each wire tell.
 use Rattle.std.specs.Prelude.{◌≡◌, ◌⊎◌, ℕ, ◌-◌, ◌≤◌, true, Contains, List, [], drop, length, map, Option, Some, None}
 use Rattle.std.specs.List.{AllByRecursion}
 use Rattle.accounts.specs.AccountedFor.{HasItsRow, followings_in}
@@ -12,7 +12,7 @@ use Rattle.event_tree.specs.declared.settings.Settings.{Settings}
 use Rattle.kept_rows.specs.Account.{SlotAccount, key_of}
 use Rattle.kept_rows.specs.Drained.{IsDrained}
 use Rattle.kept_rows.specs.Followed.{AreFollowed}
-use Rattle.kept_rows.specs.Kept.{IsKept, IsKeptInImage}
+use Rattle.kept_rows.specs.Kept.{IsKept, IsKeptInImage, IsUnbegun}
 use Rattle.kept_rows.specs.Lost.{IsRightlyLost}
 use Rattle.kept_rows.specs.Premises.{Premises}
 use Rattle.kept_rows.specs.Run.{Run}
@@ -24,11 +24,17 @@ use Rattle.outside.specs.Wires.{Outcome}
 use Rattle.registry_log.specs.State.{IsOpened}
 use Rattle.registry_store.specs.Choice.{GivesRows}
 use Rattle.registry_store.specs.Settled.{AreAtRest}
+use Rattle.rounds.specs.Pairs.{Pairs}
 use Rattle.rounds.specs.Words.{DiskWords}
+use Rattle.wire_base.specs.declared.limits.Which.{Which}
 use Rattle.wire_base.specs.declared.row.Row.{Row}
 use Rattle.run_steps.specs.Areas.{GiveTheRows}
+use Rattle.run_steps.specs.FolderOn.{FolderGoesOn}
 use Rattle.run_steps.specs.Met.{AreLeft}
 use Rattle.run_steps.specs.RunOf.{wires_behind}
+use Rattle.run_steps.specs.WireOn.{OutcomesGoOn}
+use Rattle.run_steps.specs.Together.{Areas, GiveThroughout, area_in}
+use Rattle.run_steps.specs.UnusedArea.{IsOfUnusedArea}
 use Rattle.run_steps.specs.declared.met.Met.{Met}
 use Rattle.run_steps.specs.declared.met.Met.TheVariants.{Done}
 
@@ -42,13 +48,17 @@ pub record Objects (D : Type 0) : Type 0 where
   pub a : D
   pub b : D
 
+abbrev pub areas_of : {D : Type 0} → Objects D → Areas D
+areas_of objects = record { a = objects.a; b = objects.b }
+
 -- as the run began and as it ended
 pub record RunObjects (D : Type 0) : Type 0 where
   pub before : Objects D
   pub after : Objects D
 
--- the trace has what the folder told, and that the run began behind what it had told before
+-- the trace has what the folder told, and that the run began behind what it had told before, which it tells still
 pub record FitsFolder (before after : FolderHistory) (trace : Trace) : Type 0 where
+  pub goes_on : FolderGoesOn before after
   pub files : trace.files ≡ after.files
   pub events : trace.events ≡ after.events
   pub began : trace.began ≡ length before.events
@@ -71,6 +81,7 @@ pub record FitsObjects {D : Type 0} (objects : RunObjects D) (run : Run) : Type 
   pub one_scan : length run.scans ≤ 1
   pub folder : FitsFolders objects.before.folder objects.after.folder run.trace
   pub moments : AreMomentsSince objects.before.moments objects.after.moments run.trace.moments
+  pub wires_go_on : Pairs OutcomesGoOn objects.before.outcomes objects.after.outcomes
   pub wires : run.trace.wires ≡ wires_behind (map length_of objects.before.outcomes) objects.after.outcomes
 
 -- ---- its rows
@@ -94,10 +105,18 @@ pub record HasRowOf (rows : List Row) (key : List ℕ) : Type 0 where
   pub key_is : row.key ≡ key
 
 module _ (Absent : Absences) (run : Run) (account : List SlotAccount) where
-  -- the rows of an image: each is kept as images keep them, and each key that had one before has one, or may be without
+  -- the rows of an image: each is kept as images keep them, and each key that had one before has one, or may be without; one of a key that
+  -- was not begun is as it was
   pub record AreImageRows (rows : List Row) : Type 0 where
     pub kept : AllByRecursion (IsKeptInImage account run.opening run.trace.wires) rows
     pub stay : AllByRecursion (λ row. HasRowOf rows row.key ⊎ Absent run account row.key) run.opening
+    pub unbegun : AllByRecursion (λ row. IsUnbegun account row.key → Contains rows row) run.opening
+
+  -- the bytes of both areas give such rows
+  pub record GiveImageRows (first second : List ℕ) : Type 0 where
+    pub rows : List Row
+    pub given : GivesRows first second rows
+    pub are : AreImageRows rows
 
   -- the rows that the bytes of both areas give: as those of an image, whatever was met; where the last steps were made, kept as a run
   -- ends with them, and one for each key that was begun, or may be without
@@ -115,20 +134,15 @@ abbrev pub AreRowsBy : {D : Type 0} → DiskWords D → Objects D → (List Row 
 AreRowsBy disks objects P = (first second : List ℕ) (rows : List Row) → disks.contents objects.a ≡ Some first → disks.contents objects.b ≡ Some second →
     GivesRows first second rows → P rows
 
--- an area as the run began, and now
-pub record AreaSince (D : Type 0) : Type 0 where
-  pub began : D
-  pub now : D
+-- each image of an area since the run began that is opened has such rows, or the run did not use the area, and it is as it was before
+abbrev pub ImagesHoldKeptRows : Absences → {D : Type 0} → DiskWords D → RunObjects D → Run → List SlotAccount → Which → Type 0
+ImagesHoldKeptRows Absent disks objects run account area = (image : List ℕ) (generation : ℕ) (rows : List Row) (end : ℕ) →
+    disks.images_since (area_in (areas_of objects.after) area) (disks.moment (area_in (areas_of objects.before) area)) image → IsOpened image generation rows end →
+    IsOfUnusedArea disks (areas_of objects.before) area image generation ⊎ AreImageRows Absent run account rows
 
--- each image of the area since then that is opened has such rows, but for one that is as the area was as the run began
-abbrev pub HoldKeptRows : Absences → {D : Type 0} → DiskWords D → AreaSince D → Run → List SlotAccount → Type 0
-HoldKeptRows Absent disks area run account = (image : List ℕ) (generation : ℕ) (rows : List Row) (end : ℕ) → disks.images_since area.now (disks.moment area.began) image →
-    IsOpened image generation rows end → (disks.contents area.began ≡ Some image) ⊎ AreImageRows Absent run account rows
-
--- so it is of both areas
-pub record ImagesHoldKeptRows (Absent : Absences) {D : Type 0} (disks : DiskWords D) (objects : RunObjects D) (run : Run) (account : List SlotAccount) : Type 0 where
-  pub of_a : HoldKeptRows Absent disks (record { began = objects.before.a; now = objects.after.a }) run account
-  pub of_b : HoldKeptRows Absent disks (record { began = objects.before.b; now = objects.after.b }) run account
+-- and both areas gave such rows together since then
+abbrev pub TogetherHoldKeptRows : Absences → {D : Type 0} → DiskWords D → RunObjects D → Run → List SlotAccount → Type 0
+TogetherHoldKeptRows Absent disks objects run account = GiveThroughout disks (GiveImageRows Absent run account) (areas_of objects.before) (areas_of objects.after)
 
 -- as the run began, both areas told what they held, and nothing was pending on them
 abbrev pub WereAtRest : {D : Type 0} → DiskWords D → RunObjects D → Type 0
@@ -154,7 +168,8 @@ pub record AccountedWith (Absent : Absences) {D : Type 0} (disks : DiskWords D) 
   pub opened : GiveTheRows disks objects.before.a objects.before.b run.opening
   pub given : WereAtRest disks objects → GiveRows disks objects.after
   pub rows : WereAtRest disks objects → AreRowsBy disks objects.after (RowsBy Absent run account met)
-  pub images : WereAtRest disks objects → ImagesHoldKeptRows Absent disks objects run account
+  pub images : WereAtRest disks objects → (area : Which) → ImagesHoldKeptRows Absent disks objects run account area
+  pub together : WereAtRest disks objects → TogetherHoldKeptRows Absent disks objects run account
   pub supposing : Premises run (followings_in account) → AreAccounted disks objects met run account
 
 abbrev pub AccountedFor : {D : Type 0} → DiskWords D → Settings → RunObjects D → Met → Type 0

@@ -2,7 +2,8 @@
 -- was begun where the last steps were made, has one. It began with the rows of its store; its one scan was whole, and showed the keys of the
 -- listed files, that of each slot among them, and no other. Its events are placed as its wires
 -- acknowledge their payloads. Where the last steps were made, the numbers of shipped and of dropped events are those of the account;
--- where it is done, these are all of its events.
+-- where it is done, these are all of its events. Where it tells a report, each listed file is followed, or skipped for its reason behind the
+-- scan; `scanned` is how many things the folder had told by the end of that.
 use Rattle.std.specs.Prelude.{◌≡◌, ℕ, List, [], ◌∷◌, Contains, Some}
 use Rattle.std.specs.List.{AllByRecursion}
 use Rattle.accounts.specs.Numbers.{AreAllCounted, AreNumbersOf, ArePlacedIn}
@@ -12,14 +13,16 @@ use Rattle.kept_rows.specs.Run.{Scan}
 use Rattle.kept_rows.specs.Scans.{IsWhole, ShowsKey}
 use Rattle.prospect.specs.Doubled.{HaveKey}
 use Rattle.prospect.specs.declared.listed.Listed.{Listed}
+use Rattle.report.specs.declared.passing.Passing.{Passing}
 use Rattle.rounds.specs.Words.{DiskWords}
 use Rattle.wire_base.specs.declared.row.Row.{Row}
 use Rattle.run_steps.specs.AccountedFor.{AccountedWith, NoKey, RunObjects}
-use Rattle.run_steps.specs.Met.{AreLeft}
+use Rattle.run_steps.specs.FollowedOrSkipped.{AreFollowedOrSkipped}
+use Rattle.run_steps.specs.Met.{AreLeft, IsTelling}
 use Rattle.run_steps.specs.declared.met.Met.{Met}
 use Rattle.run_steps.specs.declared.met.Met.TheVariants.{Done}
 
-pub record AccountedOver {D : Type 0} (disks : DiskWords D) (settings : Settings) (opening : List Row) (listed : List Listed) (objects : RunObjects D) (met : Met) (shipped dropped : ℕ) : Type 0 where
+pub record AccountedOver {D : Type 0} (disks : DiskWords D) (settings : Settings) (opening : List Row) (listed : List Listed) (scanned : ℕ) (objects : RunObjects D) (met : Met) (passed : List Passing) (shipped dropped : ℕ) : Type 0 where
   pub accounted : AccountedWith NoKey disks settings objects met
   pub opening_is : accounted.run.opening ≡ opening
   pub scan : Scan
@@ -31,3 +34,4 @@ pub record AccountedOver {D : Type 0} (disks : DiskWords D) (settings : Settings
   pub placed : ArePlacedIn accounted.account accounted.run.trace.wires
   pub numbers : AreLeft met → AreNumbersOf accounted.account shipped dropped
   pub counted : met ≡ Done → AreAllCounted accounted.account
+  pub followed_or_skipped : IsTelling met → AreFollowedOrSkipped accounted.run accounted.account scanned listed passed

@@ -11,6 +11,7 @@ use Rattle.rounds.specs.Words.{DiskWords}
 use Rattle.wire_base.specs.declared.note.Note.{Note}
 use Rattle.wire_base.specs.declared.row.Row.{Row}
 use Rattle.run_steps.specs.Began.{Began}
+use Rattle.run_steps.specs.Together.{GiveThroughout}
 
 module _ {D : Type 0} (disks : DiskWords D) where
   -- at each moment since then the area held what it held before, or nothing that is read, or was opened with rows each of which is
@@ -18,11 +19,12 @@ module _ {D : Type 0} (disks : DiskWords D) where
   abbrev pub HeldOnlyFronts : List Row → List Note → D → D → Type 0
   HeldOnlyFronts opening notes before after = LeavesOnly disks.moment disks.images_since before after (MayHoldFronts opening notes (disks.contents before) 0)
 
-  -- and what both hold now
+  -- so of each area by itself, what both hold now, and what both gave together since then
   pub record HaveHeldFronts (opening : List Row) (notes : List Note) (start_a start_b a b : D) : Type 0 where
     pub of_a : HeldOnlyFronts opening notes start_a a
     pub of_b : HeldOnlyFronts opening notes start_b b
     pub both : (first second : List ℕ) → disks.contents a ≡ Some first → disks.contents b ≡ Some second → GivesFronts opening notes first second
+    pub together : GiveThroughout disks (GivesFronts opening notes) (record { a = start_a; b = start_b }) (record { a = a; b = b })
 
   -- another turn of the keeper may follow
   pub record IsAtRest (keeper : Keeping) (a b : D) : Type 0 where

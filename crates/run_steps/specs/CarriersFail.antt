@@ -1,7 +1,7 @@
 -- How the workers of a run fail (Filebeat reference, Logstash output, `timeout` and `max_retries`; this project's profile): by the
 -- outcomes of their wires since the run began, and by the moments that the clock gave since then. It is said where these were told
 -- as the run began. A worker that failed as often in a row as it may has no link, and the run ends.
-use Rattle.std.specs.Prelude.{◌≡◌, ◌⊎◌, ℕ, ◌<◌, List, length, map, drop, take, slice_get, Option, Some, None, IfSome}
+use Rattle.std.specs.Prelude.{◌≡◌, ◌⊎◌, ℕ, ◌<◌, List, length, map, drop, take, slice_get, Option, Some, None, IfSome, is_some}
 use Rattle.accounts.specs.Failing.{IsFailing}
 use Rattle.kept_rows.specs.Failures.{HasLastFailures}
 use Rattle.outside.specs.Counts.{IsAtEnd}
@@ -54,10 +54,10 @@ FailOn links wires attempts before after = (timeout earlier : ℕ) (starts : Lis
 
 -- ---- once rounds are over
 
--- no wire is touched, and no link is made
+-- no wire is touched, and a worker has a link where it had one
 pub record KeepsLink {W L : Type 0} (old new : Carrier W L) : Type 0 where
   pub wire : new.wire ≡ old.wire
-  pub unlinked : old.worker.link ≡ None → new.worker.link ≡ None
+  pub linked : is_some new.worker.link ≡ is_some old.worker.link
 
 unfoldable pub LinksStay : {W L : Type 0} → List (Carrier W L) → List (Carrier W L) → Type 0
 LinksStay old new = Pairs KeepsLink old new

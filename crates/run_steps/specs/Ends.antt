@@ -8,14 +8,15 @@ use Rattle.rounds.specs.Crewed.{lanings}
 use Rattle.rounds.specs.Settled.{AreSettledIn, spans_told}
 use Rattle.rounds.specs.Words.{Words}
 use Rattle.rounds.specs.declared.crew.Crew.{Crew}
+use Rattle.wire_base.specs.declared.numbers.Slot.{Slot}
 use Rattle.run_steps.specs.Began.{Began}
 use Rattle.run_steps.specs.CarriersEnd.{EndsCarriers}
 use Rattle.run_steps.specs.Met.{AreLeft}
-use Rattle.run_steps.specs.RunState.{Finished, Phase, RunState}
+use Rattle.run_steps.specs.RunState.{Finished, OutOfEpochs, Phase, RunState}
 use Rattle.run_steps.specs.SoFar.{SoFar}
 use Rattle.run_steps.specs.Stands.{Stands}
 use Rattle.run_steps.specs.declared.met.Met.{Met}
-use Rattle.run_steps.specs.declared.met.Met.TheVariants.{Done}
+use Rattle.run_steps.specs.declared.met.Met.TheVariants.{Done, Epochs}
 
 -- all that was told is shipped or dropped, by counts that are not saturated
 pub record IsAllSettled {T : Type 0} (lanes : List (Laning T)) (keeper : Keeping) : Type 0 where
@@ -50,6 +51,7 @@ pub record Ends {T W L D : Type 0} (words : Words T W L D) (start : Began D) (en
   pub ended : EndsCarriers words.links words.wires crew.carriers.items unused wires
   -- a run that is done told each file to its end, and settled all of it
   pub finished : met ≡ Done → ending.phase ≡ Finished
+  pub out_of_epochs : (slot : Slot) → met ≡ Epochs slot → ending.phase ≡ OutOfEpochs slot
   pub all_settled : met ≡ Done → IsAllSettled (lanings crew.lanes.items) ending.keeper
   -- where the last steps were made
   pub stored : AreLeft met → AreSettledIn crew ending.keeper

@@ -1,5 +1,5 @@
--- What a run met (this project's profile): where a call of the folder did not open a file, which files it may name, and
--- behind what the last steps are made.
+-- What a run met (this project's profile): where a call of the folder did not open a file, which files it may name, behind what the last steps
+-- are made, and behind what a report is told.
 use Rattle.std.specs.Prelude.{◌≡◌, ℕ, ◌<◌}
 use Rattle.outside.specs.declared.failed.FolderError.{FolderError}
 use Rattle.outside.specs.declared.failed.FolderError.TheVariants.{Failed as Failing, NoMemory as WithoutMemory}
@@ -32,3 +32,14 @@ AreLeft FolderFault = Unit {0}
 AreLeft (Unreachable worker) = Unit {0}
 AreLeft (Epochs slot) = Unit {0}
 AreLeft (NoNative slot) = Unit {0}
+
+-- a run that met it tells a report
+abbrev pub IsTelling : Met → Type 0
+IsTelling Done = Unit {0}
+IsTelling Stopped = Unit {0}
+IsTelling NoMemory = ⊥
+IsTelling DiskFault = ⊥
+IsTelling FolderFault = ⊥
+IsTelling (Unreachable worker) = ⊥
+IsTelling (Epochs slot) = ⊥
+IsTelling (NoNative slot) = ⊥

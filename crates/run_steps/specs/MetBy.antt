@@ -6,6 +6,7 @@ use Rattle.harvester.specs.declared.harvester.Harvester.{Harvester}
 use Rattle.harvester.specs.declared.stage.Stage.TheVariants.{Over}
 use Rattle.lanes.specs.Laning.{Laning}
 use Rattle.outside.specs.Counts.{Rose}
+use Rattle.restart_join.specs.declared.start.TheConstants.{MAX_EPOCH}
 use Rattle.rounds.specs.Crewed.{lanings}
 use Rattle.rounds.specs.Crewing.{Crewing, crew_of}
 use Rattle.rounds.specs.Pairs.{SomeOf}
@@ -14,7 +15,7 @@ use Rattle.rounds.specs.Words.{DiskWords, TailWords}
 use Rattle.wire_base.specs.declared.numbers.Slot.{Slot}
 use Rattle.run_steps.specs.Met.{AreLeft}
 use Rattle.run_steps.specs.MetIn.{HasFailed}
-use Rattle.run_steps.specs.RunState.{Finished, Leaving, Phase, Reading}
+use Rattle.run_steps.specs.RunState.{Finished, Leaving, OutOfEpochs, Phase, Reading}
 use Rattle.run_steps.specs.declared.met.Met.{Met}
 use Rattle.run_steps.specs.declared.met.Met.TheVariants.{DiskFault, Done, Epochs, FolderFault, NoMemory, NoNative, Stopped, Unreachable}
 
@@ -25,9 +26,11 @@ SomeHarvester P lanes = SomeOf (λ lane. SomeOf P lane.harvesters) lanes
 abbrev pub HasFaults : {T : Type 0} → TailWords T → Harvester T → Type 0
 HasFaults tails harvester = 0 < tails.faults harvester.tail
 
--- its last epoch is over
-abbrev pub IsOverOf : {T : Type 0} → Slot → Harvester T → Type 0
-IsOverOf slot harvester = ((begin_of harvester).slot ≡ slot) × (harvester.reader.stage ≡ Over)
+-- it is of the slot, and its last epoch is over
+pub record IsOverOf {T : Type 0} (slot : Slot) (harvester : Harvester T) : Type 0 where
+  pub of_slot : (begin_of harvester).slot ≡ slot
+  pub over : harvester.reader.stage ≡ Over
+  pub last : harvester.reader.epoch.0 ≡ MAX_EPOCH
 
 -- the areas as they were, and all as it is now
 pub record Since (T W L D : Type 0) : Type 0 where
@@ -60,7 +63,7 @@ phase_met NoMemory = Leaving
 phase_met DiskFault = Leaving
 phase_met FolderFault = Leaving
 phase_met (Unreachable worker) = Leaving
-phase_met (Epochs slot) = Leaving
+phase_met (Epochs slot) = OutOfEpochs slot
 phase_met (NoNative slot) = Leaving
 
 abbrev pub phase_of : Option Met → Phase

@@ -1,5 +1,5 @@
--- Which paths a run skipped as it opened files (this project's profile): those of listed files that were not found, or were found with
--- another key, in the order of the list.
+-- Which paths a run skipped as it opened files (this project's profile), also where its folder does not tell why: those of some listed files,
+-- in the order of the list.
 use Rattle.std.specs.Prelude.{◌≡◌, List, [], ◌∷◌, ◌++◌, Option}
 use Rattle.prospect.specs.declared.listed.Listed.{Listed}
 use Rattle.report.specs.declared.passing.Passing.{Passing}

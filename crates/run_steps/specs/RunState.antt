@@ -5,6 +5,7 @@ use Rattle.keeper.specs.Keeping.{Keeping}
 use Rattle.outside.specs.Folders.{FolderHistory}
 use Rattle.rounds.specs.declared.crew.Crew.{Crew}
 use Rattle.rounds.specs.declared.storing.Storing.{Storing}
+use Rattle.wire_base.specs.declared.numbers.Slot.{Slot}
 
 pub data Phase : Type 0 where
   -- files are begun and turned, and no tail was closed
@@ -13,12 +14,15 @@ pub data Phase : Type 0 where
   Finished : Phase
   -- tails are closed, whatever was told of their files
   Leaving : Phase
+  -- so they are, and the last epoch of the file of this slot is over
+  OutOfEpochs : Slot → Phase
 
 -- once tails are closed
 abbrev pub phase_left : Phase → Phase
 phase_left Reading = Leaving
 phase_left Finished = Finished
 phase_left Leaving = Leaving
+phase_left (OutOfEpochs slot) = OutOfEpochs slot
 
 pub record RunState (T W L D : Type 0) : Type 0 where
   pub shown : Option FolderHistory

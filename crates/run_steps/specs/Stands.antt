@@ -23,6 +23,7 @@ use Rattle.wire_base.specs.declared.row.Row.{Row}
 use Rattle.run_steps.specs.Areas.{BeganAtRest, HaveHeldFronts}
 use Rattle.run_steps.specs.Began.{Began}
 use Rattle.run_steps.specs.Begun.{AreBeginNotes, AreSlotsFrom, IsKeyed, IsOpenedAsListed}
+use Rattle.run_steps.specs.LastEpoch.{HaveOneOver}
 use Rattle.run_steps.specs.RunState.{Finished, Reading, RunState}
 use Rattle.run_steps.specs.Shown.{HasGiven, HasShown}
 use Rattle.run_steps.specs.SoFar.{Left, SoFar, files_in}
@@ -84,6 +85,7 @@ pub record Stands {T W L D : Type 0} (words : Words T W L D) (start : Began D) (
   pub left : AllByRecursion (IsLeftSo start.settings.processors so_far.opened so_far.moments) so_far.left
   pub reading : state.phase ≡ Reading → IsReading (lanings state.crew.lanes.items) so_far
   pub finished : state.phase ≡ Finished → IsSome start.shown → AllByRecursion (λ turned. IsReadThrough turned.history) (files_in so_far)
+  pub over : HaveOneOver state.phase (files_in so_far)
   -- where the folder tells, so do the tails
   pub tell : IsSome start.shown → AllByRecursion (TellIn words.tails) (lanings state.crew.lanes.items)
   pub left_tell : IsSome start.shown → AllByRecursion (λ (one : Left). IsSome one.told) so_far.left

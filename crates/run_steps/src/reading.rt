@@ -10,6 +10,7 @@ ghost use Rattle.rounds.specs.Staying.{AreAsMany, begins_of};
 ghost use Rattle.rounds.specs.Words.{disk_words, link_words, tail_words, wire_words, words};
 ghost use Rattle.run_steps.specs.Areas.{IsAtRest};
 ghost use Rattle.run_steps.specs.CarriersFail.{FailOn, sending};
+ghost use Rattle.run_steps.specs.CarriersGoOn.{CarriersGoOn};
 ghost use Rattle.run_steps.specs.ClockOn.{MomentsGoOn};
 ghost use Rattle.run_steps.specs.Met.{AreLeft};
 ghost use Rattle.run_steps.specs.MetBy.{GoesOn, IsMetBy, phase_met, phase_of};
@@ -87,6 +88,10 @@ pub fn make_round<
         context.entry.settings.now.output.attempts
         (sending (K.moments clock.old) crew.old.carriers.items)
         (sending (K.moments clock.new) crew.new.carriers.items) }
+    // The workers' wires go on, and so do the counts of their links.
+    ensures carriers_go_on { CarriersGoOn
+        (wire_words W.outcomes W.open_links W.faults W.idles)
+        crew.old.carriers.items crew.new.carriers.items }
     ensures none_failed { IfNone result (NoneFailed
         context.entry.settings.now.output.attempts crew.new.carriers.items) }
     ensures as_many { AreAsMany (crewing crew.old storing.old) (crewing crew.new storing.new) }
@@ -165,6 +170,10 @@ pub fn follow_all<
         context.entry.settings.now.output.attempts
         (sending (K.moments signals.old.clock.now) crew.old.carriers.items)
         (sending (K.moments signals.new.clock.now) crew.new.carriers.items) }
+    // The workers' wires go on, and so do the counts of their links.
+    ensures carriers_go_on { CarriersGoOn
+        (wire_words W.outcomes W.open_links W.faults W.idles)
+        crew.old.carriers.items crew.new.carriers.items }
     ensures as_many { AreAsMany (crewing crew.old storing.old) (crewing crew.new storing.new) }
     ensures slots { begins_of (lanings crew.new.lanes.items)
         ≡ begins_of (lanings crew.old.lanes.items) }

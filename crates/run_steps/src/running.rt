@@ -119,7 +119,8 @@ where
         (drop context.entry.settings.now.output.workers around.old.wires.now.items)
         around.new.wires.now.items) }
     // Where the scan is known, and folder, clock and wires tell, the run is accounted for, and each key keeps its row; where
-    // the last steps were made, the keeper counted the events of the account.
+    // the last steps were made, the keeper counted the events of the account; and a run that is done or stopped skipped the
+    // listed files that it does not follow, each for its reason.
     ensures accounted { (earlier : Earlier D) (folder : FolderTold) →
         SetsOut (disk_words D.contents D.images D.moment D.images_since D.faults)
         (began_with (wire_words W.outcomes W.open_links W.faults W.idles) (record {
@@ -161,7 +162,7 @@ where
         IfOk result (λ worked. AccountedOver
         (disk_words D.contents D.images D.moment D.images_since D.faults)
         context.entry.settings.now storing.old.keeper.now.store.rows
-        scanned.entry.now.listed.items (record {
+        scanned.entry.now.listed.items (length folder.scanned.events) (record {
           before = record {
             folder = Some folder.earlier;
             moments = earlier.moments;
@@ -176,7 +177,8 @@ where
             a = storing.new.a.now;
             b = storing.new.b.now;
           };
-        }) worked.met storing.new.keeper.now.shipped storing.new.keeper.now.dropped) }
+        }) worked.met worked.passed.items
+        storing.new.keeper.now.shipped storing.new.keeper.now.dropped) }
     ensures is_open { IfOk result (λ worked.
         AreLeft worked.met → storing.new.keeper.now.store.closed ≡ false) }
     ensures cause { IfOk result (λ worked. IsMetByRun context.entry.settings.now.output.workers
@@ -217,6 +219,9 @@ where
     ensures tails_closed { F.open_tails around.old.folder.now
         + length scanned.entry.now.listed.items < 2 ^ 64 - 1 →
         F.open_tails around.new.folder.now ≡ F.open_tails around.old.folder.now }
+    ensures links_finished { All (λ wire. W.open_links wire < 2 ^ 64 - 1)
+        around.old.wires.now.items → map W.open_links around.new.wires.now.items
+        ≡ map W.open_links around.old.wires.now.items }
     ensures untouched { OnErr result ((storing.new ≡ storing.old)
         × (around.new.folder.now ≡ around.old.folder.now)
         × (around.new.clock.now ≡ around.old.clock.now)

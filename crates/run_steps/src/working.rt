@@ -1,4 +1,4 @@
-ghost use Rattle.std.specs.Prelude.{◌≡◌, ◌≢◌, ◌⊎◌, ◌+◌, ◌-◌, ◌^◌, ◌<◌, ◌≤◌, All, ℕ, IfErr, IfOk, List, Option, Result, false, length, vec_capacity, vec_len};
+ghost use Rattle.std.specs.Prelude.{◌≡◌, ◌⊎◌, ◌+◌, ◌-◌, ◌^◌, ◌<◌, ◌≤◌, All, ℕ, IfErr, IfOk, List, Option, Result, false, length, vec_capacity, vec_len};
 ghost use Rattle.keeper.specs.Collecting.{Collects};
 ghost use Rattle.outside.specs.Counts.{Rose};
 ghost use Rattle.outside.specs.Folders.{Event, FolderHistory};
@@ -13,9 +13,10 @@ ghost use Rattle.rounds.specs.Words.{disk_words, link_words, tail_words, wire_wo
 ghost use Rattle.run_steps.specs.Areas.{BeganAtRest, IsAtRest};
 ghost use Rattle.run_steps.specs.Began.{Began};
 ghost use Rattle.run_steps.specs.CarriersFail.{AreFailing, FailOn, FailedAsMet, LinksStay, sending};
+ghost use Rattle.run_steps.specs.CarriersGoOn.{CarriersGoOn, WiresReturn};
 ghost use Rattle.run_steps.specs.ClockOn.{MomentsGoOn};
 ghost use Rattle.run_steps.specs.Ends.{IsAllSettled};
-ghost use Rattle.run_steps.specs.Met.{AreLeft};
+ghost use Rattle.run_steps.specs.Met.{AreLeft, IsTelling};
 ghost use Rattle.run_steps.specs.MetBy.{IsMetBy};
 ghost use Rattle.run_steps.specs.MetIn.{NoneFailed};
 ghost use Rattle.run_steps.specs.Onward.{Onward};
@@ -26,7 +27,7 @@ ghost use Rattle.run_steps.specs.Settling.{IsMetByStoring};
 ghost use Rattle.run_steps.specs.SoFar.{SoFar};
 ghost use Rattle.run_steps.specs.Stands.{Stands};
 ghost use Rattle.run_steps.specs.Worked.{HasPassed, IsBeginEnd, IsBegunWith, IsFollowedBy, IsWorkedBy, NeverFall, phase_begun, phase_worked};
-ghost use Rattle.run_steps.specs.declared.met.Met.TheVariants.{Done, Stopped};
+ghost use Rattle.run_steps.specs.declared.met.Met.TheVariants.{Stopped};
 
 use crate::context::{Context, Surroundings};
 use crate::leave::{end_crew, release_all};
@@ -105,7 +106,8 @@ where
         ≡ length crew.carriers.items + length around.old.wires.now.items }
     ensures clock_goes_on { MomentsGoOn (K.moments around.old.clock.now)
         (K.moments around.new.clock.now) }
-    ensures done_only_where_begun { IfErr begun (λ _. result.met ≢ Done) }
+    // A report is told only where all files were begun.
+    ensures told_only_where_begun { IfErr begun (λ _. ¬ (IsTelling result.met)) }
     ensures is_open { AreLeft result.met → storing.new.keeper.now.store.closed ≡ false }
     ensures passed { HasPassed begun result.passed.items }
     ensures cause { IsBegunWith begun result.met ⊎ IsWorkedBy crew
@@ -131,6 +133,9 @@ where
         FailedAsMet (wire_words W.outcomes W.open_links W.faults W.idles)
         context.entry.settings.now.output.attempts timeout earlier starts
         (K.moments around.new.clock.now) around.new.wires.now.items result.met }
+    // The workers' wires come back, each without an open link of its worker.
+    ensures wires_return { WiresReturn (wire_words W.outcomes W.open_links W.faults W.idles)
+        crew.carriers.items around.old.wires.now.items around.new.wires.now.items }
     ensures never_fall { NeverFall
         (record {
           a_faults = D.faults storing.old.a.now;
@@ -219,6 +224,10 @@ pub fn follow_begun<
         context.entry.settings.now.output.attempts
         (sending (K.moments signals.old.clock.now) crew.old.carriers.items)
         (sending (K.moments signals.new.clock.now) crew.new.carriers.items) }
+    // The workers' wires go on, and so do the counts of their links.
+    ensures carriers_go_on { CarriersGoOn
+        (wire_words W.outcomes W.open_links W.faults W.idles)
+        crew.old.carriers.items crew.new.carriers.items }
     ensures as_many { AreAsMany (crewing crew.old storing.old) (crewing crew.new storing.new) }
     ensures slots { begins_of (lanings crew.new.lanes.items)
         ≡ begins_of (lanings crew.old.lanes.items) }

@@ -1,5 +1,6 @@
 use Rattle.std.proofs.Common.{◌≡◌, ◌∙◌, inl, inr, map, ap, refl, take, Err}
-use Rattle.beat_config.specs.Document.{IsFirstFault}
+use Rattle.beat_config.specs.Document.{AreSettingsOf, IsFirstFault}
+use Rattle.prospect.specs.Lacks.{IsFirstLack}
 use Rattle.report.specs.declared.status.Status.{Status}
 use Rattle.report.specs.declared.status.Status.TheVariants.{Usage}
 use Rattle.rounds.specs.Words.{disk_words}
@@ -9,7 +10,7 @@ use Rattle.beat_run.specs.Ended.{ended}
 use Rattle.beat_run.specs.declared.settings.TheConstants.{LIMIT}
 use Rattle.beat_run.proofs.Accounts.{full_for_prepared, no_settings, rows_given, still}
 use Rattle.beat_run.proofs.Causes.{caused_by_named, prepare_caused, prepare_ended, prepare_not_followed, prepare_not_named}
-use Rattle.beat_run.proofs.Endings.{told_never}
+use Rattle.beat_run.proofs.Endings.{told_never, two_never}
 use Rattle.beat_run.proofs.Refusals.{refused_by_areas}
 use Rattle.beat_run.proofs.run.run.Goals as goal
 
@@ -45,7 +46,7 @@ pub returns-in-Err-clause-at_rest : goal.returns-in-Err-clause-at_rest
 returns-in-Err-clause-at_rest g c = λ some rest followed. absurd (prepare_not_followed _ _ c.in-Err.status c.in-Err.ensures.ends followed)
 
 pub returns-in-Err-clause-goes_on : goal.returns-in-Err-clause-goes_on
-returns-in-Err-clause-goes_on g c = record { clock = clock_stays (g.K.Clock.moments c.args.outside.now.clock.now); wires = refl; tails = λ few. refl; a_told = λ told. told; b_told = λ told. told }
+returns-in-Err-clause-goes_on g c = record { clock = clock_stays (g.K.Clock.moments c.args.outside.now.clock.now); wires = refl; tails = λ few. refl; links = λ few. refl; a_told = λ told. told; b_told = λ told. told }
 
 -- ---- arguments and settings are good
 
@@ -54,6 +55,10 @@ returns-clause-unbuilt_refused g c = λ lack asks. absurd (c.in-Ok.ensures.unbui
 
 pub returns-clause-fault_refused : goal.returns-clause-fault_refused
 returns-clause-fault_refused g c = λ fault. told_never (g.R.Source.left c.args.source.now) (λ bytes. IsFirstFault (take LIMIT bytes) fault) _ (c.in-Ok.ensures.fault_refused fault)
+
+pub returns-clause-key_refused : goal.returns-clause-key_refused
+returns-clause-key_refused g c = λ settings key.
+    two_never (g.R.Source.left c.args.source.now) (λ bytes. AreSettingsOf (take LIMIT bytes) settings) (λ bytes. IsFirstLack settings key) _ (c.in-Ok.ensures.key_refused settings key)
 
 pub returns-clause-accounted : goal.returns-clause-accounted
 returns-clause-accounted g c = λ all. record { settings = c.in-Ok.settings; named = λ behind. c.in-Ok.ensures.settings; named_or_unused = inl c.in-Ok.ensures.settings; supported = c.in-Ok.ensures.nothing_lacks; in_range = inl c.in-Ok.ensures.in_range; is = c.run_settings.ensures.accounted all }

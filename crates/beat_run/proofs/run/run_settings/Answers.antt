@@ -3,15 +3,16 @@ use Rattle.report.specs.declared.status.Status.{Status}
 use Rattle.report.specs.declared.status.Status.TheVariants.{DiskFault, NoMemory, RegistryBad}
 use Rattle.rounds.specs.Words.{disk_words}
 use Rattle.run_steps.specs.declared.registry_error.RegistryError.{RegistryError}
-use Rattle.run_steps.specs.declared.registry_error.RegistryError.TheVariants as registry
 use Rattle.run_steps.proofs.Clocks.{clock_stays}
 use Rattle.run_steps.proofs.HeldRows.{some_of}
 use Rattle.wire_base.specs.declared.limits.Which.{Which}
-use Rattle.beat_run.specs.Accounted.{Areas, IsOpenedFrom}
+use Rattle.run_steps.specs.Together.{Areas}
+use Rattle.beat_run.specs.Accounted.{IsOpenedFrom}
 use Rattle.beat_run.specs.Ended.{StandsForRegistry, ended}
 use Rattle.run_steps.specs.Registry.{AreRefusedAt, RefusesAreas}
 use Rattle.beat_run.proofs.Accounts.{full_for_registry, opened_from, rows_given, still}
 use Rattle.beat_run.proofs.Causes.{caused_earlier, registry_caused, registry_ended, registry_not_followed}
+use Rattle.run_steps.specs.declared.registry_error.RegistryError.TheVariants as registry
 use Rattle.beat_run.proofs.run.run_settings.Goals as goal
 
 -- ---- the registry was not opened
@@ -119,6 +120,7 @@ returns-in-Err-clause-goes_on g c = record {
   clock = clock_stays (g.K.Clock.moments c.args.outside.now.clock.now);
   wires = refl;
   tails = λ few. refl;
+  links = λ few. refl;
   a_told = c.open_registry.ensures.a_told;
   b_told = λ told. rw c.open_registry.ensures.b_only_read.contents_kept told;
 }
@@ -128,6 +130,7 @@ returns-in-Ok-clause-goes_on g c = record {
   clock = c.run_store.ensures.goes_on.clock;
   wires = c.run_store.ensures.goes_on.wires;
   tails = c.run_store.ensures.goes_on.tails;
+  links = c.run_store.ensures.goes_on.links;
   a_told = λ told. c.run_store.ensures.goes_on.a_told (c.open_registry.ensures.a_told told);
   b_told = λ told. c.run_store.ensures.goes_on.b_told (rw c.open_registry.ensures.b_only_read.contents_kept told);
 }

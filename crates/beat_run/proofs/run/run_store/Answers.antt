@@ -14,8 +14,9 @@ use Rattle.beat_run.specs.Cause.{Signs}
 use Rattle.beat_run.specs.Ended.{ended}
 use Rattle.beat_run.specs.Skipped.{all_skipped}
 use Rattle.beat_run.proofs.Causes.{at_rest, ends_without_report, is_met_of, scan_caused, scan_ended}
-use Rattle.beat_run.proofs.PathsListed.{are_skipped, shown_goes_further}
-use Rattle.beat_run.proofs.Cleaned.{accounted_and_cleaned, failed_after_cleaning, keys_are_known, left_before_cleaning, met_after_cleaning, of_these_after_cleaning, unnumbered_after_cleaning}
+use Rattle.beat_run.proofs.EpochsOut.{has_none}
+use Rattle.beat_run.proofs.PathsListed.{shown_goes_further}
+use Rattle.beat_run.proofs.Cleaned.{accounted_and_cleaned, failed_after_cleaning, keys_are_known, left_before_cleaning, met_after_cleaning, of_these_after_cleaning, unnumbered_after_cleaning, none_after_cleaning}
 use Rattle.beat_run.proofs.ReportEnds.{caused_ending, full_for_ending, left_by_ending, met_for_ending, report_of, report_over, reports_stored, scanned_ending}
 use Rattle.beat_run.proofs.ScanShown.{each_some, parted_told, scanned_some, scanned_whole}
 use Rattle.beat_run.proofs.SettingOut.{earlier, outset, set_out}
@@ -146,17 +147,21 @@ returns-clause-accounted g c = λ from opened tells.
     let keeper = c.in_ok-parts.ensures.keeper in
     let keeper_is : c.keeper-2-1.given.0 ≡ c.run_over.new.storing.keeper.now = c.keeper-2-1.given.1 (sym c.run_over.ensures.same_keeper) in
     (worked disks start c.requires.in_range (map g.W.Wire.outcomes c.args.outside.now.wires.now.items) _ fin.0 c.keeper-2-1.given.0.shipped c.keeper-2-1.given.0.dropped
-    (g.F.Folder.told c.args.outside.now.folder.now) (ended c.finish.result) tells.folder
-    (parted_told c.args.settings.now.inputs (g.F.Folder.told c.args.outside.now.folder.now) (g.F.Folder.told c.scan.new.folder) c.in_ok-scanned.scanned (rw inputs at c.in_ok-scanned.ensures.scanned))
+    c.in_ok-scanned.scanned refl refl c.in_ok-worked.worked.passed.items
+    (g.F.Folder.told c.args.outside.now.folder.now) (ended c.finish.result) tells.folder (rw inputs at c.in_ok-scanned.ensures.scanned)
+    (shown_goes_further (g.F.Folder.told c.scan.new.folder) _ _ ends.1.ends.stands.shown)
     (met_for_ending c.in_ok-scanned.scanned.listed.items c.args.settings.now.output.attempts fin.0 c.finish.result of fin.2.stands fin.2.refused)
-    (full_for_ending disks c.args.settings.now _ c.in_ok-scanned.scanned.listed.items c.args.settings.now.output.attempts fin.0 c.finish.result of fin.2.stands fin.2.refused)
-    (report_over c.args.settings.now _ fin.1.rows (all_skipped c.in_ok-worked.worked.passed.items c.in_ok-scanned.scanned) c.keeper-2-1.given.0.shipped c.keeper-2-1.given.0.dropped fin.0 c.finish.result fin.2.telling fin.2.report
-    (are_skipped c.args.settings.now.inputs (g.F.Folder.told c.args.outside.now.folder.now) (g.F.Folder.told c.scan.new.folder) (g.F.Folder.told c.run_over.new.around.folder.now) c.in_ok-scanned.scanned c.in_ok-worked.worked.passed.items
-    (rw inputs at c.in_ok-scanned.ensures.scanned) (shown_goes_further (g.F.Folder.told c.scan.new.folder) _ _ ends.1.ends.stands.shown) c.in_ok-worked.ensures.passed_over))
+    (full_for_ending disks c.args.settings.now _ start.opening sets.gave c.in_ok-scanned.scanned.listed.items c.args.settings.now.output.attempts fin.0 c.finish.result of
+    (none_after_cleaning disks _ _ _ _ cleans c.args.settings.now start.opening c.in_ok-scanned.scanned.listed.items (g.F.Folder.told c.args.outside.now.folder.now) (g.F.Folder.told c.run_over.new.around.folder.now)
+    (has_none _ start _ _ _ (shown_goes_further (g.F.Folder.told c.scan.new.folder) _ _ ends.1.ends.stands.shown) (g.F.Folder.told c.args.outside.now.folder.now)
+    (parted_told c.args.settings.now.inputs (g.F.Folder.told c.args.outside.now.folder.now) (g.F.Folder.told c.scan.new.folder) c.in_ok-scanned.scanned (rw inputs at c.in_ok-scanned.ensures.scanned))
+    c.in_ok-worked.worked.met ends.1))
+    fin.2.stands fin.2.refused)
+    (report_over _ fin.1.rows (all_skipped c.in_ok-worked.worked.passed.items c.in_ok-scanned.scanned) c.keeper-2-1.given.0.shipped c.keeper-2-1.given.0.dropped fin.0 c.finish.result fin.2.telling fin.2.report)
     (λ folder has.
     accounted_and_cleaned disks c.disk_images_are_counted.ensures.reads c.disk_images_are_counted.ensures.counts c.one_choice.ensures c.args.settings.now c.in_ok-parts.parts.keeper.store.rows
     (subst (λ (k : Keeping). IsInOrder k.store.rows) (sym keeper.is) keeper.in_order) c.in_ok-scanned.scanned.listed.items
-    (keys_are_known start folder has)
+    (keys_are_known start folder has) (length folder.scanned.events)
     (record {
       before = record { folder = Some folder.earlier; moments = g.K.Clock.moments c.args.outside.now.clock.now; outcomes = map g.W.Wire.outcomes c.args.outside.now.wires.now.items; a = from.a; b = from.b };
       after = record {
@@ -167,7 +172,7 @@ returns-clause-accounted g c = λ from opened tells.
         b = c.finish.new.b;
       };
     })
-    _ _ _ _ (rw (← keeper_is) at c.in_ok-worked.ensures.accounted before folder sets has tells.moments (wires_tell g.W.Wire.outcomes c.run_over.new.around.wires.now.items tells.wires)) cleans
+    _ _ _ _ _ (rw (← keeper_is) at c.in_ok-worked.ensures.accounted before folder sets has tells.moments (wires_tell g.W.Wire.outcomes c.run_over.new.around.wires.now.items tells.wires)) cleans
     (λ were. (ends.1.ends.stands.areas were).of_a.later) (λ were. (ends.1.ends.stands.areas were).of_b.later) (λ left were. rw (← keeper_is) at (ends.1.left.at_rest left were).settled)))
 
 pub returns-clause-at_rest : goal.returns-clause-at_rest
@@ -233,6 +238,7 @@ returns-in_err-scanned-clause-goes_on g c = record {
   clock = c.scan.ensures.clock_goes_on;
   wires = refl;
   tails = tails_by_one (g.F.Folder.open_tails c.args.outside.now.folder.now) (g.F.Folder.open_tails c.scan.new.folder) c.scan.ensures.open_tails_kept;
+  links = λ few. refl;
   a_told = λ told. told;
   b_told = λ told. told;
 }
@@ -242,6 +248,7 @@ returns-in_err-parts-clause-goes_on g c = record {
   clock = c.scan.ensures.clock_goes_on;
   wires = refl;
   tails = tails_by_one (g.F.Folder.open_tails c.args.outside.now.folder.now) (g.F.Folder.open_tails c.scan.new.folder) c.scan.ensures.open_tails_kept;
+  links = λ few. refl;
   a_told = λ told. told;
   b_told = λ told. told;
 }
@@ -253,6 +260,7 @@ returns-in_err-worked-clause-goes_on g c =
       wires = c.run_over.ensures.as_many_wires;
       tails = λ few. tails_by_two (g.F.Folder.open_tails c.args.outside.now.folder.now) (g.F.Folder.open_tails c.scan.new.folder) (g.F.Folder.open_tails c.run_over.new.around.folder.now) (length c.in_ok-scanned.scanned.listed.items)
           c.scan.ensures.open_tails_kept c.in_ok-scanned.ensures.few_listed c.run_over.ensures.tails_closed few;
+      links = c.run_over.ensures.links_finished;
       a_told = c.run_over.ensures.still_tell.a;
       b_told = c.run_over.ensures.still_tell.b;
     }
@@ -264,6 +272,7 @@ returns-clause-goes_on g c =
       wires = c.run_over.ensures.as_many_wires;
       tails = λ few. tails_by_two (g.F.Folder.open_tails c.args.outside.now.folder.now) (g.F.Folder.open_tails c.scan.new.folder) (g.F.Folder.open_tails c.run_over.new.around.folder.now) (length c.in_ok-scanned.scanned.listed.items)
           c.scan.ensures.open_tails_kept c.in_ok-scanned.ensures.few_listed c.run_over.ensures.tails_closed few;
+      links = c.run_over.ensures.links_finished;
       a_told = λ told. c.finish.ensures.finished.2.cleans.a_told (c.run_over.ensures.still_tell.a told);
       b_told = λ told. c.finish.ensures.finished.2.cleans.b_told (c.run_over.ensures.still_tell.b told);
     }

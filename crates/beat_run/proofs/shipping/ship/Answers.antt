@@ -7,7 +7,7 @@ use Rattle.beat_run.specs.Ends.{IsReportEnd, RefusesArea, RefusesKey, RefusesLac
 use Rattle.beat_run.specs.declared.settings.TheConstants.{LIMIT}
 use Rattle.rounds.specs.Words.{disk_words, wire_words}
 use Rattle.beat_run.proofs.Accounts.{report_printed, status_printed}
-use Rattle.beat_run.proofs.Endings.{followed_still, printed_so, told_never, told_printed, two_never, two_printed, was_met}
+use Rattle.beat_run.proofs.Endings.{followed_still, not_refused_printing, printed_so, told_never, told_printed, two_never, two_printed, was_met}
 use Rattle.beat_run.proofs.PrintedEnds.{followed_before, line_caused, never_reported, printed_behind, report_caused, report_stored}
 use Rattle.beat_run.proofs.Untroubled.{line_untroubled, report_untroubled}
 use Rattle.beat_run.proofs.shipping.ship.Goals as goal
@@ -68,6 +68,14 @@ pub returns-in-Ok-clause-what_an_untroubled_run_ends_with : goal.returns-in-Ok-c
 returns-in-Ok-clause-what_an_untroubled_run_ends_with g c = λ untroubled.
     report_untroubled _ _ _ _ untroubled (g.S.Sink.faults c.args.out.now) (g.S.Sink.faults c.print_report.new.out) c.in-Ok.ending.status c.print_report.result (rw c.in-Ok.is at c.run.ensures.with_report) c.print_report.ensures.ends
     (returns-in-Ok-clause-each_status_only_for_its_cause g c)
+
+pub returns-in-Ok-clause-no_image_of_the_first_on_refusal : goal.returns-in-Ok-clause-no_image_of_the_first_on_refusal
+returns-in-Ok-clause-no_image_of_the_first_on_refusal g c =
+    not_refused_printing (g.S.Sink.faults c.args.out.now) (g.S.Sink.faults c.print_report.new.out) _ c.in-Ok.ending.status c.print_report.result (rw c.in-Ok.is at c.run.ensures.with_report) c.print_report.ensures.ends
+
+pub returns-in-Ok-clause-no_image_of_the_second_on_refusal : goal.returns-in-Ok-clause-no_image_of_the_second_on_refusal
+returns-in-Ok-clause-no_image_of_the_second_on_refusal g c =
+    not_refused_printing (g.S.Sink.faults c.args.out.now) (g.S.Sink.faults c.print_report.new.out) _ c.in-Ok.ending.status c.print_report.result (rw c.in-Ok.is at c.run.ensures.with_report) c.print_report.ensures.ends
 
 -- ---- one that was refused
 
@@ -152,6 +160,26 @@ pub returns-in-Ok-clause-refused_runs_leave_no_image_of_the_second : goal.return
 returns-in-Ok-clause-refused_runs_leave_no_image_of_the_second g c =
     let b_is : c.area_b-1.given.0 ≡ c.run.new.outside.b.now = c.area_b-1.given.1 (sym c.run.ensures.same_b) in
     rw b_is (λ refused. (c.run.ensures.b_only_read_where_refused refused).each_moment)
+
+pub returns-in-Ok-clause-refused_runs_keep_the_folder : goal.returns-in-Ok-clause-refused_runs_keep_the_folder
+returns-in-Ok-clause-refused_runs_keep_the_folder g c =
+    let folder_is : c.folder-1.given.0 ≡ c.run.new.outside.folder.now = c.folder-1.given.1 (sym c.run.ensures.same_folder) in
+    rw folder_is c.run.ensures.folder_kept_where_refused
+
+pub returns-in-Ok-clause-refused_runs_keep_the_wires : goal.returns-in-Ok-clause-refused_runs_keep_the_wires
+returns-in-Ok-clause-refused_runs_keep_the_wires g c =
+    let wires_is : c.wires-1.given.0 ≡ c.run.new.outside.wires.now = c.wires-1.given.1 (sym c.run.ensures.same_wires) in
+    rw wires_is c.run.ensures.wires_kept_where_refused
+
+pub returns-in-Ok-clause-refused_runs_keep_the_first_area : goal.returns-in-Ok-clause-refused_runs_keep_the_first_area
+returns-in-Ok-clause-refused_runs_keep_the_first_area g c =
+    let a_is : c.area_a-1.given.0 ≡ c.run.new.outside.a.now = c.area_a-1.given.1 (sym c.run.ensures.same_a) in
+    rw a_is (λ refused. (c.run.ensures.a_only_read_where_refused refused).contents_kept)
+
+pub returns-in-Ok-clause-refused_runs_keep_the_second_area : goal.returns-in-Ok-clause-refused_runs_keep_the_second_area
+returns-in-Ok-clause-refused_runs_keep_the_second_area g c =
+    let b_is : c.area_b-1.given.0 ≡ c.run.new.outside.b.now = c.area_b-1.given.1 (sym c.run.ensures.same_b) in
+    rw b_is (λ refused. (c.run.ensures.b_only_read_where_refused refused).contents_kept)
 
 pub returns-in-Err-clause-refused_runs_leave_no_image_of_the_first : goal.returns-in-Err-clause-refused_runs_leave_no_image_of_the_first
 returns-in-Err-clause-refused_runs_leave_no_image_of_the_first g c =

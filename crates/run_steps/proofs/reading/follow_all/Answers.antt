@@ -3,6 +3,7 @@ use Rattle.keeper.proofs.InARow.{collects_more, collects_none}
 use Rattle.rounds.specs.Words.{disk_words, link_words, tail_words, wire_words, words}
 use Rattle.run_steps.specs.CarriersFail.{sending}
 use Rattle.run_steps.specs.RunState.{Reading, within}
+use Rattle.run_steps.proofs.CarriersGoOn.{carriers_by_nothing, carriers_by_two}
 use Rattle.run_steps.proofs.Clocks.{clock_by_two, clock_stays}
 use Rattle.run_steps.proofs.FailingRounds.{fail_by_nothing, fail_by_two}
 use Rattle.run_steps.proofs.Onward.{onward_by_nothing, onward_by_two}
@@ -23,6 +24,7 @@ loop-init g c =
       failing = fail_by_nothing (link_words g.L.Link.told g.L.Link.faults g.L.Link.idles) (wire_words g.W.Wire.outcomes g.W.Wire.open_links g.W.Wire.faults g.W.Wire.idles) c.args.context.settings.now.output.attempts
           (sending (g.K.Clock.moments c.args.signals.now.clock.now) c.args.crew.now.carriers.items);
       none_failed = λ none. none;
+      carriers = carriers_by_nothing (wire_words g.W.Wire.outcomes g.W.Wire.open_links g.W.Wire.faults g.W.Wire.idles) c.args.crew.now.carriers.items;
       as_many = record { lanes = refl; carriers = refl };
       slots = refl;
       a_faults = omega arith;
@@ -61,6 +63,11 @@ returns-in-Some-make_round-clause-failing g c =
     (sending (g.K.Clock.moments c.make_round.new.clock) c.make_round.new.crew.carriers.items)
     c.loop.invariant.failing c.loop.invariant.none_failed c.in-Some-make_round.ensures.failing
 
+pub returns-in-Some-make_round-clause-carriers_go_on : goal.returns-in-Some-make_round-clause-carriers_go_on
+returns-in-Some-make_round-clause-carriers_go_on g c =
+    carriers_by_two (wire_words g.W.Wire.outcomes g.W.Wire.open_links g.W.Wire.faults g.W.Wire.idles) c.args.crew.now.carriers.items c.loop.crew.carriers.items
+    c.make_round.new.crew.carriers.items c.loop.invariant.carriers c.in-Some-make_round.ensures.carriers_go_on
+
 pub loop-preserved : goal.loop-preserved
 loop-preserved g c =
     let all = words (tail_words g.T.Tail.numbers g.T.Tail.told g.T.Tail.faults) (link_words g.L.Link.told g.L.Link.faults g.L.Link.idles)
@@ -82,6 +89,8 @@ loop-preserved g c =
           (sending (g.K.Clock.moments c.make_round.new.clock) c.make_round.new.crew.carriers.items)
           c.loop.invariant.failing c.loop.invariant.none_failed made.failing;
       none_failed = λ none. made.none_failed;
+      carriers = carriers_by_two (wire_words g.W.Wire.outcomes g.W.Wire.open_links g.W.Wire.faults g.W.Wire.idles) c.args.crew.now.carriers.items c.loop.crew.carriers.items
+          c.make_round.new.crew.carriers.items kept.carriers made.carriers_go_on;
       as_many = record { lanes = made.as_many.lanes ∙ kept.as_many.lanes; carriers = made.as_many.carriers ∙ kept.as_many.carriers };
       slots = made.slots ∙ kept.slots;
       a_faults = let more = made.a_faults_never_fall in let were = kept.a_faults in omega (arith, more, were);

@@ -8,6 +8,7 @@ use Rattle.rounds.specs.Rounds.{IsReady}
 use Rattle.rounds.specs.Staying.{AreAsMany, begins_of}
 use Rattle.rounds.specs.Words.{disk_words, link_words, tail_words, wire_words, words}
 use Rattle.run_steps.specs.CarriersFail.{FailOn, sending}
+use Rattle.run_steps.specs.CarriersGoOn.{CarriersGoOn}
 use Rattle.run_steps.specs.ClockOn.{MomentsGoOn}
 use Rattle.run_steps.specs.Areas.{IsAtRest}
 use Rattle.run_steps.specs.MetIn.{NoneFailed}
@@ -33,6 +34,7 @@ invariant-loop g l = record {
       l.context.settings.now.output.attempts
       (sending (g.K.Clock.moments l.initial.signals.clock.now) l.initial.crew.carriers.items) (sending (g.K.Clock.moments l.signals.clock.now) l.crew.carriers.items);
   none_failed : NoneFailed l.context.settings.now.output.attempts l.initial.crew.carriers.items → NoneFailed l.context.settings.now.output.attempts l.crew.carriers.items;
+  carriers : CarriersGoOn (wire_words g.W.Wire.outcomes g.W.Wire.open_links g.W.Wire.faults g.W.Wire.idles) l.initial.crew.carriers.items l.crew.carriers.items;
   as_many : AreAsMany (crewing l.initial.crew l.initial.storing) (crewing l.crew l.storing);
   slots : begins_of (lanings l.crew.lanes.items) ≡ begins_of (lanings l.initial.crew.lanes.items);
   a_faults : g.D.Disk.faults l.initial.storing.a.now ≤ g.D.Disk.faults l.storing.a.now;

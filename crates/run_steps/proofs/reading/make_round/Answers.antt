@@ -4,9 +4,10 @@ use Rattle.rounds.specs.Crewing.{crewing}
 use Rattle.rounds.specs.Words.{disk_words, link_words, tail_words, wire_words, words}
 use Rattle.run_steps.specs.MetBy.{phase_of}
 use Rattle.run_steps.specs.ClockOn.{MomentsGoOn}
+use Rattle.run_steps.proofs.CarriersGoOn.{carriers_by_round}
 use Rattle.run_steps.proofs.Clocks.{clock_by_moment}
 use Rattle.run_steps.proofs.FailingRounds.{fail_by_round, none_failed_in}
-use Rattle.run_steps.proofs.MetBy.{all_done, each_met, none_out, stored_well}
+use Rattle.run_steps.proofs.MetBy.{all_done, each_met, none_out, some_out, stored_well}
 use Rattle.run_steps.proofs.Onward.{round_onward}
 use Rattle.run_steps.proofs.reading.make_round.Goals as goal
 
@@ -29,6 +30,8 @@ returns-clause-onward g c shown =
     (none_out all c.args.context.outlets.queue.now c.args.context.outlets.desk.now (record { now = c.now-now.result; last = true }) old new c.round-round.result c.requires.ready
     c.round-round.ensures.keeps c.args.context.settings.now.output.attempts c.met_in-met.result c.met_in-met.ensures)
     (all_done all c.args.context.outlets.queue.now c.args.context.outlets.desk.now (record { now = c.now-now.result; last = true }) old new c.round-round.result c.requires.ready
+    c.round-round.ensures.keeps c.args.context.settings.now.output.attempts c.met_in-met.result c.met_in-met.ensures)
+    (some_out all c.args.context.outlets.queue.now c.args.context.outlets.desk.now (record { now = c.now-now.result; last = true }) old new c.round-round.result c.requires.ready
     c.round-round.ensures.keeps c.args.context.settings.now.output.attempts c.met_in-met.result c.met_in-met.ensures)
 
 pub returns-clause-at_rest : goal.returns-clause-at_rest
@@ -79,3 +82,11 @@ returns-clause-failing g c =
 
 pub returns-clause-none_failed : goal.returns-clause-none_failed
 returns-clause-none_failed g c = none_failed_in c.args.context.settings.now.output.attempts c.round-round.new.self c.round-round.new.storing.keeper.now c.round-round.result c.met_in-met.result c.met_in-met.ensures
+
+pub returns-clause-carriers_go_on : goal.returns-clause-carriers_go_on
+returns-clause-carriers_go_on g c =
+    let all = words (tail_words g.T.Tail.numbers g.T.Tail.told g.T.Tail.faults) (link_words g.L.Link.told g.L.Link.faults g.L.Link.idles)
+    (wire_words g.W.Wire.outcomes g.W.Wire.open_links g.W.Wire.faults g.W.Wire.idles)
+    (disk_words g.D.Disk.contents g.D.Disk.images g.D.Disk.moment g.D.Disk.images_since g.D.Disk.faults) in
+    carriers_by_round all c.args.context.outlets.queue.now c.args.context.outlets.desk.now (record { now = c.now-now.result; last = true }) (crewing c.args.crew.now c.args.storing.now)
+    (crewing c.round-round.new.self c.round-round.new.storing) c.round-round.result c.round-round.ensures.rounds

@@ -7,11 +7,13 @@ use Rattle.rounds.specs.Words.{disk_words, link_words, tail_words, wire_words, w
 use Rattle.rounds.specs.declared.carrier.Carrier.{Carrier}
 use Rattle.run_steps.specs.Beginning.{beginning}
 use Rattle.run_steps.specs.CarriersFail.{counts_told}
+use Rattle.run_steps.specs.CarriersGoOn.{WiresReturn}
 use Rattle.run_steps.specs.FolderSeen.{folder_words}
 use Rattle.run_steps.specs.Outset.{began_with}
 use Rattle.run_steps.specs.RunEnds.{HasEnded}
 use Rattle.run_steps.specs.RunState.{Phase}
 use Rattle.run_steps.proofs.BegunReady.{ready_begun}
+use Rattle.run_steps.proofs.CarriersGoOn.{links_finished, open_links_seen, outcomes_go_on}
 use Rattle.run_steps.proofs.PassedOver.{passed_over}
 use Rattle.run_steps.proofs.RunCauses.{met_by_run, no_slots}
 use Rattle.run_steps.proofs.RunTails.{none_begun}
@@ -127,8 +129,13 @@ returns-clause-accounted g c earlier folder sets has clock_tells wires_tell =
       b = c.work.new.storing.b.now;
       phase = is.0;
     })
-    c.work.result.met c.work.new.around.wires.now.items is.1 folder has clock_tells wires_tell c.one_choice.ensures c.work.ensures.done_only_where_begun c.work.ensures.collects
+    c.work.result.met c.work.new.around.wires.now.items is.1 folder has clock_tells wires_tell c.one_choice.ensures c.work.result.passed.items c.work.ensures.passed c.work.ensures.told_only_where_begun
+    c.work.ensures.collects
     (ap (λ (k : Keeping). k.held) c.begin_all-begun.ensures.kept.keeper ∙ ap (λ (k : Keeping). k.held) c.requires.keeper.is) c.work.ensures.told.0 c.work.ensures.told.1
+    (outcomes_go_on g.L.Link.told queue desk c.args.context.settings.now c.args.around.now.wires.now.items c.crew_of.new.wires.items c.in_ok-crew.crew c.in_ok-crew.ensures.begun all.wires
+    c.work.new.around.wires.now.items
+    (subst (λ (v : Vec (Carrier g.row.W.Denot g.row.L.Denot) Global). WiresReturn all.wires v.items c.crew_of.new.wires.items c.work.new.around.wires.now.items) c.begin_all-begun.ensures.kept.carriers
+    c.work.ensures.wires_return))
 
 pub returns-clause-cause : goal.returns-clause-cause
 returns-clause-cause g c =
@@ -156,6 +163,18 @@ returns-clause-tails_closed g c few =
     let none = none_begun (lanings c.in_ok-crew.crew.lanes.items) (recursion_from_All IsBegunLane (lanings c.in_ok-crew.crew.lanes.items) c.in_ok-crew.ensures.begun.lanes) in
     let closed = c.work.ensures.open_tails in
     omega (arith, opened, none, closed)
+
+pub returns-clause-links_finished : goal.returns-clause-links_finished
+returns-clause-links_finished g c few =
+    let wires = wire_words g.W.Wire.outcomes g.W.Wire.open_links g.W.Wire.faults g.W.Wire.idles in
+    let all = c.work.new.around.wires.now.items in
+    links_finished g.L.Link.told c.args.context.outlets.queue.now.id c.args.context.outlets.desk.now.id c.args.context.settings.now c.args.around.now.wires.now.items c.crew_of.new.wires.items
+    c.in_ok-crew.crew c.in_ok-crew.ensures.begun wires all
+    (subst (λ (v : Vec (Carrier g.row.W.Denot g.row.L.Denot) Global). WiresReturn wires v.items c.crew_of.new.wires.items all) c.begin_all-begun.ensures.kept.carriers c.work.ensures.wires_return) few
+
+pub returns-in_err-crew-clause-links_finished : goal.returns-in_err-crew-clause-links_finished
+returns-in_err-crew-clause-links_finished g c few =
+    open_links_seen (wire_words g.W.Wire.outcomes g.W.Wire.open_links g.W.Wire.faults g.W.Wire.idles) c.crew_of.new.wires.items c.args.around.now.wires.now.items c.in_err-crew.ensures.back
 
 pub returns-clause-still_tell : goal.returns-clause-still_tell
 returns-clause-still_tell g c = record { a = c.work.ensures.still_tell.a; b = c.work.ensures.still_tell.b }

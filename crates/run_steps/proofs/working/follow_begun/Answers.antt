@@ -8,6 +8,7 @@ use Rattle.run_steps.specs.Onward.{Onward}
 use Rattle.run_steps.specs.RunState.{Leaving, Phase, within}
 use Rattle.run_steps.specs.Worked.{phase_begun, phase_worked}
 use Rattle.run_steps.specs.declared.met.Met.{Met}
+use Rattle.run_steps.proofs.CarriersGoOn.{carriers_by_nothing}
 use Rattle.run_steps.proofs.Clocks.{clock_stays}
 use Rattle.run_steps.proofs.FailingRounds.{fail_by_nothing}
 use Rattle.run_steps.proofs.Onward.{onward_by_nothing}
@@ -30,3 +31,6 @@ returns-in-Err-clause-clock_goes_on g c = clock_stays (g.K.Clock.moments c.args.
 pub returns-in-Err-clause-failing : goal.returns-in-Err-clause-failing
 returns-in-Err-clause-failing g c =
     fail_by_nothing (link_words g.L.Link.told g.L.Link.faults g.L.Link.idles) (wire_words g.W.Wire.outcomes g.W.Wire.open_links g.W.Wire.faults g.W.Wire.idles) c.args.context.settings.now.output.attempts (sending (g.K.Clock.moments c.args.signals.now.clock.now) c.args.crew.now.carriers.items)
+
+pub returns-in-Err-clause-carriers_go_on : goal.returns-in-Err-clause-carriers_go_on
+returns-in-Err-clause-carriers_go_on g c = carriers_by_nothing (wire_words g.W.Wire.outcomes g.W.Wire.open_links g.W.Wire.faults g.W.Wire.idles) c.args.crew.now.carriers.items

@@ -11,11 +11,12 @@ use Rattle.run_steps.specs.Releasing.{CountsFaults, HasNoHarvesters, all_closing
 use Rattle.run_steps.specs.RunState.{phase_left}
 use Rattle.run_steps.specs.Worked.{phase_worked}
 use Rattle.run_steps.specs.declared.met.Met.TheVariants.{Done}
+use Rattle.run_steps.proofs.CarriersGoOn.{wires_return}
 use Rattle.run_steps.proofs.FailingRounds.{fail_after}
 use Rattle.run_steps.proofs.Letting.{able_released, carriers_have_passes, lanes_have_passes, none_left, released_in}
 use Rattle.run_steps.proofs.RunTails.{as_many_harvesters, wires_back}
 use Rattle.run_steps.proofs.Unreached.{failed_as_met}
-use Rattle.run_steps.proofs.Whole.{cause, done_before, done_in, finished_by, first_met, has_ended, left_still, not_done_by}
+use Rattle.run_steps.proofs.Whole.{cause, done_before, done_in, finished_by, first_met, has_ended, left_still, untold_by, epochs_before, out_by}
 use Rattle.run_steps.proofs.working.work.Goals as goal
 
 pub settle_after-worked-requires-clause-ready : goal.settle_after-worked-requires-clause-ready
@@ -92,12 +93,14 @@ returns-clause-ends g c start so_far stands began =
             ended = c.end_crew.ensures.ended;
             done = λ is. done_in all c.args.context.settings.now.output.attempts since c.args.begun met c.requires.begins c.follow_begun-worked.ensures.met (is_done is);
             finished = λ is. finished_by c.args.begun met c.requires.begins (first_met all c.args.context.settings.now.output.attempts since c.args.begun met c.follow_begun-worked.ensures.met) (is_done is);
+            out_of_epochs = λ slot is. out_by c.args.begun met slot c.requires.begins (first_met all c.args.context.settings.now.output.attempts since c.args.begun met c.follow_begun-worked.ensures.met)
+                (epochs_before all.disks (record { a = first.a.now; b = first.b.now; new_a = c.settle_after-worked.new.storing.a.now; new_b = c.settle_after-worked.new.storing.b.now }) met now slot c.settle_after-worked.ensures.met is);
           })
           so_far stands began,
     )
 
-pub returns-clause-done_only_where_begun : goal.returns-clause-done_only_where_begun
-returns-clause-done_only_where_begun g c =
+pub returns-clause-told_only_where_begun : goal.returns-clause-told_only_where_begun
+returns-clause-told_only_where_begun g c =
     let all = words (tail_words g.F.Tail.Tail.numbers g.F.Tail.Tail.told g.F.Tail.Tail.faults) (link_words g.L.Link.told g.L.Link.faults g.L.Link.idles)
     (wire_words g.W.Wire.outcomes g.W.Wire.open_links g.W.Wire.faults g.W.Wire.idles)
     (disk_words g.D.Disk.contents g.D.Disk.images g.D.Disk.moment g.D.Disk.images_since g.D.Disk.faults) in
@@ -106,9 +109,8 @@ returns-clause-done_only_where_begun g c =
     let met = c.follow_begun-worked.result.met in
     let now = c.settle_after-worked.result.met in
     let since : Since g.row.F-Tail.Denot g.row.W.Denot g.row.L.Denot g.row.D.Denot = record { a = c.args.storing.now.a.now; b = c.args.storing.now.b.now; now = crewing one first } in
-    not_done_by c.args.begun met now c.requires.begins (first_met all c.args.context.settings.now.output.attempts since c.args.begun met c.follow_begun-worked.ensures.met)
-    (λ is. done_before all.disks (record { a = first.a.now; b = first.b.now; new_a = c.settle_after-worked.new.storing.a.now; new_b = c.settle_after-worked.new.storing.b.now }) met now
-    c.settle_after-worked.ensures.met is)
+    untold_by all.disks (record { a = first.a.now; b = first.b.now; new_a = c.settle_after-worked.new.storing.a.now; new_b = c.settle_after-worked.new.storing.b.now }) c.args.begun met now
+    c.requires.begins (first_met all c.args.context.settings.now.output.attempts since c.args.begun met c.follow_begun-worked.ensures.met) c.settle_after-worked.ensures.met
 
 pub returns-clause-open_tails : goal.returns-clause-open_tails
 returns-clause-open_tails g c =
@@ -183,6 +185,12 @@ returns-clause-failing g c timeout earlier starts some none failing =
     (fail_after (link_words g.L.Link.told g.L.Link.faults g.L.Link.idles) (wire_words g.W.Wire.outcomes g.W.Wire.open_links g.W.Wire.faults g.W.Wire.idles) attempts
     (sending (g.K.Clock.moments c.args.around.now.clock.now) c.args.crew.carriers.items) (sending moments one.carriers.items) timeout earlier starts some none c.follow_begun-worked.ensures.failing failing)
     c.settle_after-worked.ensures.links_stay c.end_crew.ensures.ended
+
+pub returns-clause-wires_return : goal.returns-clause-wires_return
+returns-clause-wires_return g c =
+    wires_return (link_words g.L.Link.told g.L.Link.faults g.L.Link.idles) (wire_words g.W.Wire.outcomes g.W.Wire.open_links g.W.Wire.faults g.W.Wire.idles)
+    c.args.crew.carriers.items c.follow_begun-worked.new.crew.carriers.items c.settle_after-worked.new.crew.carriers.items c.args.around.now.wires.now.items c.end_crew.new.wires.items
+    c.follow_begun-worked.ensures.carriers_go_on c.settle_after-worked.ensures.links_stay c.end_crew.ensures.ended
 
 pub returns-clause-still_tell : goal.returns-clause-still_tell
 returns-clause-still_tell g c = record {

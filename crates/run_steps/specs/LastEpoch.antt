@@ -1,0 +1,62 @@
+-- A file whose last epoch is over (Filebeat reference, filestream input; this project's profile): its length was below what was read, its
+-- key was the same, and no further epoch is left. What the folder told shows it: the epoch with which it began and the falls of its length
+-- since then, at each of which it still had its key, make one above the last epoch.
+use Rattle.std.specs.Prelude.{◌≡◌, ℕ, ◌+◌, ◌-◌, ◌≤◌, List, length, slice_get, Some}
+use Rattle.std.specs.List.{AllByRecursion}
+use Rattle.accounts.specs.Turned.{Turned}
+use Rattle.event_tree.specs.declared.input_rule.InputRule.{InputRule}
+use Rattle.file_identity.specs.AskedAgain.{KeepsKey}
+use Rattle.file_looks.specs.Segment.{segments_of}
+use Rattle.harvester.specs.History.{Over}
+use Rattle.outside.specs.Files.{File}
+use Rattle.outside.specs.Folders.{FolderHistory, Opened}
+use Rattle.outside.specs.declared.history.Look.{Look}
+use Rattle.outside.specs.declared.history.Sight.{Sight}
+use Rattle.prospect.specs.declared.listed.Listed.{Listed}
+use Rattle.restart_join.specs.declared.start.TheConstants.{MAX_EPOCH}
+use Rattle.rounds.specs.Pairs.{SomeOf}
+use Rattle.wire_base.specs.declared.numbers.Slot.{Slot}
+use Rattle.wire_base.specs.declared.row.Row.{Row}
+use Rattle.run_steps.specs.BeginFor.{start_among}
+use Rattle.run_steps.specs.RunState.{Finished, Leaving, OutOfEpochs, Phase, Reading}
+use Rattle.run_steps.specs.Shown.{WasClosedWith}
+
+-- ---- by what its turns told
+
+-- it is of the slot, and a turn found that its last epoch is over
+pub record IsLastOver (slot : Slot) (turned : Turned) : Type 0 where
+  pub of_slot : turned.slot ≡ slot
+  pub over : turned.history.stage ≡ Over
+  pub last : turned.history.present.epoch ≡ MAX_EPOCH
+
+-- in a run that is left for want of epochs, one of its files is the one that is so
+abbrev pub HaveOneOver : Phase → List Turned → Type 0
+HaveOneOver Reading files = Unit {0}
+HaveOneOver Finished files = Unit {0}
+HaveOneOver Leaving files = Unit {0}
+HaveOneOver (OutOfEpochs slot) files = SomeOf (IsLastOver slot) files
+
+-- ---- by what the folder told
+
+-- how often the looks of a tail that went on from this place found the length below what was read: each fall begins a segment
+abbrev pub falls_in : ℕ → List Look → ℕ
+falls_in place looks = length (segments_of place looks) - 1
+
+-- the listed file was opened since then, and its tail was closed with these looks: it still had its key wherever its length had fallen, and
+-- its first epoch and these falls are one above the last of the epochs from 0 to `MAX_EPOCH`
+pub record RanOutOfEpochs (inputs : List InputRule) (rows : List Row) (one : Listed) (before after : FolderHistory) : Type 0 where
+  pub rule : InputRule
+  pub rule_is : slice_get inputs one.input ≡ Some rule
+  pub key : List ℕ
+  pub key_is : one.key ≡ Some key
+  pub opening : ℕ
+  pub since : length before.events ≤ opening
+  pub number : ℕ
+  pub file : File
+  pub file_is : slice_get after.files number ≡ Some file
+  pub begun : Sight
+  pub opened : slice_get after.events opening ≡ Some (Opened one.path number begun)
+  pub looks : List Look
+  pub closed : WasClosedWith after opening looks
+  pub kept_key : AllByRecursion (KeepsKey rule key one.path file) (segments_of (start_among rows one).base looks)
+  pub above_the_last : (start_among rows one).epoch + falls_in (start_among rows one).base looks ≡ MAX_EPOCH + 1
