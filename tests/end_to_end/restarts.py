@@ -18,10 +18,10 @@ GREW, WERE_CUT, RENAMED = 100, 10, 10
 PATIENCE = 120
 
 # so many runs are killed one after the other over one registry, at most so many seconds after their start
-KILLS = 20
-LONGEST = 0.5
-# so many lines are written before each of them
-LINES = 200
+KILLS = 200
+LONGEST = 0.3
+# so many lines are written to each file before each of them
+LINES = 60
 
 
 class Restarts(Shipping):
@@ -174,33 +174,40 @@ class Restarts(Shipping):
             peer.fall_silent()
             started.kill()
 
-    def assert_covered_by(self, files, acknowledged):
-        """Each line before the offset of a row was acknowledged, in this run or an earlier one."""
+    def assert_covered_by(self, events, acknowledged, covered):
+        """Each line before the offset of a row was acknowledged, in this run or an earlier one. Up to the places in `covered` this
+        was seen before."""
         for it in self.stored_rows():
-            before = [event for event in files[it["path"]] if event[0] < it["offset"]]
-            self.assertEqual(end_of(before), it["offset"], "the offset is within a line")
-            self.assertLessEqual({(it["path"], *event) for event in before}, acknowledged)
+            path, since, offset = it["path"], covered[it["path"]], it["offset"]
+            self.assertGreaterEqual(offset, since, "the offset went back")
+            before = [event for event in events if since <= event[0] < offset]
+            self.assertIn(offset, (since, end_of(before)), "the offset is within a line")
+            self.assertLessEqual({(path, *event) for event in before}, acknowledged)
+            covered[path] = offset
 
-    def test_killed_again_and_again(self):
-        """The files grow before each run. At last all lines were acknowledged."""
+    def test_killed_at_many_moments(self):
+        """The files grow before each run that is killed. The run behind it ends, and then all lines were acknowledged."""
         chance = random.Random(self.seed)
         paths = [self.logs / f"{number}.log" for number in range(3)]
+        covered = {str(path): 0 for path in paths}
         acknowledged = set()
+        all_content, all_events = numbered_lines(KILLS * LINES)
         for kill in range(1, KILLS + 1):
-            content, events = numbered_lines(kill * LINES)
+            events = all_events[: kill * LINES]
             for path in paths:
                 with path.open("ab") as file:
-                    file.write(content[file.tell() :])
-            files = {str(path): events for path in paths}
+                    file.write(all_content[file.tell() : end_of(events)])
             seconds = LONGEST * chance.random()
-            with self.subTest(seed=self.seed, seconds=seconds), Peer(Behaviour.LATE) as peer:
-                self.run_and_kill(peer, seconds)
+            with self.subTest(seed=self.seed, kill=kill, seconds=seconds):
+                with Peer(Behaviour.LATE) as peer:
+                    self.run_and_kill(peer, seconds)
                 self.assertLessEqual(set(peer.faults), {CUT_OFF})
                 acknowledged |= set(places_of(peer.acknowledged))
-                self.assert_covered_by(files, acknowledged)
-        with Peer() as peer:
-            ran = self.ship_logs(peer)
-        acknowledged |= set(places_of(peer.payloads))
-        self.assertEqual(ran.returncode, 0, ran.stdout[-200:])
-        self.assertEqual([it["offset"] for it in self.stored_rows()], [os.stat(path).st_size for path in paths])
-        self.assertEqual(acknowledged, {(str(path), *event) for path in paths for event in events})
+                self.assert_covered_by(events, acknowledged, covered)
+                with Peer() as peer:
+                    ran = self.ship_logs(peer)
+                self.assertEqual(ran.returncode, 0, ran.stdout[-200:])
+                acknowledged |= set(places_of(peer.acknowledged))
+                self.assert_covered_by(events, acknowledged, covered)
+                self.assertEqual(set(covered.values()), {end_of(events)})
+        self.assertEqual(acknowledged, {(str(path), *event) for path in paths for event in all_events})
