@@ -7,13 +7,14 @@ use Rattle.kept_rows.specs.Run.{Run, Scan}
 use Rattle.wire_base.specs.declared.note.Note.{Note}
 use Rattle.wire_base.specs.declared.parcel.Parcel.{Parcel}
 use Rattle.accounts.specs.AccountedFor.{AccountsFor}
-use Rattle.accounts.specs.Filed.{Filed, accounts_of}
+use Rattle.accounts.specs.Filed.{Filed, accounts_of, turned_of}
 use Rattle.accounts.specs.FollowedFile.{IsFollowedFile, tail_of}
 use Rattle.accounts.specs.Places.{ArePlaces}
 use Rattle.accounts.specs.RunTold.{RunTold}
 use Rattle.accounts.specs.Taken.{Taken, acknowledged_in}
 use Rattle.accounts.specs.Turned.{tellings_in}
 use Rattle.accounts.proofs.Accounts.{are_filed, are_in_epochs, have_slots, is_account, told_once}
+use Rattle.accounts.proofs.Acknowledged.{acknowledged_once}
 use Rattle.accounts.proofs.Apart.{EachAdjoins}
 use Rattle.accounts.proofs.Backed.{are_backed, are_noted}
 use Rattle.accounts.proofs.BegunRows.{begun_keys_have_rows, have_ground, notes_are_orderly}
@@ -65,5 +66,6 @@ module _ (run : Run) (scan : Scan) (files : List Filed) (workers : List Taken) (
 
   pub is_accounted_for : IsAccountedFor
   is_accounted_for =
-      let have = have_places workers run.trace.wires told.talks in
+      let once = acknowledged_once (turned_of files) workers collected told.fits (told_once run scan files told.followed) in
+      let have = have_places workers run.trace.wires told.talks once in
       record { placed = have.placed; places = have.are; accounts = accounts_for have.placed have.are }

@@ -67,7 +67,7 @@ module _ (timeout : ℕ) where
 -- ---- what acknowledges nothing
 
 -- a talk acknowledges one list of payloads
-one_reading : (talk : List Piece) (p q : List (List ℕ)) → Acknowledges talk p → Acknowledges talk q → p ≡ q
+pub one_reading : (talk : List Piece) (p q : List (List ℕ)) → Acknowledges talk p → Acknowledges talk q → p ≡ q
 one_reading talk p q first second =
     let windows = are_once (out_bytes talk) first.windows second.windows first.sent second.sent in
     first.are ∙ ap (λ (ws : List (List (List ℕ))). payloads_by (answers ws talk [] 0 (acknowledgements (in_bytes talk))) 1 ws) windows ∙ sym second.are

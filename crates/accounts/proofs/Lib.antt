@@ -1,6 +1,7 @@
 pub mod Accounting
 pub mod Accounts
 pub mod AccountingFor
+pub mod Acknowledged
 pub mod Apart
 pub mod Askings
 pub mod Backed
@@ -28,6 +29,7 @@ pub mod LastNotes
 pub mod Licensed
 pub mod Lists
 pub mod Lives
+pub mod Located
 pub mod NamedKeys
 pub mod Numbers
 pub mod Often

@@ -1,9 +1,9 @@
 -- Lists that go on.
-use Rattle.std.proofs.Common.{◌≡◌, ℕ, List, [], ◌∷◌, ◌++◌, Contains, refl, sym, ap, subst, ◌∙◌, append_assoc, append-nil}
+use Rattle.std.proofs.Common.{◌≡◌, ◌⊎◌, inl, inr, ℕ, List, [], ◌∷◌, ◌++◌, Contains, refl, sym, ap, subst, ◌∙◌, append_assoc, append-nil}
 use Rattle.std.specs.List.{AllByRecursion, flat_map}
 use Rattle.harvester.specs.Standing.{EndsAt}
 use Rattle.kept_rows.specs.Scans.{StandInOrder}
-use Rattle.ship_core.proofs.Members.{first_there, later_there}
+use Rattle.ship_core.proofs.Members.{first_there, later_there, none_there, there_cases}
 
 pub flat_map_last : {A B : Type 0} (f : A → List B) (xs : List A) (x : A) → flat_map f (xs ++ x ∷ []) ≡ flat_map f xs ++ f x
 flat_map_last f [] x = append-nil (f x)
@@ -12,6 +12,20 @@ flat_map_last f (y ∷ xs) x = ap (λ zs. f y ++ zs) (flat_map_last f xs x) ∙ 
 pub flat_map_both : {A B : Type 0} (f : A → List B) (xs ys : List A) → flat_map f (xs ++ ys) ≡ flat_map f xs ++ flat_map f ys
 flat_map_both f [] ys = refl
 flat_map_both f (x ∷ xs) ys = ap (λ zs. f x ++ zs) (flat_map_both f xs ys) ∙ sym (append_assoc (f x) (flat_map f xs) (flat_map f ys))
+
+-- ---- what stands in both
+
+pub front_there : {A : Type 0} (xs ys : List A) (x : A) → Contains xs x → Contains (xs ++ ys) x
+front_there [] ys x there = absurd (none_there x there)
+front_there {A} (first ∷ xs) ys x there = by_case (there_cases first x xs there) (front_there xs ys x)
+  where
+    by_case : (first ≡ x) ⊎ Contains xs x → (Contains xs x → Contains (xs ++ ys) x) → Contains (first ∷ (xs ++ ys)) x
+    by_case (inl here) others = subst (λ (y : A). Contains (first ∷ (xs ++ ys)) y) here (first_there first (xs ++ ys))
+    by_case (inr later) others = later_there first x (xs ++ ys) (others later)
+
+pub behind_there : {A : Type 0} (xs ys : List A) (y : A) → Contains ys y → Contains (xs ++ ys) y
+behind_there [] ys y there = there
+behind_there (first ∷ xs) ys y there = later_there first y (xs ++ ys) (behind_there xs ys y there)
 
 -- ---- what holds of each
 

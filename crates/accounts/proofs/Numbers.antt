@@ -30,12 +30,13 @@ use Rattle.accounts.specs.Opened.{Opened}
 use Rattle.accounts.specs.Parted.{kept_looks}
 use Rattle.accounts.specs.Places.{ArePlaces}
 use Rattle.accounts.specs.Same.{same_parcel}
-use Rattle.accounts.specs.Taken.{FitBooks, Taken, acknowledged_in, carried_in, settles, taken_in}
+use Rattle.accounts.specs.Taken.{FitBooks, Taken, acknowledged_in, settles}
 use Rattle.accounts.specs.Turned.{Turned, announced_in, notes_in, notes_told, parcels_by, parcels_in, parcels_of, parcels_told, settlements_by, settlements_in, settlements_of, tellings_in}
+use Rattle.accounts.proofs.Acknowledged.{elsewhere_in, often_told}
 use Rattle.accounts.proofs.Lists.{flat_map_both}
 use Rattle.accounts.proofs.Often.{once_often, often_both, often_same, often_then, there_counts}
 use Rattle.accounts.proofs.Same.{tells_parcels}
-use Rattle.accounts.proofs.Settling.{acknowledged_weigh, taken_weighs}
+use Rattle.accounts.proofs.Settling.{acknowledged_weigh}
 
 -- ---- weights
 
@@ -179,15 +180,8 @@ pub record AreAllNoted (files : List Turned) (workers : List Taken) (collected :
 -- where no note is elsewhere
 pub all_noted : (files : List Turned) (workers : List Taken) (collected : List Note) (fits : FitBooks files workers collected) → fits.notes ≡ [] → AreAllNoted files workers collected
 all_noted files workers collected fits every = record {
-  elsewhere = fits.parcels ++ carried_in workers;
-  parcels_are = λ h.
-      let issued = fits.issued_are h in
-      let sums = fits.parcels_are h in
-      let taken = taken_weighs h workers in
-      let all = weigh-append h fits.parcels (taken_in workers) in
-      let own = weigh-append h fits.parcels (carried_in workers) in
-      let both = weigh-append h (fits.parcels ++ carried_in workers) (acknowledged_in workers) in
-      omega (arith, issued, sums, taken, all, own, both);
+  elsewhere = elsewhere_in files workers collected fits;
+  parcels_are = often_told files workers collected fits;
   notes_are = λ h.
       let noted = fits.noted_are h in
       let sums = fits.notes_are h in

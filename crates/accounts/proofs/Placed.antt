@@ -1,15 +1,18 @@
--- Each event of an account is placed where its payload is acknowledged, and no two at one place.
-use Rattle.std.proofs.Common.{◌≡◌, ℕ, ◌+◌, List, [], ◌∷◌, map, Option, Some, None, refl, sym, subst, ◌∙◌}
+-- Each event of an account is placed where its payload is acknowledged, no two at one place, and each acknowledged payload is that of
+-- an event.
+use Rattle.std.proofs.Common.{◌≡◌, ℕ, ◌+◌, List, [], ◌∷◌, Contains, map, Option, Some, None, refl, sym, subst, ◌∙◌}
 use Rattle.std.specs.List.{AllByRecursion, flat_map}
 use Rattle.file_looks.specs.Segment.{Segment, segments_of}
 use Rattle.harvester.specs.History.{Telling}
 use Rattle.kept_rows.proofs.Showing.{both}
-use Rattle.kept_rows.specs.Account.{AccountedEvent, Place}
+use Rattle.kept_rows.specs.Account.{AccountedEvent, Place, places_in}
 use Rattle.kept_rows.specs.Acknowledged.{IsAcknowledgedAt}
 use Rattle.kept_rows.specs.Trace.{WireTold}
+use Rattle.ship_core.proofs.Members.{given_there}
 use Rattle.told_events.specs.Fate.{DroppedBy, Fate, ShippedAs}
 use Rattle.told_events.specs.Told.{ToldEvent}
 use Rattle.wire_base.specs.Extent.{Extent}
+use Rattle.wire_base.specs.declared.note.Note.{Note}
 use Rattle.wire_base.specs.declared.numbers.Slot.{Slot}
 use Rattle.wire_base.specs.declared.parcel.Parcel.{Parcel}
 use Rattle.accounts.specs.Accounted.{accounted, epoch_accounts, place_by, untold_epochs}
@@ -20,9 +23,10 @@ use Rattle.accounts.specs.Opened.{Opened}
 use Rattle.accounts.specs.Parted.{kept_looks}
 use Rattle.accounts.specs.Places.{ArePlaces}
 use Rattle.accounts.specs.Same.{same_parcel}
-use Rattle.accounts.specs.Taken.{Taken}
+use Rattle.accounts.specs.Taken.{FitBooks, Taken, acknowledged_in}
 use Rattle.accounts.specs.Turned.{parcels_told, tellings_in}
-use Rattle.accounts.proofs.Placing.{places_apart}
+use Rattle.accounts.proofs.Acknowledged.{told_there}
+use Rattle.accounts.proofs.Placing.{places_apart, places_are}
 
 module _ (placed : Parcel → Option Place) (workers : List Taken) (wires : List WireTold) (places : ArePlaces placed workers wires) where
   abbrev IsPlaced : AccountedEvent → Type 0
@@ -62,5 +66,18 @@ module _ (placed : Parcel → Option Place) (workers : List Taken) (wires : List
       both IsPlaced (told_in_slot (account_of placed file)) (all_events (accounts_of placed files))
       (epochs_are_placed file.opened file.opened.begin.epoch.0 (tellings_in file.turned.history) (segments_of file.opened.begin.base (kept_looks file.turned.history file.looks))) (each_placed files)
 
-  pub are_placed : (files : List Filed) → AllByRecursion IsFiled files → AreOnce same_parcel (flat_map parcels_told (turned_of files)) → ArePlacedIn (accounts_of placed files) wires
-  are_placed files filed once = record { each = each_placed files; apart = places_apart placed places.one_each files filed once }
+  -- each acknowledged parcel was told, so its place is that of its event
+  all_placed : (files : List Filed) → AllByRecursion IsFiled files → ((parcel : Parcel) → Contains (acknowledged_in workers) parcel → Contains (flat_map parcels_told (turned_of files)) parcel) →
+      (payload : List ℕ) (place : Place) → IsAcknowledgedAt wires payload place → Contains (places_in (accounts_of placed files)) place
+  all_placed files filed told payload place stands =
+      let of = places.every payload place stands in
+      subst (λ (l : List Place). Contains l place) (sym (places_are placed files filed))
+      (given_there placed (flat_map parcels_told (turned_of files)) of.0 place (told of.0 (places.no_other of.0 place of.1)) of.1)
+
+  pub are_placed : (files : List Filed) (collected : List Note) → AllByRecursion IsFiled files → AreOnce same_parcel (flat_map parcels_told (turned_of files)) → FitBooks (turned_of files) workers collected →
+      ArePlacedIn (accounts_of placed files) wires
+  are_placed files collected filed once fits = record {
+    each = each_placed files;
+    apart = places_apart placed places.one_each files filed once;
+    all = all_placed files filed (told_there (turned_of files) workers collected fits);
+  }

@@ -1,10 +1,9 @@
--- Each parcel that the talks of workers' wires acknowledged has a place, and one place has one parcel.
-use Rattle.std.proofs.Common.{◌≡◌, ◌⊎◌, inl, inr, ℕ, zero, suc, ◌+◌, Bool, true, false, List, [], ◌∷◌, ◌++◌, Contains, map, Option, None, Some, refl, sym, ap, subst, ◌∙◌, arith, if◌then◌else◌}
+-- Each parcel that the talks of workers' wires acknowledged has a place, one place has one parcel, and wherever they acknowledge a
+-- payload, a parcel stands.
+use Rattle.std.proofs.Common.{◌≡◌, ◌⊎◌, inl, inr, ℕ, zero, suc, ◌+◌, Bool, true, false, List, [], ◌∷◌, ◌++◌, Contains, map, Option, None, Some, refl, sym, ap, subst, ◌∙◌, if◌then◌else◌}
 use Rattle.std.specs.Prelude.{slice_get}
-use Rattle.std.specs.List.{AllByRecursion, flat_map}
-use Rattle.batch_worker.specs.Acknowledged.{AcknowledgeInAll}
+use Rattle.std.specs.List.{flat_map}
 use Rattle.kept_rows.proofs.Acknowledging.{got_in_front}
-use Rattle.kept_rows.proofs.Showing.{both}
 use Rattle.kept_rows.specs.Account.{Place}
 use Rattle.kept_rows.specs.Acknowledged.{IsAcknowledgedAt, open_talks, talk_of}
 use Rattle.kept_rows.specs.Trace.{WireTold}
@@ -14,150 +13,17 @@ use Rattle.outside.specs.Wires.{Finished, Outcome, Refused}
 use Rattle.ship_core.proofs.Members.{first_there, later_there, none_there, there_cases}
 use Rattle.wire_base.specs.declared.parcel.Parcel.{Parcel}
 use Rattle.wire_base.specs.declared.talk.Piece.{Piece}
+use Rattle.accounts.specs.Once.{AreOnce}
 use Rattle.accounts.specs.Places.{AreOfWorkers, ArePlaces, IsPlacedWell, Placement, place_among, placements_at, placements_in, placements_of}
 use Rattle.accounts.specs.Same.{same_parcel}
 use Rattle.accounts.specs.Taken.{Taken, acknowledged_in}
 use Rattle.accounts.specs.Turning.{Pairs}
 use Rattle.accounts.proofs.Backing.{mapped_there}
 use Rattle.accounts.proofs.Grounded.{of_map}
+use Rattle.accounts.proofs.Located.{AreParts, HaveParts, IsLocated, all_located, all_parts, flat, has_parcel, located_there}
+use Rattle.accounts.proofs.Often.{once_apart, once_others}
 use Rattle.accounts.proofs.Orderly.{member_is}
 use Rattle.accounts.proofs.Same.{tells_parcels}
-
--- ---- the parts of what was acknowledged, one for each connection
-
-abbrev pub flat : {A : Type 0} → List (List A) → List A
-flat parts = flat_map (λ part. part) parts
-
--- a connection that was refused acknowledges none
-abbrev AreParts : List Outcome → List (List Parcel) → Type 0
-AreParts [] [] = Unit {0}
-AreParts [] (part ∷ parts) = ⊥
-AreParts (outcome ∷ outcomes) [] = ⊥
-AreParts (Refused ∷ outcomes) (part ∷ parts) = (part ≡ []) × AreParts outcomes parts
-AreParts (Finished talk faults idles ∷ outcomes) (part ∷ parts) = Acknowledges talk.pieces (payloads_of part) × AreParts outcomes parts
-
--- where a mapped list is cut, the list is
-record IsCut {A B : Type 0} (f : A → B) (xs : List A) (first rest : List B) : Type 0 where
-  front : List A
-  behind : List A
-  are : xs ≡ front ++ behind
-  first_is : map f front ≡ first
-  rest_is : map f behind ≡ rest
-
-cut_mapped : {A B : Type 0} (f : A → B) (xs : List A) (first rest : List B) → map f xs ≡ first ++ rest → IsCut f xs first rest
-cut_mapped f xs [] rest e = record { front = []; behind = xs; are = refl; first_is = refl; rest_is = e }
-cut_mapped f [] (y ∷ first) rest e = absurd cc
-cut_mapped f (x ∷ xs) (y ∷ first) rest e =
-    let q : f x ∷ map f xs ≡ y ∷ (first ++ rest) = e in
-    let same : f x ≡ y = cc in
-    let later : map f xs ≡ first ++ rest = cc in
-    let cut = cut_mapped f xs first rest later in
-    record {
-      front = x ∷ cut.front;
-      behind = cut.behind;
-      are = ap (λ l. x ∷ l) cut.are;
-      first_is = λ k. same k ∷ cut.first_is k;
-      rest_is = cut.rest_is;
-    }
-
-record HasParts (outcomes : List Outcome) (parcels : List Parcel) : Type 0 where
-  parts : List (List Parcel)
-  are : AreParts outcomes parts
-  together : flat parts ≡ parcels
-
-parts_of : (outcomes : List Outcome) (parcels : List Parcel) → AcknowledgeInAll outcomes (payloads_of parcels) → HasParts outcomes parcels
-parts_of [] [] are = record { parts = []; are = tt; together = refl }
-parts_of [] (parcel ∷ parcels) are = absurd cc
-parts_of (Refused ∷ outcomes) parcels are =
-    let others = parts_of outcomes parcels are in record { parts = [] ∷ others.parts; are = (refl, others.are); together = others.together }
-parts_of (Finished talk faults idles ∷ outcomes) parcels are =
-    let cut = cut_mapped (λ (parcel : Parcel). parcel.payload) parcels are.first are.rest are.are in
-    let others = parts_of outcomes cut.behind (subst (AcknowledgeInAll outcomes) (sym cut.rest_is) are.others) in
-    record {
-      parts = cut.front ∷ others.parts;
-      are = (subst (Acknowledges talk.pieces) (sym cut.first_is) are.acknowledges, others.are);
-      together = ap (λ (l : List Parcel). cut.front ++ l) others.together ∙ sym cut.are;
-    }
-
--- of all wires
-record HaveParts (workers : List Taken) (wires : List WireTold) : Type 0 where
-  all : List (List (List Parcel))
-  are : Pairs (λ parts (wire : WireTold). AreParts wire.outcomes parts) all wires
-  together : flat_map flat all ≡ acknowledged_in workers
-
-all_parts : (workers : List Taken) (wires : List WireTold) → AreOfWorkers workers wires → HaveParts workers wires
-all_parts [] [] of = record { all = []; are = tt; together = refl }
-all_parts [] (wire ∷ wires) of = absurd of
-all_parts (taken ∷ workers) [] of = absurd of
-all_parts (taken ∷ workers) (wire ∷ wires) of =
-    let first = parts_of wire.outcomes taken.acknowledged of.0.talks.acknowledges in
-    let others = all_parts workers wires of.1 in
-    record {
-      all = first.parts ∷ others.all;
-      are = (first.are, others.are);
-      together = ap (λ (l : List Parcel). l ++ flat_map flat others.all) first.together ∙ ap (λ (l : List Parcel). taken.acknowledged ++ l) others.together;
-    }
-
--- ---- each stands at its place
-
-record IsLocated (all : List (List (List Parcel))) (one : Placement) : Type 0 where
-  parts : List (List Parcel)
-  wire : slice_get all one.place.wire ≡ Some parts
-  part : List Parcel
-  connection : slice_get parts one.place.connection ≡ Some part
-  number : slice_get part one.place.number ≡ Some one.parcel
-
-abbrev placement : ℕ → ℕ → ℕ → Parcel → Placement
-placement wire connection number parcel = record { parcel = parcel; place = record { wire = wire; connection = connection; number = number } }
-
-none_more : (n : ℕ) → n + 0 ≡ n
-none_more n = omega arith
-
-one_more : (n k : ℕ) → n + suc k ≡ n + 1 + k
-one_more n k = omega arith
-
-behind_none : (k : ℕ) → 0 + k ≡ k
-behind_none k = omega arith
-
-module _ (P : Placement → Type 0) where
-  at_each : (wire connection number : ℕ) (parcels : List Parcel) → ((k : ℕ) (parcel : Parcel) → slice_get parcels k ≡ Some parcel → P (placement wire connection (number + k) parcel)) →
-      AllByRecursion P (placements_at wire connection number parcels)
-  at_each wire connection number [] each = tt
-  at_each wire connection number (first ∷ parcels) each = (
-    subst (λ (n : ℕ). P (placement wire connection n first)) (none_more number) (each 0 first refl),
-    at_each wire connection (number + 1) parcels (λ k parcel at. subst (λ (n : ℕ). P (placement wire connection n parcel)) (one_more number k) (each (suc k) parcel at)),
-  )
-
-  of_each : (wire connection : ℕ) (parts : List (List Parcel)) →
-      ((c : ℕ) (part : List Parcel) → slice_get parts c ≡ Some part → (k : ℕ) (parcel : Parcel) → slice_get part k ≡ Some parcel → P (placement wire (connection + c) k parcel)) →
-      AllByRecursion P (placements_of wire connection parts)
-  of_each wire connection [] each = tt
-  of_each wire connection (first ∷ parts) each =
-      both P (placements_at wire connection 0 first) (placements_of wire (connection + 1) parts)
-      (at_each wire connection 0 first (λ k parcel at.
-      subst (λ (n : ℕ). P (placement wire connection n parcel)) (sym (behind_none k))
-      (subst (λ (n : ℕ). P (placement wire n k parcel)) (none_more connection) (each 0 first refl k parcel at))))
-      (of_each wire (connection + 1) parts (λ c part there k parcel at.
-      subst (λ (n : ℕ). P (placement wire n k parcel)) (one_more connection c) (each (suc c) part there k parcel at)))
-
-  in_each : (wire : ℕ) (all : List (List (List Parcel))) →
-      ((w : ℕ) (parts : List (List Parcel)) → slice_get all w ≡ Some parts → (c : ℕ) (part : List Parcel) → slice_get parts c ≡ Some part →
-      (k : ℕ) (parcel : Parcel) → slice_get part k ≡ Some parcel → P (placement (wire + w) c k parcel)) → AllByRecursion P (placements_in wire all)
-  in_each wire [] each = tt
-  in_each wire (first ∷ all) each =
-      both P (placements_of wire 0 first) (placements_in (wire + 1) all)
-      (of_each wire 0 first (λ c part there k parcel at.
-      subst (λ (n : ℕ). P (placement wire n k parcel)) (sym (behind_none c))
-      (subst (λ (n : ℕ). P (placement n c k parcel)) (none_more wire) (each 0 first refl c part there k parcel at))))
-      (in_each (wire + 1) all (λ w parts here c part there k parcel at.
-      subst (λ (n : ℕ). P (placement n c k parcel)) (one_more wire w) (each (suc w) parts here c part there k parcel at)))
-
-all_located : (all : List (List (List Parcel))) → AllByRecursion (IsLocated all) (placements_in 0 all)
-all_located all =
-    in_each (IsLocated all) 0 all
-    (λ w parts here c part there k parcel at.
-    subst (λ (n : ℕ). IsLocated all (placement n c k parcel)) (sym (behind_none w))
-    (record { parts = parts; wire = here; part = part; connection = there; number = at }))
 
 same_some : {A : Type 0} (o : Option A) (x y : A) → o ≡ Some x → o ≡ Some y → x ≡ y
 same_some o x y is and = let q : Some x ≡ Some y = sym is ∙ and in cc
@@ -296,13 +162,30 @@ acknowledged_there wires all one are is =
       stands = got_mapped (λ (parcel : Parcel). parcel.payload) is.part one.place.number one.parcel is.number;
     }
 
+-- where no parcel stands twice, each has its one place
+its_place : (placements : List Placement) (one : Placement) → AreOnce same_parcel (parcels_in placements) → Contains placements one → place_among placements one.parcel ≡ Some one.place
+its_place [] one once there = absurd (none_there one there)
+its_place (first ∷ placements) one once there =
+    by_case (same_parcel first.parcel one.parcel) refl (there_cases first one placements there)
+    (its_place placements one (once_others same_parcel tells_parcels first.parcel (parcels_in placements) once))
+  where
+    by_case : (b : Bool) → same_parcel first.parcel one.parcel ≡ b → (first ≡ one) ⊎ Contains placements one → (Contains placements one → place_among placements one.parcel ≡ Some one.place) →
+        (if b then Some first.place else place_among placements one.parcel) ≡ Some one.place
+    by_case true same (inl here) others = ap (λ (s : Placement). Some s.place) here
+    by_case true same (inr later) others =
+        absurd (once_apart same_parcel tells_parcels first.parcel (parcels_in placements) once
+        (subst (Contains (parcels_in placements)) (sym (tells_parcels.tells first.parcel one.parcel same)) (mapped_there (λ (s : Placement). s.parcel) placements one later)))
+    by_case false other (inl here) others =
+        absurd (let no : true ≡ false = sym (tells_parcels.itself one.parcel) ∙ ap (λ (s : Placement). same_parcel s.parcel one.parcel) (sym here) ∙ other in cc)
+    by_case false other (inr later) others = others later
+
 -- ---- together
 
 pub record HavePlaces (workers : List Taken) (wires : List WireTold) : Type 0 where
   pub placed : Parcel → Option Place
   pub are : ArePlaces placed workers wires
 
-module _ (workers : List Taken) (wires : List WireTold) (of : AreOfWorkers workers wires) where
+module _ (workers : List Taken) (wires : List WireTold) (of : AreOfWorkers workers wires) (once : AreOnce same_parcel (acknowledged_in workers)) where
   parts : HaveParts workers wires
   parts = all_parts workers wires of
 
@@ -340,5 +223,11 @@ module _ (workers : List Taken) (wires : List WireTold) (of : AreOfWorkers worke
       subst (Contains (acknowledged_in workers)) one.parcel_is
       (subst (λ (l : List Parcel). Contains l one.one.parcel) (all_parcels 0 parts.all ∙ parts.together) (mapped_there (λ (s : Placement). s.parcel) placements one.one one.among))
 
+  every : (payload : List ℕ) (place : Place) → IsAcknowledgedAt wires payload place → (parcel : Parcel) × (place_among placements parcel ≡ Some place)
+  every payload place stands =
+      let has = has_parcel workers wires parts.all payload place parts.are of stands in
+      let one : Placement = record { parcel = has.parcel; place = place } in
+      (has.parcel, its_place placements one (subst (AreOnce same_parcel) (sym (all_parcels 0 parts.all ∙ parts.together)) once) (located_there parts.all one has.located))
+
   pub have_places : HavePlaces workers wires
-  have_places = record { placed = place_among placements; are = record { one_each = one_each; well = well; no_other = no_other } }
+  have_places = record { placed = place_among placements; are = record { one_each = one_each; well = well; no_other = no_other; every = every } }

@@ -36,9 +36,9 @@ use Rattle.accounts.specs.Turned.{Turned, parcels_told, tellings_in}
 use Rattle.accounts.proofs.Apart.{IsInEpochs, starts_apart}
 use Rattle.accounts.proofs.Backing.{epoch_in, mapped_there}
 use Rattle.accounts.proofs.Grounded.{each_member, of_map, taken_has_ground}
+use Rattle.accounts.proofs.Located.{flat}
 use Rattle.accounts.proofs.Often.{often_back, once_apart, once_behind, once_front, once_often, once_others}
 use Rattle.accounts.proofs.Orderly.{member_is, one_epoch, same_item}
-use Rattle.accounts.proofs.Places.{flat}
 use Rattle.accounts.proofs.Same.{tells_parcels}
 
 -- ---- a parcel and its frame

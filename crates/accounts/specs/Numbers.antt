@@ -1,6 +1,7 @@
 -- The numbers that a run reports (this project's profile): how many events of its account a peer acknowledged, and how many a rule
--- dropped. Each number stands still at 2^64 - 1. A place counts where the payload of its event is acknowledged there, and once.
-use Rattle.std.specs.Prelude.{◌≡◌, ◌⊎◌, ℕ, ◌+◌, ◌-◌, ◌^◌, min, Bool, true, false, IsTrue, List, None, Option, Some, count_by, is_some, length}
+-- dropped. Each number stands still at 2^64 - 1. A place counts where the payload of its event is acknowledged there, and once;
+-- and each payload that a talk of the run acknowledges counts.
+use Rattle.std.specs.Prelude.{◌≡◌, ◌⊎◌, ℕ, ◌+◌, ◌-◌, ◌^◌, min, Bool, true, false, IsTrue, List, Contains, None, Option, Some, count_by, is_some, length}
 use Rattle.std.specs.List.{AllByRecursion, flat_map}
 use Rattle.kept_rows.specs.Account.{AccountedEvent, EpochAccount, Place, SlotAccount, places_in}
 use Rattle.kept_rows.specs.Acknowledged.{IsAcknowledgedAt}
@@ -47,10 +48,12 @@ IsPlacedAs wires (DroppedBy rule) place = place ≡ None
 IsPlacedAs wires (ShippedAs payload) None = Unit {0}
 IsPlacedAs wires (ShippedAs payload) (Some place) = IsAcknowledgedAt wires payload place
 
--- and no two events have one: so no more of them are acknowledged than payloads were
+-- no two events have one, and each payload that a talk acknowledges is that of an event: so events with places and acknowledged
+-- payloads are one to one
 pub record ArePlacedIn (account : List SlotAccount) (wires : List WireTold) : Type 0 where
   pub each : AllByRecursion (λ one. IsPlacedAs wires one.event.fate one.place) (all_events account)
   pub apart : AreDistinct (places_in account)
+  pub all : (payload : List ℕ) (place : Place) → IsAcknowledgedAt wires payload place → Contains (places_in account) place
 
 -- ---- the numbers
 

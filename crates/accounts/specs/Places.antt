@@ -45,11 +45,13 @@ pub record IsPlacedWell (placed : Parcel → Option Place) (wires : List WireTol
   pub is : placed parcel ≡ Some place
   pub stands : IsAcknowledgedAt wires parcel.payload place
 
--- one place has one parcel; each parcel that a worker's talks acknowledged has a place, and no other has one
+-- one place has one parcel; each parcel that a worker's talks acknowledged has a place, and no other has one; wherever a talk
+-- acknowledges a payload, a parcel stands
 pub record ArePlaces (placed : Parcel → Option Place) (workers : List Taken) (wires : List WireTold) : Type 0 where
   pub one_each : (parcel other : Parcel) (place : Place) → placed parcel ≡ Some place → placed other ≡ Some place → parcel ≡ other
   pub well : (parcel : Parcel) → Contains (acknowledged_in workers) parcel → IsPlacedWell placed wires parcel
   pub no_other : (parcel : Parcel) (place : Place) → placed parcel ≡ Some place → Contains (acknowledged_in workers) parcel
+  pub every : (payload : List ℕ) (place : Place) → IsAcknowledgedAt wires payload place → (parcel : Parcel) × (placed parcel ≡ Some place)
 
 -- ---- a worker's wire
 

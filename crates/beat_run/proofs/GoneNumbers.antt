@@ -1,5 +1,5 @@
 -- Slots of rows that went change no number and no place of an account.
-use Rattle.std.proofs.Common.{◌≡◌, ℕ, ◌+◌, List, [], ◌∷◌, ◌++◌, ap, refl, sym, subst, ◌∙◌, append-nil}
+use Rattle.std.proofs.Common.{◌≡◌, ℕ, ◌+◌, List, [], ◌∷◌, ◌++◌, Contains, ap, refl, sym, subst, ◌∙◌, append-nil}
 use Rattle.std.specs.List.{AllByRecursion, flat_map}
 use Rattle.accounts.proofs.Lists.{flat_map_both}
 use Rattle.accounts.proofs.Numbers.{counted_with, numbers_with}
@@ -39,4 +39,5 @@ pub placed_with_gone : (account : List SlotAccount) (gones : List Gone) (wires :
 placed_with_gone account gones wires are = record {
   each = subst (AllByRecursion (λ (one : AccountedEvent). IsPlacedAs wires one.event.fate one.place)) (sym (same_events account gones)) are.each;
   apart = subst AreDistinct (sym (same_places account gones)) are.apart;
+  all = λ payload place stands. subst (λ (l : List Place). Contains l place) (sym (same_places account gones)) (are.all payload place stands);
 }

@@ -95,7 +95,7 @@ module _ {T W L D : Type 0} (words : Words T W L D) (start : Began D) (ending : 
   once = told_once the_run the_scan the_files the_run_told.followed
 
   pub placed_so : (placed : Parcel → Option Place) → ArePlaces placed the_workers the_run.trace.wires → ArePlacedIn (accounts_of placed the_files) the_run.trace.wires
-  placed_so placed places = are_placed placed the_workers the_run.trace.wires places the_files filed once
+  placed_so placed places = are_placed placed the_workers the_run.trace.wires places the_files ends.so_far.collected filed once the_run_told.fits
 
   module _ (are_left : AreLeft met) where
     settled : AreSettledIn ends.crew ending.keeper
