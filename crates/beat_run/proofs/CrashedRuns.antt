@@ -1,18 +1,18 @@
 -- What a run opens behind a crash of another one, and what a crash leaves of an area that a run uses.
-use Rattle.std.proofs.Common.{◌≡◌, ◌≢◌, ◌⊎◌, inl, inr, ⊎_elim, ℕ, List, Option, Some, IfSome, sym, subst, ◌∙◌, arith}
+use Rattle.std.proofs.Common.{◌≡◌, ◌≢◌, ◌⊎◌, ⊎_elim, ℕ, List, Option, Some, IfSome, sym, subst, ◌∙◌, arith}
 use Rattle.registry_store.specs.Choice.{Choice, Chosen, IsChoice}
 use Rattle.registry_store.specs.Sides.{other_area}
 use Rattle.rounds.specs.Words.{DiskWords}
 use Rattle.wire_base.specs.declared.limits.Which.{Which}
 use Rattle.wire_base.specs.declared.limits.Which.TheVariants.{A, B}
-use Rattle.run_steps.specs.AccountedFor.{AreImageRows, GiveImageRows, LostKey, WereAtRest, areas_of}
+use Rattle.run_steps.specs.AccountedFor.{AreImageRows, GiveImageRows, LostKey, areas_of}
 use Rattle.run_steps.specs.UnusedArea.{IsOfUnusedArea}
 use Rattle.run_steps.proofs.Members.{some_is}
 use Rattle.run_steps.proofs.RunRows.{OneChoice, same_rows}
 use Rattle.run_steps.proofs.Together.{crash_gives, left_at_end}
 use Rattle.beat_run.specs.AfterCrash.{FindsAreasAsCrashed}
 use Rattle.beat_run.specs.NextRun.{EndedRun, FindsAreasAsLeft}
-use Rattle.beat_run.specs.UsedImages.{IsUsedOrLater, KeepsUsedImages, UsedImage}
+use Rattle.beat_run.specs.UsedImages.{IsUsedOrLater, KeepsUsedImages}
 
 module _ {D : Type 0} (disks : DiskWords D) where
   -- the rows that it opens are those of an image

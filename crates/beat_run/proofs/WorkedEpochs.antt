@@ -1,6 +1,6 @@
 -- A file of 9 bytes was read from its row's offset of 5 on, up to its end, and then its length was 3: where the row's epoch is 7 epochs are
 -- left for all files, and where it is the one before the last such a file may need one above the last.
-use Rattle.std.proofs.Common.{◌≡◌, ◌+◌, ◌<◌, ℕ, List, [], ◌∷◌, length, Some, refl, ap, arith}
+use Rattle.std.proofs.Common.{◌≡◌, ◌+◌, ◌<◌, List, [], ◌∷◌, length, Some, refl, ap, arith}
 use Rattle.event_tree.specs.declared.input_rule.InputRule.{InputRule}
 use Rattle.restart_join.specs.declared.start.TheConstants.{MAX_EPOCH}
 use Rattle.run_steps.proofs.WorkedEpochs.{before, few_falls, looks, now, row_of_epoch, those}

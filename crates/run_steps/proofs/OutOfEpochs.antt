@@ -1,8 +1,8 @@
 -- A run that ended for want of epochs read a file that kept its key at each fall of its length, and whose first epoch and these falls are
 -- one above the last epoch.
-use Rattle.std.proofs.Common.{◌≡◌, ◌⊎◌, inl, inr, ⊎_elim, ℕ, ◌+◌, List, [], ◌∷◌, ◌++◌, All, Contains, length, map, Option, Some, None, IsSome, IfSome, refl, sym, ap, subst, ◌∙◌, length-append, arith, false}
+use Rattle.std.proofs.Common.{◌≡◌, inl, inr, ℕ, ◌+◌, List, [], ◌∷◌, ◌++◌, Contains, length, map, Option, Some, None, IsSome, IfSome, refl, sym, ap, subst, ◌∙◌, length-append, arith, false}
 use Rattle.std.specs.Prelude.{slice_get}
-use Rattle.std.specs.List.{AllByRecursion, flat_map}
+use Rattle.std.specs.List.{AllByRecursion}
 use Rattle.accounts.proofs.Accounting.{as_many}
 use Rattle.accounts.proofs.Askings.{asking_reads}
 use Rattle.accounts.proofs.Falls.{fallen, fallen_are, segments_with_fall}
@@ -10,16 +10,15 @@ use Rattle.accounts.proofs.Joined.{joined}
 use Rattle.accounts.proofs.JoinedFile.{joined_turned}
 use Rattle.accounts.proofs.Parting.{all_kept}
 use Rattle.accounts.proofs.Slots.{file_is_read}
-use Rattle.accounts.specs.Opened.{IsTailOf, Opened}
+use Rattle.accounts.specs.Opened.{Opened}
 use Rattle.accounts.specs.Parted.{has_lost_key, loses_key_at}
 use Rattle.accounts.specs.ToldFile.{AreEpochsFrom, AreNumberedFrom, IsToldFile}
-use Rattle.accounts.specs.Turned.{Turned, tellings_in}
+use Rattle.accounts.specs.Turned.{Turned}
 use Rattle.file_identity.specs.Answers.{with_numbers}
 use Rattle.file_identity.specs.AskedAgain.{IsRead, KeepsKey}
 use Rattle.file_looks.specs.Segment.{Segment, segments_of}
 use Rattle.harvester.specs.History.{History, Over, Stage, Telling}
 use Rattle.harvester.specs.Looked.{HasFallen, IsLookedAt, StandBehind}
-use Rattle.lanes.specs.Laning.{Laning}
 use Rattle.outside.specs.Files.{File}
 use Rattle.outside.specs.Folders.{FolderHistory, Opened as OpenedAs}
 use Rattle.outside.specs.Tails.{TailHistory}
@@ -39,7 +38,7 @@ use Rattle.run_steps.specs.Ends.{Ending}
 use Rattle.run_steps.specs.LastEpoch.{IsLastOver, HaveOneOver, RanOutOfEpochs, falls_in}
 use Rattle.run_steps.specs.Releasing.{HasNoHarvesters}
 use Rattle.run_steps.specs.RunEnds.{HasEnded}
-use Rattle.run_steps.specs.RunState.{OutOfEpochs, Phase}
+use Rattle.run_steps.specs.RunState.{Phase}
 use Rattle.run_steps.specs.Shown.{HasDone, HasShown, WasClosedWith, WasOpenedSince}
 use Rattle.run_steps.specs.SoFar.{Left, SoFar, files_in}
 use Rattle.run_steps.specs.Stands.{IsLeftSo}

@@ -1,11 +1,10 @@
 -- Both areas give rows throughout: over writes one behind the other, rows of a wider kind, and what a crash leaves meanwhile.
-use Rattle.std.proofs.Common.{◌≡◌, ◌⊎◌, inl, inr, ⊎_elim, ℕ, ◌≤◌, List, [], ◌∷◌, ◌++◌, refl, sym, subst}
-use Rattle.outside.specs.DiskImages.{LeavesOnly}
+use Rattle.std.proofs.Common.{inl, inr, ℕ, ◌≤◌, List, [], ◌∷◌, ◌++◌, refl, sym, subst}
 use Rattle.registry_store.specs.Sides.{of_area, other_area}
 use Rattle.rounds.specs.Words.{DiskWords}
 use Rattle.wire_base.specs.declared.limits.Which.{Which}
 use Rattle.wire_base.specs.declared.limits.Which.TheVariants.{A, B}
-use Rattle.run_steps.specs.Together.{AreaWrite, Areas, GiveThroughout, Lead, MayLeave, MayLeaveBy, WritesOne, area_in}
+use Rattle.run_steps.specs.Together.{AreaWrite, Areas, GiveThroughout, Lead, MayLeave, WritesOne, area_in}
 use Rattle.run_steps.proofs.CrashMoments.{weaker}
 
 abbrev pub areas_at : {D : Type 0} → D → D → Areas D

@@ -1,8 +1,8 @@
 -- An area that is as it was before the run, and opened: it was not used then, or it has the rows that the run opened.
-use Rattle.std.proofs.Common.{◌≡◌, ◌⊎◌, inl, inr, ⊎_elim, ℕ, ◌≤◌, Bool, true, false, nat_lt, if◌then◌else◌, List, [], Option, Some, None, refl, sym, ap, subst, ◌∙◌, arith}
+use Rattle.std.proofs.Common.{◌≡◌, ◌⊎◌, inl, inr, ⊎_elim, ℕ, ◌≤◌, Bool, true, false, nat_lt, if◌then◌else◌, List, [], Some, refl, sym, ap, subst, ◌∙◌, arith}
 use Rattle.std.proofs.lemmas.Bool.Decides.{nat_tests}
 use Rattle.registry_log.specs.State.{Blank, Broken, Closed, IsOpened, IsState, Opened, State}
-use Rattle.registry_store.specs.Choice.{Choice, Chosen, GivesRows, IsChoice, chosen_area, rows_of}
+use Rattle.registry_store.specs.Choice.{Choice, Chosen, IsChoice, chosen_area, rows_of}
 use Rattle.registry_store.specs.Settled.{AreAtRest}
 use Rattle.registry_store.specs.Sides.{of_area, other_area}
 use Rattle.rounds.specs.Words.{DiskWords}

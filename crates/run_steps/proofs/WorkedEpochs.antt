@@ -2,7 +2,7 @@
 -- the file, which is known by its path, ran out of epochs, and in the epoch before it did not; nor did one that is known by its first bytes
 -- and was not asked for its key behind the fall. With a row of the last epoch a file of 3 bytes is not started, and with one of the epoch
 -- before it is.
-use Rattle.std.proofs.Common.{◌≡◌, inl, inr, ℕ, zero, suc, ◌+◌, ◌<◌, ◌≤◌, Bool, true, false, if◌then◌else◌, List, [], ◌∷◌, ◌++◌, length, drop, None, Some, codes, refl, sym, ap, subst, ◌∙◌, arith}
+use Rattle.std.proofs.Common.{◌≡◌, inl, inr, ℕ, zero, suc, ◌+◌, ◌≤◌, Bool, true, false, if◌then◌else◌, List, [], ◌∷◌, ◌++◌, length, drop, None, Some, codes, refl, sym, ap, subst, ◌∙◌, arith}
 use Rattle.std.specs.List.{AllByRecursion}
 use Rattle.event_tree.specs.declared.input_rule.IdentityRule.{IdentityRule}
 use Rattle.event_tree.specs.declared.input_rule.IdentityRule.TheVariants.{Fingerprint}

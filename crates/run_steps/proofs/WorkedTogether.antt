@@ -1,7 +1,6 @@
 -- Two areas without a row, over disks that hold at once what is written: area B is started beside area A, which was used, and a crash
 -- meanwhile is found to leave no rows but none; a checkpoint that cuts area A first is refused, and so is one write of both areas.
 use Rattle.std.proofs.Common.{◌≡◌, ◌⊎◌, inl, inr, ℕ, ◌≤◌, List, [], ◌∷◌, ◌++◌, drop, length, codes, Some, refl, sym, ap, subst, arith}
-use Rattle.outside.specs.DiskImages.{LeavesOnly}
 use Rattle.registry_log.specs.Header.{first_wrong}
 use Rattle.registry_log.specs.State.{Blank, Closed, IsOpened, IsState, Opened}
 use Rattle.registry_store.specs.Choice.{Chosen, GivesRows, IsChoice, Refused}
