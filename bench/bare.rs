@@ -155,11 +155,20 @@ fn acknowledgement(count: u32) -> [u8; 6] {
     answer
 }
 
+/// So many connections, several at once where they come so; a line tells how many events each had.
 fn receive(times: usize, late: Duration) -> Result<(), Box<dyn Error>> {
     let listener = TcpListener::bind("127.0.0.1:0")?;
     println!("{}", listener.local_addr()?.port());
+    let mut receiving = Vec::new();
     for _ in 0..times {
-        println!("{}", receive_events(listener.accept()?.0, late)?);
+        let peer = listener.accept()?.0;
+        receiving.push(thread::spawn(move || match receive_events(peer, late) {
+            Ok(events) => println!("{events}"),
+            Err(fault) => println!("0 events: {fault}"),
+        }));
+    }
+    for one in receiving {
+        one.join().map_err(|_| "a connection was not received")?;
     }
     Ok(())
 }

@@ -19,6 +19,11 @@ LINE = 120
 # in so many files they stand, in each of them as many
 FILES = [1, 100, 2_000]
 RUNS = 5
+# so many lanes read them, and as many workers send what they read
+CREWS = [1, 2, 4]
+CREW_FILES = 100
+# more connections than all runs make
+CONNECTIONS = 1_000_000
 
 HEAD = f"""
 ## The program over files
@@ -36,6 +41,13 @@ RATIOS = """
 The program beside the bare sender, in these runs:
 
 | Files | Times its time | Times its processor time | Times its peak memory |
+|---:|---:|---:|---:|
+"""
+
+CREW_HEAD = f"""
+The program over {CREW_FILES} such files with so many lanes and as many workers:
+
+| Lanes and workers | Lines a second | Times the time of one | Processor seconds |
 |---:|---:|---:|---:|
 """
 
@@ -108,19 +120,28 @@ class Loopback:
     def __init__(self, folder):
         self.folder = Path(folder)
         self.bare = make_bare(folder)
-        times = str(len(FILES) * (2 * RUNS + 2))
-        self.receiver = subprocess.Popen([self.bare, "receive", times, "0"], stdout=subprocess.PIPE, text=True)
+        command = [self.bare, "receive", str(CONNECTIONS), "0"]
+        self.receiver = subprocess.Popen(command, stdout=subprocess.PIPE, text=True)
         self.host = f"127.0.0.1:{int(self.receiver.stdout.readline())}"
 
-    def over(self, measure, command, logs):
+    def over(self, measure, command, logs, crew=1):
         """What is measured of one run, after which the receiver has to have every line."""
+        settings = program.settings_text(logs / "*.log", self.host, f"workers = {crew}")
         # the registry of a run is in the folder where it runs
         with tempfile.TemporaryDirectory(dir=self.folder) as place:
-            (Path(place) / "beat.toml").write_text(program.settings_text(logs / "*.log", self.host))
+            (Path(place) / "beat.toml").write_text(f"{settings}[harvest]\nlanes = {crew}\n")
             taken = measure(command, place)
-        if int(self.receiver.stdout.readline()) != LINES:
-            raise SystemExit("the receiver had not every line")
+        # a line for each connection
+        missing = LINES
+        while missing:
+            missing -= int(self.receiver.stdout.readline())
         return taken
+
+    def best_of_crew(self, moqhuluzi, logs, crew):
+        """The best run of the program with so many lanes and workers."""
+        command = [moqhuluzi, "-c", "beat.toml", "--once"]
+        runs = [self.over(timed, command, logs, crew) for _ in range(RUNS)]
+        return Run(*map(min, zip(*runs)))
 
     def measured(self, moqhuluzi, logs):
         """The figures of the program and of the bare sender over these files."""
@@ -147,6 +168,16 @@ def ratios(files, ours, bare):
     return f"| {files} | {wall:.2f} | {processor:.2f} | {ours.memory / bare.memory:.1f} |\n"
 
 
+def crew_rows(loopback, moqhuluzi, logs):
+    best = {crew: loopback.best_of_crew(moqhuluzi, logs, crew) for crew in CREWS}
+    rows = ""
+    for crew, run in best.items():
+        times = run.wall / best[CREWS[0]].wall
+        print(f"{crew:>6} lanes and workers {times:.2f} times the time of one", flush=True)
+        rows += f"| {crew} | {LINES / run.wall:.0f} | {times:.2f} | {run.processor:.3f} |\n"
+    return rows
+
+
 def transport_table():
     program.allow_open_files()
     moqhuluzi = program.proved_program()
@@ -154,10 +185,12 @@ def transport_table():
     with tempfile.TemporaryDirectory() as folder:
         loopback = Loopback(folder)
         try:
+            logs = {files: make_files(folder, files) for files in FILES}
             for files in FILES:
-                ours, bare = loopback.measured(moqhuluzi, make_files(folder, files))
+                ours, bare = loopback.measured(moqhuluzi, logs[files])
                 rows += row(files, "the program", ours) + row(files, "the bare sender", bare)
                 beside += ratios(files, ours, bare)
+            crews = crew_rows(loopback, moqhuluzi, logs[CREW_FILES])
         finally:
             loopback.end()
-    return HEAD + rows + RATIOS + beside
+    return HEAD + rows + RATIOS + beside + CREW_HEAD + crews
