@@ -1,5 +1,5 @@
 -- What leads from the rows last committed to the present ones.
-use Rattle.std.proofs.Common.{◌≡◌, ◌⊎◌, inl, inr, ℕ, Bool, true, false, List, [], ◌∷◌, ◌++◌, map, All, Contains, Option, Some, None, unwrap_or, if◌then◌else◌, refl, sym, ap, ◌∙◌, subst}
+use Rattle.std.proofs.Common.{◌≡◌, ◌⊎◌, inl, inr, ℕ, Bool, true, false, List, [], ◌∷◌, map, All, Contains, Option, Some, None, unwrap_or, if◌then◌else◌, refl, sym, ap, ◌∙◌, subst}
 use Rattle.std.specs.List.{filter_map, cons_option, AllByRecursion}
 use Rattle.std.specs.List.Sorted.{IsStrictlySortedBy}
 use Rattle.std.specs.Option.{option_and_then}
@@ -151,7 +151,7 @@ module _ (files : List (ℕ × FileState)) (slots : List (List ℕ × List ℕ))
 
 -- ---- all of them
 
-module _ (laws : Laws) (lead : Lead) (unchanged : Unchanged) (opening : List Row) (files : List (ℕ × FileState)) (slots : List (List ℕ × List ℕ)) (noted : List (List ℕ × Option Row)) (notes committed : List Note) (was : IsTracker opening files slots noted notes committed) (orderly : AreOrderly notes)
+module _ (laws : Laws) (lead : Lead) (unchanged : Unchanged) (opening : List Row) (files : List (ℕ × FileState)) (slots : List (List ℕ × List ℕ)) (noted : List (List ℕ × Option Row)) (fresh : List ℕ) (notes committed : List Note) (was : IsTracker opening files slots noted fresh notes committed) (orderly : AreOrderly notes)
     (sorted : AreKeysAscending (map first_of noted)) (found : All (λ (entry : List ℕ × Option Row). at_key noted entry.0 ≡ Some entry.1) noted) (from to : List Row) (over_from : AreRowsOver opening committed from) (over_to : AreRowsOver opening notes to) where
   -- a key that no Begin names had no row but the opening one
   none_committed : (key : List ℕ) → row_now files (slots_at slots key) key ≡ None → row_for opening committed key ≡ find key opening

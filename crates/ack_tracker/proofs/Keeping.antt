@@ -1,5 +1,5 @@
 -- What a tracker keeps of keys, with one note more.
-use Rattle.std.proofs.Common.{◌≡◌, ◌≢◌, ◌⊎◌, inl, inr, ℕ, ◌<◌, ◌≤◌, Bool, true, false, List, [], ◌∷◌, ◌++◌, All, Contains, Option, Some, None, unwrap_or, IsSome, if◌then◌else◌, refl, sym, ap, ◌∙◌, subst, arith, append_assoc}
+use Rattle.std.proofs.Common.{◌≡◌, ◌⊎◌, inl, inr, ℕ, ◌<◌, Bool, true, false, List, [], ◌∷◌, ◌++◌, Contains, Option, Some, None, unwrap_or, IsSome, if◌then◌else◌, refl, sym, ap, ◌∙◌, subst, arith, append_assoc}
 use Rattle.std.specs.Option.{option_and_then}
 use Rattle.std.proofs.lemmas.Bool.{cases_eq}
 use Rattle.wire_base.specs.Ranges.{IsKey}
@@ -7,12 +7,12 @@ use Rattle.wire_base.specs.declared.row.Row.{Row}
 use Rattle.wire_base.specs.declared.note.Note.{Note}
 use Rattle.wire_base.specs.declared.note.Note.TheVariants.{Begin, Announce, Settle, Rename, Seen, Forget}
 use Rattle.ship_core.specs.Rows.{find}
-use Rattle.ship_core.specs.Orderly.{AreOrderly, MayFollow}
+use Rattle.ship_core.specs.Orderly.{AreOrderly}
 use Rattle.ship_core.specs.RowOver.{Start, slot_of, start_of, notes_of, start_over, row_over}
 use Rattle.ship_core.specs.RowsOver.{slots_for, row_for}
 use Rattle.ack_tracker.specs.FileState.{FileState, is_gone, row_in}
 use Rattle.ack_tracker.specs.Files.{file_of, AreOf}
-use Rattle.ack_tracker.specs.Keys.{at_key, slots_at, has_key, stands, latest_of, is_begun, row_at, row_now, row_before, key_of_begin, key_with, key_noted, KeepsRows, KeepsSlots, IsTracker}
+use Rattle.ack_tracker.specs.Keys.{at_key, slots_at, stands, latest_of, is_begun, row_at, row_now, row_before, key_of_begin, key_with, key_noted, KeepsRows, KeepsSlots, AreFresh, IsTracker}
 use Rattle.ack_tracker.proofs.Latest.{HasFile, IsLatest, begun_there, none_begun, latest_none, latest_some, standing, stands_still}
 use Rattle.ack_tracker.proofs.Leads.{Stays, GoesOn}
 use Rattle.ack_tracker.proofs.Listed.{row_some}
@@ -143,7 +143,7 @@ module _ (laws : Laws) (opening : List Row) (files : List (ℕ × FileState)) (s
 
 -- ---- before a note
 
-module _ (laws : Laws) (opening : List Row) (files : List (ℕ × FileState)) (slots new_slots : List (List ℕ × List ℕ)) (noted new_noted : List (List ℕ × Option Row)) (notes committed : List Note) (was : IsTracker opening files slots noted notes committed) (keeps : KeepsRows noted new_noted (row_before opening files slots)) (keeps_slots : KeepsSlots slots new_slots) where
+module _ (laws : Laws) (opening : List Row) (files : List (ℕ × FileState)) (slots new_slots : List (List ℕ × List ℕ)) (noted new_noted : List (List ℕ × Option Row)) (fresh new_fresh : List ℕ) (notes committed : List Note) (was : IsTracker opening files slots noted fresh notes committed) (keeps : KeepsRows noted new_noted (row_before opening files slots)) (keeps_slots : KeepsSlots slots new_slots) (are_fresh : AreFresh new_fresh files new_noted) where
   rows_kept : AreOrderly notes → (key : List ℕ) → unwrap_or (at_key new_noted key) (row_for opening notes key) ≡ row_for opening committed key
   rows_kept orderly key = by_case (keeps key)
     where
@@ -162,13 +162,14 @@ module _ (laws : Laws) (opening : List Row) (files : List (ℕ × FileState)) (s
       by_case (inl same) = was.keys key row (sym same ∙ e)
       by_case (inr set) = set.1
 
-  pub prepared : IsTracker opening files new_slots new_noted notes committed
+  pub prepared : IsTracker opening files new_slots new_noted new_fresh notes committed
   prepared = record {
     are = was.are;
     indexed = λ slot file is. keeps_slots file.key slot (was.indexed slot file is);
     front = was.front;
     rows = rows_kept;
     keys = keys_kept;
+    fresh_are = are_fresh;
   }
 
 -- ---- a note
@@ -184,7 +185,7 @@ begin_key (Rename slot scan path) start e = absurd (let q : None ≡ Some start 
 begin_key (Seen slot changed) start e = absurd (let q : None ≡ Some start = e in cc)
 begin_key (Forget slot epoch end) start e = absurd (let q : None ≡ Some start = e in cc)
 
-module _ (given : Given) (other_key : OtherKey) (opening : List Row) (files new_files : List (ℕ × FileState)) (slots : List (List ℕ × List ℕ)) (noted : List (List ℕ × Option Row)) (notes committed : List Note) (note : Note) (was : IsTracker opening files slots noted notes committed) (are : AreOf new_files (notes ++ note ∷ []))
+module _ (given : Given) (other_key : OtherKey) (opening : List Row) (files new_files : List (ℕ × FileState)) (slots : List (List ℕ × List ℕ)) (noted : List (List ℕ × Option Row)) (fresh : List ℕ) (notes committed : List Note) (note : Note) (was : IsTracker opening files slots noted fresh notes committed) (are : AreOf new_files (notes ++ note ∷ []))
     (here : (key : List ℕ) → key_noted files note ≡ Some key → IsSome (at_key noted key))
     (gave : (start : Start) → start_of note ≡ Some start → file_of files (slot_of note) ≡ None → Contains (slots_at slots start.key) (slot_of note)) where
   -- the key of a slot that began by then is that of its file, or else of this note
@@ -242,15 +243,39 @@ module _ (given : Given) (other_key : OtherKey) (opening : List Row) (files new_
           subst (λ (k : List ℕ). Contains (slots_at slots k) slot) same
           (subst (λ (s : ℕ). Contains (slots_at slots start.key) s) new.1 (gave start new.2 (ap (file_of files) new.1 ∙ new.0)))
 
-  pub noted_then : IsTracker opening new_files slots noted (notes ++ note ∷ []) committed
+  -- the file of a slot that had one is of the same key
+  fresh_then : AreFresh fresh new_files noted
+  fresh_then slot there = by_file (file_of new_files slot) refl
+    where
+      had : (file : FileState) × (file_of files slot ≡ Some file) × IsSome (at_key noted file.key)
+      had = was.fresh_are slot there
+
+      begun_then : start_over (notes_of slot (notes ++ note ∷ [])) ≡ Some (was.are.begun slot had.0 had.1).0
+      begun_then = by_slot (cases_eq (slot_of note) slot)
+        where
+          by_slot : (slot_of note ≡ slot) ⊎ (slot_of note ≡ slot → ⊥) → start_over (notes_of slot (notes ++ note ∷ [])) ≡ Some (was.are.begun slot had.0 had.1).0
+          by_slot (inl same) = ap start_over (own_more slot notes note same) ∙ start_stays (notes_of slot notes) note (was.are.begun slot had.0 had.1).0 (was.are.begun slot had.0 had.1).1
+          by_slot (inr other) = ap start_over (own_same slot notes note other) ∙ (was.are.begun slot had.0 had.1).1
+
+      by_file : (o : Option FileState) → file_of new_files slot ≡ o → (file : FileState) × (file_of new_files slot ≡ Some file) × IsSome (at_key noted file.key)
+      by_file None is = absurd (let q : None ≡ Some (was.are.begun slot had.0 had.1).0 = sym (are.none slot is) ∙ begun_then in cc)
+      by_file (Some file) is =
+          let now = are.begun slot file is in
+          let q : Some now.0 ≡ Some (was.are.begun slot had.0 had.1).0 = sym now.1 ∙ begun_then in
+          let starts : now.0 ≡ (was.are.begun slot had.0 had.1).0 = cc in
+          let keys : had.0.key ≡ file.key = sym (was.are.begun slot had.0 had.1).2 ∙ sym (ap (λ (s : Start). s.key) starts) ∙ now.2 in
+          (file, is, subst (λ (k : List ℕ). IsSome (at_key noted k)) keys had.2)
+
+  pub noted_then : IsTracker opening new_files slots noted fresh (notes ++ note ∷ []) committed
   noted_then = record {
     are = are;
     indexed = indexed_then;
     front = (was.front.0 ++ note ∷ [], ap (λ (l : List Note). l ++ note ∷ []) was.front.1 ∙ append_assoc committed was.front.0 (note ∷ []));
     rows = rows_then;
     keys = was.keys;
+    fresh_are = fresh_then;
   }
 
 -- files that are the same
-pub same_files : (opening : List Row) (files new_files : List (ℕ × FileState)) (slots : List (List ℕ × List ℕ)) (noted : List (List ℕ × Option Row)) (notes committed : List Note) → new_files ≡ files → IsTracker opening files slots noted notes committed → IsTracker opening new_files slots noted notes committed
-same_files opening files new_files slots noted notes committed same was = subst (λ (f : List (ℕ × FileState)). IsTracker opening f slots noted notes committed) (sym same) was
+pub same_files : (opening : List Row) (files new_files : List (ℕ × FileState)) (slots : List (List ℕ × List ℕ)) (noted : List (List ℕ × Option Row)) (fresh : List ℕ) (notes committed : List Note) → new_files ≡ files → IsTracker opening files slots noted fresh notes committed → IsTracker opening new_files slots noted fresh notes committed
+same_files opening files new_files slots noted fresh notes committed same was = subst (λ (f : List (ℕ × FileState)). IsTracker opening f slots noted fresh notes committed) (sym same) was

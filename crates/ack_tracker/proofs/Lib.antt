@@ -3,6 +3,7 @@ mod AtKey
 mod ByNumber
 mod Contained
 mod Covering
+mod Fresh
 mod Keeping
 mod Latest
 mod Leads

@@ -1,10 +1,11 @@
 -- What is kept of keys (this project's profile): the slots that Begins gave to each, and of each key that was noted since the
 -- last commit the row that it had there.
-use Rattle.std.specs.Prelude.{◌≡◌, ◌⊎◌, ℕ, Bool, true, false, max, All, Contains, List, [], ◌∷◌, ◌++◌, Option, Some, None, IsSome, unwrap_or, ◌&&◌, if◌then◌else◌}
+use Rattle.std.specs.Prelude.{◌≡◌, ◌⊎◌, ℕ, Bool, true, false, max, Contains, List, [], ◌∷◌, ◌++◌, Option, Some, None, IsSome, unwrap_or, ◌&&◌, if◌then◌else◌}
 use Rattle.std.specs.List.{list_any}
 use Rattle.std.specs.Map.{lookup}
 use Rattle.std.specs.BTreeMap.{is_at}
 use Rattle.std.specs.Option.{option_and_then}
+use Rattle.std.specs.Ordering.{nat_cmp}
 use Rattle.std.specs.Str.{bytes_eq}
 use Rattle.wire_base.specs.KeyOrder.{compare}
 use Rattle.wire_base.specs.Ranges.{IsKey}
@@ -16,7 +17,7 @@ use Rattle.wire_base.specs.declared.note.Note.TheVariants.{Begin, Announce, Sett
 use Rattle.ship_core.specs.Changes.{change_of}
 use Rattle.ship_core.specs.Orderly.{AreOrderly}
 use Rattle.ship_core.specs.Rows.{find}
-use Rattle.ship_core.specs.RowOver.{Start, notes_of, slot_of, start_of, start_over}
+use Rattle.ship_core.specs.RowOver.{Start, notes_of, slot_of, start_over}
 use Rattle.ship_core.specs.RowsOver.{row_for}
 use Rattle.ack_tracker.specs.FileState.{FileState, is_gone, row_in}
 use Rattle.ack_tracker.specs.Files.{file_of, AreOf}
@@ -94,14 +95,19 @@ KeepsRows old new rows = (key : List ℕ) → (at_key new key ≡ at_key old key
 abbrev pub KeepsSlots : List (List ℕ × List ℕ) → List (List ℕ × List ℕ) → Type 0
 KeepsSlots old new = (key : List ℕ) (slot : ℕ) → Contains (slots_at old key) slot → Contains (slots_at new key) slot
 
+-- each of these slots has a file, whose key was noted
+abbrev pub AreFresh : List ℕ → List (ℕ × FileState) → List (List ℕ × Option Row) → Type 0
+AreFresh fresh files noted = (slot : ℕ) → list_any (is_at (nat_cmp slot)) fresh ≡ true → (file : FileState) × (file_of files slot ≡ Some file) × IsSome (at_key noted file.key)
+
 -- ---- what holds of any tracker
 
-pub record IsTracker (opening : List Row) (files : List (ℕ × FileState)) (slots : List (List ℕ × List ℕ)) (noted : List (List ℕ × Option Row)) (notes committed : List Note) : Type 0 where
+pub record IsTracker (opening : List Row) (files : List (ℕ × FileState)) (slots : List (List ℕ × List ℕ)) (noted : List (List ℕ × Option Row)) (fresh : List ℕ) (notes committed : List Note) : Type 0 where
   pub are : AreOf files notes
   pub indexed : (slot : ℕ) (file : FileState) → file_of files slot ≡ Some file → Contains (slots_at slots file.key) slot
   pub front : (rest : List Note) × (notes ≡ committed ++ rest)
   pub rows : AreOrderly notes → (key : List ℕ) → unwrap_or (at_key noted key) (row_for opening notes key) ≡ row_for opening committed key
   pub keys : (key : List ℕ) (was : Option Row) → at_key noted key ≡ Some was → IsKey key
+  pub fresh_are : AreFresh fresh files noted
 
 -- an operation that sets a row sets that of a slot which began with its key and whose row did not go
 abbrev pub SetsBegun : List Note → List ℕ → Op → Type 0

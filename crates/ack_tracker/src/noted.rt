@@ -1,4 +1,4 @@
-ghost use Rattle.std.specs.Prelude.{◌≡◌, ℕ, Contains, List, None, Option, Some, IsSome, IfOk, IfSome, OnOk, All};
+ghost use Rattle.std.specs.Prelude.{◌≡◌, ℕ, Contains, List, [], None, Option, Some, IsSome, IfOk, IfSome, OnOk, All};
 ghost use Rattle.std.specs.List.{filter_map};
 ghost use Rattle.std.specs.BTreeMap.{IsOrdered};
 ghost use Rattle.wire_base.specs.KeyOrder.{compare};
@@ -7,14 +7,14 @@ ghost use Rattle.wire_base.specs.declared.row.Row.{Row};
 ghost use Rattle.ship_core.specs.RowOver.{Start, slot_of, start_of};
 ghost use Rattle.ship_core.specs.Rows.{find};
 ghost use Rattle.ack_tracker.specs.Files.{file_of};
-ghost use Rattle.ack_tracker.specs.Keys.{KeepsRows, KeepsSlots, at_key, change_now, key_noted, row_before, row_now, slots_at};
+ghost use Rattle.ack_tracker.specs.Keys.{AreFresh, KeepsRows, KeepsSlots, at_key, change_now, key_noted, row_before, row_now, slots_at};
 
 use crate::file::File;
 use crate::slots::Slots;
 use crate::tracker::slot_of;
 use ship_core::{Rows, change};
 use std::alloc::Global;
-use std::collections::BTreeMap;
+use std::collections::{BTreeMap, BTreeSet};
 use wire_base::{NoMemory, Note, Op, Row, Text};
 
 /// The files by their slots.
@@ -24,7 +24,35 @@ pub(crate) type Files = BTreeMap<u32, File>;
 pub(crate) type SlotsByKey = BTreeMap<Text, Slots>;
 
 /// The keys that were noted since the last commit, each with the row that it had there.
-pub(crate) type Noted = BTreeMap<Text, Option<Row>>;
+pub(crate) type NotedRows = BTreeMap<Text, Option<Row>>;
+
+/// What was noted since the last commit.
+#[derive(Debug, Drop)]
+pub(crate) struct Noted {
+    pub rows: NotedRows,
+    /// The slots whose files have such keys, so that a note of theirs needs no look among texts.
+    pub fresh: BTreeSet<u32>,
+}
+
+impl Noted {
+    pub(crate) fn new(alloc: Global) -> Noted
+        ensures rows { result.rows.entries ≡ [] }
+        ensures fresh { result.fresh.keys ≡ [] }
+    {
+        Noted {
+            rows: BTreeMap::new(alloc),
+            fresh: BTreeSet::new(alloc),
+        }
+    }
+
+    pub(crate) fn clear(&mut self)
+        ensures rows { self.new.rows.entries ≡ [] }
+        ensures fresh { self.new.fresh.keys ≡ [] }
+    {
+        self.rows.clear();
+        self.fresh.clear();
+    }
+}
 
 /// Before a note: the row that its key has is kept, and a key that begins is given its slot.
 pub(crate) fn prepare(
@@ -35,21 +63,31 @@ pub(crate) fn prepare(
     files: &Files,
     note: &Note,
 ) -> Result<(), NoMemory>
-    requires { IsNote note.now }
-    ensures keeps_rows { KeepsRows noted.old.entries noted.new.entries
+    requires range { IsNote note.now }
+    requires fresh { AreFresh noted.old.fresh.keys files.now.entries noted.old.rows.entries }
+    ensures keeps_rows { KeepsRows noted.old.rows.entries noted.new.rows.entries
         (row_before opening.now files.now.entries slots.old.entries) }
     ensures keeps_slots { KeepsSlots slots.old.entries slots.new.entries }
+    ensures fresh { AreFresh noted.new.fresh.keys files.now.entries noted.new.rows.entries }
     ensures noted { OnOk result ((key : List ℕ) → key_noted files.now.entries note.now ≡ Some key →
-        IsSome (at_key noted.new.entries key)) }
+        IsSome (at_key noted.new.rows.entries key)) }
     ensures given { OnOk result ((start : Start) → start_of note.now ≡ Some start →
         file_of files.now.entries (slot_of note.now) ≡ None →
         Contains (slots_at slots.new.entries start.key) (slot_of note.now)) }
 {
-    match files.get(&slot_of(note).0) {
-        Some(file) => keep_row(noted, alloc, opening, files, slots, file.key()),
+    let slot = slot_of(note).0;
+    if noted.fresh.contains(&slot) {
+        return Ok(());
+    }
+    match files.get(&slot) {
+        Some(file) => {
+            keep_row(&mut noted.rows, alloc, opening, files, slots, file.key())?;
+            noted.fresh.insert(slot)?;
+            Ok(())
+        }
         None => match note {
             Note::Begin { slot, key, .. } => {
-                keep_row(noted, alloc, opening, files, slots, key)?;
+                keep_row(&mut noted.rows, alloc, opening, files, slots, key)?;
                 give(slots, alloc, key, slot.0)
             }
             _ => Ok(()),
@@ -59,7 +97,7 @@ pub(crate) fn prepare(
 
 /// Keeps the row of a key that was not noted yet.
 fn keep_row(
-    noted: &mut Noted,
+    noted: &mut NotedRows,
     alloc: Global,
     opening: &Rows,
     files: &Files,
@@ -151,7 +189,7 @@ pub(crate) fn changes(
     alloc: Global,
     files: &Files,
     slots: &SlotsByKey,
-    noted: &Noted,
+    noted: &NotedRows,
 ) -> Result<Vec<Op>, NoMemory>
     requires { (key : List ℕ) (was : Option Row) → at_key noted.now.entries key ≡ Some was →
         IsKey key }

@@ -46,8 +46,8 @@ impl Model for Tracker {
       gone = gone_among t.files.entries;
     } };
 
-    ghost invariant = { λ t. IsTracker t.opening t.files.entries t.slots.entries t.noted.entries
-        t.history.notes t.committed.notes };
+    ghost invariant = { λ t. IsTracker t.opening t.files.entries t.slots.entries
+        t.noted.rows.entries t.noted.fresh.keys t.history.notes t.committed.notes };
 }
 
 impl Tracker {
@@ -60,7 +60,7 @@ impl Tracker {
             opening: rows.copy(alloc)?,
             files: BTreeMap::new(alloc),
             slots: BTreeMap::new(alloc),
-            noted: BTreeMap::new(alloc),
+            noted: Noted::new(alloc),
             history: History::new(),
             committed: History::new(),
         })
@@ -116,7 +116,7 @@ impl Tracker {
         row_by_slots();
         slots_by_begin();
         changes_by_key();
-        changes(alloc, &self.files, &self.slots, &self.noted)
+        changes(alloc, &self.files, &self.slots, &self.noted.rows)
     }
 
     /// The present rows are those last committed. Takes no memory.

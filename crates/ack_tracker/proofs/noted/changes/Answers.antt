@@ -1,4 +1,4 @@
-use Rattle.std.proofs.Common.{ℕ, All, List, Option, IfSome, subst, sym, ◌∙◌}
+use Rattle.std.proofs.Common.{All, List, Option, IfSome, subst, sym, ◌∙◌}
 use Rattle.std.specs.Map.Iter.{deref_pair}
 use Rattle.std.proofs.lemmas.Cmp.{nat_list_cmp_total}
 use Rattle.std.proofs.lemmas.List.Elements.{All-push}

@@ -1,4 +1,4 @@
-use Rattle.std.proofs.Common.{◌≡◌, ℕ, List, Contains, None, sym, ap, ◌∙◌, subst}
+use Rattle.std.proofs.Common.{◌≡◌, ℕ, List, Contains, None, sym, ap, subst}
 use Rattle.std.specs.BTreeMap.{BTreeMap}
 use Rattle.ack_tracker.specs.Keys.{KeepsSlots, at_key}
 use Rattle.ack_tracker.proofs.AtKey.{sets_written, grown, given_here, keeps_slots, slots_here}

@@ -1,5 +1,3 @@
-use Rattle.std.proofs.Common.{ℕ, List, [], Contains, ap, ◌∙◌, subst}
-use Rattle.ack_tracker.specs.Keys.{at_key}
 use Rattle.ack_tracker.proofs.AtKey.{first_slots}
 use Rattle.ack_tracker.proofs.noted.give_first.Goals as goal
 

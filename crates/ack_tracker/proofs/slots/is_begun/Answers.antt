@@ -1,4 +1,4 @@
-use Rattle.std.proofs.Common.{◌∙◌, sym}
+use Rattle.std.proofs.Common.{◌∙◌}
 use Rattle.ack_tracker.proofs.Passing.{begun_now, not_yet}
 use Rattle.ack_tracker.proofs.slots.is_begun.Goals as goal
 

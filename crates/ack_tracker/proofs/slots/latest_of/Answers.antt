@@ -1,4 +1,4 @@
-use Rattle.std.proofs.Common.{◌∙◌, sym}
+use Rattle.std.proofs.Common.{◌∙◌}
 use Rattle.ack_tracker.proofs.Passing.{latest_then, latest_else}
 use Rattle.ack_tracker.proofs.slots.latest_of.Goals as goal
 use Rattle.ack_tracker.proofs.slots.latest_of.Goals.{then-stands, else-stands}

@@ -1,4 +1,4 @@
-use Rattle.std.proofs.Common.{◌≡◌, ℕ, List, All, map, subst, sym}
+use Rattle.std.proofs.Common.{◌≡◌, List, All, map, subst, sym}
 use Rattle.std.specs.List.{filter_map}
 use Rattle.std.specs.Result.{IfOk}
 use Rattle.std.proofs.lemmas.Cmp.{nat_list_cmp_total}
@@ -19,21 +19,21 @@ pub returns-clause-by_the_notes : goal.returns-clause-by_the_notes
 returns-clause-by_the_notes c =
     let inside = c.self.inside in
     subst (λ (t : Tracked). AreOrderly t.notes → (from : List Row) → (to : List Row) → AreRowsOver t.opening t.committed from → AreRowsOver t.opening t.notes to → IfOk c.changes.result (λ ops. LeadTo from to ops.items)) c.self.view_is
-    (λ orderly from to over_from over_to. IfOk-weaker c.changes.result (λ ops. ops.items ≡ filter_map (change_now inside.files.entries inside.slots.entries) inside.noted.entries) (λ ops. LeadTo from to ops.items)
+    (λ orderly from to over_from over_to. IfOk-weaker c.changes.result (λ ops. ops.items ≡ filter_map (change_now inside.files.entries inside.slots.entries) inside.noted.rows.entries) (λ ops. LeadTo from to ops.items)
     (λ ops is. subst (LeadTo from to) (sym is)
     (changes_lead (record { stays = c.covered_end_by_spans.ensures.stays; goes = c.covered_end_by_spans.ensures.goes_on; none = c.row_by_slots.ensures.none_given; all = c.row_by_slots.ensures.all_gone; greatest = c.row_by_slots.ensures.greatest; given = c.slots_by_begin.ensures.given; gives = c.slots_by_begin.ensures.gives })
-    c.changes_by_key.ensures.lead c.changes_by_key.ensures.unchanged inside.opening inside.files.entries inside.slots.entries inside.noted.entries inside.history.notes inside.committed.notes c.self.invariant orderly
-    (keys_ascend (map first_of inside.noted.entries) c.changes.ensures.ordered) (All-found nat_list_cmp_total inside.noted c.changes.ensures.ordered) from to over_from over_to)) c.changes.ensures.changes)
+    c.changes_by_key.ensures.lead c.changes_by_key.ensures.unchanged inside.opening inside.files.entries inside.slots.entries inside.noted.rows.entries inside.noted.fresh.keys inside.history.notes inside.committed.notes c.self.invariant orderly
+    (keys_ascend (map first_of inside.noted.rows.entries) c.changes.ensures.ordered) (All-found nat_list_cmp_total inside.noted.rows c.changes.ensures.ordered) from to over_from over_to)) c.changes.ensures.changes)
 
 pub returns-clause-ascending : goal.returns-clause-ascending
 returns-clause-ascending c =
     let inside = c.self.inside in
-    IfOk-weaker c.changes.result (λ ops. ops.items ≡ filter_map (change_now inside.files.entries inside.slots.entries) inside.noted.entries) (λ ops. AreAscending ops.items)
-    (λ ops is. subst AreAscending (sym is) (told_ascend inside.files.entries inside.slots.entries inside.noted.entries (keys_ascend (map first_of inside.noted.entries) c.changes.ensures.ordered))) c.changes.ensures.changes
+    IfOk-weaker c.changes.result (λ ops. ops.items ≡ filter_map (change_now inside.files.entries inside.slots.entries) inside.noted.rows.entries) (λ ops. AreAscending ops.items)
+    (λ ops is. subst AreAscending (sym is) (told_ascend inside.files.entries inside.slots.entries inside.noted.rows.entries (keys_ascend (map first_of inside.noted.rows.entries) c.changes.ensures.ordered))) c.changes.ensures.changes
 
 pub returns-clause-sets_begun : goal.returns-clause-sets_begun
 returns-clause-sets_begun c =
     let inside = c.self.inside in
     subst (λ (t : Tracked). IfOk c.changes.result (λ ops. All (SetsBegun t.notes t.gone) ops.items)) c.self.view_is
-    (IfOk-weaker c.changes.result (λ ops. ops.items ≡ filter_map (change_now inside.files.entries inside.slots.entries) inside.noted.entries) (λ ops. All (SetsBegun inside.history.notes (gone_among inside.files.entries)) ops.items)
-    (λ ops is. subst (λ (l : List Op). All (SetsBegun inside.history.notes (gone_among inside.files.entries)) l) (sym is) (told_begun inside.files.entries inside.slots.entries inside.history.notes c.self.invariant.are inside.noted.entries)) c.changes.ensures.changes)
+    (IfOk-weaker c.changes.result (λ ops. ops.items ≡ filter_map (change_now inside.files.entries inside.slots.entries) inside.noted.rows.entries) (λ ops. All (SetsBegun inside.history.notes (gone_among inside.files.entries)) ops.items)
+    (λ ops is. subst (λ (l : List Op). All (SetsBegun inside.history.notes (gone_among inside.files.entries)) l) (sym is) (told_begun inside.files.entries inside.slots.entries inside.history.notes c.self.invariant.are inside.noted.rows.entries)) c.changes.ensures.changes)
