@@ -119,3 +119,12 @@ module _ (files : List (ℕ × FileState)) (key : List ℕ) where
             earlier = found.earlier;
             others = λ other there stand. elim (there_cases first other slots there) [ inl same ↦ absurd (let q : false ≡ true = sym is ∙ ap stands_at same ∙ stand in cc) | inr behind ↦ found.others other behind stand ];
           }
+
+  -- where one of them stands, one of them began
+  pub latest_begun : (slots : List ℕ) (slot : ℕ) → latest_of files key None slots ≡ Some slot → is_begun files key slots ≡ true
+  latest_begun slots slot e = by_from (latest_some slots None slot e).from (is_begun files key slots) refl
+    where
+      by_from : (None ≡ Some slot) ⊎ (Contains slots slot × (stands_at slot ≡ true)) → (b : Bool) → is_begun files key slots ≡ b → b ≡ true
+      by_from from true is = refl
+      by_from (inl none) false is = absurd (let q : None ≡ Some slot = none in cc)
+      by_from (inr at) false is = absurd (none_begun slots slot is at.0 (standing slot at.1).0)

@@ -7,7 +7,7 @@ ghost use Rattle.wire_base.specs.declared.row.Row.{Row};
 ghost use Rattle.ship_core.specs.RowOver.{Start, slot_of, start_of};
 ghost use Rattle.ship_core.specs.Rows.{find};
 ghost use Rattle.ack_tracker.specs.Files.{file_of};
-ghost use Rattle.ack_tracker.specs.Keys.{AreFresh, KeepsRows, KeepsSlots, at_key, change_now, key_noted, row_before, row_now, slots_at};
+ghost use Rattle.ack_tracker.specs.Keys.{AreFresh, KeepsRows, KeepsSlots, at_key, change_now, key_noted, row_at, row_before, row_now, slots_at};
 
 use crate::file::File;
 use crate::slots::Slots;
@@ -150,13 +150,18 @@ fn row_now(
     let Some(own) = slots.get(key) else {
         return Ok(None);
     };
-    if !own.is_begun(files, key) {
-        return Ok(None);
+    match own.latest(files, key) {
+        Some(latest) => row_at(alloc, files, latest),
+        None if own.is_begun(files, key) => Ok(Some(None)),
+        None => Ok(None),
     }
-    let Some(latest) = own.latest(files, key) else {
-        return Ok(Some(None));
-    };
-    match files.get(&latest) {
+}
+
+fn row_at(alloc: Global, files: &Files, slot: u32) -> Result<Option<Option<Row>>, NoMemory>
+    ensures row { IfOk result (λ row. row ≡ Some (row_at files.now.entries slot)) }
+    ensures in_range { IfOk result (λ row. IfSome row (λ now. IfSome now IsRow)) }
+{
+    match files.get(&slot) {
         Some(file) => Ok(Some(file.row(alloc)?)),
         None => Ok(Some(None)),
     }

@@ -62,12 +62,14 @@ impl<T: Tail, L: Link, W: Wire<Link = L>> Crew<T, W, L> {
         (lanes, carriers)
     }
 
-    /// Whether the keeper has turns beside the others: where half of the box's room is taken, and where it has gone without for
-    /// 32 rounds. A commit is two syncs, so a busy round does not wait for the disk.
+    /// Whether the keeper has turns beside the others: where three quarters of the box's room are taken, and where it has gone
+    /// without for 32 rounds. A commit is two syncs, and writes a row of each file that came on, so a busy round does not wait for
+    /// the disk.
     pub(crate) fn is_due(&self) -> bool
         ensures due { OnTrue result (IsDue self.now.pace) }
         ensures early { OnFalse result (¬ (IsDue self.now.pace)) }
     {
-        self.pace.without >= MAX_ROUNDS_WITHOUT || self.pace.boxed >= u64::from(self.pace.room / 2)
+        self.pace.without >= MAX_ROUNDS_WITHOUT
+            || self.pace.boxed >= u64::from(self.pace.room / 4 * 3)
     }
 }
