@@ -4,7 +4,7 @@ use Rattle.std.specs.List.{filter_map, cons_option, AllByRecursion}
 use Rattle.std.specs.List.Sorted.{IsStrictlySortedBy}
 use Rattle.std.specs.Option.{option_and_then}
 use Rattle.std.specs.declared.cmp.Ordering.TheVariants.{Less}
-use Rattle.std.proofs.lemmas.List.Elements.{All-contains, All-from_recursion, filter_map-append, Contains-append_left}
+use Rattle.std.proofs.lemmas.List.Elements.{All-from_recursion, filter_map-append, Contains-append_left}
 use Rattle.wire_base.specs.KeyOrder as entries
 use Rattle.wire_base.specs.KeyOrder.{compare}
 use Rattle.wire_base.specs.declared.row.Row.{Row}
@@ -152,7 +152,7 @@ module _ (files : List (ℕ × FileState)) (slots : List (List ℕ × List ℕ))
 -- ---- all of them
 
 module _ (laws : Laws) (lead : Lead) (unchanged : Unchanged) (opening : List Row) (files : List (ℕ × FileState)) (slots : List (List ℕ × List ℕ)) (noted : List (List ℕ × Option Row)) (fresh : List ℕ) (notes committed : List Note) (was : IsTracker opening files slots noted fresh notes committed) (orderly : AreOrderly notes)
-    (sorted : AreKeysAscending (map first_of noted)) (found : All (λ (entry : List ℕ × Option Row). at_key noted entry.0 ≡ Some entry.1) noted) (from to : List Row) (over_from : AreRowsOver opening committed from) (over_to : AreRowsOver opening notes to) where
+    (sorted : AreKeysAscending (map first_of noted)) (found : (entry : List ℕ × Option Row) → Contains noted entry → at_key noted entry.0 ≡ Some entry.1) (from to : List Row) (over_from : AreRowsOver opening committed from) (over_to : AreRowsOver opening notes to) where
   -- a key that no Begin names had no row but the opening one
   none_committed : (key : List ℕ) → row_now files (slots_at slots key) key ≡ None → row_for opening committed key ≡ find key opening
   none_committed key none = laws.none opening committed key (λ slot there.
@@ -165,7 +165,7 @@ module _ (laws : Laws) (lead : Lead) (unchanged : Unchanged) (opening : List Row
     where
       kept : entry.1 ≡ row_for opening committed entry.0
       kept =
-          sym (ap (λ (o : Option (Option Row)). unwrap_or o (row_for opening notes entry.0)) (All-contains (λ (e : List ℕ × Option Row). at_key noted e.0 ≡ Some e.1) noted entry found there))
+          sym (ap (λ (o : Option (Option Row)). unwrap_or o (row_for opening notes entry.0)) (found entry there))
           ∙ was.rows orderly entry.0
 
       by_now : (o : Option (Option Row)) → row_now files (slots_at slots entry.0) entry.0 ≡ o → option_and_then (change_of entry.0 entry.1) o ≡ change_of entry.0 (find entry.0 from) (find entry.0 to)

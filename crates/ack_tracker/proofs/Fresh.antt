@@ -61,7 +61,3 @@ one_more_fresh fresh more slot file files noted were here some is other there = 
     by_case : (is_at (nat_cmp other) slot ≡ true) ⊎ (list_any (is_at (nat_cmp other)) fresh ≡ true) → (its : FileState) × (file_of files other ≡ Some its) × IsSome (at_key noted its.key)
     by_case (inl at) = (file, ap (file_of files) (at_number other slot at) ∙ here, some)
     by_case (inr was) = were other was
-
--- no slots
-pub none_fresh : (fresh : List ℕ) (files : List (ℕ × FileState)) (noted : List (List ℕ × Option Row)) → fresh ≡ [] → AreFresh fresh files noted
-none_fresh fresh files noted none slot there = absurd (let q : false ≡ true = subst (λ (keys : List ℕ). list_any (is_at (nat_cmp slot)) keys ≡ true) none there in cc)

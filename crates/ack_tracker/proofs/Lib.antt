@@ -1,5 +1,6 @@
 mod Changing
 mod AtKey
+mod ByKey
 mod ByNumber
 mod Contained
 mod Covering

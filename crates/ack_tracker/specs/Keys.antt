@@ -1,10 +1,10 @@
 -- What is kept of keys (this project's profile): the slots that Begins gave to each, and of each key that was noted since the
 -- last commit the row that it had there.
-use Rattle.std.specs.Prelude.{◌≡◌, ◌⊎◌, ℕ, Bool, true, false, max, Contains, List, [], ◌∷◌, ◌++◌, Option, Some, None, IsSome, unwrap_or, ◌&&◌, if◌then◌else◌}
-use Rattle.std.specs.List.{list_any}
+use Rattle.std.specs.Prelude.{◌≡◌, ◌⊎◌, ℕ, Bool, true, false, max, Contains, List, [], ◌∷◌, ◌++◌, map, Option, Some, None, IsSome, unwrap_or, ◌&&◌, if◌then◌else◌}
+use Rattle.std.specs.List.{filter_map, list_any}
 use Rattle.std.specs.Map.{lookup}
 use Rattle.std.specs.BTreeMap.{is_at}
-use Rattle.std.specs.Option.{option_and_then}
+use Rattle.std.specs.Option.{option_and_then, option_map}
 use Rattle.std.specs.Ordering.{nat_cmp}
 use Rattle.std.specs.Str.{bytes_eq}
 use Rattle.wire_base.specs.KeyOrder.{compare}
@@ -21,10 +21,24 @@ use Rattle.ship_core.specs.RowOver.{Start, notes_of, slot_of, start_over}
 use Rattle.ship_core.specs.RowsOver.{row_for}
 use Rattle.ack_tracker.specs.FileState.{FileState, is_gone, row_in}
 use Rattle.ack_tracker.specs.Files.{file_of, AreOf}
+use Rattle.ack_tracker.specs.declared.keyed.Keyed.{Keyed}
 
 -- what an ordered map has at a key
 abbrev pub at_key : {X : Type 0} → List (List ℕ × X) → List ℕ → Option X
 at_key entries key = lookup (is_at (compare key)) entries
+
+-- ---- what is kept, by keys
+
+-- the slots of each key
+abbrev pub slots_of : List (List ℕ × Keyed) → List (List ℕ × List ℕ)
+slots_of keys = map (λ entry. (entry.0, entry.1.slots)) keys
+
+abbrev pub was_of : List ℕ × Keyed → Option (List ℕ × Option Row)
+was_of entry = option_map (λ was. (entry.0, was)) entry.1.was
+
+-- the keys that were noted since the last commit, each with the row that it had there
+abbrev pub noted_of : List (List ℕ × Keyed) → List (List ℕ × Option Row)
+noted_of keys = filter_map was_of keys
 
 -- the slots of a key
 abbrev pub slots_at : List (List ℕ × List ℕ) → List ℕ → List ℕ
@@ -68,6 +82,10 @@ row_before opening files slots key = unwrap_or (row_now files (slots_at slots ke
 -- the change of a noted key's row
 abbrev pub change_now : List (ℕ × FileState) → List (List ℕ × List ℕ) → List ℕ × Option Row → Option Op
 change_now files slots entry = option_and_then (change_of entry.0 entry.1) (row_now files (slots_at slots entry.0) entry.0)
+
+-- the change of a key, where it was noted
+abbrev pub change_kept : List (ℕ × FileState) → List ℕ × Keyed → Option Op
+change_kept files entry = option_and_then (λ was. option_and_then (change_of entry.0 was) (row_now files entry.1.slots entry.0)) entry.1.was
 
 -- ---- one note more
 

@@ -9,13 +9,16 @@
 //! A tracker stands for the list of its notes, as the definitions of `ship_core` read it, but keeps no such list. Of each
 //! file it keeps the end up to which all is settled, and the spans settled behind that as intervals in a tree. So a span
 //! that adjoins the end only moves it, one ahead costs the logarithm of the intervals, and memory is bounded by files and
-//! gaps. Nothing here collects notes or writes a disk.
+//! gaps. Of each key it keeps the slots that began with it, and the row that it had at the last commit where it was noted
+//! since; so `changes` looks at each key once, in their order, and a note of a slot whose key was noted looks at none.
+//! Nothing here collects notes or writes a disk.
 #![tactic(auto)]
 
 mod coverage;
 mod file;
 mod history;
-mod noted;
+mod keyed;
+mod keys;
 mod reach;
 mod slots;
 mod tracker;

@@ -11,7 +11,7 @@ ghost use Rattle.ack_tracker.specs.Keys.{SetsBegun};
 
 use crate::file::File;
 use crate::history::History;
-use crate::noted::{Files, Noted, SlotsByKey, changes, prepare};
+use crate::keys::{Files, Keys};
 use ship_core::{
     Rows, changes_by_key, covered_end_by_spans, note_by_key, row_by_slots, slots_by_begin,
 };
@@ -25,8 +25,7 @@ use wire_base::{Epoch, NoMemory, Note, Op, Row, Slot};
 pub struct Tracker {
     opening: Rows,
     files: Files,
-    slots: SlotsByKey,
-    noted: Noted,
+    keys: Keys,
     history: History,
     /// The notes before the last commit.
     committed: History,
@@ -35,7 +34,7 @@ pub struct Tracker {
 impl Model for Tracker {
     ghost use Rattle.ack_tracker.specs.Tracked.{Tracked};
     ghost use Rattle.ack_tracker.specs.Files.{gone_among};
-    ghost use Rattle.ack_tracker.specs.Keys.{IsTracker};
+    ghost use Rattle.ack_tracker.specs.Keys.{IsTracker, noted_of, slots_of};
 
     ghost Value = { Tracked };
 
@@ -46,8 +45,9 @@ impl Model for Tracker {
       gone = gone_among t.files.entries;
     } };
 
-    ghost invariant = { λ t. IsTracker t.opening t.files.entries t.slots.entries
-        t.noted.rows.entries t.noted.fresh.keys t.history.notes t.committed.notes };
+    ghost invariant = { λ t. IsTracker t.opening t.files.entries
+        (slots_of t.keys.by_key.entries) (noted_of t.keys.by_key.entries) t.keys.fresh.keys
+        t.history.notes t.committed.notes };
 }
 
 impl Tracker {
@@ -59,8 +59,7 @@ impl Tracker {
         Ok(Tracker {
             opening: rows.copy(alloc)?,
             files: BTreeMap::new(alloc),
-            slots: BTreeMap::new(alloc),
-            noted: Noted::new(alloc),
+            keys: Keys::new(alloc),
             history: History::new(),
             committed: History::new(),
         })
@@ -81,14 +80,7 @@ impl Tracker {
         slots_by_begin();
         note_by_key();
         let history = self.history.and(&note);
-        match prepare(
-            &mut self.noted,
-            &mut self.slots,
-            alloc,
-            &self.opening,
-            &self.files,
-            &note,
-        ) {
+        match self.keys.prepare(alloc, &self.opening, &self.files, &note) {
             Ok(()) => {}
             Err(_) => return Err(note),
         }
@@ -99,7 +91,7 @@ impl Tracker {
 
     /// What leads from the rows last committed to the present ones, each in byte order of the keys: the opening rows
     /// and the notes up to the last commit, or all of them, say which rows these are. Takes time for the keys that were
-    /// noted since then.
+    /// noted since then, and a look at each other one.
     pub fn changes(&self, alloc: Global) -> Result<Vec<Op>, NoMemory>
         ensures by_the_notes { AreOrderly self.now.notes → (from to : List Row) →
             AreRowsOver self.now.opening self.now.committed from →
@@ -116,7 +108,7 @@ impl Tracker {
         row_by_slots();
         slots_by_begin();
         changes_by_key();
-        changes(alloc, &self.files, &self.slots, &self.noted.rows)
+        self.keys.changes(alloc, &self.files)
     }
 
     /// The present rows are those last committed. Takes no memory.
@@ -126,7 +118,7 @@ impl Tracker {
         ensures notes_stay { self.new.notes ≡ self.old.notes }
         ensures gone_stays { self.new.gone ≡ self.old.gone }
     {
-        self.noted.clear();
+        self.keys.commit();
         self.committed = self.history.again();
     }
 
