@@ -22,6 +22,15 @@ RUNS = 5
 # so many lanes read them, and as many workers send what they read
 CREWS = [1, 2, 4]
 CREW_FILES = 100
+# what changes each event, and lets all of them through
+PROCESSORS = """processors = [
+    { add_fields = { target = "host", fields = { name = "node-7" } } },
+    { add_tags = { tags = ["web"] } },
+    { rename = { fields = [{ from = "log.file.path", to = "path" }] } },
+    { drop_fields = { fields = ["log.offset", "input"] } },
+    { drop_event = { when = { contains = { message = "DEBUG" } } } },
+]
+"""
 # more connections than all runs make
 CONNECTIONS = 1_000_000
 
@@ -47,9 +56,25 @@ The program beside the bare sender, in these runs:
 CREW_HEAD = f"""
 The program over {CREW_FILES} such files with so many lanes and as many workers:
 
-| Lanes and workers | Lines a second | Times the time of one | Processor seconds |
-|---:|---:|---:|---:|
+| What | Lanes and workers | Lines a second | Times the time of one | Processor seconds |
+|---|---:|---:|---:|---:|
 """
+
+
+class Load(NamedTuple):
+    """What lanes and workers have to do: what is said of it, settings of processors, and how late the peer answers."""
+
+    name: str
+    processors: str
+    milliseconds_late: int
+
+
+LOADS = [
+    Load("lines", "", 0),
+    Load("lines that five processors change", PROCESSORS, 0),
+    Load("lines to a peer that answers 5 ms late", "", 5),
+    Load("lines to a peer that answers 50 ms late", "", 50),
+]
 
 
 class Run(NamedTuple):
@@ -115,18 +140,18 @@ def peak_memory(command, folder):
 
 
 class Loopback:
-    """A receiver, to which commands ship files, each in a folder of its own."""
+    """A receiver, to which commands ship files, each in a folder of its own. It answers so many milliseconds late."""
 
-    def __init__(self, folder):
+    def __init__(self, folder, bare, milliseconds_late=0):
         self.folder = Path(folder)
-        self.bare = make_bare(folder)
-        command = [self.bare, "receive", str(CONNECTIONS), "0"]
+        self.bare = bare
+        command = [self.bare, "receive", str(CONNECTIONS), str(milliseconds_late)]
         self.receiver = subprocess.Popen(command, stdout=subprocess.PIPE, text=True)
         self.host = f"127.0.0.1:{int(self.receiver.stdout.readline())}"
 
-    def over(self, measure, command, logs, crew=1):
+    def over(self, measure, command, logs, crew=1, processors=""):
         """What is measured of one run, after which the receiver has to have every line."""
-        settings = program.settings_text(logs / "*.log", self.host, f"workers = {crew}")
+        settings = processors + program.settings_text(logs / "*.log", self.host, f"workers = {crew}")
         # the registry of a run is in the folder where it runs
         with tempfile.TemporaryDirectory(dir=self.folder) as place:
             (Path(place) / "beat.toml").write_text(f"{settings}[harvest]\nlanes = {crew}\n")
@@ -137,10 +162,10 @@ class Loopback:
             missing -= int(self.receiver.stdout.readline())
         return taken
 
-    def best_of_crew(self, moqhuluzi, logs, crew):
+    def best_of_crew(self, moqhuluzi, logs, crew, processors):
         """The best run of the program with so many lanes and workers."""
         command = [moqhuluzi, "-c", "beat.toml", "--once"]
-        runs = [self.over(timed, command, logs, crew) for _ in range(RUNS)]
+        runs = [self.over(timed, command, logs, crew, processors) for _ in range(RUNS)]
         return Run(*map(min, zip(*runs)))
 
     def measured(self, moqhuluzi, logs):
@@ -151,7 +176,10 @@ class Loopback:
         peaks = [self.over(peak_memory, command, logs) for command in commands]
         return [Figures(*of_one) for of_one in zip(best, peaks)]
 
-    def end(self):
+    def __enter__(self):
+        return self
+
+    def __exit__(self, *_):
         self.receiver.terminate()
         self.receiver.wait()
 
@@ -168,29 +196,36 @@ def ratios(files, ours, bare):
     return f"| {files} | {wall:.2f} | {processor:.2f} | {ours.memory / bare.memory:.1f} |\n"
 
 
-def crew_rows(loopback, moqhuluzi, logs):
-    best = {crew: loopback.best_of_crew(moqhuluzi, logs, crew) for crew in CREWS}
+def crew_rows(loopback, load, moqhuluzi, logs):
+    best = {crew: loopback.best_of_crew(moqhuluzi, logs, crew, load.processors) for crew in CREWS}
     rows = ""
     for crew, run in best.items():
         times = run.wall / best[CREWS[0]].wall
-        print(f"{crew:>6} lanes and workers {times:.2f} times the time of one", flush=True)
-        rows += f"| {crew} | {LINES / run.wall:.0f} | {times:.2f} | {run.processor:.3f} |\n"
+        print(f"{load.name}: {crew} lanes and workers {times:.2f} times the time of one", flush=True)
+        rows += f"| {load.name} | {crew} | {LINES / run.wall:.0f} | {times:.2f} | {run.processor:.3f} |\n"
     return rows
+
+
+def measured_over(loopback, moqhuluzi, logs):
+    """The rows of the program and of the bare sender, and those of the one beside the other."""
+    rows, beside = "", ""
+    for files in FILES:
+        ours, bare = loopback.measured(moqhuluzi, logs[files])
+        rows += row(files, "the program", ours) + row(files, "the bare sender", bare)
+        beside += ratios(files, ours, bare)
+    return rows + RATIOS + beside
 
 
 def transport_table():
     program.allow_open_files()
     moqhuluzi = program.proved_program()
-    rows, beside = "", ""
     with tempfile.TemporaryDirectory() as folder:
-        loopback = Loopback(folder)
-        try:
-            logs = {files: make_files(folder, files) for files in FILES}
-            for files in FILES:
-                ours, bare = loopback.measured(moqhuluzi, logs[files])
-                rows += row(files, "the program", ours) + row(files, "the bare sender", bare)
-                beside += ratios(files, ours, bare)
-            crews = crew_rows(loopback, moqhuluzi, logs[CREW_FILES])
-        finally:
-            loopback.end()
-    return HEAD + rows + RATIOS + beside + CREW_HEAD + crews
+        bare = make_bare(folder)
+        logs = {files: make_files(folder, files) for files in FILES}
+        with Loopback(folder, bare) as loopback:
+            table = HEAD + measured_over(loopback, moqhuluzi, logs)
+        crews = ""
+        for load in LOADS:
+            with Loopback(folder, bare, load.milliseconds_late) as loopback:
+                crews += crew_rows(loopback, load, moqhuluzi, logs[CREW_FILES])
+    return table + CREW_HEAD + crews
