@@ -3,10 +3,10 @@ ghost use Rattle.patterns.specs.Pattern.{IsLinePattern};
 ghost use Rattle.multiline_core.specs.Continuing.{continues, flushes};
 ghost use Rattle.multiline_core.specs.Step.{count_step, unflushed_step};
 
+use crate::group_pattern::GroupPattern;
 use crate::step::Step;
 use event_tree::{GroupRule, Side};
 use line_cutter::Line;
-use patterns::LinePattern;
 use std::alloc::Global;
 use wire_base::{NoMemory, Text};
 
@@ -16,10 +16,10 @@ pub enum Kind {
     Single,
     Count(u64),
     Pattern {
-        pattern: LinePattern,
+        pattern: GroupPattern,
         negate: bool,
         side: Side,
-        flush: Option<LinePattern>,
+        flush: Option<GroupPattern>,
     },
 }
 
@@ -51,7 +51,7 @@ impl Kind {
                 flush_pattern,
                 ..
             } => Ok(Kind::Pattern {
-                pattern: LinePattern::new(alloc, pattern)?,
+                pattern: GroupPattern::new(alloc, pattern)?,
                 negate: *negate,
                 side: *side,
                 flush: compiled(alloc, flush_pattern)?,
@@ -120,13 +120,13 @@ impl Limits {
     }
 }
 
-fn compiled(alloc: Global, pattern: &Option<Text>) -> Result<Option<LinePattern>, NoMemory>
+fn compiled(alloc: Global, pattern: &Option<Text>) -> Result<Option<GroupPattern>, NoMemory>
     requires { IfSome pattern.now IsLinePattern }
     ensures { IfOk result (λ compiled. compiled ≡ pattern.now) }
 {
     match pattern {
         None => Ok(None),
-        Some(pattern) => Ok(Some(LinePattern::new(alloc, pattern)?)),
+        Some(pattern) => Ok(Some(GroupPattern::new(alloc, pattern)?)),
     }
 }
 
@@ -154,7 +154,7 @@ fn pattern_step(waiting: u64, goes_on: bool, side: Side) -> Step
 
 fn continues(
     alloc: Global,
-    pattern: &mut LinePattern,
+    pattern: &mut GroupPattern,
     negate: bool,
     line: &Line,
 ) -> Result<bool, NoMemory>
@@ -165,7 +165,7 @@ fn continues(
     Ok(found != negate)
 }
 
-fn flushes(alloc: Global, flush: &mut Option<LinePattern>, line: &Line) -> Result<bool, NoMemory>
+fn flushes(alloc: Global, flush: &mut Option<GroupPattern>, line: &Line) -> Result<bool, NoMemory>
     ensures last { IfOk result (λ last. last ≡ flushes flush.old line.now) }
     ensures same { flush.new ≡ flush.old }
 {

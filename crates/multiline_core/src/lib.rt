@@ -16,6 +16,7 @@
 #![tactic(auto)]
 
 mod group;
+mod group_pattern;
 mod grouper;
 mod kind;
 mod laws;
