@@ -14,7 +14,7 @@ use Rattle.wire_base.specs.declared.note.Note.{Note}
 use Rattle.wire_base.specs.declared.note.Note.TheVariants.{Begin, Announce, Settle, Rename, Seen, Forget}
 use Rattle.ship_core.specs.Rows.{key_of, IsInOrder, find}
 use Rattle.ship_core.specs.Changes.{op_for}
-use Rattle.ship_core.specs.Replay.{after_op, with_row, without_row}
+use Rattle.ship_core.specs.Replay.{after_op, with_row}
 use Rattle.ship_core.specs.Orderly.{AreOrderly}
 use Rattle.ship_core.specs.RowOver.{Start, slot_of, start_of, notes_of, start_over, is_gone, row_of, row_over}
 use Rattle.ship_core.specs.RowsOver.{slot_for, slots_for, row_of_greatest, row_among, row_for, AreRowsOver}

@@ -1,26 +1,23 @@
 -- What plain passes over notes find.
-use Rattle.std.proofs.Common.{◌≡◌, ◌⊎◌, inl, inr, ℕ, zero, suc, ◌+◌, ◌-◌, ◌<◌, ◌≤◌, Bool, true, false, List, [], ◌∷◌, length, get_or, drop, max, All, Contains, Option, Some, None, IfSome, unwrap_or, if◌then◌else◌, ◌==◌, ◌&&◌, nat_lt, refl, sym, ap, ◌∙◌, subst, arith}
+use Rattle.std.proofs.Common.{◌≡◌, ℕ, zero, suc, ◌-◌, ◌<◌, ◌≤◌, Bool, true, false, List, [], ◌∷◌, get_or, max, All, Contains, Option, Some, None, IfSome, unwrap_or, if◌then◌else◌, ◌==◌, ◌&&◌, nat_lt, refl, sym, ap, ◌∙◌, subst, arith}
 use Rattle.std.specs.List.{filter, filter_map, cons_option, fold, list_any}
 use Rattle.std.specs.List.{find as first_that}
 use Rattle.std.specs.Option.{is_some, option_map, option_map_or, option_and_then}
-use Rattle.std.proofs.lemmas.Bool.{eqb-true, eq-eqb}
-use Rattle.std.proofs.lemmas.List.{at_drop_more, at_drop_all}
+use Rattle.std.proofs.lemmas.Bool.{eq-eqb}
 use Rattle.std.proofs.lemmas.List.Elements.{All-contains, Contains-get_or}
 use Rattle.wire_base.specs.Extent.{Extent}
-use Rattle.wire_base.specs.Ranges.{IsKey, IsMoment, IsNote, IsPath, IsPlace, IsRow}
+use Rattle.wire_base.specs.Ranges.{IsKey, IsNote, IsPath, IsPlace, IsRow}
 use Rattle.wire_base.specs.declared.numbers.Slot.{Slot}
-use Rattle.wire_base.specs.declared.numbers.Epoch.{Epoch}
-use Rattle.wire_base.specs.declared.numbers.Moment.{Moment}
 use Rattle.wire_base.specs.declared.row.Row.{Row}
 use Rattle.wire_base.specs.declared.note.Note.{Note}
 use Rattle.wire_base.specs.declared.note.Note.TheVariants.{Begin, Announce, Settle, Rename, Seen, Forget}
 use Rattle.ship_core.specs.CoveredEnd.{next_end, end_within, covered_end}
 use Rattle.ship_core.specs.Reading.{begins, is_newer, later, place_of}
 use Rattle.ship_core.specs.Rows.{find}
-use Rattle.ship_core.specs.RowOver.{Start, Naming, slot_of, epoch_of, moment_of, start_of, span_in, naming_of, newer, notes_of, first_start, start_over, forgets, greatest_epoch, greatest_moment, base_in, spans_in, offset_over, path_over, is_gone, standing_row, row_of, row_over}
+use Rattle.ship_core.specs.RowOver.{Start, Naming, slot_of, moment_of, start_of, span_in, naming_of, newer, notes_of, first_start, start_over, forgets, greatest_epoch, greatest_moment, base_in, spans_in, offset_over, path_over, is_gone, standing_row, row_of, row_over}
 use Rattle.ship_core.specs.RowsOver.{row_of_greatest, row_among}
 use Rattle.wire_base.specs.declared.numbers.TheConstants.{MAX_PLACE, MAX_MOMENT}
-use Rattle.ship_core.proofs.Members.{first_there, later_there, there_cases, none_there, there_passed, there_given, greatest_least}
+use Rattle.ship_core.proofs.Members.{first_there, later_there, there_passed, there_given, greatest_least}
 use Rattle.ship_core.proofs.Reordered.{first_member}
 use Rattle.ship_core.proofs.Prefixes.{no_further}
 

@@ -1,6 +1,6 @@
 -- What any steps of the registry machine store.
 use Rattle.std.proofs.Common.{◌≡◌, ◌≢◌, ◌⊎◌, inl, inr, ℕ, Bool, true, false, List, [], ◌∷◌, ◌++◌, take, drop, max, All, Contains, Option, Some, None, if◌then◌else◌, refl, sym, ap, ◌∙◌, subst, append_assoc}
-use Rattle.std.specs.List.{filter, filter_map, fold, AllByRecursion}
+use Rattle.std.specs.List.{filter, fold, AllByRecursion}
 use Rattle.std.specs.Option.{is_some}
 use Rattle.std.proofs.lemmas.List.{append-nil, take-append-drop}
 use Rattle.std.proofs.lemmas.List.Elements.{recursion_from_All, Contains-append_cases, Contains-append_left, filter_map-append}
@@ -10,11 +10,11 @@ use Rattle.wire_base.specs.declared.row.Op.TheVariants.{Set, Remove}
 use Rattle.wire_base.specs.declared.note.Note.{Note}
 use Rattle.ship_core.specs.declared.step.CoreStep.{CoreStep}
 use Rattle.ship_core.specs.declared.step.CoreStep.TheVariants.{Noted, Commit, Crash, Restart}
-use Rattle.ship_core.specs.Changes.{LeadTo, key_in, change_of, op_for}
+use Rattle.ship_core.specs.Changes.{change_of, op_for}
 use Rattle.ship_core.specs.Forward.{RowGoesOn}
 use Rattle.ship_core.specs.Machine.{Core, ArePending, Steps, Runs, IsQuiet, IsStoring, IsStoredBy, at_start}
 use Rattle.ship_core.specs.Orderly.{IsBegun}
-use Rattle.ship_core.specs.Replay.{replay, replay_on}
+use Rattle.ship_core.specs.Replay.{replay}
 use Rattle.ship_core.specs.RowOver.{row_over}
 use Rattle.ship_core.specs.Rows.{find}
 use Rattle.ship_core.specs.RowsOver.{AreRowsOver, slot_for, slots_for, row_of_greatest, row_among, row_for}

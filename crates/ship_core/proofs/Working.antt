@@ -1,9 +1,7 @@
 -- The registry machine's program: each step keeps what it keeps beside its state.
-use Rattle.std.proofs.Common.{◌≡◌, ◌≢◌, ◌⊎◌, inl, inr, ℕ, ◌+◌, ◌-◌, ◌<◌, ◌≤◌, Bool, true, false, List, [], ◌∷◌, ◌++◌, length, length-append, take, All, Contains, Option, Some, None, Result, Ok, Err, OnOk, if◌then◌else◌, refl, sym, ap, ◌∙◌, subst, arith}
-use Rattle.std.specs.List.{filter_map}
-use Rattle.std.specs.Option.{option_and_then, IsSome}
-use Rattle.std.proofs.lemmas.Bool.{cases_eq, eq-eqb, ne_eqb}
-use Rattle.std.proofs.lemmas.List.{append-nil}
+use Rattle.std.proofs.Common.{◌≡◌, ◌≢◌, inl, inr, ℕ, ◌+◌, ◌≤◌, Bool, true, false, List, [], ◌∷◌, ◌++◌, length, length-append, take, All, Option, Some, None, Result, Ok, Err, OnOk, refl, sym, ap, ◌∙◌, subst, arith}
+use Rattle.std.specs.Option.{IsSome}
+use Rattle.std.proofs.lemmas.Bool.{eq-eqb}
 use Rattle.std.proofs.Math.Seq.{take-append-add}
 use Rattle.std.proofs.lemmas.List.Elements.{All-push, All-nil}
 use Rattle.wire_base.specs.Ranges.{IsNote, IsOp}
@@ -17,11 +15,11 @@ use Rattle.ship_core.specs.Machine.{Core, AreRowsOf, ArePending, IsCut, Renews, 
 use Rattle.ship_core.specs.Standing.{IsWorld}
 use Rattle.ship_core.specs.Orderly.{AreOrderly, IsBegun, MayFollow}
 use Rattle.ship_core.specs.Replay.{after_op, replay, replay_on}
-use Rattle.ship_core.specs.RowOver.{Start, slot_of, start_of, notes_of, start_over}
+use Rattle.ship_core.specs.RowOver.{Start, slot_of, notes_of, start_over}
 use Rattle.ship_core.specs.Rows.{IsInOrder, find, key_of}
-use Rattle.ship_core.specs.RowsOver.{AreRowsOver, slots_for, row_for}
+use Rattle.ship_core.specs.RowsOver.{AreRowsOver, row_for}
 use Rattle.ship_core.proofs.Applied.{in_order-op}
-use Rattle.ship_core.proofs.Built.{HasKey, has_key, put, put_here, put_others}
+use Rattle.ship_core.proofs.Built.{HasKey, has_key, put_here, put_others}
 use Rattle.ship_core.proofs.InOrder.{none_orderly, one_more_orderly}
 use Rattle.ship_core.proofs.Leading.{in_order-replay, key_cases, lead_with, no_other, nothing_leads}
 use Rattle.ship_core.proofs.MoreNotes.{this_slot, start_still}

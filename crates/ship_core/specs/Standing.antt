@@ -1,5 +1,5 @@
 -- What a world keeps beside its state (this project's profile): what is stored, the rows, and what leads there.
-use Rattle.std.specs.Prelude.{◌≡◌, All, List, Bool, true, false}
+use Rattle.std.specs.Prelude.{◌≡◌, All, List}
 use Rattle.wire_base.specs.Ranges.{IsNote, IsOp}
 use Rattle.wire_base.specs.declared.row.Row.{Row}
 use Rattle.wire_base.specs.declared.row.Op.{Op}

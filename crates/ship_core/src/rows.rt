@@ -13,6 +13,8 @@ use wire_base::{NoMemory, Op, Row};
 #[derive(Debug, Drop)]
 pub struct Rows {
     rows: Vec<Row>,
+    /// The place behind the row that was set last: operations mostly come in the order of their keys.
+    next: usize,
 }
 
 impl Model for Rows {
@@ -34,6 +36,7 @@ impl Rows {
     {
         Rows {
             rows: Vec::new(alloc),
+            next: 0,
         }
     }
 
@@ -90,7 +93,9 @@ impl Rows {
         ensures kept { OnErr result (self.new ≡ self.old) }
         ensures rows { AreRows self.new }
     {
-        match place(&self.rows, row.key.bytes()) {
+        let place = place_near(&self.rows, self.next, row.key.bytes());
+        self.next = behind(place);
+        match place {
             Ok(i) => self.rows[i] = row,
             Err(i) => self.rows.insert(i, row)?,
         }
@@ -114,7 +119,26 @@ impl Rows {
         for row in &self.rows {
             rows.push(row.copy(alloc)?)?;
         }
-        Ok(Rows { rows })
+        Ok(Rows { rows, next: 0 })
+    }
+}
+
+/// The place behind this one.
+fn behind(place: Result<usize, usize>) -> usize {
+    match place {
+        Ok(i) | Err(i) => i.saturating_add(1),
+    }
+}
+
+/// Where the key's row stands, or where it belongs. The place `near` is looked at first.
+fn place_near(rows: &[Row], near: usize, key: &[u8]) -> Result<usize, usize>
+    requires { IsInOrder rows.now }
+    ensures found { IfOk result (IsAt key_of rows.now key.now) }
+    ensures absent { IfErr result (IsGap key_of rows.now key.now) }
+{
+    match rows.get(near) {
+        Some(row) if row.key.bytes() == key => Ok(near),
+        _ => place(rows, key),
     }
 }
 

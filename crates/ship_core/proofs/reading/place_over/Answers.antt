@@ -1,4 +1,4 @@
-use Rattle.std.proofs.Common.{◌∙◌, sym, ap, Some, None, if◌then◌else◌, Bool, ℕ, Option}
+use Rattle.std.proofs.Common.{◌∙◌, sym, ap, Some, None, if◌then◌else◌, Bool}
 use Rattle.ship_core.specs.Reading.{place_of}
 use Rattle.ship_core.proofs.Passes.{no_start, place_is}
 use Rattle.ship_core.proofs.reading.place_over.Goals as goal

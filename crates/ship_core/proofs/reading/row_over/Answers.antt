@@ -1,5 +1,4 @@
-use Rattle.std.proofs.Common.{◌≡◌, ◌∙◌, sym, ap, Some, arith, rules}
-use Rattle.std.proofs.lemmas.Grind.{common_steps}
+use Rattle.std.proofs.Common.{◌∙◌, sym, Some}
 use Rattle.wire_base.specs.declared.row.Row.{Row}
 use Rattle.ship_core.proofs.Passes.{placed_row, row_in_range}
 use Rattle.ship_core.proofs.reading.row_over.Goals as goal

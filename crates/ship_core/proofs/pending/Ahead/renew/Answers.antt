@@ -1,4 +1,4 @@
-use Rattle.std.proofs.Common.{◌≡◌, ◌∙◌, sym}
+use Rattle.std.proofs.Common.{sym}
 use Rattle.ship_core.proofs.Passes.{standing_in_range}
 use Rattle.ship_core.proofs.Working.{renewed}
 use Rattle.ship_core.proofs.pending.Ahead.renew.Goals as goal

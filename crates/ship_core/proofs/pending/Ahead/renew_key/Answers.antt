@@ -1,11 +1,9 @@
 use Rattle.std.proofs.Common.{◌≡◌, ℕ, ◌∙◌, sym, ap, subst, All, IfSome, List, Option}
 use Rattle.wire_base.specs.Ranges.{IsOp}
-use Rattle.wire_base.specs.declared.row.Row.{Row}
 use Rattle.wire_base.specs.declared.row.Op.{Op}
 use Rattle.ship_core.specs.Changes.{change_of, key_in, op_for}
 use Rattle.ship_core.specs.Rows.{find}
 use Rattle.ship_core.specs.Replay.{after_op}
-use Rattle.ship_core.specs.RowsOver.{row_for}
 use Rattle.ship_core.specs.Machine.{with_change}
 use Rattle.ship_core.proofs.Built.{HasKey, has_key}
 use Rattle.ship_core.proofs.Leading.{changed_own, with_in_range}

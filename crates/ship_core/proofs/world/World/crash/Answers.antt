@@ -1,4 +1,4 @@
-use Rattle.std.proofs.Common.{◌≡◌, ◌∙◌, ◌+◌, ◌-◌, ◌++◌, ◌≤◌, ℕ, true, List, length, take, sym, ap, arith, subst}
+use Rattle.std.proofs.Common.{◌≡◌, ◌∙◌, ◌+◌, ◌-◌, ◌++◌, ℕ, true, List, length, take, sym, ap, arith, subst}
 use Rattle.std.proofs.lemmas.List.{length-take-le}
 use Rattle.wire_base.specs.declared.row.Op.{Op}
 use Rattle.ship_core.specs.Machine.{Core, IsCut}
