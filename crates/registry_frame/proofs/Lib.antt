@@ -3,4 +3,5 @@ mod Escapes
 mod Fields
 pub mod OneReading
 pub mod Operations
+mod Sizes
 mod Spellings

@@ -14,7 +14,7 @@ mod operation;
 mod reading;
 
 pub use body_error::BodyError;
-pub use body_text::body;
+pub use body_text::{Front, body, front_body};
 pub use laws::one_reading;
 pub use operation::{MAX_OPERATION, operation_text, set_text};
 pub use reading::read_body;

@@ -2,6 +2,7 @@ ghost use Rattle.std.specs.Prelude.{◌≡◌, ◌≢◌, ◌<◌, ◌≤◌, �
 ghost use Rattle.outside.specs.Counts.{Rose};
 ghost use Rattle.outside.specs.DiskImages.{LeavesOnly, Only};
 ghost use Rattle.registry_frame.specs.Body.{body_bytes};
+ghost use Rattle.registry_frame.specs.BodyOf.{IsBodyOf};
 ghost use Rattle.registry_log.specs.Appending.{IsBeforeOrAfter, MayAppend, appended_bytes, gate_behind};
 ghost use Rattle.registry_log.specs.Records.{record_of};
 ghost use Rattle.registry_log.specs.State.{IsOpened};
@@ -59,7 +60,47 @@ pub fn append<D: Disk>(alloc: Global, disk: &mut D, end: u64, ops: &[Op]) -> Res
     if body.bytes().len() > MAX_BODY {
         return Err(LogError::RecordTooLong);
     }
-    let text = record_text(alloc, body.bytes())?;
+    append_body(alloc, disk, end, ops, body.bytes())
+}
+
+/// As `append`, where the body of the record is made already. It is not longer than one body may be.
+pub fn append_body<D: Disk>(
+    alloc: Global,
+    disk: &mut D,
+    end: u64,
+    _ops: &[Op],
+    body: &[u8],
+) -> Result<u64, LogError>
+    requires body { IsBodyOf _ops.now body.now }
+    requires fits { length body.now ≤ MAX_BODY }
+    requires end { end < MAX_PLACE }
+
+    ensures last_gate { IfOk result (λ gate. gate ≡ gate_behind end _ops.now) }
+    ensures next_in_range { IfOk result (λ gate. gate < MAX_PLACE) }
+
+    // Of an area that is opened, and whose last gate stands at `end`: what it holds afterwards, and how that reads.
+    ensures appended { (area : List ℕ) (generation : ℕ) (rows : List Row) →
+        D.contents disk.old ≡ Some area → MayAppend area generation rows end _ops.now →
+        OnOk result (D.contents disk.new ≡ Some (appended_bytes area end _ops.now)) }
+    ensures opened { (area : List ℕ) (generation : ℕ) (rows : List Row) →
+        MayAppend area generation rows end _ops.now →
+        IfOk result (IsOpened (appended_bytes area end _ops.now) generation (replay_on rows _ops.now)) }
+    ensures durable { OnOk result (Only (D.contents disk.new) (D.images disk.new)) }
+
+    // Where nothing was pending, a crash at any moment of the call leaves the rows before or the rows after.
+    ensures each_moment { Only (D.contents disk.old) (D.images disk.old) →
+        (area : List ℕ) (generation : ℕ) (rows : List Row) →
+        D.contents disk.old ≡ Some area → MayAppend area generation rows end _ops.now →
+        LeavesOnly D.moment D.images_since disk.old disk.new (IsBeforeOrAfter generation rows end _ops.now) }
+
+    ensures never_too_long { result ≢ Err LogError.RecordTooLong }
+    ensures untouched_without_memory { IsErrOf result LogError.NoMemory → disk.new ≡ disk.old }
+    ensures disk_fault_only_where_faults_rose { IsErrOf result LogError.DiskFault →
+        Rose (D.faults disk.old) (D.faults disk.new) }
+    ensures told { IsSome (D.contents disk.old) → IsSome (D.contents disk.new) }
+    ensures faults_never_fall { D.faults disk.old ≤ D.faults disk.new }
+{
+    let text = record_text(alloc, body)?;
     write_synced(disk, end + 1, &text)?;
     write_synced(disk, end, OPEN)?;
     Ok(end + text.len() as u64)

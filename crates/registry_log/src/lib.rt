@@ -23,7 +23,7 @@ mod start;
 mod stretch;
 mod synced;
 
-pub use appending::append;
+pub use appending::{append, append_body};
 pub use area::{Area, read_area};
 pub use area_text::MAX_BODY;
 pub use header::{HEADER, Header, read_header};

@@ -1,5 +1,4 @@
 mod Beside
-mod Bodies
 mod Choosing
 mod Few
 pub mod InARow

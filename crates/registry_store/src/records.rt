@@ -1,7 +1,6 @@
-ghost use Rattle.std.specs.Prelude.{◌≡◌, ◌≢◌, ◌<◌, ◌≤◌, ℕ, [], All, IfOk, IsErrOf, IsSome, List, length, take};
+ghost use Rattle.std.specs.Prelude.{◌≢◌, ◌<◌, ◌≤◌, ℕ, All, IfOk, IsErrOf, IsSome, List};
 ghost use Rattle.outside.specs.Counts.{Rose};
 ghost use Rattle.outside.specs.DiskImages.{LeavesOnly};
-ghost use Rattle.registry_frame.specs.Body.{body_bytes};
 ghost use Rattle.ship_core.specs.Replay.{replay_on};
 ghost use Rattle.registry_store.specs.Appending.{HoldsOpened, IsOpenedWithSome};
 ghost use Rattle.registry_store.specs.Committing.{AreFewThroughout};
@@ -9,10 +8,10 @@ ghost use Rattle.wire_base.specs.Ranges.{IsOp};
 ghost use Rattle.wire_base.specs.declared.row.Row.{Row};
 
 use outside::Disk;
-use registry_frame::operation_text;
-use registry_log::{LogError, MAX_BODY, append};
+use registry_frame::front_body;
+use registry_log::{LogError, MAX_BODY, append_body};
 use std::alloc::Global;
-use wire_base::{MAX_PLACE, NoMemory, Op};
+use wire_base::{MAX_PLACE, Op};
 
 /// Appends the operations to an area whose last gate stands at `end`, cut into records, and answers the place of the new
 /// last gate.
@@ -37,28 +36,9 @@ pub(crate) fn append_all<D: Disk>(
     let mut done = 0;
     'records: while done < ops.len() {
         let rest = &ops[done..];
-        let count = count_fitting(alloc, rest)?;
-        gate = append(alloc, disk, gate, &rest[..count])?;
-        done += count;
+        let front = front_body(alloc, rest, MAX_BODY)?;
+        gate = append_body(alloc, disk, gate, &rest[..front.count], front.body.bytes())?;
+        done += front.count;
     }
     Ok(gate)
-}
-
-/// How many of the operations, from the first one on, fit into one record.
-fn count_fitting(alloc: Global, ops: &[Op]) -> Result<usize, NoMemory>
-    requires some { ops.now ≢ [] }
-    requires in_range { All IsOp ops.now }
-    ensures some { IfOk result (λ count. 0 < count) }
-    ensures within { IfOk result (λ count. count ≤ length ops.now) }
-    ensures fits { IfOk result (λ count. length (body_bytes (take count ops.now)) ≤ MAX_BODY) }
-{
-    // the body so far: a bracket or a comma in front of each operation, and the last bracket
-    let mut size = 1;
-    for (count, op) in ops.iter().enumerate() {
-        size += operation_text(alloc, op)?.len() + 1;
-        if size > MAX_BODY {
-            return Ok(count);
-        }
-    }
-    Ok(ops.len())
 }

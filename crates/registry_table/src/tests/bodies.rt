@@ -1,7 +1,7 @@
 ghost use Rattle.std.specs.Prelude.{IfOk};
 ghost use Rattle.wire_base.specs.Ranges.{IsKey, IsMoment, IsOp, IsPath, IsPlace};
 
-use registry_frame::{BodyError, body, read_body};
+use registry_frame::{BodyError, MAX_OPERATION, body, front_body, read_body};
 use std::alloc::Global;
 use std::test::Fail;
 use wire_base::{Epoch, MAX_MOMENT, MAX_PLACE, Moment, Op, Row, Text};
@@ -63,6 +63,24 @@ fn bodies_have_one_spelling(rt: HostRuntime) -> Result<(), Fail> {
         body(alloc, &[escaped, removed])?.bytes(),
         b"[{\"changed\":250000000000000,\"epoch\":4294967295,\"key\":\"k\",\"offset\":9223372036854775807,\"op\":\"set\",\"path\":\"/\\\"\\\\\\u0001\\u001f\\n\\t\x7f\xc3\xa9\"},{\"key\":\"a\\\"b\",\"op\":\"remove\"}]".as_slice()
     );
+    Ok(())
+}
+
+#[test]
+fn a_front_has_what_one_body_has_room_for(rt: HostRuntime) -> Result<(), Fail> {
+    let alloc = rt.alloc();
+    let short = remove(alloc, b"k")?;
+    // each byte of such a key is written as six
+    let long = remove(alloc, &[1; 8_192])?;
+    let other = remove(alloc, &[2; 8_192])?;
+    let fitting = body(alloc, &[remove(alloc, b"k")?, remove(alloc, &[1; 8_192])?])?;
+    let ops = [short, long, other];
+    let front = front_body(alloc, &ops, MAX_OPERATION + 2)?;
+    assert_eq!(rt; front.count, 2);
+    assert_eq!(rt; front.body.bytes(), fitting.bytes());
+    let front = front_body(alloc, &ops, 2 * MAX_OPERATION)?;
+    assert_eq!(rt; front.count, 3);
+    assert_eq!(rt; front.body.bytes(), body(alloc, &ops)?.bytes());
     Ok(())
 }
 
