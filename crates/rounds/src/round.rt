@@ -20,9 +20,9 @@ use std::sync::Wait;
 use std::thread::Threads;
 
 impl<T: Tail + Send, L: Link + Send, W: Wire<Link = L> + Send> Crew<T, W, L> {
-    /// One round. Lanes, workers and the keeper have their turns at once, each lane and each worker in a thread of its own where
-    /// one can be made; but one worker alone has its turns behind the lanes, and the keeper beside it before them. Then all passes
-    /// of the queue and the box meet, and are parted again.
+    /// One round. Lanes and the keeper have their turns at once, each in a thread of its own where one can be made, and each
+    /// worker in the thread of a lane, behind it; but one worker alone has its turns behind all lanes, and the keeper beside it
+    /// before them. Then all passes of the queue and the box meet, and are parted again.
     pub fn round<D: Disk + Send, R: Threads + Wait + Sync>(
         &mut self,
         rt: &R,

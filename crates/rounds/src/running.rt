@@ -7,6 +7,7 @@ ghost use Rattle.rounds.specs.Running.{CarrierHasRun, IsCarrierReady, IsLaneRead
 ghost use Rattle.rounds.specs.Words.{disk_words, link_words, tail_words, wire_words};
 
 use crate::carrier::Carrier;
+use crate::halves::{Task, run_parts, run_workers_in_turn};
 use crate::storing::Storing;
 use lanes::{Lane, Outlets, When};
 use outside::{Disk, Link, Tail, Wire};
@@ -22,82 +23,12 @@ pub(crate) struct Shift<'a> {
     pub when: When,
 }
 
-/// Runs each lane, each in a thread of its own where one can be made.
-pub(crate) fn run_lanes<T: Tail + Send, R: Threads + Wait + Sync>(
-    rt: &R,
-    shift: Shift<'_>,
-    lanes: &mut [Lane<T>],
-)
-    requires ready { All (IsLaneReady (tail_words T.numbers T.told T.faults)
-        shift.outlets.queue.now.id shift.outlets.desk.now.id) (lanings lanes.old) }
-    requires moment { IsMoment shift.when.now }
-    ensures { Pairs (LaneHasRun (tail_words T.numbers T.told T.faults)
-        shift.entry.outlets.queue.now.capacity shift.entry.outlets.desk.now.capacity
-        shift.entry.when) (lanings lanes.old) (lanings lanes.new) }
-{
-    // No thread is begun where one lane alone has work.
-    let threads = if busy_lanes(lanes) > 1 {
-        lanes.len().max(1)
-    } else {
-        1
-    };
-    thread::for_each_mut(rt, lanes, threads, &|_, lane| run_lane(rt, shift, lane));
-}
-
 /// How many lanes have a harvester, or hold something.
 fn busy_lanes<T: Tail>(lanes: &[Lane<T>]) -> usize {
     match lanes.split_first() {
         Some((lane, lanes)) => busy_lanes(lanes).saturating_add(usize::from(!lane.is_at_rest())),
         None => 0,
     }
-}
-
-fn run_lane<T: Tail, R: Wait>(rt: &R, shift: Shift<'_>, lane: &mut Lane<T>)
-    requires ready { IsLaneReady (tail_words T.numbers T.told T.faults)
-        shift.outlets.queue.now.id shift.outlets.desk.now.id (laning lane.old) }
-    requires moment { IsMoment shift.when.now }
-    ensures { LaneHasRun (tail_words T.numbers T.told T.faults)
-        shift.entry.outlets.queue.now.capacity shift.entry.outlets.desk.now.capacity
-        shift.entry.when (laning lane.old) (laning lane.new) }
-{
-    lane.run(rt, shift.alloc, shift.outlets, shift.when);
-}
-
-/// Runs each worker, each in a thread of its own where one can be made.
-pub(crate) fn run_carriers<L: Link + Send, W: Wire<Link = L> + Send, R: Threads + Wait + Sync>(
-    rt: &R,
-    shift: Shift<'_>,
-    carriers: &mut [Carrier<W, L>],
-)
-    requires ready { All (IsCarrierReady shift.outlets.queue.now.id shift.outlets.desk.now.id)
-        carriers.old }
-    requires moment { IsMoment shift.when.now }
-    ensures { Pairs (CarrierHasRun (link_words L.told L.faults L.idles)
-        (wire_words W.outcomes W.open_links W.faults W.idles)
-        shift.entry.outlets.desk.now.capacity shift.entry.when.now) carriers.old carriers.new }
-{
-    let threads = carriers.len().max(1);
-    thread::for_each_mut(
-        rt,
-        carriers,
-        threads,
-        &|_, carrier| run_carrier(rt, shift, carrier),
-    );
-}
-
-fn run_carrier<L: Link, W: Wire<Link = L>, R: Wait>(
-    rt: &R,
-    shift: Shift<'_>,
-    carrier: &mut Carrier<W, L>,
-)
-    requires ready { IsCarrierReady shift.outlets.queue.now.id shift.outlets.desk.now.id
-        carrier.old }
-    requires moment { IsMoment shift.when.now }
-    ensures { CarrierHasRun (link_words L.told L.faults L.idles)
-        (wire_words W.outcomes W.open_links W.faults W.idles)
-        shift.entry.outlets.desk.now.capacity shift.entry.when.now carrier.old carrier.new }
-{
-    carrier.run(rt, shift.outlets, shift.when.now);
 }
 
 /// Runs the keeper.
@@ -109,7 +40,52 @@ fn run_storing<D: Disk, R: Wait>(rt: &R, shift: Shift<'_>, storing: &mut Storing
     storing.run(rt, shift.alloc, shift.outlets.desk);
 }
 
-/// Runs lanes and workers: two workers or more beside the lanes, at once, and one alone behind them.
+/// The turns of a lane, and those of a worker.
+#[derive(Drop)]
+struct Turns<'a, 'b, R> {
+    rt: &'a R,
+    shift: Shift<'b>,
+}
+
+impl<'a, 'b, T: Tail + Send, L: Link + Send, W: Wire<Link = L> + Send, R: Wait + Sync> Task<
+    Lane<T>,
+    Carrier<W, L>,
+> for Turns<'a, 'b, R> {
+    ghost can_run = { λ turns. IsMoment turns.shift.when.now };
+
+    ghost lane_ready = { λ turns lane. IsLaneReady (tail_words T.numbers T.told T.faults)
+        turns.shift.outlets.queue.now.id turns.shift.outlets.desk.now.id (laning lane) };
+
+    ghost worker_ready = { λ turns carrier. IsCarrierReady
+        turns.shift.outlets.queue.now.id turns.shift.outlets.desk.now.id carrier };
+
+    ghost lane_ran = { λ turns old new. LaneHasRun (tail_words T.numbers T.told T.faults)
+        turns.shift.outlets.queue.now.capacity turns.shift.outlets.desk.now.capacity
+        turns.shift.when (laning old) (laning new) };
+
+    ghost worker_ran = { λ turns old new. CarrierHasRun (link_words L.told L.faults L.idles)
+        (wire_words W.outcomes W.open_links W.faults W.idles)
+        turns.shift.outlets.desk.now.capacity turns.shift.when.now old new };
+
+    fn are_few_busy(&self, lanes: &[Lane<T>]) -> bool {
+        busy_lanes(lanes) < 2
+    }
+
+    fn run_lane(&self, lane: &mut Lane<T>) {
+        lane.run(
+            self.rt,
+            self.shift.alloc,
+            self.shift.outlets,
+            self.shift.when,
+        );
+    }
+
+    fn run_worker(&self, worker: &mut Carrier<W, L>) {
+        worker.run(self.rt, self.shift.outlets, self.shift.when.now);
+    }
+}
+
+/// Runs lanes and workers: two workers or more each in the thread of a lane, behind it, and one alone behind all lanes.
 pub(crate) fn run_both<
     T: Tail + Send,
     L: Link + Send,
@@ -128,25 +104,15 @@ pub(crate) fn run_both<
         (wire_words W.outcomes W.open_links W.faults W.idles)
         shift.entry.outlets.desk.now.capacity shift.entry.when.now) carriers.old carriers.new }
 {
-    // One worker alone finds here all that the lanes gave; a thread for it costs more than it gives.
+    let turns = Turns { rt, shift };
+    // One worker alone finds behind all lanes what they gave; a thread for it costs more than it gives.
     if carriers.len() == 1 {
-        run_lanes(rt, shift, lanes);
-        run_carriers(rt, shift, carriers);
+        let none: &mut [Carrier<W, L>] = &mut [];
+        run_parts(rt, &turns, lanes, none);
+        run_workers_in_turn::<Lane<T>, _, _>(&turns, carriers);
         return;
     }
-    // Each thread reads a shift of its own.
-    let other = shift;
-    let mut carrying = ||
-        requires ready { All (IsCarrierReady shift.outlets.queue.now.id
-            shift.outlets.desk.now.id) carriers.now }
-        requires moment { IsMoment shift.when.now }
-    { run_carriers(rt, shift, carriers) };
-    let mut turning = ||
-        requires ready { All (IsLaneReady (tail_words T.numbers T.told T.faults)
-            other.outlets.queue.now.id other.outlets.desk.now.id) (lanings lanes.now) }
-        requires moment { IsMoment other.when.now }
-    { run_lanes(rt, other, lanes) };
-    thread::join_mut(rt, &mut carrying, &mut turning);
+    run_parts(rt, &turns, lanes, carriers);
 }
 
 /// Runs lanes, workers and the keeper: the keeper beside two workers or more, at once, and before one alone.

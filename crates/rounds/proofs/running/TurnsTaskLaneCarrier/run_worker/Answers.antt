@@ -1,5 +1,5 @@
 use Rattle.rounds.specs.Running.{CarrierHasRun}
-use Rattle.rounds.proofs.running.run_carrier.Goals as goal
+use Rattle.rounds.proofs.running.TurnsTaskLaneCarrier.run_worker.Goals as goal
 
 pub returns : goal.returns
 unfolding CarrierHasRun

@@ -1,5 +1,5 @@
 use Rattle.rounds.specs.Running.{LaneHasRun}
-use Rattle.rounds.proofs.running.run_lane.Goals as goal
+use Rattle.rounds.proofs.running.TurnsTaskLaneCarrier.run_lane.Goals as goal
 
 pub returns : goal.returns
 unfolding LaneHasRun
