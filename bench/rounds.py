@@ -28,8 +28,8 @@ WALL, PROCESSOR = 0, 1
 HEAD = """
 ## `Crew::round`
 
-Rounds of lanes, of as many workers and of the keeper. With two workers or more each is in a thread of its own where it has
-work; one worker alone has its turns behind the lanes. Files, peers and disks are in memory; a line has 120 bytes, a peer
+Rounds of lanes, of as many workers and of the keeper. Each lane that has work is in a thread of its own, with a worker behind
+it; one worker alone has its turns behind all lanes. Files, peers and disks are in memory; a line has 120 bytes, a peer
 acknowledges each window at once, and a disk keeps its length alone. The time is the clock's, the least of {runs} runs, less that
 of a run without what is timed; it depends on what else runs: the load was {load:.1f}.
 
