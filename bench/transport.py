@@ -162,11 +162,11 @@ class Loopback:
             missing -= int(self.receiver.stdout.readline())
         return taken
 
-    def best_of_crew(self, moqhuluzi, logs, crew, processors):
-        """The best run of the program with so many lanes and workers."""
+    def best_of_crews(self, moqhuluzi, logs, processors):
+        """The best run of the program with each number of lanes and workers. The runs are taken in turn."""
         command = [moqhuluzi, "-c", "beat.toml", "--once"]
-        runs = [self.over(timed, command, logs, crew, processors) for _ in range(RUNS)]
-        return Run(*map(min, zip(*runs)))
+        runs = [[self.over(timed, command, logs, crew, processors) for crew in CREWS] for _ in range(RUNS)]
+        return {crew: Run(*map(min, zip(*of_one))) for crew, of_one in zip(CREWS, zip(*runs))}
 
     def measured(self, moqhuluzi, logs):
         """The figures of the program and of the bare sender over these files."""
@@ -197,7 +197,7 @@ def ratios(files, ours, bare):
 
 
 def crew_rows(loopback, load, moqhuluzi, logs):
-    best = {crew: loopback.best_of_crew(moqhuluzi, logs, crew, load.processors) for crew in CREWS}
+    best = loopback.best_of_crews(moqhuluzi, logs, load.processors)
     rows = ""
     for crew, run in best.items():
         times = run.wall / best[CREWS[0]].wall
