@@ -1,6 +1,6 @@
 -- Lanes, workers and the keeper are ready again once they have had their turns.
 use Rattle.std.specs.Bool.{OnTrue}
-use Rattle.std.proofs.Common.{◌≡◌, ℕ, Bool, true, false, not, refl, All, List, set, sym, subst, ◌∙◌}
+use Rattle.std.proofs.Common.{◌≡◌, ℕ, ◌<◌, Bool, true, false, not, refl, All, List, length, set, slice_index_or, sym, subst, ◌∙◌}
 use Rattle.std.proofs.lemmas.List.{map-set}
 use Rattle.std.proofs.lemmas.List.Elements.{All-set}
 use Rattle.atomic_table.specs.Seated.{TableId}
@@ -11,9 +11,16 @@ use Rattle.rounds.specs.KeeperTurns.{KeeperRan, storing_state}
 use Rattle.rounds.specs.Running.{IsLaneReady, IsStoringReady}
 use Rattle.rounds.specs.Words.{DiskWords, TailWords}
 use Rattle.rounds.specs.declared.storing.Storing.{Storing}
+use Rattle.rounds.proofs.Each.{each_mapped}
 use Rattle.rounds.proofs.Having.{storing_shut}
 use Rattle.rounds.proofs.KeeperSteps.{pass_stays}
 use Rattle.rounds.proofs.Ready.{opened_ran}
+
+-- the lane at a place, as it is lent for its turns
+pub lane_ready : {T : Type 0} (tails : TailWords T) (queue desk : TableId) (lanes : List (Lane T)) → All (IsLaneReady tails queue desk) (lanings lanes) → (i : ℕ) (lane : Lane T) → i < length lanes → lane ≡ slice_index_or lanes i lane
+    → IsLaneReady tails queue desk (laning lane)
+lane_ready {T} tails queue desk lanes all i lane within is =
+    subst (λ (l : Lane T). IsLaneReady tails queue desk (laning l)) (sym is) (each_mapped (IsLaneReady tails queue desk) laning lanes all i lane within)
 
 pub one_ready : {T : Type 0} (tails : TailWords T) (queue desk : TableId) (lanes : List (Lane T)) (at : ℕ) (new : Lane T) → IsLaneReady tails queue desk (laning new)
     → All (IsLaneReady tails queue desk) (lanings lanes) → All (IsLaneReady tails queue desk) (lanings (set lanes at new))

@@ -1,7 +1,6 @@
 use Rattle.std.proofs.Common.{rules}
 use Rattle.rounds.specs.Words.{tail_words}
-use Rattle.rounds.proofs.Each.{lane_ready}
-use Rattle.bench_rounds.proofs.Turning.{one_ready}
+use Rattle.bench_rounds.proofs.Turning.{lane_ready, one_ready}
 use Rattle.bench_rounds.proofs.work.turn_lanes.Goals as goal
 
 pub turn_lane-requires : goal.turn_lane-requires
