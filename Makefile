@@ -25,9 +25,9 @@ test:
 check:
 	cd crates/$(CRATE) && rt check
 
-# the must-fail edits of one crate: make edits CRATE=line_cutter
+# wrong bodies, which the prover has to refuse: of one crate, make edits CRATE=line_cutter, or of all, before a release
 edits:
-	rt must-fail $(CRATE)
+	python3 -B tests/edits.py $(CRATE)
 
 # the built program over real files and sockets: make e2e TEST=two_inputs, or all
 e2e:
