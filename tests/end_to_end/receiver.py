@@ -61,7 +61,7 @@ class Receiver(Shipping):
         self.assertEqual((ran.returncode, ran.stdout, ran.stderr), (status, b"", b""))
 
     def wait_for_file(self):
-        """Until the receiver has made its file, which it does before it listens."""
+        """Until the receiver has made its file, and so listens."""
         self.wait_until(self.file.exists, "the receiver makes no file")
 
     def test_receiver_takes_the_examples(self):
@@ -128,6 +128,35 @@ class Receiver(Shipping):
             self.port = used.getsockname()[1]
             with self.receiving(1) as started:
                 self.assert_ended(started, 4)
+
+    def test_second_receiver_changes_nothing(self):
+        """Neither at the port of the first one nor over its file; the lines that this one acknowledged stay."""
+        with self.receiving(1) as started, self.connect() as peer:
+            peer.sendall(window(b"a"))
+            self.assertEqual(peer.recv(6), b"2A" + struct.pack(">I", 1))
+            taken = self.port
+            for port, status in ((taken, 4), (free_port(), 3)):
+                with self.subTest(status=status):
+                    self.port = port
+                    with self.receiving(1) as second:
+                        self.assert_ended(second, status)
+                    self.assertEqual(self.file.read_bytes(), b"a\n")
+            self.port = taken
+            with self.receiving(1, "other") as second:
+                self.assert_ended(second, 4)
+            self.assertFalse((self.folder / "other").exists())
+            peer.close()
+            self.assert_ended(started, 0)
+        self.assertEqual(self.file.read_bytes(), b"a\n")
+
+    def test_probe_counts_as_a_link(self):
+        with self.receiving(2) as started:
+            self.connect().close()
+            with self.connect() as peer:
+                peer.sendall(window(b"a"))
+                self.assertEqual(peer.recv(6), b"2A" + struct.pack(">I", 1))
+            self.assert_ended(started, 0)
+        self.assertEqual(self.file.read_bytes(), b"a\n")
 
     def test_receiver_usage(self):
         for words in ((), ("--links", "1"), (*self.sink_words(1), "x"), self.sink_words(0)):

@@ -7,7 +7,7 @@ mod sink;
 #[cfg(test)]
 mod tests;
 
-use lumber_server::{SinkStatus, receive};
+use lumber_server::{SinkStatus, is_command, receive};
 use objects::Objects;
 use std::process::ExitCode;
 
@@ -20,7 +20,14 @@ fn main(rt: HostRuntime) -> ExitCode {
                 mut out,
                 mut bell,
             },
-        ) => receive(&rt, rt.alloc(), &words, &mut port, &mut out, &mut bell),
+        ) => {
+            // before the file is touched, so that a second receiver at this port leaves it as it is
+            if is_command(&words) && port.listen().is_err() {
+                SinkStatus::PortFault
+            } else {
+                receive(&rt, rt.alloc(), &words, &mut port, &mut out, &mut bell)
+            }
+        }
         Err(_) => SinkStatus::NoMemory,
     };
     ExitCode::from(status.code())

@@ -12,8 +12,7 @@ use wire_base::Host;
 /// How long an accepting that found nobody waits, in milliseconds.
 const PATIENCE: u64 = 10;
 
-/// A port over TCP, which listens from the first accepting on. An accepting that finds nobody waits a hundredth of a
-/// second.
+/// A port over TCP. An accepting listens first if nothing does yet; one that finds nobody waits a hundredth of a second.
 #[derive(Drop)]
 pub struct TcpPort<R> {
     rt: R,
@@ -37,6 +36,14 @@ impl<R: Net<Listener = TcpListener, Stream = TcpStream> + Clock> TcpPort<R> {
             faults: 0,
             idles: 0,
         }
+    }
+}
+
+impl<R: Net<Listener = TcpListener, Stream = TcpStream>> TcpPort<R> {
+    /// Listens from now on.
+    pub fn listen(&mut self) -> io::Result<()> {
+        self.listener = Some(listener_at(&self.rt, &self.host)?);
+        Ok(())
     }
 }
 

@@ -1,14 +1,14 @@
 ghost use Rattle.std.specs.Prelude.{◌≡◌, ◌<◌, ◌≤◌, length, None, IfOk};
 
 use outside::{Failed, Sink};
-use std::fs::File;
+use std::fs::{File, OpenOptions};
 use std::io;
 use std::io::{ErrorKind, Write};
 use std::rt::Files;
 use wire_base::Text;
 
-/// A file that is written anew from its beginning. It is made at the first write, also at one of no bytes; one that
-/// cannot be made is a write that failed.
+/// A file that is written anew from its beginning. At the first write, also at one of no bytes, it is made or opened,
+/// locked, and only then emptied; if that fails, as when another receiver has it, so does the write.
 #[derive(Drop)]
 pub struct FileSink<R> {
     rt: R,
@@ -44,11 +44,22 @@ fn write_on(
 {
     let mut file = match opened.take() {
         Some(file) => file,
-        None => File::create(rt, path.as_str())?,
+        None => emptied(rt, path)?,
     };
     let answer = write_some(&mut file, piece);
     *opened = Some(file);
     answer
+}
+
+/// The file, for this program only, without what it held. What is no regular file, as a device, holds nothing.
+fn emptied(rt: &impl Files<File = File>, path: &Text) -> io::Result<File> {
+    let mut options = OpenOptions::new();
+    let file = options.write(true).create(true).open(rt, path.as_str())?;
+    if file.metadata()?.is_file() {
+        file.try_lock()?;
+        file.set_len(0)?;
+    }
+    Ok(file)
 }
 
 /// Writes a front of the piece, again where a signal cut the call short; taking nothing of a nonempty piece is a failure.

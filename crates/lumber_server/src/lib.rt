@@ -40,4 +40,4 @@ pub use receiving::receive;
 pub use served::Served;
 pub use serving::serve;
 pub use status::SinkStatus;
-pub use words::sink_places;
+pub use words::{is_command, sink_places};

@@ -1,4 +1,4 @@
-ghost use Rattle.std.specs.Prelude.{◌≡◌, ◌≤◌, length, option_map, IfOk, IfSome};
+ghost use Rattle.std.specs.Prelude.{◌≡◌, ◌↔◌, ◌≤◌, length, option_map, IfOk, IfSome, IsTrue, None};
 ghost use Rattle.std.specs.List.{list_all};
 ghost use Rattle.lumber_server.specs.AskedWords.{asked_value, named_value};
 ghost use Rattle.lumber_server.specs.Words.{ArePlaces, IsAskedBy, IsAskedOf, IsAskedWhere, IsHost, IsNumberTo, IsPortBehind, are_marks, asked_by, is_name, is_name_byte, name_length};
@@ -53,6 +53,13 @@ pub fn sink_places(alloc: Global, words: &[Text]) -> Result<SinkPlaces, NoMemory
             file: text(alloc, b"out")?,
         }),
     }
+}
+
+/// Whether the arguments are the command's, so that `receive` serves. Takes no memory.
+pub fn is_command(words: &[Text]) -> bool
+    ensures { IsTrue result ↔ ¬ (IsAskedOf words.now None) }
+{
+    asked(words).is_some()
 }
 
 /// The text of bytes that are one.
