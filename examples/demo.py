@@ -1,6 +1,6 @@
 #!/usr/bin/env python3
-"""Ships the logs of examples/ by examples/beat.toml to a receiver on loopback, and shows the events, the report and
-the stored offsets.
+"""Ships generated lines in memory; then the logs of examples/ by examples/beat.toml to a receiver on loopback, and
+shows the events, the report and the stored offsets.
 
 It runs the program that the gate proved; where there is none, one that `rt try` builds with no proof. The receiver is
 the proved beat_sink, or where there is none a script. All files that a run makes lie in a temporary folder.
@@ -22,6 +22,8 @@ from receiver import free_port  # noqa: E402
 
 # seconds that `rt try` may take to build the program and run it
 PATIENCE = 600
+# so many lines make four events
+GENERATED_LINES = 10
 
 
 def run_unproved(words):
@@ -79,13 +81,22 @@ def run(words, folder):
         return run_unproved(words)
 
 
-def ship(logs, folder, peer):
-    words = words_for(logs, folder, peer)
-    print(f"Settings: examples/beat.toml, with {logs} for {example.LOGS} and {peer.host} for {example.HOST}")
+def generate(folder):
+    """Ships generated lines, which needs nothing but the program; whether it went well."""
     try:
         print(f"Proved: {program.proved_program().relative_to(program.ROOT)}, as rt ci built it.")
     except program.Missing as why:
         print(f"Not proved: {why}. So rt try builds the program and runs it, which takes a minute or two.")
+    print(f"Generated lines, {GENERATED_LINES} in memory:", flush=True)
+    settings = shutil.copy(example.FOLDER / "generated.toml", folder)
+    ran = run(["-c", settings, "--once", "--generate", str(GENERATED_LINES)], folder)
+    show_report(ran)
+    return not ran.returncode
+
+
+def ship(logs, folder, peer):
+    words = words_for(logs, folder, peer)
+    print(f"Settings: examples/beat.toml, with {logs} for {example.LOGS} and {peer.host} for {example.HOST}")
     print("Events received:", flush=True)
     return run(words, folder)
 
@@ -100,10 +111,14 @@ def ship_again(logs, folder):
     return len(peer.payloads)
 
 
-def tell(ran, folder, peer):
-    print("Report:")
+def show_report(ran):
     for line in ran.stdout.decode(errors="replace").splitlines():
         print(f"  {line}")
+
+
+def tell(ran, folder, peer):
+    print("Report:")
+    show_report(ran)
     area = folder / "data" / "registry.a"
     if area.exists():
         print("Stored in the registry:")
@@ -121,6 +136,12 @@ def main():
         return 1
     with tempfile.TemporaryDirectory(prefix="beat-run-") as room:
         folder = Path(room).resolve()
+        try:
+            if not generate(folder):
+                return 1
+        except (program.TooLong, OSError) as fault:
+            print(fault)
+            return 1
         logs = Path(shutil.copytree(example.FOLDER / "logs", folder / "logs"))
         lines = 0
         print("Files, copied from examples/logs:")

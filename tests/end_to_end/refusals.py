@@ -10,7 +10,6 @@ from shipping import Shipping
 
 USAGE = "status 2 usage: beat_main -c FILE [--once] [--data DIR] [--generate N]"
 FOLLOW = "status 13 unbuilt follow"
-GENERATE = "status 13 unbuilt generate"
 # so many bytes the settings have at most
 SETTINGS = 1_048_576
 # so many files are followed at most
@@ -29,7 +28,6 @@ WORDS = (
     (["-c", "f", "--once", "-h"], USAGE),
     (["-c", "f"], FOLLOW),
     (["-c", "f", "--generate", "5"], FOLLOW),
-    (["-c", "f", "--once", "--generate", "5"], GENERATE),
 )
 
 # settings that are refused: what is made of valid ones, and the line that tells it

@@ -15,6 +15,7 @@ from pathlib import Path
 
 import program
 from containers import Containers
+from generated import Generated
 from killed import Killed
 from many_files import ManyFiles
 from one_file import OneFile
@@ -71,7 +72,7 @@ def name_of(test):
 def all_tests():
     """Each test, by its name."""
     tests = {}
-    kinds = (OneFile, ManyFiles, Refusals, Peers, Surroundings, Receiver, Containers, Killed, Restarts)
+    kinds = (Generated, OneFile, ManyFiles, Refusals, Peers, Surroundings, Receiver, Containers, Killed, Restarts)
     for kind in kinds:
         tests.update({it[len(PREFIX) :]: kind(it) for it in vars(kind) if it.startswith(PREFIX)})
     return tests

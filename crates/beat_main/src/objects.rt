@@ -1,7 +1,8 @@
 ghost use Rattle.std.specs.Prelude.{◌≡◌, vec_len, IfOk, OnOk};
 
-use beat_run::{Places, places};
-use outside_real::{DirFolder, FileBell, FileDisk, FileSource, StdSink, SystemClock, TcpWire};
+use load_gen::generated;
+use outside_mem::{Due, MemChange, MemClock, MemDisk, MemFile, MemFolder, MemStep, MemWire};
+use outside_real::{DirFolder, FileDisk, SystemClock, TcpWire};
 use std::alloc::Global;
 use std::env;
 use std::env::Env;
@@ -10,70 +11,82 @@ use std::io::ErrorKind;
 use std::net::{Net, TcpStream};
 use std::rt::Files;
 use std::time::Clock;
-use wire_base::{NoMemory, Text};
+use wire_base::{Moment, NoMemory, Text};
 
 /// One wire for each worker that a run may have.
 const WIRES: usize = 16;
+/// The one file of a run over generated lines.
+const GENERATED_PATH: &str = "/generated/a.log";
 
-/// The arguments of the program, and the objects over files and sockets that they name.
+/// What a run works on: its files, its receivers, both registry files and its clock.
 #[derive(Drop)]
-pub struct Objects<R> {
-    pub words: Vec<Text>,
-    pub settings: FileSource<R>,
-    pub folder: DirFolder<R>,
-    pub wires: Vec<TcpWire<R>>,
-    pub area_a: FileDisk<R>,
-    pub area_b: FileDisk<R>,
-    pub clock: SystemClock<R>,
-    pub bell: FileBell<R>,
-    pub out: StdSink<R>,
+pub struct Surroundings<F, W, D, K> {
+    pub folder: F,
+    pub wires: Vec<W>,
+    pub area_a: D,
+    pub area_b: D,
+    pub clock: K,
+    ghost one_a_worker: { vec_len wires ≡ WIRES },
 }
 
-impl<'a, R> Objects<&'a R>
-where
-    R: AllocGlobal + Print + Env + Clock + Files<File = File> + Net<Stream = TcpStream>,
-{
-    pub fn new(rt: &'a R) -> Result<Objects<&'a R>, NoMemory>
-        ensures { IfOk result (λ objects. vec_len objects.wires ≡ 16) }
-    {
-        let alloc = rt.alloc();
-        let words = words_of(rt, alloc)?;
-        let Places {
-            settings,
-            area_a,
-            area_b,
-            stop,
-            ..
-        } = places(alloc, &words)?;
-        Ok(Objects {
-            words,
-            settings: FileSource::new(rt, settings),
-            folder: DirFolder::new(rt),
-            wires: wires_of(rt, alloc)?,
-            area_a: FileDisk::new(rt, area_a),
-            area_b: FileDisk::new(rt, area_b),
-            clock: SystemClock::new(rt),
-            bell: FileBell::new(rt, stop),
-            out: StdSink::new(rt),
-        })
-    }
-}
-
-fn wires_of<R: Net<Stream = TcpStream> + Clock>(
-    rt: &R,
-    alloc: Global,
-) -> Result<Vec<TcpWire<&R>>, NoMemory>
-    ensures { IfOk result (λ wires. vec_len wires ≡ WIRES) }
-{
-    let mut wires = Vec::new(alloc);
+/// The file system, the network and the system's clock, with the registry in these two files.
+pub fn real_surroundings<'a, R: AllocGlobal + Clock + Files<File = File> + Net<Stream = TcpStream>>(
+    rt: &'a R,
+    area_a: Text,
+    area_b: Text,
+) -> Result<
+    Surroundings<DirFolder<&'a R>, TcpWire<&'a R>, FileDisk<&'a R>, SystemClock<&'a R>>,
+    NoMemory,
+> {
+    let mut wires = Vec::new(rt.alloc());
     for _ in 0..WIRES {
         wires.push(TcpWire::new(rt))?;
     }
-    Ok(wires)
+    Ok(Surroundings {
+        folder: DirFolder::new(rt),
+        wires,
+        area_a: FileDisk::new(rt, area_a),
+        area_b: FileDisk::new(rt, area_b),
+        clock: SystemClock::new(rt),
+    })
 }
 
-/// The arguments behind the program's name; none where one of them is not UTF-8, which no command takes.
-fn words_of(rt: &(impl Env + AllocGlobal), alloc: Global) -> Result<Vec<Text>, NoMemory> {
+/// All in memory: one file of so many generated lines, receivers that acknowledge all, an empty registry, and a clock
+/// that starts at 0 and moves by pauses only, so that each run is the same.
+pub fn generated_surroundings(
+    alloc: Global,
+    lines: u32,
+) -> Result<Surroundings<MemFolder, MemWire, MemDisk, MemClock>, NoMemory> {
+    let mut wires = Vec::new(alloc);
+    for _ in 0..WIRES {
+        wires.push(MemWire::new(alloc, Vec::new(alloc))?)?;
+    }
+    Ok(Surroundings {
+        folder: generated_folder(alloc, lines)?,
+        wires,
+        area_a: MemDisk::new(alloc, b"")?,
+        area_b: MemDisk::new(alloc, b"")?,
+        clock: MemClock::new(alloc, Moment(0))?,
+    })
+}
+
+fn generated_folder(alloc: Global, lines: u32) -> Result<MemFolder, NoMemory> {
+    let mut steps = Vec::new(alloc);
+    steps.push(MemStep {
+        due: Due::Listings(0),
+        change: MemChange::Append(generated(alloc, lines)?),
+    })?;
+    let mut files = Vec::new(alloc);
+    files.push(MemFile {
+        path: Text::from_string(String::from_str(alloc, GENERATED_PATH)?),
+        native: None,
+        steps,
+    })?;
+    MemFolder::new(alloc, files)
+}
+
+/// The arguments after the program's name; none if one of them is not UTF-8, which no command takes.
+pub fn words_of(rt: &(impl Env + AllocGlobal), alloc: Global) -> Result<Vec<Text>, NoMemory> {
     let mut words = Vec::new(alloc);
     match env::args(rt) {
         Ok(args) => {

@@ -22,7 +22,7 @@ use Rattle.prospect.specs.Lacks.{IsFirstLack}
 use Rattle.prospect.specs.declared.listed.Listed.{Listed}
 use Rattle.registry_store.specs.Choice.{GivesRows, Refused as RefusesAt, rows_of}
 use Rattle.report.specs.declared.status.Lack.{Lack}
-use Rattle.report.specs.declared.status.Lack.TheVariants.{Follow, Generate, Key}
+use Rattle.report.specs.declared.status.Lack.TheVariants.{Follow, Key}
 use Rattle.report.specs.declared.status.Status.{Status}
 use Rattle.report.specs.declared.status.Status.TheVariants.{Done, Stopped, Usage, Settings, RegistryBad, DiskFault, FolderFault, Unreachable, OutFault, SourceFault, TooMany, NoNative, NoMemory, Unbuilt}
 use Rattle.restart_join.specs.Joining.{full_for}
@@ -39,9 +39,9 @@ use Rattle.wire_base.specs.declared.limits.Full.TheVariants.{Epochs, Files, Slot
 use Rattle.wire_base.specs.declared.limits.Which.{Which}
 use Rattle.wire_base.specs.declared.row.Row.{Row}
 use Rattle.beat_run.specs.Accounted.{HasNoEpoch, HasNoRoom, IsAccountedByNamed, IsAccountedWhereTold, RunLent}
-use Rattle.beat_run.specs.Asked.{IsAsked}
+use Rattle.beat_run.specs.Asked.{AskForOnce, IsAsked}
 use Rattle.beat_run.specs.Cause.{AllSigns, Cause, HasFailedSince, IsFailedWorker, LacksNumbers, Signs}
-use Rattle.beat_run.specs.Completeness.{AskForFiles, EachSince, GivenRun, HasRoom, HaveNumbers, IsNotIdle, IsServed, IsUntroubled, IsUntroubledEnd, OfEachWire, PeersServe, TellsBuilt}
+use Rattle.beat_run.specs.Completeness.{EachSince, GivenRun, HasRoom, HaveNumbers, IsNotIdle, IsServed, IsUntroubled, IsUntroubledEnd, OfEachWire, PeersServe, TellsBuilt}
 use Rattle.beat_run.specs.Ends.{FindsNoRoom}
 use Rattle.beat_run.specs.Named.{IsNamed}
 use Rattle.beat_run.specs.Printed.{StandsBehind}
@@ -104,10 +104,6 @@ no_count : (told : Option (List ℕ)) (asked : Option ℕ) → IsGenerateBy told
 no_count None asked by none = absurd none
 no_count (Some digits) asked by none = none by.0
 
-one_count : (told : Option (List ℕ)) (asked other : Option ℕ) → IsGenerateBy told asked → IsGenerateBy told other → asked ≡ other
-one_count None asked other by also = by ∙ sym also
-one_count (Some digits) asked other by also = by.1 ∙ sym also.1
-
 taken_or_not : (words : List (List ℕ)) (asked : Words) → IsCommand words asked → IsNoCommand words → ⊥
 taken_or_not words asked taken (inl fault) = fault taken.0
 taken_or_not words asked taken (inr none) = no_count _ asked.generate taken.1.generate none
@@ -115,13 +111,9 @@ taken_or_not words asked taken (inr none) = no_count _ asked.generate taken.1.ge
 once_or_not : (Given : Type 0) (once other : Bool) → (IsTrue once ↔ Given) → (IsTrue other ↔ Given) → once ≡ true → other ≡ false → ⊥
 once_or_not Given once other by also is denied = let both : true ≡ false = sym (also.1 (by.0 is)) ∙ denied in cc
 
-module _ (words : List (List ℕ)) (source : Option (List ℕ)) (settings : SettingsOf) (given : AskForFiles words) (spelled : TellsBuilt source settings) where
+module _ (words : List (List ℕ)) (source : Option (List ℕ)) (settings : SettingsOf) (given : AskForOnce words) (spelled : TellsBuilt source settings) where
   all_built : (lack : Lack) → IsAsked words source lack → ⊥
   all_built Follow asks = once_or_not _ given.asked.once asks.asked.once given.taken.1.once asks.taken.1.once given.once asks.lacks
-  all_built Generate asks =
-      let same : asks.asked.generate ≡ None = one_count _ asks.asked.generate given.asked.generate asks.taken.1.generate given.taken.1.generate ∙ given.none_made in
-      let none : false ≡ true = subst (λ (o : Option ℕ). IsSome o) same asks.lacks.1 in
-      cc
   all_built (Key key) asks =
       at_some source spelled.bytes (λ bytes. AreSettingsOf (take LIMIT bytes) asks.settings → IsFirstLack asks.settings key → ⊥) spelled.tells
       (no_lack source settings asks.settings key ⊥ (subst (λ o. IsNamed o settings) (sym spelled.tells) spelled.are) spelled.built)

@@ -11,7 +11,7 @@ use Rattle.event_tree.specs.declared.input_rule.InputRule.{InputRule}
 use Rattle.event_tree.specs.declared.settings.Settings.{Settings}
 use Rattle.prospect.specs.Lacks.{IsFirstLack, lacks_of, lacks_of_inputs}
 use Rattle.wire_base.specs.KeyOrder.{compare}
-use Rattle.report.specs.declared.status.Lack.TheVariants.{Key, Follow, Generate}
+use Rattle.report.specs.declared.status.Lack.TheVariants.{Key, Follow}
 use Rattle.report.specs.declared.status.Status.{Status}
 use Rattle.report.specs.declared.status.Status.TheVariants.{Done, Stopped, Usage, Settings as SettingsFault, RegistryBad, DiskFault, FolderFault, Unreachable, OutFault, SourceFault, TooMany, NoNative, NoMemory, Unbuilt}
 use Rattle.beat_run.specs.declared.settings.TheConstants.{LIMIT}
@@ -79,7 +79,6 @@ lack_cases P memory by_key (NoNative path) ends = absurd ends
 lack_cases P memory by_key NoMemory ends = memory
 lack_cases P memory by_key (Unbuilt (Key key)) ends = by_key key
 lack_cases P memory by_key (Unbuilt Follow) ends = absurd ends
-lack_cases P memory by_key (Unbuilt Generate) ends = absurd ends
 
 -- the settings have a fault, so they are no settings
 pub fault_refuses_key : (source : Option (List ℕ)) (before now : ℕ) (status : Status) (settings : Settings) (key : List ℕ) →

@@ -5,8 +5,6 @@ use Rattle.std.specs.Prelude.{◌≡◌, ◌⊎◌, ◌≤◌, ◌-◌, ℕ, tru
 use Rattle.std.specs.List.{AllByRecursion}
 use Rattle.batch_worker.specs.Seen.{Seen}
 use Rattle.beat_config.specs.Document.{AreSettingsOf}
-use Rattle.command_line.specs.Words.{IsCommand}
-use Rattle.command_line.specs.declared.words.Words.{Words}
 use Rattle.event_tree.specs.declared.input_rule.InputRule.{InputRule}
 use Rattle.event_tree.specs.declared.settings.Settings.{Settings as SettingsOf}
 use Rattle.lumber_frame.specs.PeerFault.{HasPeerFault}
@@ -27,6 +25,7 @@ use Rattle.run_steps.specs.Starting.{AreFewFiles}
 use Rattle.told_events.specs.Licence.{LieApart}
 use Rattle.wire_base.specs.declared.row.Row.{Row}
 use Rattle.beat_run.specs.Accounted.{TellRows}
+use Rattle.beat_run.specs.Asked.{AskForOnce}
 use Rattle.beat_run.specs.Cause.{AllSigns, LacksNumbers, Signs}
 use Rattle.beat_run.specs.EpochsLeft.{HaveEpochsLeft}
 use Rattle.beat_run.specs.Scanning.{ScansParted}
@@ -40,13 +39,6 @@ pub record GivenRun (D : Type 0) : Type 0 where
   pub b : D
 
 -- ---- what it is given
-
--- the command takes the arguments, and they ask for files that are there, to be read once
-pub record AskForFiles (words : List (List ℕ)) : Type 0 where
-  pub asked : Words
-  pub taken : IsCommand words asked
-  pub once : asked.once ≡ true
-  pub none_made : asked.generate ≡ None
 
 -- the source tells bytes that spell these settings, and they ask for nothing that is not built
 pub record TellsBuilt (source : Option (List ℕ)) (settings : SettingsOf) : Type 0 where
@@ -123,7 +115,7 @@ HaveNumbers inputs before after = IfSome before (λ told. (path : List ℕ) → 
 
 -- that the areas give rows says that they are not refused
 pub record IsUntroubled {D : Type 0} (disks : DiskWords D) (given : GivenRun D) (before now : AllSigns) : Type 0 where
-  pub words : AskForFiles given.words
+  pub words : AskForOnce given.words
   pub settings : SettingsOf
   pub spelled : TellsBuilt given.source settings
   pub rows : TellRows disks given.a given.b

@@ -14,7 +14,7 @@ use Rattle.wire_base.specs.declared.limits.Full.{Full}
 use Rattle.wire_base.specs.declared.limits.Full.TheVariants.{Epochs, Files}
 use Rattle.wire_base.specs.declared.row.Row.{Row}
 use Rattle.outside.specs.Counts.{Rose}
-use Rattle.report.specs.declared.status.Lack.TheVariants.{Key, Follow, Generate}
+use Rattle.report.specs.declared.status.Lack.TheVariants.{Key, Follow}
 use Rattle.report.specs.declared.status.Lack.{Lack}
 use Rattle.report.specs.declared.status.Status.{Status}
 use Rattle.report.specs.declared.status.Status.TheVariants.{Done, Stopped, Usage, Settings, RegistryBad, DiskFault, FolderFault, Unreachable, OutFault, SourceFault, TooMany, NoNative, NoMemory, Unbuilt}
@@ -25,7 +25,6 @@ abbrev pub IsWordsEnd : Status → Type 0
 IsWordsEnd Usage = Unit {0}
 IsWordsEnd NoMemory = Unit {0}
 IsWordsEnd (Unbuilt Follow) = Unit {0}
-IsWordsEnd (Unbuilt Generate) = Unit {0}
 IsWordsEnd _ = ⊥
 
 -- reading the settings
@@ -55,7 +54,6 @@ IsPreparingEnd before now NoMemory = Unit {0}
 IsPreparingEnd before now (Settings fault) = Unit {0}
 IsPreparingEnd before now (Unbuilt (Key key)) = Unit {0}
 IsPreparingEnd before now (Unbuilt Follow) = Unit {0}
-IsPreparingEnd before now (Unbuilt Generate) = Unit {0}
 IsPreparingEnd before now _ = ⊥
 
 -- a scan, and where its files start
@@ -151,7 +149,6 @@ IsUnprepared SourceFault = Unit {0}
 IsUnprepared (Settings fault) = Unit {0}
 IsUnprepared (Unbuilt (Key key)) = Unit {0}
 IsUnprepared (Unbuilt Follow) = Unit {0}
-IsUnprepared (Unbuilt Generate) = Unit {0}
 IsUnprepared _ = ⊥
 
 -- arguments that the command refuses end the run so
@@ -172,7 +169,6 @@ RefusesLack lack _ = ⊥
 abbrev pub IsEarlier : Status → Type 0
 IsEarlier Usage = Unit {0}
 IsEarlier (Unbuilt Follow) = Unit {0}
-IsEarlier (Unbuilt Generate) = Unit {0}
 IsEarlier SourceFault = Unit {0}
 IsEarlier NoMemory = Unit {0}
 IsEarlier OutFault = Unit {0}
@@ -203,7 +199,6 @@ RefusesArea DiskFault = Unit {0}
 RefusesArea (Settings fault) = Unit {0}
 RefusesArea (Unbuilt (Key key)) = Unit {0}
 RefusesArea (Unbuilt Follow) = Unit {0}
-RefusesArea (Unbuilt Generate) = Unit {0}
 RefusesArea (RegistryBad area at) = Unit {0}
 RefusesArea _ = ⊥
 
@@ -215,7 +210,6 @@ IsRefusal (Settings fault) = Unit {0}
 IsRefusal (RegistryBad area at) = Unit {0}
 IsRefusal (Unbuilt (Key key)) = Unit {0}
 IsRefusal (Unbuilt Follow) = Unit {0}
-IsRefusal (Unbuilt Generate) = Unit {0}
 IsRefusal _ = ⊥
 
 -- the statuses of a run that ended behind the opening of its registry, and of no other

@@ -59,9 +59,6 @@ fn check_words(alloc: Global, words: &[Text]) -> Result<(), Status>
 {
     match read_words(alloc, words) {
         Ok(Some(asked)) if !asked.once => Err(Status::Unbuilt { what: Lack::Follow }),
-        Ok(Some(asked)) if asked.generate.is_some() => Err(Status::Unbuilt {
-            what: Lack::Generate,
-        }),
         Ok(Some(_)) => Ok(()),
         Ok(None) => Err(Status::Usage),
         Err(NoMemory) => Err(Status::NoMemory),

@@ -14,7 +14,7 @@ use Rattle.beat_config.specs.declared.settings_error.SettingsError.{SettingsErro
 use Rattle.beat_config.specs.declared.settings_error.SettingsError.TheVariants as settings
 use Rattle.report.specs.declared.passing.Passing.{Passing}
 use Rattle.report.specs.declared.status.Lack.{Lack}
-use Rattle.report.specs.declared.status.Lack.TheVariants.{Key, Follow, Generate}
+use Rattle.report.specs.declared.status.Lack.TheVariants.{Key, Follow}
 use Rattle.report.specs.declared.status.Status.{Status}
 use Rattle.report.specs.declared.status.Status.TheVariants.{Done, Stopped, Usage, Settings, RegistryBad, DiskFault, FolderFault, Unreachable, OutFault, SourceFault, TooMany, NoNative, NoMemory, Unbuilt}
 use Rattle.report.specs.Passings.{ArePassings, why_text}
@@ -64,7 +64,6 @@ full_name Slots = codes "slots"
 abbrev pub lack_text : Lack → List ℕ
 lack_text (Key key) = codes "key " ++ key
 lack_text Follow = codes "follow"
-lack_text Generate = codes "generate"
 
 abbrev pub unbuilt_line : List ℕ → List ℕ
 unbuilt_line text = codes "status 13 unbuilt " ++ (text ++ codes "\n")

@@ -173,7 +173,6 @@ fn unbuilt_line<S: Sink>(lack: &Lack, out: &mut S) -> Result<(), Failed>
             ],
         ),
         Lack::Follow => write_all(out, b"status 13 unbuilt follow\n"),
-        Lack::Generate => write_all(out, b"status 13 unbuilt generate\n"),
     }
 }
 

@@ -12,8 +12,6 @@ pub enum Lack {
     Key(Text),
     /// A run that goes on at the end of the files.
     Follow,
-    /// A run over files that it makes itself.
-    Generate,
 }
 
 /// How a run ended.

@@ -30,8 +30,6 @@ const USAGE: &str = "status 2 usage: beat_main -c FILE [--once] [--data DIR] [--
 
 const FOLLOW: &str = "status 13 unbuilt follow\n";
 
-const GENERATE: &str = "status 13 unbuilt generate\n";
-
 /// The arguments are those of no command, the settings have a fault and ask for what is not built, an
 /// area has bytes, and it, the source and the folder fail.
 const ALL_FAULTS: Start = Start {
@@ -56,11 +54,6 @@ const REFUSALS: &[(Asked, u8, &str)] = &[
     (Asked::Words(&["-c", "f", "--once", "-h"]), 2, USAGE),
     // what is not built
     (Asked::Words(&["--data", "d", "--config", "f"]), 13, FOLLOW),
-    (
-        Asked::Words(&["-c", "f", "--once", "--generate", "5"]),
-        13,
-        GENERATE,
-    ),
     (
         Asked::Settings(
             "[[inputs]]\nid = 'w'\npaths = ['/w/*']\nclean_inactive = '71s'\n[output]\nhosts = ['h']\n",

@@ -1,0 +1,5 @@
+use Rattle.std.proofs.Common.{◌≡◌, vec_len}
+use Rattle.beat_main.proofs.objects.generated_surroundings.Given as goal
+
+abbrev pub invariant-loop : goal.invariant-loop
+invariant-loop l = vec_len l.wires ≡ l.counter
