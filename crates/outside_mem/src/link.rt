@@ -12,7 +12,6 @@ use std::alloc::Global;
 use wire_base::NoMemory;
 
 /// A connection to a peer in memory, all told. It is let go by `MemWire::finish` alone.
-#[derive(Debug)]
 pub struct MemLink {
     alloc: Global,
     talk: MemTalk,

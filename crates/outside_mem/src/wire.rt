@@ -10,7 +10,7 @@ use std::alloc::Global;
 use wire_base::{Host, NoMemory, Piece};
 
 /// The calls that fail on the link of one number.
-#[derive(Debug, Drop)]
+#[derive(Drop)]
 struct LinkFailures {
     link: u32,
     sends: Vec<u64>,
@@ -18,7 +18,7 @@ struct LinkFailures {
 }
 
 /// Peers in memory, all told.
-#[derive(Debug, Drop)]
+#[derive(Drop)]
 pub struct MemWire {
     alloc: Global,
     /// The talks of the connections to come, the next one last.
