@@ -100,3 +100,8 @@ module _ (script : Script) (listings calls : ℕ) (begun : Sight) where
         tells : (into : List ℕ) → 0 < length into → LooksAtBytes told at into count (Some (record { opening = opening; number = number; file = file_of script; begun = begun; looks = next })) → TellsBytes told at into count (Some (record { opening = opening; number = number; file = file_of script; begun = begun; looks = next }))
         tells [] some looks = absurd (omega arith)
         tells (byte ∷ bytes) some looks = looks
+
+-- a read into an empty buffer is no look
+pub no_look : (told : TailHistory) (at : ℕ) (into : List ℕ) → length into ≡ 0 → TellsBytes told at into 0 (Some told)
+no_look told at [] none = refl
+no_look told at (byte ∷ bytes) none = absurd (omega arith)

@@ -1,6 +1,6 @@
 -- How the counts of an object in memory change (this project's profile).
 use Rattle.std.specs.Prelude.{◌≡◌, ◌≤◌}
-use Rattle.outside.specs.Counts.{next_count}
+use Rattle.outside.specs.Counts.{Rose, next_count}
 use Rattle.outside_mem.specs.declared.failures.Failures.{Failures}
 
 -- no fault was counted
@@ -13,6 +13,7 @@ pub record Stays (old new : Failures) : Type 0 where
 pub record Fails (old new : Failures) : Type 0 where
   pub faults : new.faults ≡ next_count old.faults
   pub no_less : old.faults ≤ new.faults
+  pub rose : Rose old.faults new.faults
   pub starved : new.starved ≡ old.starved
   pub asked : new.asked ≡ next_count old.asked
 
@@ -20,5 +21,6 @@ pub record Fails (old new : Failures) : Type 0 where
 pub record Starves (old new : Failures) : Type 0 where
   pub faults : new.faults ≡ next_count old.faults
   pub no_less : old.faults ≤ new.faults
+  pub rose : Rose old.faults new.faults
   pub starved : new.starved ≡ next_count old.starved
   pub asked : new.asked ≡ old.asked

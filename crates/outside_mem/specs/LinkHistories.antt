@@ -1,7 +1,7 @@
 -- How the record of a link in memory changes (this project's profile).
 use Rattle.std.specs.Prelude.{◌≡◌, ℕ, ◌≤◌, true, false, List, [], ◌∷◌, ◌++◌}
 use Rattle.wire_base.specs.declared.talk.Piece.TheVariants.{Out, In}
-use Rattle.outside.specs.Counts.{next_count}
+use Rattle.outside.specs.Counts.{Rose, next_count}
 use Rattle.outside.specs.Talks.{Talk}
 use Rattle.outside_mem.specs.declared.link_history.LinkHistory.{LinkHistory}
 
@@ -41,6 +41,7 @@ pub record Faults (old new : LinkHistory) : Type 0 where
   pub talk : talk_of new ≡ talk_of old
   pub faults : new.faults ≡ next_count old.faults
   pub no_less : old.faults ≤ new.faults
+  pub rose : Rose old.faults new.faults
   pub idles : new.idles ≡ old.idles
 
 -- nothing had come
@@ -50,3 +51,4 @@ pub record Idles (old new : LinkHistory) : Type 0 where
   pub faults : new.faults ≡ old.faults
   pub idles : new.idles ≡ next_count old.idles
   pub no_less : old.idles ≤ new.idles
+  pub rose : Rose old.idles new.idles

@@ -5,7 +5,7 @@ use std::alloc::Global;
 use wire_base::NoMemory;
 
 /// A bell that is quiet for a stated number of questions, and then rings at each.
-#[derive(Debug, Drop)]
+#[derive(Drop)]
 pub struct MemBell {
     quiet: u64,
     questions: u64,

@@ -2,7 +2,7 @@ ghost use Rattle.std.specs.Prelude.{◌≤◌, ◌+◌, vec_len};
 ghost use Rattle.wire_base.specs.declared.numbers.TheConstants.{MAX_PLACE};
 
 /// A write that was made.
-#[derive(Debug, Drop)]
+#[derive(Drop)]
 pub(crate) struct Write {
     pub(crate) at: u64,
     pub(crate) bytes: Vec<u8>,
@@ -10,7 +10,7 @@ pub(crate) struct Write {
 }
 
 /// One change of a disk, kept so that each earlier moment can be told.
-#[derive(Debug, Drop)]
+#[derive(Drop)]
 pub(crate) enum Change {
     Wrote(Write),
     /// A write that failed, and left its range open.

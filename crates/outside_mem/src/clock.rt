@@ -6,7 +6,7 @@ use std::alloc::Global;
 use wire_base::{MAX_MOMENT, Moment, NoMemory};
 
 /// A clock that moves by pauses alone. Its list begins with the first moment that it gives.
-#[derive(Debug, Drop)]
+#[derive(Drop)]
 pub struct MemClock {
     moments: Vec<u64>,
     /// The moment that was given last, or else that at which it starts.

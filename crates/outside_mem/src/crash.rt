@@ -12,7 +12,7 @@ use std::alloc::{AllocError, Global};
 use wire_base::{MAX_PLACE, NoMemory};
 
 /// What a crash puts into the ranges that were written since the last sync.
-#[derive(Clone, Copy, Debug, PartialEq, Eq)]
+#[derive(Clone, Copy)]
 pub(crate) enum Filler {
     /// The bytes that were there, and zeros past the old end.
     Kept,
@@ -43,7 +43,7 @@ impl Filler {
 }
 
 /// The changes of a disk made again one by one: the image that a crash leaves, and what a read gives.
-#[derive(Debug, Drop)]
+#[derive(Drop)]
 pub(crate) struct Replay {
     pub(crate) image: Vec<u8>,
     reads: Vec<u8>,

@@ -4,13 +4,14 @@ ghost use Rattle.outside_mem.specs.Images.{after, fresh};
 use crate::change::{Change, Write};
 use crate::crash::{Filler, Replay, patched};
 use crate::failures::Failures;
+use crate::front::put_front;
 use outside::{Disk, Failed};
 use std::alloc::Global;
 use wire_base::NoMemory;
 
 /// A disk in memory that may stop at any call, all told: its bytes, and what a crash now or at any
 /// earlier moment may leave.
-#[derive(Debug, Drop)]
+#[derive(Drop)]
 pub struct MemDisk {
     alloc: Global,
     first: Vec<u8>,
@@ -192,9 +193,7 @@ impl Disk for MemDisk {
             return Err(Failed);
         }
         let start = (at as usize).min(self.bytes.len());
-        let count = into.len().min(self.bytes.len() - start);
-        into[..count].copy_from_slice(&self.bytes[start..start + count]);
-        Ok(count)
+        Ok(put_front(&self.bytes[start..], into))
     }
 
     fn write_at(&mut self, at: u64, bytes: &[u8]) -> Result<(), Failed> {

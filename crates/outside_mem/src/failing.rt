@@ -6,7 +6,7 @@ use std::alloc::Global;
 use wire_base::NoMemory;
 
 /// Which calls of one kind fail, by their numbers.
-#[derive(Debug, Drop)]
+#[derive(Drop)]
 pub(crate) struct FailingCalls {
     pub(crate) named: Vec<u64>,
     pub(crate) stopped_at: Option<u64>,

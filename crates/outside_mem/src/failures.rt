@@ -9,7 +9,7 @@ use wire_base::NoMemory;
 
 /// Which calls on an object fail, and how often it has failed: as often as there was no memory and as
 /// lists asked for it.
-#[derive(Debug, Drop)]
+#[derive(Drop)]
 pub(crate) struct Failures {
     pub(crate) failing: FailingCalls,
     pub(crate) faults: u64,

@@ -14,6 +14,7 @@ mod disk;
 mod failing;
 mod failures;
 mod folder;
+mod front;
 mod laws;
 mod link;
 mod link_history;

@@ -1,5 +1,5 @@
-ghost use Rattle.std.specs.Prelude.{◌≡◌, Some, IfOk, OnOk, OnErr};
-ghost use Rattle.outside.specs.Counts.{added_counts, next_count};
+ghost use Rattle.std.specs.Prelude.{◌≡◌, ◌≤◌, Some, IfOk, OnOk, OnErr};
+ghost use Rattle.outside.specs.Counts.{Rose, added_counts, next_count};
 ghost use Rattle.outside_mem.specs.LinkHistories.{talk_of, Faults};
 
 use crate::failing::FailingCalls;
@@ -12,7 +12,6 @@ use std::alloc::Global;
 use wire_base::NoMemory;
 
 /// A connection to a peer in memory, all told. It is let go by `MemWire::finish` alone.
-#[derive(Debug)]
 pub struct MemLink {
     alloc: Global,
     talk: MemTalk,
@@ -132,7 +131,8 @@ impl MemLink {
 
     fn count_failed_send(&mut self)
         ensures history { self.new.history ≡ self.old.history }
-        ensures failed_sends { self.new.failed_sends ≡ next_count self.old.failed_sends }
+        ensures no_less { self.old.failed_sends ≤ self.new.failed_sends }
+        ensures rose { Rose self.old.failed_sends self.new.failed_sends }
     {
         self.failed_sends = self.failed_sends.saturating_add(1);
     }

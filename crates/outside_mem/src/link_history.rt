@@ -4,7 +4,7 @@ use std::alloc::Global;
 use wire_base::{Blob, NoMemory, Piece};
 
 /// What a link in memory tells.
-#[derive(Debug, Drop)]
+#[derive(Drop)]
 pub(crate) struct LinkHistory {
     pub(crate) pieces: Vec<Piece>,
     /// Nothing had come at some time after the last piece that was sent.

@@ -34,7 +34,7 @@ pub(crate) enum Happened {
 }
 
 /// The place of an opening in a log: how many other things, and how many failed listings, stand before it.
-#[derive(Clone, Copy, Debug)]
+#[derive(Clone, Copy)]
 pub(crate) struct Opening {
     pub(crate) noted: u64,
     pub(crate) failed: u64,

@@ -13,7 +13,7 @@ const LOOKS: u32 = 10_000_000;
 const MISSES: u8 = 10;
 
 /// What two peers that are to meet share.
-#[derive(Debug, Drop)]
+#[derive(Drop)]
 struct Pair {
     first_is_called: AtomicBool,
     second_is_called: AtomicBool,
@@ -21,7 +21,7 @@ struct Pair {
 }
 
 /// One of two peers that answer once both were called at the same time, by two threads.
-#[derive(Debug, Drop)]
+#[derive(Drop)]
 pub struct MeetLink {
     pair: Arc<Pair>,
     is_first: bool,
@@ -31,7 +31,7 @@ pub struct MeetLink {
 }
 
 /// What came of one call.
-#[derive(Clone, Copy, Debug, PartialEq, Eq)]
+#[derive(Clone, Copy)]
 pub(crate) enum Meeting {
     Met,
     NotYet,

@@ -4,7 +4,7 @@ ghost use Rattle.outside_mem.specs.Moments.{moment_of};
 use wire_base::{Moment, Text};
 
 /// The moment of change that later listings show for a path.
-#[derive(Debug, Drop)]
+#[derive(Drop)]
 pub(crate) struct ToldMoment {
     pub(crate) path: Text,
     pub(crate) moment: Moment,

@@ -6,7 +6,7 @@ use std::mem;
 use wire_base::{NoMemory, Piece};
 
 /// What became of the connections of a wire. Adding to it takes no memory.
-#[derive(Debug, Drop)]
+#[derive(Drop)]
 pub(crate) struct Outcomes {
     last: OutcomeChain,
     /// The connections that failed since the last link was finished.
@@ -15,7 +15,6 @@ pub(crate) struct Outcomes {
 
 /// The links that were finished, the last one first.
 #[cycle(outcome)]
-#[derive(Debug)]
 enum OutcomeChain {
     Start,
     After(Box<OutcomeNode>),
@@ -23,7 +22,7 @@ enum OutcomeChain {
 
 /// A link that was finished, with what came before it.
 #[cycle(outcome)]
-#[derive(Debug, Drop)]
+#[derive(Drop)]
 pub(crate) struct OutcomeNode {
     before: OutcomeChain,
     /// The connections that failed between the two links.

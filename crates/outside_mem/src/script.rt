@@ -9,14 +9,14 @@ use outside::Sight;
 use wire_base::{MAX_PLACE, NoMemory, Text};
 
 /// A file in memory whose lives are within the range of places.
-#[derive(Debug, Drop)]
+#[derive(Drop)]
 pub(crate) struct Script {
     pub(crate) file: MemFile,
     ghost in_range: { appended file.steps.items ≤ MAX_PLACE },
 }
 
 /// What is there of a file, and how many bytes a read gave.
-#[derive(Clone, Copy, Debug)]
+#[derive(Clone, Copy)]
 pub(crate) struct Reading {
     pub(crate) sight: Sight,
     pub(crate) count: usize,

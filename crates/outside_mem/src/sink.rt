@@ -6,7 +6,7 @@ use std::alloc::Global;
 use wire_base::NoMemory;
 
 /// Keeps what is written, all told.
-#[derive(Debug, Drop)]
+#[derive(Drop)]
 pub struct MemSink {
     bytes: Vec<u8>,
     failures: Failures,

@@ -1,12 +1,13 @@
 ghost use Rattle.std.specs.Prelude.{◌≡◌, ◌≤◌, drop, Some, vec_len, IfOk, OnOk, OnErr};
 
 use crate::failures::Failures;
+use crate::front::put_front;
 use outside::{Failed, Source};
 use std::alloc::Global;
 use wire_base::NoMemory;
 
 /// Bytes to read, all told.
-#[derive(Debug, Drop)]
+#[derive(Drop)]
 pub struct MemSource {
     bytes: Vec<u8>,
     at: usize,
@@ -56,8 +57,7 @@ impl Source for MemSource {
         if self.failures.next_call_fails() {
             return Err(Failed);
         }
-        let count = into.len().min(self.bytes.len() - self.at);
-        into[..count].copy_from_slice(&self.bytes[self.at..self.at + count]);
+        let count = put_front(&self.bytes[self.at..], into);
         self.at += count;
         Ok(count)
     }

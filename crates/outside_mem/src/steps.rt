@@ -2,14 +2,14 @@ use wire_base::{Blob, Text};
 
 /// When a step of a file is made: as soon as so many listings of its folder, or so many calls on tails
 /// of the file, were made.
-#[derive(Clone, Copy, Debug, PartialEq, Eq)]
+#[derive(Clone, Copy)]
 pub enum Due {
     Listings(u64),
     TailCalls(u64),
 }
 
 /// What happens to a file in one step.
-#[derive(Debug, Drop, PartialEq, Eq)]
+#[derive(Drop)]
 pub enum MemChange {
     /// The present life grows by these bytes.
     Append(Blob),
@@ -20,7 +20,7 @@ pub enum MemChange {
     Remove,
 }
 
-#[derive(Debug, Drop, PartialEq, Eq)]
+#[derive(Drop)]
 pub struct MemStep {
     pub due: Due,
     pub change: MemChange,
@@ -28,7 +28,7 @@ pub struct MemStep {
 
 /// A file and what becomes of it. Its steps are made in their order, each as soon as it is due; the
 /// file is there from its first step on.
-#[derive(Debug, Drop, PartialEq, Eq)]
+#[derive(Drop)]
 pub struct MemFile {
     pub path: Text,
     pub native: Option<(u64, u64)>,

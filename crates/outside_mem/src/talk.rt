@@ -1,6 +1,7 @@
 ghost use Rattle.std.specs.Prelude.{◌≡◌, ◌<◌, ◌≤◌, length, min, take, MatchOption};
 ghost use Rattle.outside_mem.specs.Talks.{IsAnswer, Acknowledges, Answers, AnswersPieces, IsNext, size_of};
 
+use crate::front::put_front;
 use crate::meet::{MeetLink, Meeting};
 use lumber_frame::ack_frame;
 use wire_base::Blob;
@@ -9,14 +10,14 @@ use wire_base::Blob;
 const ACKNOWLEDGEMENT: usize = 6;
 
 /// Bytes that a peer sends once so many whole windows were sent to it.
-#[derive(Debug, Drop, PartialEq, Eq)]
+#[derive(Drop)]
 pub struct MemPiece {
     pub windows: u64,
     pub bytes: Blob,
 }
 
 /// What a peer answers.
-#[derive(Debug, Drop)]
+#[derive(Drop)]
 pub enum MemTalk {
     /// An acknowledgement of each whole window.
     All,
@@ -27,7 +28,7 @@ pub enum MemTalk {
 }
 
 /// What a peer has for a buffer.
-#[derive(Clone, Copy, Debug, PartialEq, Eq)]
+#[derive(Clone, Copy)]
 pub(crate) enum Answer {
     /// So many bytes, which are in the front of the buffer.
     Bytes(usize),
@@ -116,18 +117,4 @@ fn next_piece<'a>(pieces: &'a [MemPiece], received: usize) -> Option<Next<'a>>
         at -= size;
     }
     None
-}
-
-/// Puts as many of the bytes as fit into the front of the buffer, and says how many.
-fn put_front(bytes: &[u8], into: &mut [u8]) -> usize
-    requires some { 0 < length bytes.now }
-    requires room { 0 < length into.old }
-    ensures at_least_one { 0 < result }
-    ensures fits { result ≤ length into.old }
-    ensures shows { take result into.new ≡ take result bytes.now }
-    ensures all_that_fits { result ≡ min (length bytes.now) (length into.old) }
-{
-    let count = bytes.len().min(into.len());
-    into[..count].copy_from_slice(&bytes[..count]);
-    count
 }

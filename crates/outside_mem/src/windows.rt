@@ -10,7 +10,7 @@ const HEAD: usize = 10;
 ///
 /// A window is a window frame of a count of at least 1 and the JSON frames numbered from 1 to it. From the first
 /// byte on that belongs to no window it counts nothing more.
-#[derive(Clone, Copy, Debug)]
+#[derive(Clone, Copy)]
 pub(crate) struct WindowReader {
     /// The front of a frame, of which `held` bytes have come.
     head: [u8; HEAD],

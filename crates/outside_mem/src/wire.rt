@@ -10,15 +10,22 @@ use std::alloc::Global;
 use wire_base::{Host, NoMemory, Piece};
 
 /// The calls that fail on the link of one number.
-#[derive(Debug, Drop)]
+#[derive(Drop)]
 struct LinkFailures {
     link: u32,
     sends: Vec<u64>,
     recvs: Vec<u64>,
 }
 
+impl LinkFailures {
+    fn add_to(&self, sends: &mut FailingCalls, recvs: &mut FailingCalls) -> Result<(), NoMemory> {
+        sends.fail_at(&self.sends)?;
+        recvs.fail_at(&self.recvs)
+    }
+}
+
 /// Peers in memory, all told.
-#[derive(Debug, Drop)]
+#[derive(Drop)]
 pub struct MemWire {
     alloc: Global,
     /// The talks of the connections to come, the next one last.
@@ -103,8 +110,7 @@ impl MemWire {
         let mut recvs = FailingCalls::new(self.alloc);
         for named in &self.link_failures {
             if u64::from(named.link) == self.made {
-                sends.fail_at(&named.sends)?;
-                recvs.fail_at(&named.recvs)?;
+                named.add_to(&mut sends, &mut recvs)?;
             }
         }
         MemLink::new(self.alloc, sends, recvs)
