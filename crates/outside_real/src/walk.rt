@@ -5,7 +5,7 @@ ghost use Rattle.wire_base.specs.Ranges.{IsPath};
 use crate::marks::{changed_of, numbers_of, size_of};
 use outside::{Entry, FolderError};
 use std::alloc::Global;
-use std::fs::Metadata;
+use std::fs::{DirEntry, Metadata};
 use std::io::ErrorKind;
 use std::rt::Files;
 use std::{fs, io, mem};
@@ -55,7 +55,15 @@ impl Walk {
         Ok(())
     }
 
-    /// Looks at what a folder has; symbolic links are not followed.
+    /// Keeps what an entry of a folder is; symbolic links are not followed.
+    fn look_at(&mut self, entry: &DirEntry<impl Files>) -> Result<(), FolderError> {
+        match entry.metadata() {
+            Ok(metadata) => self.keep(entry.path().as_str(), &metadata),
+            Err(error) => pass_over(&error),
+        }
+    }
+
+    /// Looks at what a folder has.
     fn read_folder(&mut self, rt: &impl Files, folder: &Text) -> Result<(), FolderError> {
         let listing = match fs::read_dir(&(rt, self.alloc), folder.as_str()) {
             Ok(listing) => listing,
@@ -63,10 +71,7 @@ impl Walk {
         };
         for found in listing {
             match found {
-                Ok(entry) => match entry.metadata() {
-                    Ok(metadata) => self.keep(entry.path().as_str(), &metadata)?,
-                    Err(error) => pass_over(&error)?,
-                },
+                Ok(entry) => self.look_at(&entry)?,
                 Err(error) => pass_over(&error)?,
             }
         }

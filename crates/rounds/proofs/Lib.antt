@@ -6,6 +6,7 @@ pub mod Crossing
 pub mod Each
 pub mod Having
 pub mod Images
+pub mod Joining
 pub mod KeeperSteps
 pub mod Kept
 pub mod LastSteps

@@ -1,18 +1,30 @@
 -- What was done to the slice of a list is done to the list.
 use Rattle.std.specs.Vec.{with_items}
-use Rattle.std.proofs.Common.{◌≡◌, List, [], ◌∷◌, Vec, length, map, refl, sym, ap, subst, ◌∙◌, arith}
+use Rattle.std.proofs.Common.{◌≡◌, ◌≢◌, List, [], ◌∷◌, Vec, length, map, refl, sym, ap, subst, ◌∙◌, arith}
 use Rattle.std.proofs.lemmas.List.{length-map, with_items_is}
 use Rattle.atomic_table.specs.Seated.{TableId}
-use Rattle.lanes.specs.Laning.{laning}
+use Rattle.lanes.specs.Laning.{laning, without_passes}
 use Rattle.lanes.specs.declared.lane.Lane.{Lane}
 use Rattle.settle_box.specs.declared.sender.Sent.{Sent}
-use Rattle.rounds.specs.Crewed.{bare_carrier, lanings}
+use Rattle.rounds.specs.Crewed.{bare_carrier, bare_carriers, bare_lanes, lanings}
 use Rattle.rounds.specs.Meeting.{HaveMet}
 use Rattle.rounds.specs.Pairs.{Pairs}
 use Rattle.rounds.specs.declared.carrier.Carrier.{Carrier}
 
 pub as_many : {A B : Type 0} (f : A → B) (xs ys : List A) → map f xs ≡ map f ys → length xs ≡ length ys
 as_many f xs ys same = sym (length-map xs f) ∙ ap length same ∙ length-map ys f
+
+-- as many lanes, and as many workers, are there without their passes
+some_as_many : {A B : Type 0} (xs : List A) (ys : List B) → length xs ≡ length ys → ys ≢ [] → xs ≢ []
+some_as_many xs [] many some = absurd (some refl)
+some_as_many [] (y ∷ ys) many some = absurd (omega (arith, many))
+some_as_many (x ∷ xs) (y ∷ ys) many some = λ is. cc
+
+pub some_lanes : {T : Type 0} (lanes later : List (Lane T)) → lanings later ≡ bare_lanes (lanings lanes) → lanes ≢ [] → later ≢ []
+some_lanes lanes later bare some = some_as_many later lanes (sym (length-map later laning) ∙ ap length bare ∙ length-map (lanings lanes) without_passes ∙ length-map lanes laning) some
+
+pub some_carriers : {W L : Type 0} (carriers later : List (Carrier W L)) → later ≡ bare_carriers carriers → carriers ≢ [] → later ≢ []
+some_carriers carriers later bare some = some_as_many later carriers (ap length bare ∙ length-map carriers bare_carrier) some
 
 pub paired_many : {A B : Type 0} (R : A → B → Type 0) (xs : List A) (ys : List B) → Pairs R xs ys → length ys ≡ length xs
 paired_many R [] [] pairs = refl

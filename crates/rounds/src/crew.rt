@@ -1,8 +1,10 @@
 ghost use Rattle.std.specs.Prelude.{◌≡◌, ◌⊎◌};
 ghost use Rattle.std.specs.Bool.{OnFalse, OnTrue};
 ghost use Rattle.rounds.specs.Due.{IsDue};
+ghost use Rattle.rounds.specs.Settled.{AreCollected};
 
 use crate::carrier::Carrier;
+use keeper::Keeper;
 use lanes::Lane;
 use outside::{Link, Tail, Wire};
 
@@ -19,6 +21,26 @@ pub struct Pace {
     pub(crate) posted: u64,
     /// For how many rounds the keeper has gone without turns.
     pub(crate) without: u32,
+}
+
+impl Pace {
+    /// Whether the keeper has turns beside the others: where three quarters of the box's room are taken, and where it has gone
+    /// without for 32 rounds. A commit is two syncs, and writes a row of each file that came on, so a busy round does not wait for
+    /// the disk.
+    pub(crate) fn is_due(&self) -> bool
+        ensures due { OnTrue result (IsDue self.now) }
+        ensures early { OnFalse result (¬ (IsDue self.now)) }
+    {
+        self.without >= MAX_ROUNDS_WITHOUT || self.boxed >= u64::from(self.room / 4 * 3)
+    }
+
+    /// Whether as many notes were collected as had been posted; where 2^64 - 1 were posted, it is not known.
+    pub(crate) fn are_collected(&self, keeper: &Keeper) -> bool
+        ensures all { OnTrue result (AreCollected self.now.posted keeper.now) }
+        ensures work { OnFalse result (¬ (AreCollected self.now.posted keeper.now)) }
+    {
+        self.posted < u64::MAX && self.posted == keeper.collected()
+    }
 }
 
 /// All that work in a round beside the keeper: lanes that read, and workers that send.
@@ -60,16 +82,5 @@ impl<T: Tail, L: Link, W: Wire<Link = L>> Crew<T, W, L> {
             pace: _,
         } = self;
         (lanes, carriers)
-    }
-
-    /// Whether the keeper has turns beside the others: where three quarters of the box's room are taken, and where it has gone
-    /// without for 32 rounds. A commit is two syncs, and writes a row of each file that came on, so a busy round does not wait for
-    /// the disk.
-    pub(crate) fn is_due(&self) -> bool
-        ensures due { OnTrue result (IsDue self.now.pace) }
-        ensures early { OnFalse result (¬ (IsDue self.now.pace)) }
-    {
-        self.pace.without >= MAX_ROUNDS_WITHOUT
-            || self.pace.boxed >= u64::from(self.pace.room / 4 * 3)
     }
 }

@@ -93,7 +93,7 @@ impl<T: Tail + Send, L: Link + Send, W: Wire<Link = L> + Send> Crew<T, W, L> {
             shift.entry.outlets.queue.now shift.entry.outlets.desk.now shift.entry.when
             (crewing self.old storing.old) (crewing self.new storing.new) }
     {
-        if self.is_due() {
+        if self.pace.is_due() {
             self.run_all(rt, shift, storing);
             self.pace.without = 0;
         } else {

@@ -4,7 +4,7 @@ ghost use Rattle.std.specs.List.{AllByRecursion};
 ghost use Rattle.lanes.specs.Done.{IsDone};
 ghost use Rattle.rounds.specs.Books.{held_notes, owed_notes};
 ghost use Rattle.rounds.specs.Crewed.{lanings};
-ghost use Rattle.rounds.specs.Settled.{AreCollected, AreSettledIn, IsDoneIn, IsEachSettled, spans_told};
+ghost use Rattle.rounds.specs.Settled.{AreSettledIn, IsDoneIn, IsEachSettled, spans_told};
 
 use crate::carrier::Carrier;
 use crate::crew::Crew;
@@ -19,17 +19,13 @@ impl<T: Tail, L: Link, W: Wire<Link = L>> Crew<T, W, L> {
         ensures settled { OnTrue result (AreSettledIn self.now keeper.now) }
         ensures work { OnFalse result (¬ (AreSettledIn self.now keeper.now)) }
     {
-        !some_note_held(self.lanes.as_slice())
-            && !some_note_owed(self.carriers.as_slice())
-            && self.are_collected(keeper)
-            && keeper.is_stored_in_full()
-    }
-
-    fn are_collected(&self, keeper: &Keeper) -> bool
-        ensures all { OnTrue result (AreCollected self.now.pace.posted keeper.now) }
-        ensures work { OnFalse result (¬ (AreCollected self.now.pace.posted keeper.now)) }
-    {
-        self.pace.posted < u64::MAX && self.pace.posted == keeper.collected()
+        if some_note_held(self.lanes.as_slice()) {
+            return false;
+        }
+        if some_note_owed(self.carriers.as_slice()) {
+            return false;
+        }
+        self.pace.are_collected(keeper) && keeper.is_stored_in_full()
     }
 
     /// Whether all is done: no lane holds anything, no further turn of a file would find anything, each span that was told is

@@ -1,8 +1,48 @@
-use Rattle.std.proofs.Common.{sym, ap, ◌∙◌}
+use Rattle.std.proofs.Common.{ℕ, List, ◌++◌, sym, ap, subst, ◌∙◌}
+use Rattle.mem_queue.specs.Known.{Known}
+use Rattle.pass_sums.specs.Share.{IsWhole}
 use Rattle.settle_box.specs.Collector.{Collector}
+use Rattle.settle_box.specs.Poster.{Poster}
 use Rattle.rounds.specs.Crewed.{bare_carriers, bare_lanes, carriers_passes, lanes_passes, lanings}
+use Rattle.rounds.specs.Passes.{post_shares}
 use Rattle.rounds.proofs.Parting.{all_counted, carriers_stay_bare, cut_post, have_met, in_order_as, joined_post, kept_post, lanes_stay_bare, of_joined, parted_as}
+use Rattle.rounds.proofs.Slices.{some_carriers, some_lanes}
 use Rattle.rounds.proofs.meeting.meet.Goals as goal
+
+pub meet-requires-clause-the_only_two : goal.meet-requires-clause-the_only_two
+meet-requires-clause-the_only_two g c =
+    let have = c.requires.have in
+    (subst IsWhole (sym c.gather_lanes-put.ensures.joined.share) have.puts, subst IsWhole (sym c.gather_carriers-take.ensures.joined.share) have.takes)
+
+pub meet-requires-2-clause-the_only_one_that_posts : goal.meet-requires-2-clause-the_only_one_that_posts
+meet-requires-2-clause-the_only_one_that_posts g c =
+    let shares = ap (λ (ss : List ℕ). ss ++ c.gather_carriers-take.result.1.share) c.gather_lanes-put.ensures.joined.post_share
+    ∙ ap (λ (ss : List ℕ). post_shares (lanes_passes (lanings c.args.lanes.now)) ++ ss) c.gather_carriers-take.ensures.joined.post_share in
+    subst IsWhole (sym (ap (λ (p : Poster). p.share) c.join_post.ensures ∙ shares)) c.requires.have.posts
+
+pub part_lanes-requires-clause-some : goal.part_lanes-requires-clause-some
+part_lanes-requires-clause-some g c = some_lanes c.args.lanes.now c.gather_lanes-put.new.lanes c.gather_lanes-put.ensures.bare c.requires.some_lanes
+
+pub part_carriers-requires-clause-some : goal.part_carriers-requires-clause-some
+part_carriers-requires-clause-some g c = some_carriers c.args.carriers.now c.gather_carriers-take.new.carriers c.gather_carriers-take.ensures.bare c.requires.some_carriers
+
+pub part_lanes-requires-clause-of_this_queue : goal.part_lanes-requires-clause-of_this_queue
+part_lanes-requires-clause-of_this_queue g c = ap (λ (k : Known). k.queue) c.meet.ensures.same.0 ∙ c.gather_lanes-put.ensures.joined.of_queue
+
+pub part_carriers-requires-clause-of_this_queue : goal.part_carriers-requires-clause-of_this_queue
+part_carriers-requires-clause-of_this_queue g c = ap (λ (k : Known). k.queue) c.meet.ensures.same.1 ∙ c.gather_carriers-take.ensures.joined.of_queue
+
+pub part_lanes-requires-clause-of_this_box : goal.part_lanes-requires-clause-of_this_box
+part_lanes-requires-clause-of_this_box g c =
+    let whole = joined_post c.gather_lanes-put.result.1 c.gather_carriers-take.result.1 in
+    ap (λ (p : Poster). p.desk) (of_joined kept_post c.split_post-others.new.pass c.meet-2.new.post c.join_post.new.into whole c.split_post-others.ensures.kept c.meet-2.ensures.same.0 c.join_post.ensures)
+    ∙ c.gather_lanes-put.ensures.joined.of_box
+
+pub part_carriers-requires-clause-of_this_box : goal.part_carriers-requires-clause-of_this_box
+part_carriers-requires-clause-of_this_box g c =
+    let whole = joined_post c.gather_lanes-put.result.1 c.gather_carriers-take.result.1 in
+    ap (λ (p : Poster). p.desk) (of_joined cut_post c.split_post-others.result c.meet-2.new.post c.join_post.new.into whole c.split_post-others.ensures.new c.meet-2.ensures.same.0 c.join_post.ensures)
+    ∙ c.gather_lanes-put.ensures.joined.of_box
 
 pub part_lanes-requires-clause-bare : goal.part_lanes-requires-clause-bare
 part_lanes-requires-clause-bare g c =

@@ -1,14 +1,28 @@
-use Rattle.std.proofs.Common.{◌≡◌, ℕ, ◌-◌, ◌^◌, min, List, ◌++◌, ap, refl, subst, ◌∙◌}
+use Rattle.std.proofs.Common.{◌≡◌, ◌≢◌, ℕ, ◌-◌, ◌^◌, min, List, [], ◌++◌, ap, refl, subst, sym, ◌∙◌}
 use Rattle.keeper.specs.Keeping.{Keeping}
 use Rattle.lanes.specs.declared.lane.Lane.{Lane}
 use Rattle.settle_box.specs.Senders.{posts_of}
 use Rattle.rounds.specs.Crewing.{crewing}
 use Rattle.rounds.specs.Crewed.{carriers_passes, lanes_passes, lanings}
-use Rattle.rounds.specs.Meeting.{HaveMet}
+use Rattle.rounds.specs.Meeting.{HaveAllPasses, HaveMet}
 use Rattle.rounds.specs.Passes.{senders}
 use Rattle.rounds.specs.declared.carrier.Carrier.{Carrier}
 use Rattle.rounds.proofs.Slices.{met_in}
 use Rattle.rounds.proofs.crew.Crew.meet.Goals as goal
+
+pub meet-posted-requires-clause-some_lanes : goal.meet-posted-requires-clause-some_lanes
+meet-posted-requires-clause-some_lanes g c = subst (λ (lanes : List (Lane g.row.T.Denot)). lanes ≢ []) (sym c.as_mut_slice.ensures.value) c.requires.have.some_lanes
+
+pub meet-posted-requires-clause-some_carriers : goal.meet-posted-requires-clause-some_carriers
+meet-posted-requires-clause-some_carriers g c =
+    subst (λ (carriers : List (Carrier g.row.W.Denot g.row.L.Denot)). carriers ≢ []) (sym c.as_mut_slice-2.ensures.value) c.requires.have.some_carriers
+
+pub meet-posted-requires-clause-have : goal.meet-posted-requires-clause-have
+meet-posted-requires-clause-have g c =
+    let queue = c.args.outlets.queue.now.id in
+    let desk = c.args.outlets.desk.now.id in
+    subst (λ (lanes : List (Lane g.row.T.Denot)). HaveAllPasses queue desk (lanings lanes) c.as_mut_slice-2.result.now) (sym c.as_mut_slice.ensures.value)
+    (subst (λ (carriers : List (Carrier g.row.W.Denot g.row.L.Denot)). HaveAllPasses queue desk (lanings c.args.self.now.lanes.items) carriers) (sym c.as_mut_slice-2.ensures.value) c.requires.have.have)
 
 pub returns : goal.returns
 returns g c =
