@@ -1,4 +1,4 @@
-ghost use Rattle.std.specs.Prelude.{◌≡◌, vec_len, IfOk, OnOk};
+ghost use Rattle.std.specs.Prelude.{◌≡◌, vec_len, IfOk};
 
 use load_gen::generated;
 use outside_mem::{Due, MemChange, MemClock, MemDisk, MemFile, MemFolder, MemStep, MemWire};
@@ -26,7 +26,6 @@ pub struct Surroundings<F, W, D, K> {
     pub area_a: D,
     pub area_b: D,
     pub clock: K,
-    ghost one_a_worker: { vec_len wires ≡ WIRES },
 }
 
 /// The file system, the network and the system's clock, with the registry in these two files.
@@ -37,7 +36,9 @@ pub fn real_surroundings<'a, R: AllocGlobal + Clock + Files<File = File> + Net<S
 ) -> Result<
     Surroundings<DirFolder<&'a R>, TcpWire<&'a R>, FileDisk<&'a R>, SystemClock<&'a R>>,
     NoMemory,
-> {
+>
+    ensures { IfOk result (λ surroundings. vec_len surroundings.wires ≡ WIRES) }
+{
     let mut wires = Vec::new(rt.alloc());
     for _ in 0..WIRES {
         wires.push(TcpWire::new(rt))?;
@@ -56,7 +57,9 @@ pub fn real_surroundings<'a, R: AllocGlobal + Clock + Files<File = File> + Net<S
 pub fn generated_surroundings(
     alloc: Global,
     lines: u32,
-) -> Result<Surroundings<MemFolder, MemWire, MemDisk, MemClock>, NoMemory> {
+) -> Result<Surroundings<MemFolder, MemWire, MemDisk, MemClock>, NoMemory>
+    ensures { IfOk result (λ surroundings. vec_len surroundings.wires ≡ WIRES) }
+{
     let mut wires = Vec::new(alloc);
     for _ in 0..WIRES {
         wires.push(MemWire::new(alloc, Vec::new(alloc))?)?;
