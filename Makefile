@@ -37,6 +37,6 @@ e2e:
 fmt:
 	for crate in crates/*/; do (cd $$crate && rt fmt) || exit 1; done
 
-# times the program over one file and many, and single calls, into bench/RESULTS.md; needs rustc
+# times the programs and single calls into bench/RESULTS.md: make bench PART=commits, or all; needs rustc
 bench:
-	python3 -B bench/run.py
+	python3 -B bench/run.py $(PART)

@@ -7,18 +7,31 @@
 //! which it listens, takes so many connections one after another, acknowledges each window LATE milliseconds after it is
 //! there, and prints for each connection how many events it had. `bare lines PORT FILE` takes one connection at that port
 //! and writes each event to the file as a line, a window before its acknowledgement.
+//!
+//! `bare records AREA ROWS TURNS` writes and syncs the record of an area as often as is said, as commits of so many rows
+//! do. `bare spans STRIDE SPANS` keeps settled spans in a map of intervals. `bare texts FORMAT` reads a container log
+//! from standard input and writes the container's own lines, as far as the log of the bench needs it.
 
-use std::collections::VecDeque;
+use std::collections::{BTreeMap, VecDeque};
 use std::env;
 use std::error::Error;
 use std::fs::{self, File};
-use std::io::{BufRead, BufReader, BufWriter, Read, Write};
+use std::io::{self, BufRead, BufReader, BufWriter, Read, Write};
 use std::net::{TcpListener, TcpStream};
+use std::os::unix::fs::FileExt;
 use std::sync::mpsc::{self, Sender};
 use std::thread;
 use std::time::{Duration, Instant};
 
 const EVENTS: u32 = 2_048;
+
+/// The length of an area without a record, with its last gate.
+const EMPTY_BYTES: usize = 30;
+
+const SPAN_BYTES: u64 = 10;
+
+/// So many spans are permuted among each other.
+const BLOCK: u64 = 100_000;
 
 fn main() -> Result<(), Box<dyn Error>> {
     let words: Vec<String> = env::args().skip(1).collect();
@@ -27,7 +40,11 @@ fn main() -> Result<(), Box<dyn Error>> {
         ["windows", port, depth, events, size] => send_windows(port.parse()?, depth.parse()?, events.parse()?, size.parse()?),
         ["receive", times, late] => receive(times.parse()?, Duration::from_millis(late.parse()?)),
         ["lines", port, file] => write_lines(port.parse()?, file),
-        _ => Err("usage: bare send FOLDER HOST | windows PORT DEPTH EVENTS BYTES | receive TIMES LATE | lines PORT FILE".into()),
+        ["records", area, rows, turns] => write_records(area, rows.parse()?, turns.parse()?),
+        ["spans", stride, spans] => settle(stride.parse()?, spans.parse()?),
+        ["texts", format] => write_texts(format),
+        _ => Err("usage: bare send FOLDER HOST | windows PORT DEPTH EVENTS BYTES | receive TIMES LATE | lines PORT FILE \
+            | records AREA ROWS TURNS | spans STRIDE SPANS | texts FORMAT".into()),
     }
 }
 
@@ -199,7 +216,7 @@ fn receive_events(peer: TcpStream, late: Duration) -> Result<u64, Box<dyn Error>
             [b'2', b'J'] => {
                 let sequence = u32::from_be_bytes(take(&mut from)?);
                 let size = u32::from_be_bytes(take(&mut from)?);
-                std::io::copy(&mut from.by_ref().take(size.into()), &mut std::io::sink())?;
+                io::copy(&mut from.by_ref().take(size.into()), &mut io::sink())?;
                 events += 1;
                 match &later {
                     _ if sequence != window => {}
@@ -248,4 +265,79 @@ fn take<const SIZE: usize>(from: &mut impl Read) -> Result<[u8; SIZE], Box<dyn E
     let mut bytes = [0; SIZE];
     from.read_exact(&mut bytes)?;
     Ok(bytes)
+}
+
+/// Writes what follows the front of an area without a record, and opens its gate, each time after the last.
+fn write_records(area: &str, rows: u64, turns: u64) -> Result<(), Box<dyn Error>> {
+    let bytes = fs::read(area)?;
+    let (empty, record) = bytes.split_at(EMPTY_BYTES.min(bytes.len()));
+    let file = File::create("bare.area")?;
+    file.write_all_at(empty, 0)?;
+    file.sync_all()?;
+    let mut end = empty.len() as u64;
+    for _ in 0..turns {
+        file.write_all_at(record, end)?;
+        file.sync_all()?;
+        file.write_all_at(b"{", end - 1)?;
+        file.sync_all()?;
+        end += record.len() as u64;
+    }
+    println!("{}", rows * turns);
+    Ok(())
+}
+
+/// Prints up to where all is settled.
+fn settle(stride: u64, spans: u64) -> Result<(), Box<dyn Error>> {
+    let (mut until, mut ahead) = (0, BTreeMap::new());
+    for place in 0..spans {
+        let start = (place / BLOCK * BLOCK + place % BLOCK * stride % BLOCK) * SPAN_BYTES;
+        let last = ahead.remove(&(start + SPAN_BYTES)).unwrap_or(start + SPAN_BYTES);
+        if start == until {
+            until = last;
+            continue;
+        }
+        let first = match ahead.range(..=start).next_back() {
+            Some((&first, &end)) if end == start => first,
+            _ => start,
+        };
+        ahead.insert(first, last);
+    }
+    println!("{until}");
+    Ok(())
+}
+
+fn write_texts(format: &str) -> Result<(), Box<dyn Error>> {
+    let mut from = BufReader::with_capacity(65_536, io::stdin().lock());
+    let mut to = BufWriter::with_capacity(65_536, io::stdout().lock());
+    let mut line = Vec::new();
+    while from.read_until(b'\n', &mut line)? > 0 {
+        let (text, is_whole) = match format {
+            "cri" => cri_text(&line),
+            _ => docker_text(&line),
+        }
+        .ok_or("a line is of no format")?;
+        to.write_all(text)?;
+        if is_whole {
+            to.write_all(b"\n")?;
+        }
+        line.clear();
+    }
+    Ok(to.flush()?)
+}
+
+/// The text of a line, and whether it ends the container's own line.
+fn cri_text(line: &[u8]) -> Option<(&[u8], bool)> {
+    let mut words = line.strip_suffix(b"\n")?.splitn(4, |byte| *byte == b' ');
+    let (_moment, _stream, tag) = (words.next()?, words.next()?, words.next()?);
+    Some((words.next()?, tag == b"F"))
+}
+
+/// The same of a line of Docker's whose text has no escape but its line feed.
+fn docker_text(line: &[u8]) -> Option<(&[u8], bool)> {
+    let text = line.strip_prefix(br#"{"log":""#)?;
+    let text = &text[..text.iter().position(|byte| *byte == b'"')?];
+    Some(match text.strip_suffix(br"\n") {
+        Some(whole) => (whole, true),
+        None => (text, false),
+    })
 }

@@ -1,29 +1,35 @@
-"""Times `container_run` over logs in memory, beside `memchr` and `serde_json` alone, and looks at the memory it holds."""
+"""Times `beat_container` over a container log in a file, beside a bare reader, and looks at the memory it holds."""
 
-import resource
+import os
 import subprocess
+import sys
+import tempfile
 from pathlib import Path
 
-ROOT = Path(__file__).resolve().parents[1]
-CRATE = ROOT / "crates" / "bench_container"
-PROGRAM = CRATE / "out" / "bench_container"
+from calls import RUNS
+from transport import make_bare
 
-# the format, what stands beside it and its part, how many thousands of lines, and how many bytes one has with its line feed
-FORMATS = [("cri", "memchr", "found", 1_000, 161), ("docker", "serde_json", "read", 200, 201)]
-LINES = 1_024
-RUNS = 5
+ROOT = Path(__file__).resolve().parents[1]
+sys.path.append(str(ROOT / "tests" / "end_to_end"))
+
+import program  # noqa: E402
+
+TEXT = "x" * 120
+MOMENT = "2016-10-06T00:17:09.669794202Z"
+# the format, and how many lines the log has
+FORMATS = [("cri", 1_000_000), ("docker", 200_000)]
 # partial lines that make one line: of as many bytes as a message may have, and of twice as many
-HELD = [137, 274]
+HELD = [140_288, 280_576]
 
 HEAD = f"""
-## `container_run`
+## Container logs
 
-A log in memory, every fourth line partial, with texts of 120 bytes, read 65,536 bytes at a time: CRI lines beside `memchr`
-alone, which looks for the line feeds of the same bytes, and Docker lines beside `serde_json` alone, which reads the same lines.
-Processor time, the least of {RUNS} runs, taken in turn, less that of a run without a line.
+A log in a file, every fourth line partial, with texts of 120 bytes, through `beat_container`, beside a bare reader
+(`bench/bare.rs`) that finds and writes the same texts and looks at nothing else of a line. Processor time, the least of {RUNS} runs,
+taken in turn.
 
-| Lines | Lines a second | Megabytes a second | Beside it | Megabytes a second | Times its time |
-|---|---:|---:|---|---:|---:|
+| Lines | Lines a second | Megabytes of the log a second | Of the bare reader | Times its time |
+|---|---:|---:|---:|---:|
 """
 
 MEMORY = """
@@ -34,50 +40,55 @@ The peak of memory over one line of partial lines alone, which a message of 16 M
 """
 
 
-def make_program():
-    """Takes the program as the gate left it, else has it proved and built."""
-    if not PROGRAM.is_file():
-        print("rt run proves and builds bench_container first; from nothing that may take a quarter of an hour.", flush=True)
-        subprocess.run(["rt", "run", "--", "converted", "cri", "0"], cwd=CRATE, check=True, stdout=subprocess.DEVNULL)
+def line(form, partial):
+    if form == "docker":
+        end = "" if partial else "\\n"
+        return f'{{"log":"{TEXT}{end}","stream":"stdout","time":"{MOMENT}"}}\n'
+    return f"{MOMENT} stdout {'P' if partial else 'F'} {TEXT}\n"
 
 
-def spent():
-    usage = resource.getrusage(resource.RUSAGE_CHILDREN)
+def converted(command, log, out):
+    """The processor seconds of a run over the log."""
+    with open(log, "rb") as source, open(out, "wb") as sink:
+        started = subprocess.Popen([str(word) for word in command], stdin=source, stdout=sink)
+        _, status, usage = os.wait4(started.pid, 0)
+    started.returncode = os.waitstatus_to_exitcode(status)
+    if started.returncode != 0:
+        raise SystemExit(f"{command} ended with {started.returncode}")
     return usage.ru_utime + usage.ru_stime
 
 
-def time_of(part, name, pieces):
-    """Seconds that one run takes of the processor."""
-    before = spent()
-    answer = int(subprocess.check_output([PROGRAM, part, name, str(pieces)]))
-    if (answer == 0) != (pieces == 0):
-        raise SystemExit(f"{part} {name} {pieces} answers {answer}")
-    return spent() - before
+def row(container, bare, form, lines, folder):
+    log = folder / "log"
+    log.write_text("".join(line(form, number % 4 == 3) for number in range(4)) * (lines // 4))
+    commands = [[container, "--format", form, "--stream", "all"], [bare, "texts", form]]
+    outs = [folder / "ours", folder / "theirs"]
+    for command, out in zip(commands, outs):
+        converted(command, log, out)
+    if outs[0].read_bytes() != outs[1].read_bytes():
+        raise SystemExit(f"{form}: the bare reader writes other lines")
+    runs = [[converted(command, log, os.devnull) for command in commands] for _ in range(RUNS)]
+    ours, theirs = map(min, zip(*runs))
+    size = log.stat().st_size / 1e6
+    print(f"{form:>7} {lines / ours:>10.0f} lines a second, {ours / theirs:.1f} times the bare reader's time", flush=True)
+    return f"| {form} | {lines / ours:.0f} | {size / ours:.0f} | {size / theirs:.0f} | {ours / theirs:.1f} |\n"
 
 
-def row(name, beside, part, pieces, size):
-    works = [(one, many) for one in ("converted", part) for many in (pieces, 0)]
-    runs = [[time_of(one, name, many) for one, many in works] for _ in range(RUNS)]
-    ours, fixed, theirs, started = (min(times) for times in zip(*runs))
-    ours, theirs = ours - fixed, theirs - started
-    lines = pieces * LINES
-    rates = f"{lines / ours:.0f} | {lines * size / ours / 1e6:.0f}", f"{lines * size / theirs / 1e6:.0f}"
-    return f"| {name} | {rates[0]} | `{beside}` | {rates[1]} | {ours / theirs:.1f} |\n"
-
-
-def peak_of(pieces):
+def peak_of(container, pieces, folder):
     """The most memory in MiB that a run over one line of so many pieces had, by the system's count for it alone."""
+    log = folder / "log"
+    log.write_text(line("cri", True) * pieces)
     script = "import resource, subprocess, sys; subprocess.run(sys.argv[1:], check=True, stdout=subprocess.DEVNULL); print(resource.getrusage(resource.RUSAGE_CHILDREN).ru_maxrss)"
-    told = subprocess.check_output(["python3", "-c", script, PROGRAM, "held", "cri", str(pieces)])
+    with open(log, "rb") as source:
+        told = subprocess.check_output(["python3", "-c", script, container, "--format", "cri", "--stream", "all"], stdin=source)
     return int(told) / 1024
 
 
 def container_table():
-    make_program()
-    text = HEAD
-    for it in FORMATS:
-        text += row(*it)
-    text += MEMORY
-    for pieces in HELD:
-        text += f"| {pieces * LINES:,} | {pieces * LINES * 120:,} | {peak_of(pieces):.1f} |\n"
-    return text
+    container = program.proved_program("beat_container")
+    with tempfile.TemporaryDirectory() as room:
+        folder = Path(room)
+        bare = make_bare(folder)
+        text = HEAD + "".join(row(container, bare, *one, folder) for one in FORMATS)
+        memory = ((pieces, peak_of(container, pieces, folder)) for pieces in HELD)
+        return text + MEMORY + "".join(f"| {pieces:,} | {pieces * len(TEXT):,} | {peak:.1f} |\n" for pieces, peak in memory)

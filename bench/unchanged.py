@@ -1,7 +1,5 @@
 """Times runs of the program that find nothing new: many files, by each identity, and files under many globs."""
 
-import datetime
-import os
 import sys
 import tempfile
 from pathlib import Path
@@ -31,8 +29,7 @@ HEAD = f"""
 A run over files of {SIZE:,} bytes, each of one line, that an earlier run has shipped: each is listed, opened and looked at,
 and for a fingerprint opened and read once before. Below it a run over {GLOBBED_FILES:,} files of which each is covered by
 one of {INPUTS} times {GLOBS} globs: their roots are one folder, or each input has one of its own, and all files lie in
-the first. Each time is the best of {RUNS} runs, taken in turn; the peak of memory is that of one more run. Measured {{date}}
-at a load of {{load:.1f}}.
+the first. Each time is the best of {RUNS} runs, taken in turn; the peak of memory is that of one more run.
 
 | Files | | Milliseconds | Processor milliseconds | Microseconds a file | Peak memory, MiB |
 |---:|---|---:|---:|---:|---:|
@@ -97,7 +94,7 @@ def measured(moqhuluzi, case, folder):
 def unchanged_table():
     program.allow_open_files()
     moqhuluzi = program.proved_program()
-    text = HEAD.format(date=datetime.date.today().isoformat(), load=os.getloadavg()[0])
+    text = HEAD
     with tempfile.TemporaryDirectory() as folder:
         make_files(Path(folder))
         for case in cases(Path(folder)):
