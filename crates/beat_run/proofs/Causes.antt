@@ -29,10 +29,7 @@ use Rattle.beat_run.specs.Ends.{IsBehindOpening, IsBehindSettings, IsPreparingEn
 use Rattle.beat_run.specs.Named.{IsNamed}
 use Rattle.beat_run.specs.Scanning.{ScansParted}
 use Rattle.beat_run.proofs.PathsListed.{GoesFurther, was_listed, was_unnumbered}
-
-pub rose_since : (before mid now : ℕ) → before ≤ mid → Rose mid now → Rose before now
-rose_since before mid now no_less (inl more) = inl (omega (arith, no_less, more))
-rose_since before mid now no_less (inr ended) = inr ended
+use Rattle.run_steps.proofs.MetBy.{rose_since}
 
 -- ---- the status
 

@@ -39,7 +39,7 @@ use Rattle.removed_rows.specs.Removed.{IsRemoved, LeavesRows, RemovesRows}
 use Rattle.report.specs.declared.passing.Passing.{Passing}
 use Rattle.rounds.specs.Words.{DiskWords}
 use Rattle.told_events.proofs.Going.{all_front}
-use Rattle.run_steps.proofs.Members.{member_is, some_is}
+use Rattle.run_steps.proofs.Members.{some_is}
 use Rattle.run_steps.proofs.RunRows.{OneChoice, not_shut, opened_rows, rows_of_store, same_rows}
 use Rattle.run_steps.proofs.Together.{areas_at, give_by_one, give_on, give_others}
 use Rattle.run_steps.proofs.Whole.{left_or_not, telling_before}
@@ -68,18 +68,11 @@ use Rattle.beat_run.proofs.Causes.{FailedIn, left_telling}
 use Rattle.beat_run.proofs.EpochsOut.{HasNoneFor}
 use Rattle.beat_run.proofs.GoneNumbers.{counted_with_gone, numbers_with_gone, placed_with_gone}
 use Rattle.beat_run.proofs.GoneSkipped.{followed_or_skipped_with_gone}
+use Rattle.run_steps.proofs.MetBy.{rose_since}
+use Rattle.accounts.proofs.Orderly.{member_is}
+use Rattle.run_steps.proofs.RunCauses.{rose_still}
 
 -- ---- what is met
-
--- a count that rose since has risen since before
-rose_since : (x y z : ℕ) → x ≤ y → Rose y z → Rose x z
-rose_since x y z less (inl more) = inl (omega (arith, less, more))
-rose_since x y z less (inr end) = inr end
-
--- and has risen still
-rose_still : (x y z : ℕ) → Rose x y → y ≤ z → Rose x z
-rose_still x y z (inl more) less = inl (omega (arith, less, more))
-rose_still x y z (inr end) less = inr (omega (arith, end, less))
 
 module _ {D : Type 0} (disks : DiskWords D) (inputs : List InputRule) (listed : List Listed) (old new : Cleaning D) (cleans : Cleans disks inputs listed old new) where
   -- where nothing is left to be done now, nothing was before

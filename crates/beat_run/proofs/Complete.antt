@@ -47,6 +47,7 @@ use Rattle.beat_run.specs.Named.{IsNamed}
 use Rattle.beat_run.specs.Printed.{StandsBehind}
 use Rattle.beat_run.specs.declared.settings.TheConstants.{LIMIT}
 use Rattle.beat_run.proofs.FirstLacks.{no_lack}
+use Rattle.command_line.proofs.Plain.{not_both}
 
 -- ---- what is known of a run
 
@@ -99,14 +100,6 @@ there_is (x ∷ xs) zero inside = (x, refl)
 there_is (x ∷ xs) (suc k) inside = there_is xs k (omega (arith, inside))
 
 -- ---- the arguments
-
-no_count : (told : Option (List ℕ)) (asked : Option ℕ) → IsGenerateBy told asked → IsSomeAnd told (λ digits. ¬ (IsLineCount digits)) → ⊥
-no_count None asked by none = absurd none
-no_count (Some digits) asked by none = none by.0
-
-taken_or_not : (words : List (List ℕ)) (asked : Words) → IsCommand words asked → IsNoCommand words → ⊥
-taken_or_not words asked taken (inl fault) = fault taken.0
-taken_or_not words asked taken (inr none) = no_count _ asked.generate taken.1.generate none
 
 once_or_not : (Given : Type 0) (once other : Bool) → (IsTrue once ↔ Given) → (IsTrue other ↔ Given) → once ≡ true → other ≡ false → ⊥
 once_or_not Given once other by also is denied = let both : true ≡ false = sym (also.1 (by.0 is)) ∙ denied in cc
@@ -348,7 +341,7 @@ module _ {F W D : Type 0} (disks : DiskWords D) (run : ShownRun F W D) (one : On
   pub ends_untroubled : (status : Status) → EndsWith disks run status → IsUntroubledEnd status
   ends_untroubled Done ends = tt
   ends_untroubled Stopped ends = absurd (untroubled.counts.rings ends.cause)
-  ends_untroubled Usage ends = absurd (taken_or_not run.given.words untroubled.words.asked untroubled.words.taken (ends.usage refl))
+  ends_untroubled Usage ends = absurd (not_both run.given.words untroubled.words.asked untroubled.words.taken (ends.usage refl))
   ends_untroubled (Settings fault) ends = absurd (settings_without_fault (take LIMIT untroubled.spelled.bytes) untroubled.settings fault untroubled.spelled.are
       (at_some run.given.source untroubled.spelled.bytes (λ bytes. IsFirstFault (take LIMIT bytes) fault) untroubled.spelled.tells (ends.settings fault refl)))
   ends_untroubled (RegistryBad area at) ends =

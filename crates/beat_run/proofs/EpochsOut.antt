@@ -22,7 +22,7 @@ use Rattle.run_steps.specs.RunEnds.{HasEnded}
 use Rattle.run_steps.specs.Shown.{WasClosedWith}
 use Rattle.run_steps.specs.Starting.{IsFirstTooMany, new_files}
 use Rattle.run_steps.specs.declared.met.Met.{Met}
-use Rattle.run_steps.proofs.Members.{member_is, some_is}
+use Rattle.run_steps.proofs.Members.{some_is}
 use Rattle.run_steps.proofs.OutOfEpochs.{has_run_out}
 use Rattle.run_steps.proofs.RowsFound.{found_there}
 use Rattle.wire_base.specs.declared.limits.Full.TheVariants.{Epochs, Files, Slots}
@@ -31,6 +31,7 @@ use Rattle.beat_run.specs.EpochsLeft.{FindsNoEpoch, HaveEpochsLeft, ReadsToTheLa
 use Rattle.beat_run.specs.Scanning.{ScansParted}
 use Rattle.beat_run.proofs.PathsListed.{GoesFurther, scanned_later}
 use Rattle.run_steps.specs.declared.met.Met.TheVariants as met
+use Rattle.accounts.proofs.Orderly.{member_is}
 
 -- ---- what was met
 

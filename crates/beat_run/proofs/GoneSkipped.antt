@@ -10,7 +10,7 @@ use Rattle.removed_rows.specs.Gone.{Gone, gone_accounts, gone_key, next_slot, wi
 use Rattle.report.specs.declared.passing.Passing.{Passing}
 use Rattle.run_steps.proofs.FollowedOrSkipped.{each_then_so}
 use Rattle.run_steps.specs.FollowedOrSkipped.{AreFollowedOrSkipped, IsFollowedInSlot, IsInAccount, IsSkippedBy}
-use Rattle.beat_run.proofs.PathsListed.{got_there}
+use Rattle.accounts.proofs.Following.{got_there}
 
 module _ (run : Run) (account : List SlotAccount) (went : List Gone) (scanned : ℕ) where
   slot_with_gone : (number : ℕ) (one : Listed) → IsFollowedInSlot run account scanned number one → IsFollowedInSlot run (with_gone account went) scanned number one

@@ -21,7 +21,7 @@ use Rattle.prospect.specs.declared.listed.Listed.{Listed}
 use Rattle.report.specs.declared.passing.Passing.{Passing}
 use Rattle.run_steps.specs.FollowedOrSkipped.{AreFollowedOrSkipped}
 use Rattle.run_steps.specs.Shown.{HasShown}
-use Rattle.run_steps.specs.SoFar.{SoFar}
+use Rattle.run_steps.specs.SoFar.{FilesSoFar}
 use Rattle.run_steps.specs.declared.beginning.Scanned.{Scanned}
 use Rattle.run_steps.proofs.AskedEvents.{all_asked}
 use Rattle.run_steps.proofs.KeyedFiles.{IsKeyedFrom, KeepsEntry, keeps_entry, keyed_from}
@@ -32,6 +32,8 @@ use Rattle.ship_core.proofs.Members.{first_there, later_there, none_there, there
 use Rattle.beat_run.specs.Cause.{WasListed, WasUnnumbered}
 use Rattle.beat_run.specs.Scanning.{ScansParted, TellsScanned}
 use Rattle.beat_run.specs.Skipped.{AreSkipped, all_skipped}
+use Rattle.accounts.proofs.Following.{got_there}
+use Rattle.accounts.proofs.Backing.{mapped_there}
 
 -- the folder did more behind its scan
 pub record GoesFurther (scanned after : Option FolderHistory) : Type 0 where
@@ -55,7 +57,7 @@ are_skipped settings run account told scanned after scan opened same tells goes 
       are = refl;
     }
 
-pub shown_goes_further : (scanned after : Option FolderHistory) (so_far : SoFar) → HasShown scanned after so_far → GoesFurther scanned after
+pub shown_goes_further : (scanned after : Option FolderHistory) (so_far : FilesSoFar) → HasShown scanned after so_far → GoesFurther scanned after
 shown_goes_further None after so_far shown = record { more = λ history none. absurd cc }
 shown_goes_further (Some before) None so_far shown = absurd shown
 shown_goes_further (Some before) (Some now) so_far shown = record {
@@ -72,19 +74,6 @@ in_rest : {A : Type 0} (front rest back : List A) (x : A) → Contains rest x �
 in_rest {A} front rest back x there =
     subst (λ (l : List A). Contains l x) (sym (drop-append-le (length front) (front ++ rest) back (omega (arith, length-append front rest)) ∙ ap (λ (l : List A). l ++ back) (drop-append_seam front rest)))
     (Contains-append_left rest back x there)
-
-map_there : {A B : Type 0} (f : A → B) (xs : List A) (x : A) → Contains xs x → Contains (map f xs) (f x)
-map_there f [] x there = absurd (none_there x there)
-map_there {A} {B} f (y ∷ xs) x there = by_case (there_cases y x xs there) (λ later. map_there f xs x later)
-  where
-    by_case : (y ≡ x) ⊎ Contains xs x → (Contains xs x → Contains (map f xs) (f x)) → Contains (map f (y ∷ xs)) (f x)
-    by_case (inl here) others = subst (λ (z : A). Contains (f y ∷ map f xs) (f z)) here (first_there (f y) (map f xs))
-    by_case (inr later) others = later_there (f y) (f x) (map f xs) (others later)
-
-pub got_there : {A : Type 0} (xs : List A) (k : ℕ) (x : A) → slice_get xs k ≡ Some x → Contains xs x
-got_there [] k x is = absurd (let q : None ≡ Some x = is in cc)
-got_there {A} (first ∷ xs) zero x is = subst (λ (y : A). Contains (first ∷ xs) y) (some_is first x is) (first_there first xs)
-got_there (first ∷ xs) (suc k) x is = later_there first x xs (got_there xs k x is)
 
 -- what the folder told behind its scan begins with what it told before
 pub scanned_later : (inputs : List InputRule) (told : FolderHistory) (files doubled : List Listed) (scanned : Option FolderHistory) (scans : ScansParted inputs told files doubled scanned) →
@@ -106,7 +95,7 @@ module _ (inputs : List InputRule) (told : FolderHistory) (files doubled : List 
   listed_by : Any (λ shown. IsListedBy inputs from.of.listed shown) (shown_in scans.scans.listings)
   listed_by =
       All-contains (λ (file : Listed). Any (λ shown. IsListedBy inputs file shown) (shown_in scans.scans.listings)) scans.all from.of.listed scans.scans.only
-      (subst (λ (l : List Listed). Contains l from.of.listed) scans.asked_are (map_there (λ (asked : AskedFile). asked.listed) scans.asked from.of from.among))
+      (subst (λ (l : List Listed). Contains l from.of.listed) scans.asked_are (mapped_there (λ (asked : AskedFile). asked.listed) scans.asked from.of from.among))
 
   asks : HasOnlyAsked scans.listed scans.scanned
   asks = all_asked inputs scans.asked scans.listed scans.scanned scans.asks
@@ -137,7 +126,7 @@ module _ (inputs : List InputRule) (told : FolderHistory) (files doubled : List 
         depth = _;
         shown = of.item.shown;
         among = subst (λ (l : List Event). Contains (drop (length told.events) l) (event_of of.item)) (sym events_behind)
-            (in_rest told.events (map event_of scans.scans.listings) (asks.more ++ rest_told.0) (event_of of.item) (map_there event_of scans.scans.listings of.item of.among));
+            (in_rest told.events (map event_of scans.scans.listings) (asks.more ++ rest_told.0) (event_of of.item) (mapped_there event_of scans.scans.listings of.item of.among));
         shows = (of.there.0, by.1, of.there.1, of.there.2, sym by.4.path_is ∙ sym keeps.path_is);
       }
 

@@ -13,16 +13,12 @@ use Rattle.run_steps.specs.declared.met.Met.{Met}
 use Rattle.run_steps.specs.declared.met.Met.TheVariants as met
 use Rattle.beat_run.specs.Cause.{HasFailedSince, Signs}
 use Rattle.beat_run.proofs.Causes.{FailedIn}
+use Rattle.run_steps.proofs.Named.{mapped_at}
 
 got_mapped : {A B : Type 0} (f : A → B) (xs : List A) (k : ℕ) (y : B) → slice_get (map f xs) k ≡ Some y → (x : A) × (slice_get xs k ≡ Some x) × (f x ≡ y)
 got_mapped f [] k y is = absurd cc
 got_mapped f (x ∷ xs) zero y is = (x, refl, let same : Some (f x) ≡ Some y = is in cc)
 got_mapped f (x ∷ xs) (suc k) y is = got_mapped f xs k y is
-
-map_got : {A B : Type 0} (f : A → B) (xs : List A) (k : ℕ) (x : A) → slice_get xs k ≡ Some x → slice_get (map f xs) k ≡ Some (f x)
-map_got f [] k x is = absurd cc
-map_got f (y ∷ xs) zero x is = let same : Some y ≡ Some x = is in cc
-map_got f (y ∷ xs) (suc k) x is = map_got f xs k x is
 
 take_got : {A : Type 0} (count : ℕ) (xs : List A) (k : ℕ) (x : A) → k < count → slice_get xs k ≡ Some x → slice_get (take count xs) k ≡ Some x
 take_got zero xs k x within is = absurd (omega (arith, within))
@@ -48,7 +44,7 @@ module _ {W : Type 0} (wires : WireWords W) (settings : Settings) (old new : Lis
     by_wires before after before_is after_is None told_is = tt
     by_wires before after before_is after_is (Some earlier) told_is =
         let start : slice_get (counts_told wires settings.output.workers old) place ≡ Some (Some (length earlier)) =
-        map_got (λ (w : W). count_told (wires.outcomes w)) (take settings.output.workers old) place before (take_got settings.output.workers old place before within before_is)
+        mapped_at (λ (w : W). count_told (wires.outcomes w)) (take settings.output.workers old) place before (take_got settings.output.workers old place before within before_is)
         ∙ ap (λ (o : Option (List Outcome)). Some (count_told o)) told_is in
         let failed = fails (Some (length earlier)) after start after_is in
         record { all = failed.all; tells = failed.tells; failures = failed.failures }

@@ -33,9 +33,12 @@ pub record AllSigns : Type 0 where
   pub source_faults : ℕ
   pub sink_faults : ℕ
 
+abbrev pub all_signs : Signs → ℕ → ℕ → AllSigns
+all_signs signs source_faults sink_faults = record { signs = signs; source_faults = source_faults; sink_faults = sink_faults }
+
 -- where no sink was used yet
 abbrev pub without_sink : Signs → ℕ → AllSigns
-without_sink signs source_faults = record { signs = signs; source_faults = source_faults; sink_faults = 0 }
+without_sink signs source_faults = all_signs signs source_faults 0
 
 -- one of the areas failed
 abbrev pub HasAreaFailed : Tolls → Tolls → Type 0

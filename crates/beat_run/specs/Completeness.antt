@@ -38,6 +38,9 @@ pub record GivenRun (D : Type 0) : Type 0 where
   pub a : D
   pub b : D
 
+abbrev pub given_run : {D : Type 0} → List (List ℕ) → Option (List ℕ) → D → D → GivenRun D
+given_run words source a b = record { words = words; source = source; a = a; b = b }
+
 -- ---- what it is given
 
 -- the source tells bytes that spell these settings, and they ask for nothing that is not built

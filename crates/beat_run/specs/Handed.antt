@@ -3,12 +3,18 @@
 use Rattle.std.specs.Prelude.{◌≡◌, ℕ, ◌+◌, ◌-◌, ◌^◌, ◌<◌, All, length, map, List, Option, IsSome}
 use Rattle.event_tree.specs.declared.settings.Settings.{Settings}
 use Rattle.outside.specs.Folders.{FolderHistory}
+use Rattle.outside.specs.declared.bell.Bell.{Ghosts as BellGhosts}
+use Rattle.outside.specs.declared.clock.Clock.{Ghosts as ClockGhosts}
+use Rattle.outside.specs.declared.disk.Disk.{Ghosts as DiskGhosts}
+use Rattle.outside.specs.declared.folder.Folder.{Ghosts as FolderGhosts}
+use Rattle.outside.specs.declared.wire.Wire.{Ghosts as WireGhosts}
 use Rattle.report.specs.declared.status.Status.{Status}
 use Rattle.rounds.specs.Making.{all_seen}
 use Rattle.rounds.specs.Words.{DiskWords, WireWords}
-use Rattle.run_steps.specs.AccountedFor.{Objects}
+use Rattle.rounds.specs.WordsOf.{disks_of, wires_of}
+use Rattle.run_steps.specs.AccountedFor.{Objects, RunObjects}
 use Rattle.run_steps.specs.ClockOn.{MomentsGoOn}
-use Rattle.beat_run.specs.Accounted.{Lent}
+use Rattle.beat_run.specs.Accounted.{Lent, RunLent}
 use Rattle.beat_run.specs.Cause.{CauseBy, Signs}
 use Rattle.beat_run.specs.declared.objects.Outside.{Outside}
 
@@ -22,54 +28,71 @@ pub record OutsideWords (F W D K B : Type 0) : Type 1 where
   pub moments : K → Option (List ℕ)
   pub rings : B → ℕ
 
-abbrev pub outside_words : {F W D K B : Type 0} → (F → Option FolderHistory) → (F → ℕ) → (F → ℕ) → WireWords W → DiskWords D → (K → Option (List ℕ)) → (B → ℕ) → OutsideWords F W D K B
-outside_words told open_tails folder_faults wires disks moments rings = record {
-  told = told;
-  open_tails = open_tails;
-  folder_faults = folder_faults;
-  wires = wires;
-  disks = disks;
-  moments = moments;
-  rings = rings;
+abbrev pub outside_words : {F T W L D K B : Type 0} → FolderGhosts F T → WireGhosts W L → DiskGhosts D → ClockGhosts K → BellGhosts B → OutsideWords F W D K B
+outside_words folder wire disk clock bell = record {
+  told = folder.told;
+  open_tails = folder.open_tails;
+  folder_faults = folder.faults;
+  wires = wires_of wire;
+  disks = disks_of disk;
+  moments = clock.moments;
+  rings = bell.rings;
 }
 
--- without its clock and its bell
-abbrev pub lent_of : {F W D K B : Type 0} → Outside F W D K B → Lent F W D
-lent_of outside = record {
-  folder = outside.folder.now;
-  wires = outside.wires.now.items;
-  a = outside.a.now;
-  b = outside.b.now;
-}
+-- the objects at one moment
+pub record Handed (F W D K B : Type 0) : Type 0 where
+  pub folder : F
+  pub wires : List W
+  pub a : D
+  pub b : D
+  pub clock : K
+  pub bell : B
+
+abbrev pub handed : {F W D K B : Type 0} → F → List W → D → D → K → B → Handed F W D K B
+handed folder wires a b clock bell = record { folder = folder; wires = wires; a = a; b = b; clock = clock; bell = bell }
+
+abbrev pub handed_in : {F W D K B : Type 0} → Outside F W D K B → Handed F W D K B
+handed_in outside = handed outside.folder.now outside.wires.now.items outside.a.now outside.b.now outside.clock.now outside.bell.now
+
+-- without their clock and their bell
+abbrev pub lent_of : {F W D K B : Type 0} → Handed F W D K B → Lent F W D
+lent_of now = record { folder = now.folder; wires = now.wires; a = now.a; b = now.b }
+
+-- before and after
+abbrev pub lent_by : {F W D K B : Type 0} → Handed F W D K B → Handed F W D K B → RunLent F W D
+lent_by before after = record { before = lent_of before; after = lent_of after }
 
 module _ {F W D K B : Type 0} (words : OutsideWords F W D K B) where
-  -- by which a run's end is blamed
-  abbrev pub signs_of : Outside F W D K B → Signs
-  signs_of outside = record {
-    folder = words.told outside.folder.now;
-    moments = words.moments outside.clock.now;
-    wires = all_seen words.wires outside.wires.now.items;
+  -- what shows why a run ended
+  abbrev pub signs_of : Handed F W D K B → Signs
+  signs_of now = record {
+    folder = words.told now.folder;
+    moments = words.moments now.clock;
+    wires = all_seen words.wires now.wires;
     counts = record {
-      a_faults = words.disks.faults outside.a.now;
-      b_faults = words.disks.faults outside.b.now;
-      folder_faults = words.folder_faults outside.folder.now;
-      rings = words.rings outside.bell.now;
+      a_faults = words.disks.faults now.a;
+      b_faults = words.disks.faults now.b;
+      folder_faults = words.folder_faults now.folder;
+      rings = words.rings now.bell;
     };
   }
 
-  -- by which it is accounted for
-  abbrev pub objects_of : Outside F W D K B → Objects D
-  objects_of outside = record {
-    folder = words.told outside.folder.now;
-    moments = words.moments outside.clock.now;
-    outcomes = map words.wires.outcomes outside.wires.now.items;
-    a = outside.a.now;
-    b = outside.b.now;
+  -- what a run is accounted for by
+  abbrev pub objects_of : Handed F W D K B → Objects D
+  objects_of now = record {
+    folder = words.told now.folder;
+    moments = words.moments now.clock;
+    outcomes = map words.wires.outcomes now.wires;
+    a = now.a;
+    b = now.b;
   }
+
+  abbrev pub objects_by : Handed F W D K B → Handed F W D K B → RunObjects D
+  objects_by before after = record { before = objects_of before; after = objects_of after }
 
   -- why a part of a run ended so
   abbrev pub CausedIn : Settings → Outside F W D K B → Outside F W D K B → Status → Type 0
-  CausedIn settings old new status = CauseBy settings (signs_of old) (signs_of new) status
+  CausedIn settings old new status = CauseBy settings (signs_of (handed_in old)) (signs_of (handed_in new)) status
 
   -- the clock's list stays in front, the wires are as many, each tail is closed and each link finished where folder and wires can count
   -- them, and an area that told what it holds still tells it
@@ -80,3 +103,12 @@ module _ {F W D K B : Type 0} (words : OutsideWords F W D K B) where
     pub links : All (λ (w : W). words.wires.open_links w < 2 ^ 64 - 1) old.wires.now.items → map words.wires.open_links new.wires.now.items ≡ map words.wires.open_links old.wires.now.items
     pub a_told : IsSome (words.disks.contents old.a.now) → IsSome (words.disks.contents new.a.now)
     pub b_told : IsSome (words.disks.contents old.b.now) → IsSome (words.disks.contents new.b.now)
+
+-- each object is the same one
+pub record SameOutside {F W D K B : Type 0} (old new : Outside F W D K B) : Type 0 where
+  pub folder : new.folder.ghost_name ≡ old.folder.ghost_name
+  pub wires : new.wires.ghost_name ≡ old.wires.ghost_name
+  pub a : new.a.ghost_name ≡ old.a.ghost_name
+  pub b : new.b.ghost_name ≡ old.b.ghost_name
+  pub clock : new.clock.ghost_name ≡ old.clock.ghost_name
+  pub bell : new.bell.ghost_name ≡ old.bell.ghost_name

@@ -1,5 +1,5 @@
 ghost use Rattle.std.specs.Prelude.{◌≡◌, false};
-ghost use Rattle.rounds.specs.Words.{disk_words};
+ghost use Rattle.rounds.specs.WordsOf.{disks_of};
 ghost use Rattle.run_steps.specs.Met.{AreLeft};
 ghost use Rattle.beat_run.specs.Cleaning.{Cleans};
 
@@ -20,7 +20,7 @@ pub fn clean<D: Disk>(
     b: &mut D,
 ) -> Met
     requires open { AreLeft met → store.old.closed ≡ false }
-    ensures { Cleans (disk_words D.contents D.images D.moment D.images_since D.faults)
+    ensures { Cleans (disks_of D.Disk)
         context.entry.settings.now.inputs listed.now
         (record { met = met; store = store.old; a = a.old; b = b.old })
         (record { met = result; store = store.new; a = a.new; b = b.new }) }
@@ -42,7 +42,7 @@ fn clean_where_left<D: Disk>(
 ) -> Met
     requires left { AreLeft met }
     requires open { store.old.closed ≡ false }
-    ensures { Cleans (disk_words D.contents D.images D.moment D.images_since D.faults)
+    ensures { Cleans (disks_of D.Disk)
         context.entry.settings.now.inputs listed.now
         (record { met = met; store = store.old; a = a.old; b = b.old })
         (record { met = result; store = store.new; a = a.new; b = b.new }) }

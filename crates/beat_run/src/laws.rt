@@ -5,7 +5,7 @@ ghost use Rattle.beat_run.specs.NextRun.{EndedRun, FindsAreasAsLeft, OpensKeptRo
 ghost use Rattle.beat_run.specs.UsedImages.{KeepsUsedImages};
 ghost use Rattle.event_tree.specs.declared.settings.Settings.{Settings};
 ghost use Rattle.registry_log.specs.OnlyRead.{IsOnlyRead};
-ghost use Rattle.rounds.specs.Words.{disk_words};
+ghost use Rattle.rounds.specs.WordsOf.{disks_of};
 
 use outside::Disk;
 use registry_store::one_choice;
@@ -20,16 +20,12 @@ pub fn unasked_disk_is_only_read<D: Disk>()
 /// Each row that a run opens was told by the run before, whatever that met, or stood as that one opened it. So the rows that
 /// `accounted_runs_adjoin` asks for are there, and its inputs have ids of their own. A law; it computes nothing.
 pub fn next_run_opens_kept_rows<D: Disk>()
-    ensures opening { (earlier later : EndedRun (disk_words D.contents D.images D.moment D.images_since D.faults)) →
-        FindsAreasAsLeft (disk_words D.contents D.images D.moment D.images_since D.faults)
-        earlier.objects later.objects →
-        OpensKeptRows (disk_words D.contents D.images D.moment D.images_since D.faults)
-        earlier later }
-    ensures opening_behind_last_steps { (earlier later : EndedRun (disk_words D.contents D.images D.moment D.images_since D.faults)) →
-        FindsAreasAsLeft (disk_words D.contents D.images D.moment D.images_since D.faults)
-        earlier.objects later.objects →
-        OpensLastRows (disk_words D.contents D.images D.moment D.images_since D.faults)
-        earlier later }
+    ensures opening { (earlier later : EndedRun (disks_of D.Disk)) →
+        FindsAreasAsLeft (disks_of D.Disk) earlier.objects later.objects →
+        OpensKeptRows (disks_of D.Disk) earlier later }
+    ensures opening_behind_last_steps { (earlier later : EndedRun (disks_of D.Disk)) →
+        FindsAreasAsLeft (disks_of D.Disk) earlier.objects later.objects →
+        OpensLastRows (disks_of D.Disk) earlier later }
     ensures own_ids { (settings : Settings) → AreInRange settings → HaveOwnIds settings.inputs }
 {}
 
@@ -37,21 +33,15 @@ pub fn next_run_opens_kept_rows<D: Disk>()
 /// writes, was told by that run, or stood as it opened it; and no key loses its row but rightly. The end of a run that ended is
 /// such a moment, so the premise can hold. A law; it computes nothing.
 pub fn run_after_a_crash_opens_kept_rows<D: Disk>()
-    ensures opening { (earlier later : EndedRun (disk_words D.contents D.images D.moment D.images_since D.faults)) →
-        FindsAreasAsCrashed (disk_words D.contents D.images D.moment D.images_since D.faults)
-        earlier later.objects →
-        OpensKeptRows (disk_words D.contents D.images D.moment D.images_since D.faults)
-        earlier later }
-    ensures keys { (earlier later : EndedRun (disk_words D.contents D.images D.moment D.images_since D.faults)) →
-        FindsAreasAsCrashed (disk_words D.contents D.images D.moment D.images_since D.faults)
-        earlier later.objects →
-        FindsKeys (disk_words D.contents D.images D.moment D.images_since D.faults)
-        earlier later }
-    ensures end_is_such_a_moment { (earlier later : EndedRun (disk_words D.contents D.images D.moment D.images_since D.faults)) →
-        FindsAreasAsLeft (disk_words D.contents D.images D.moment D.images_since D.faults)
-        earlier.objects later.objects →
-        FindsAreasAsCrashed (disk_words D.contents D.images D.moment D.images_since D.faults)
-        earlier later.objects }
+    ensures opening { (earlier later : EndedRun (disks_of D.Disk)) →
+        FindsAreasAsCrashed (disks_of D.Disk) earlier later.objects →
+        OpensKeptRows (disks_of D.Disk) earlier later }
+    ensures keys { (earlier later : EndedRun (disks_of D.Disk)) →
+        FindsAreasAsCrashed (disks_of D.Disk) earlier later.objects →
+        FindsKeys (disks_of D.Disk) earlier later }
+    ensures end_is_such_a_moment { (earlier later : EndedRun (disks_of D.Disk)) →
+        FindsAreasAsLeft (disks_of D.Disk) earlier.objects later.objects →
+        FindsAreasAsCrashed (disks_of D.Disk) earlier later.objects }
 {
     disk_images_are_counted::<D>();
     one_choice();
@@ -60,8 +50,7 @@ pub fn run_after_a_crash_opens_kept_rows<D: Disk>()
 /// Whatever a crash at any moment of a run leaves of one area has kept rows, where it is opened and of the area that the run used
 /// as it began, or of a greater generation than that had, or where the registry was empty. A law; it computes nothing.
 pub fn used_images_have_kept_rows<D: Disk>()
-    ensures { (run : EndedRun (disk_words D.contents D.images D.moment D.images_since D.faults)) →
-        KeepsUsedImages (disk_words D.contents D.images D.moment D.images_since D.faults) run }
+    ensures { (run : EndedRun (disks_of D.Disk)) → KeepsUsedImages (disks_of D.Disk) run }
 {
     one_choice();
 }

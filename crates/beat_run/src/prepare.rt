@@ -25,12 +25,20 @@ pub fn prepare<R: Source>(alloc: Global, words: &[Text], source: &mut R) -> Resu
     ensures nothing_lacks { IfOk result (λ settings. lacks_of settings ≡ []) }
     ensures once { OnOk result (AskForOnce words.now) }
     ensures usage_only { IsErrOf result Status.Usage → IsNoCommand words.now }
-    ensures other_words_refused { IsNoCommand words.now → MatchResult result (λ _. ⊥) RefusesWords }
-    ensures unbuilt_only { (lack : Lack) → IsErrOf result (Status.Unbuilt lack) → IsAsked words.now (R.left source.old) lack }
-    ensures unbuilt_refused { (lack : Lack) → AskFor words.now lack → MatchResult result (λ _. ⊥) (RefusesLack lack) }
-    ensures fault_only { (fault : SettingsError) → IsErrOf result (Status.Settings fault) → IfSome (R.left source.old) (λ bytes. IsFirstFault (take LIMIT bytes) fault) }
-    ensures fault_refused { (fault : SettingsError) → IfSome (R.left source.old) (λ bytes. IsFirstFault (take LIMIT bytes) fault → MatchResult result (λ _. ⊥) (RefusesSettings fault)) }
-    ensures key_refused { (settings : Settings) (key : List ℕ) → IfSome (R.left source.old) (λ bytes. AreSettingsOf (take LIMIT bytes) settings → IsFirstLack settings key → MatchResult result (λ _. ⊥) (RefusesKey key)) }
+    ensures other_words_refused { IsNoCommand words.now →
+        MatchResult result (λ _. ⊥) RefusesWords }
+    ensures unbuilt_only { (lack : Lack) → IsErrOf result (Status.Unbuilt lack) →
+        IsAsked words.now (R.left source.old) lack }
+    ensures unbuilt_refused { (lack : Lack) → AskFor words.now lack →
+        MatchResult result (λ _. ⊥) (RefusesLack lack) }
+    ensures fault_only { (fault : SettingsError) → IsErrOf result (Status.Settings fault) →
+        IfSome (R.left source.old) (λ bytes. IsFirstFault (take LIMIT bytes) fault) }
+    ensures fault_refused { (fault : SettingsError) → IfSome (R.left source.old) (λ bytes.
+        IsFirstFault (take LIMIT bytes) fault →
+        MatchResult result (λ _. ⊥) (RefusesSettings fault)) }
+    ensures key_refused { (settings : Settings) (key : List ℕ) →
+        IfSome (R.left source.old) (λ bytes. AreSettingsOf (take LIMIT bytes) settings →
+        IsFirstLack settings key → MatchResult result (λ _. ⊥) (RefusesKey key)) }
     ensures ends { IfErr result (IsPreparingEnd (R.faults source.old) (R.faults source.new)) }
 {
     match check_words(alloc, words) {
@@ -52,9 +60,12 @@ pub fn prepare<R: Source>(alloc: Global, words: &[Text], source: &mut R) -> Resu
 fn check_words(alloc: Global, words: &[Text]) -> Result<(), Status>
     ensures once { OnOk result (AskForOnce words.now) }
     ensures usage_only { IsErrOf result Status.Usage → IsNoCommand words.now }
-    ensures other_words_refused { IsNoCommand words.now → MatchResult result (λ _. ⊥) RefusesWords }
-    ensures lack_only { (lack : Lack) → IsErrOf result (Status.Unbuilt lack) → AskFor words.now lack }
-    ensures lack_refused { (lack : Lack) → AskFor words.now lack → MatchResult result (λ _. ⊥) (RefusesLack lack) }
+    ensures other_words_refused { IsNoCommand words.now →
+        MatchResult result (λ _. ⊥) RefusesWords }
+    ensures lack_only { (lack : Lack) → IsErrOf result (Status.Unbuilt lack) →
+        AskFor words.now lack }
+    ensures lack_refused { (lack : Lack) → AskFor words.now lack →
+        MatchResult result (λ _. ⊥) (RefusesLack lack) }
     ensures ends { IfErr result IsWordsEnd }
 {
     match read_words(alloc, words) {
@@ -68,7 +79,8 @@ fn check_words(alloc: Global, words: &[Text]) -> Result<(), Status>
 /// Answers Ok where the settings ask for nothing that is not built.
 fn check_keys(alloc: Global, settings: &Settings) -> Result<(), Status>
     ensures none { OnOk result (lacks_of settings.now ≡ []) }
-    ensures only { (key : List ℕ) → IsErrOf result (Status.Unbuilt (Lack.Key key)) → IsFirstLack settings.now key }
+    ensures only { (key : List ℕ) → IsErrOf result (Status.Unbuilt (Lack.Key key)) →
+        IsFirstLack settings.now key }
     ensures ends { IfErr result IsLackEnd }
 {
     match first_lack(alloc, settings) {

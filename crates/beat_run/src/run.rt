@@ -3,9 +3,8 @@ ghost use Rattle.beat_config.specs.Document.{AreSettingsOf, IsFirstFault};
 ghost use Rattle.beat_config.specs.InRange.{AreInRange};
 ghost use Rattle.command_line.specs.Words.{IsNoCommand};
 ghost use Rattle.prospect.specs.Lacks.{IsFirstLack};
-ghost use Rattle.registry_log.specs.OnlyRead.{IsOnlyRead};
 ghost use Rattle.registry_store.specs.Settled.{AreAtRest};
-ghost use Rattle.rounds.specs.Words.{disk_words, wire_words};
+ghost use Rattle.rounds.specs.WordsOf.{disks_of};
 ghost use Rattle.registry_store.specs.Standing.{Standing};
 ghost use Rattle.run_steps.specs.Met.{AreLeft, IsMetOf};
 ghost use Rattle.run_steps.specs.Registry.{AreRefusedAt};
@@ -18,10 +17,10 @@ ghost use Rattle.beat_run.specs.Cause.{Cause, without_sink};
 ghost use Rattle.beat_run.specs.Cleaning.{Finishes};
 ghost use Rattle.beat_run.specs.Ended.{ended};
 ghost use Rattle.beat_run.specs.Ends.{IsBehindOpening, IsRefusal, IsReportEnd, IsRunEnd, IsScannedEnd, IsSettledEnd, IsUnprepared, RefusesArea, RefusesKey, RefusesLack, RefusesSettings, RefusesWords};
-ghost use Rattle.beat_run.specs.Handed.{CausedIn, GoesOn, lent_of, objects_of, outside_words, signs_of};
+ghost use Rattle.beat_run.specs.Handed.{CausedIn, GoesOn, SameOutside, handed_in, lent_by, objects_by, objects_of, outside_words, signs_of};
 ghost use Rattle.beat_run.specs.Printed.{IsReportOf, IsToBePrinted, ReportsStored};
 ghost use Rattle.beat_run.specs.Skipped.{all_skipped};
-ghost use Rattle.beat_run.specs.Untouched.{IsRefused};
+ghost use Rattle.beat_run.specs.Untouched.{IfAreasRefused, IsOnlyReadBy, IsRefused, LeavesUntouched};
 ghost use Rattle.beat_run.specs.declared.settings.TheConstants.{LIMIT};
 
 use crate::cleaning::clean;
@@ -84,11 +83,11 @@ where
         IfSome (R.left source.old) (λ bytes. AreSettingsOf (take LIMIT bytes) settings →
         IsFirstLack settings key → MatchResult result (λ _. ⊥) (RefusesKey key)) }
     ensures registry_bad { (first second : List ℕ) (area : Which) (at : ℕ) →
-        D.contents outside.old.a.now ≡ Some first → D.contents outside.old.b.now ≡ Some second →
+        D.contents outside.old.a.now ≡ Some first →
+        D.contents outside.old.b.now ≡ Some second →
         IsErrOf result (Status.RegistryBad area at) → AreRefusedAt first second area at }
-    ensures areas_refused { (first second : List ℕ) (area : Which) (at : ℕ) →
-        D.contents outside.old.a.now ≡ Some first → D.contents outside.old.b.now ≡ Some second →
-        AreRefusedAt first second area at → MatchResult result (λ _. ⊥) RefusesArea }
+    ensures areas_refused { IfAreasRefused D.Disk outside.old.a.now outside.old.b.now
+        (MatchResult result (λ _. ⊥) RefusesArea) }
     ensures a_unused { IfErr result (λ status. IsUnprepared status →
         outside.new.a.now ≡ outside.old.a.now) }
     ensures b_unused { IfErr result (λ status. IsUnprepared status →
@@ -99,73 +98,39 @@ where
         outside.new.wires.now.items ≡ outside.old.wires.now.items) }
     ensures a_only_read_on_refusal { IfErr result (λ status. IsRefusal status →
         IsSome (D.contents outside.old.a.now) → IsSome (D.contents outside.old.b.now) →
-        IsOnlyRead D.contents D.images D.moment D.images_since D.faults outside.old.a.now outside.new.a.now) }
+        IsOnlyReadBy D.Disk outside.old.a.now outside.new.a.now) }
     ensures b_only_read_on_refusal { IfErr result (λ status. IsRefusal status →
-        IsOnlyRead D.contents D.images D.moment D.images_since D.faults outside.old.b.now outside.new.b.now) }
-    ensures a_only_read_where_refused { IsRefused words.now (R.left source.old)
+        IsOnlyReadBy D.Disk outside.old.b.now outside.new.b.now) }
+    ensures untouched_where_refused { IsRefused words.now (R.left source.old)
         (D.contents outside.old.a.now) (D.contents outside.old.b.now) →
-        IsOnlyRead D.contents D.images D.moment D.images_since D.faults
-        outside.old.a.now outside.new.a.now }
-    ensures b_only_read_where_refused { IsRefused words.now (R.left source.old)
-        (D.contents outside.old.a.now) (D.contents outside.old.b.now) →
-        IsOnlyRead D.contents D.images D.moment D.images_since D.faults
-        outside.old.b.now outside.new.b.now }
-    ensures folder_kept_where_refused { IsRefused words.now (R.left source.old)
-        (D.contents outside.old.a.now) (D.contents outside.old.b.now) →
-        outside.new.folder.now ≡ outside.old.folder.now }
-    ensures wires_kept_where_refused { IsRefused words.now (R.left source.old)
-        (D.contents outside.old.a.now) (D.contents outside.old.b.now) →
-        outside.new.wires.now.items ≡ outside.old.wires.now.items }
+        LeavesUntouched D.Disk outside.old outside.new }
     ensures once_where_reported { OnOk result (AskForOnce words.now) }
     ensures once_where_followed { IfErr result (λ status. IsBehindOpening status →
         AskForOnce words.now) }
-    ensures cause { Cause (R.left source.old)
-        (without_sink (signs_of (outside_words F.told F.open_tails F.faults
-        (wire_words W.outcomes W.open_links W.faults W.idles)
-        (disk_words D.contents D.images D.moment D.images_since D.faults)
-        K.moments B.rings) outside.old) (R.faults source.old))
-        (without_sink (signs_of (outside_words F.told F.open_tails F.faults
-        (wire_words W.outcomes W.open_links W.faults W.idles)
-        (disk_words D.contents D.images D.moment D.images_since D.faults)
-        K.moments B.rings) outside.new) (R.faults source.new))
+    ensures cause { let all = outside_words F.Folder W.Wire D.Disk K.Clock B.Bell in
+        Cause (R.left source.old)
+        (without_sink (signs_of all (handed_in outside.old)) (R.faults source.old))
+        (without_sink (signs_of all (handed_in outside.new)) (R.faults source.new))
         (ended result) }
-    ensures accounted { IsAccountedWhereTold
-        (disk_words D.contents D.images D.moment D.images_since D.faults)
-        (R.left source.old) (record {
-          before = lent_of outside.old;
-          after = lent_of outside.new;
-        }) (record {
-          before = objects_of (outside_words F.told F.open_tails F.faults
-              (wire_words W.outcomes W.open_links W.faults W.idles)
-              (disk_words D.contents D.images D.moment D.images_since D.faults)
-              K.moments B.rings) outside.old;
-          after = objects_of (outside_words F.told F.open_tails F.faults
-              (wire_words W.outcomes W.open_links W.faults W.idles)
-              (disk_words D.contents D.images D.moment D.images_since D.faults)
-              K.moments B.rings) outside.new;
-        }) (ended result) (IsToBePrinted result) }
+    ensures accounted { let all = outside_words F.Folder W.Wire D.Disk K.Clock B.Bell in
+        let before = handed_in outside.old in
+        let after = handed_in outside.new in
+        IsAccountedWhereTold (disks_of D.Disk) (R.left source.old) (lent_by before after)
+        (objects_by all before after) (ended result) (IsToBePrinted result) }
     ensures at_rest { IsSome (F.told outside.old.folder.now) →
-        AreAtRest D.contents D.images outside.old.a.now outside.old.b.now → IsBehindOpening (ended result) →
+        AreAtRest D.contents D.images outside.old.a.now outside.old.b.now →
+        IsBehindOpening (ended result) →
         AreAtRest D.contents D.images outside.new.a.now outside.new.b.now }
     ensures reported { IsSome (F.told outside.old.folder.now) →
         AreAtRest D.contents D.images outside.old.a.now outside.old.b.now →
-        IfOk result (λ ending. ReportsStored
-        (disk_words D.contents D.images D.moment D.images_since D.faults)
+        IfOk result (λ ending. ReportsStored (disks_of D.Disk)
         outside.new.a.now outside.new.b.now ending.status ending.report) }
     ensures report { IfOk result (λ ending. IsReportOf ending.status ending.report) }
     ensures with_report { IfOk result (λ ending. IsReportEnd ending.status) }
     ensures ends { IfErr result IsRunEnd }
-    ensures goes_on { GoesOn (outside_words F.told F.open_tails F.faults
-        (wire_words W.outcomes W.open_links W.faults W.idles)
-        (disk_words D.contents D.images D.moment D.images_since D.faults)
-        K.moments B.rings)
+    ensures goes_on { GoesOn (outside_words F.Folder W.Wire D.Disk K.Clock B.Bell)
         outside.old outside.new }
-    ensures same_folder { outside.new.folder.ghost_name ≡ outside.old.folder.ghost_name }
-    ensures same_wires { outside.new.wires.ghost_name ≡ outside.old.wires.ghost_name }
-    ensures same_a { outside.new.a.ghost_name ≡ outside.old.a.ghost_name }
-    ensures same_b { outside.new.b.ghost_name ≡ outside.old.b.ghost_name }
-    ensures same_clock { outside.new.clock.ghost_name ≡ outside.old.clock.ghost_name }
-    ensures same_bell { outside.new.bell.ghost_name ≡ outside.old.bell.ghost_name }
+    ensures same_objects { SameOutside outside.old outside.new }
 {
     unasked_disk_is_only_read::<D>();
     one_choice();
@@ -196,92 +161,46 @@ where
     requires in_range { AreInRange settings.now }
     requires wires { vec_len outside.old.wires.now ≡ 16 }
     ensures registry_bad { (first second : List ℕ) (area : Which) (at : ℕ) →
-        D.contents outside.old.a.now ≡ Some first → D.contents outside.old.b.now ≡ Some second →
+        D.contents outside.old.a.now ≡ Some first →
+        D.contents outside.old.b.now ≡ Some second →
         IsErrOf result (Status.RegistryBad area at) → AreRefusedAt first second area at }
-    ensures areas_refused { (first second : List ℕ) (area : Which) (at : ℕ) →
-        D.contents outside.old.a.now ≡ Some first → D.contents outside.old.b.now ≡ Some second →
-        AreRefusedAt first second area at → MatchResult result (λ _. ⊥) RefusesArea }
+    ensures areas_refused { IfAreasRefused D.Disk outside.old.a.now outside.old.b.now
+        (MatchResult result (λ _. ⊥) RefusesArea) }
     ensures a_only_read_where_bad { (area : Which) (at : ℕ) →
         IsSome (D.contents outside.old.a.now) → IsSome (D.contents outside.old.b.now) →
         IsErrOf result (Status.RegistryBad area at) →
-        IsOnlyRead D.contents D.images D.moment D.images_since D.faults outside.old.a.now outside.new.a.now }
+        IsOnlyReadBy D.Disk outside.old.a.now outside.new.a.now }
     ensures b_only_read_where_bad { (area : Which) (at : ℕ) →
         IsErrOf result (Status.RegistryBad area at) →
-        IsOnlyRead D.contents D.images D.moment D.images_since D.faults outside.old.b.now outside.new.b.now }
+        IsOnlyReadBy D.Disk outside.old.b.now outside.new.b.now }
     ensures folder_kept_where_bad { (area : Which) (at : ℕ) →
         IsErrOf result (Status.RegistryBad area at) →
         outside.new.folder.now ≡ outside.old.folder.now }
     ensures wires_kept_where_bad { (area : Which) (at : ℕ) →
         IsErrOf result (Status.RegistryBad area at) →
         outside.new.wires.now.items ≡ outside.old.wires.now.items }
-    ensures a_only_read_where_areas_are_refused { (first second : List ℕ) (area : Which) (at : ℕ) →
-        D.contents outside.old.a.now ≡ Some first → D.contents outside.old.b.now ≡ Some second →
-        AreRefusedAt first second area at →
-        IsOnlyRead D.contents D.images D.moment D.images_since D.faults
-        outside.old.a.now outside.new.a.now }
-    ensures b_only_read_where_areas_are_refused { (first second : List ℕ) (area : Which) (at : ℕ) →
-        D.contents outside.old.a.now ≡ Some first → D.contents outside.old.b.now ≡ Some second →
-        AreRefusedAt first second area at →
-        IsOnlyRead D.contents D.images D.moment D.images_since D.faults
-        outside.old.b.now outside.new.b.now }
-    ensures folder_kept_where_areas_are_refused { (first second : List ℕ) (area : Which) (at : ℕ) →
-        D.contents outside.old.a.now ≡ Some first → D.contents outside.old.b.now ≡ Some second →
-        AreRefusedAt first second area at →
-        outside.new.folder.now ≡ outside.old.folder.now }
-    ensures wires_kept_where_areas_are_refused { (first second : List ℕ) (area : Which) (at : ℕ) →
-        D.contents outside.old.a.now ≡ Some first → D.contents outside.old.b.now ≡ Some second →
-        AreRefusedAt first second area at →
-        outside.new.wires.now.items ≡ outside.old.wires.now.items }
-    ensures cause { CausedIn (outside_words F.told F.open_tails F.faults
-        (wire_words W.outcomes W.open_links W.faults W.idles)
-        (disk_words D.contents D.images D.moment D.images_since D.faults)
-        K.moments B.rings)
-        settings.now outside.old outside.new (ended result) }
-    ensures accounted { AllTell
-        (disk_words D.contents D.images D.moment D.images_since D.faults)
-        (record {
-          before = objects_of (outside_words F.told F.open_tails F.faults
-              (wire_words W.outcomes W.open_links W.faults W.idles)
-              (disk_words D.contents D.images D.moment D.images_since D.faults)
-              K.moments B.rings) outside.old;
-          after = objects_of (outside_words F.told F.open_tails F.faults
-              (wire_words W.outcomes W.open_links W.faults W.idles)
-              (disk_words D.contents D.images D.moment D.images_since D.faults)
-              K.moments B.rings) outside.new;
-        }) → IsAccounted
-        (disk_words D.contents D.images D.moment D.images_since D.faults)
-        settings.now (record {
-          before = objects_of (outside_words F.told F.open_tails F.faults
-              (wire_words W.outcomes W.open_links W.faults W.idles)
-              (disk_words D.contents D.images D.moment D.images_since D.faults)
-              K.moments B.rings) outside.old;
-          after = objects_of (outside_words F.told F.open_tails F.faults
-              (wire_words W.outcomes W.open_links W.faults W.idles)
-              (disk_words D.contents D.images D.moment D.images_since D.faults)
-              K.moments B.rings) outside.new;
-        }) (ended result) (IsToBePrinted result) }
+    ensures untouched_where_areas_are_refused { IfAreasRefused D.Disk
+        outside.old.a.now outside.old.b.now (LeavesUntouched D.Disk outside.old outside.new) }
+    ensures cause { CausedIn (outside_words F.Folder W.Wire D.Disk K.Clock B.Bell) settings.now
+        outside.old outside.new (ended result) }
+    ensures accounted { let all = outside_words F.Folder W.Wire D.Disk K.Clock B.Bell in
+        let objects = objects_by all (handed_in outside.old) (handed_in outside.new) in
+        AllTell (disks_of D.Disk) objects → IsAccounted (disks_of D.Disk) settings.now objects
+        (ended result) (IsToBePrinted result) }
     ensures at_rest { IsSome (F.told outside.old.folder.now) →
-        AreAtRest D.contents D.images outside.old.a.now outside.old.b.now → IsBehindOpening (ended result) →
+        AreAtRest D.contents D.images outside.old.a.now outside.old.b.now →
+        IsBehindOpening (ended result) →
         AreAtRest D.contents D.images outside.new.a.now outside.new.b.now }
     ensures reported { IsSome (F.told outside.old.folder.now) →
         AreAtRest D.contents D.images outside.old.a.now outside.old.b.now →
-        IfOk result (λ ending. ReportsStored
-        (disk_words D.contents D.images D.moment D.images_since D.faults)
+        IfOk result (λ ending. ReportsStored (disks_of D.Disk)
         outside.new.a.now outside.new.b.now ending.status ending.report) }
     ensures report { IfOk result (λ ending. IsReportOf ending.status ending.report) }
     ensures with_report { IfOk result (λ ending. IsReportEnd ending.status) }
     ensures ends { IfErr result IsSettledEnd }
-    ensures goes_on { GoesOn (outside_words F.told F.open_tails F.faults
-        (wire_words W.outcomes W.open_links W.faults W.idles)
-        (disk_words D.contents D.images D.moment D.images_since D.faults)
-        K.moments B.rings)
+    ensures goes_on { GoesOn (outside_words F.Folder W.Wire D.Disk K.Clock B.Bell)
         outside.old outside.new }
-    ensures same_folder { outside.new.folder.ghost_name ≡ outside.old.folder.ghost_name }
-    ensures same_wires { outside.new.wires.ghost_name ≡ outside.old.wires.ghost_name }
-    ensures same_a { outside.new.a.ghost_name ≡ outside.old.a.ghost_name }
-    ensures same_b { outside.new.b.ghost_name ≡ outside.old.b.ghost_name }
-    ensures same_clock { outside.new.clock.ghost_name ≡ outside.old.clock.ghost_name }
-    ensures same_bell { outside.new.bell.ghost_name ≡ outside.old.bell.ghost_name }
+    ensures same_objects { SameOutside outside.old outside.new }
 {
     one_choice();
     match open_registry(alloc, outside.a, outside.b) {
@@ -311,65 +230,35 @@ where
     requires in_range { AreInRange settings.now }
     requires open { store.closed ≡ false }
     requires wires { vec_len outside.old.wires.now ≡ 16 }
-    ensures cause { (from : Areas D) → IsOpenedFrom
-        (disk_words D.contents D.images D.moment D.images_since D.faults)
-        from store outside.old.a.now outside.old.b.now →
-        CausedIn (outside_words F.told F.open_tails F.faults
-        (wire_words W.outcomes W.open_links W.faults W.idles)
-        (disk_words D.contents D.images D.moment D.images_since D.faults)
-        K.moments B.rings)
-        settings.now outside.old outside.new (ended result) }
-    ensures accounted { (from : Areas D) → IsOpenedFrom
-        (disk_words D.contents D.images D.moment D.images_since D.faults)
-        from store outside.old.a.now outside.old.b.now →
-        TellEnough
-        (objects_of (outside_words F.told F.open_tails F.faults
-        (wire_words W.outcomes W.open_links W.faults W.idles)
-        (disk_words D.contents D.images D.moment D.images_since D.faults)
-        K.moments B.rings) outside.old)
-        (objects_of (outside_words F.told F.open_tails F.faults
-        (wire_words W.outcomes W.open_links W.faults W.idles)
-        (disk_words D.contents D.images D.moment D.images_since D.faults)
-        K.moments B.rings) outside.new) →
-        IsAccounted (disk_words D.contents D.images D.moment D.images_since D.faults)
-        settings.now (record {
-          before = record (objects_of (outside_words F.told F.open_tails F.faults
-              (wire_words W.outcomes W.open_links W.faults W.idles)
-              (disk_words D.contents D.images D.moment D.images_since D.faults)
-              K.moments B.rings) outside.old) { a = from.a; b = from.b };
-          after = objects_of (outside_words F.told F.open_tails F.faults
-              (wire_words W.outcomes W.open_links W.faults W.idles)
-              (disk_words D.contents D.images D.moment D.images_since D.faults)
-              K.moments B.rings) outside.new;
-        }) (ended result) (IsToBePrinted result) }
-    ensures at_rest { (from : Areas D) → IsOpenedFrom
-        (disk_words D.contents D.images D.moment D.images_since D.faults)
-        from store outside.old.a.now outside.old.b.now →
+    ensures cause { (from : Areas D) →
+        IsOpenedFrom (disks_of D.Disk) from store outside.old.a.now outside.old.b.now →
+        CausedIn (outside_words F.Folder W.Wire D.Disk K.Clock B.Bell) settings.now
+        outside.old outside.new (ended result) }
+    ensures accounted { (from : Areas D) →
+        let all = outside_words F.Folder W.Wire D.Disk K.Clock B.Bell in
+        let before = objects_of all (handed_in outside.old) in
+        let after = objects_of all (handed_in outside.new) in
+        let objects = record { before = record before { a = from.a; b = from.b }; after = after } in
+        IsOpenedFrom (disks_of D.Disk) from store outside.old.a.now outside.old.b.now →
+        TellEnough before after → IsAccounted (disks_of D.Disk) settings.now objects
+        (ended result) (IsToBePrinted result) }
+    ensures at_rest { (from : Areas D) →
+        IsOpenedFrom (disks_of D.Disk) from store outside.old.a.now outside.old.b.now →
         IsSome (F.told outside.old.folder.now) →
         AreAtRest D.contents D.images from.a from.b → IsBehindOpening (ended result) →
         AreAtRest D.contents D.images outside.new.a.now outside.new.b.now }
-    ensures reported { (from : Areas D) → IsOpenedFrom
-        (disk_words D.contents D.images D.moment D.images_since D.faults)
-        from store outside.old.a.now outside.old.b.now →
+    ensures reported { (from : Areas D) →
+        IsOpenedFrom (disks_of D.Disk) from store outside.old.a.now outside.old.b.now →
         IsSome (F.told outside.old.folder.now) →
         AreAtRest D.contents D.images from.a from.b →
-        IfOk result (λ ending. ReportsStored
-        (disk_words D.contents D.images D.moment D.images_since D.faults)
+        IfOk result (λ ending. ReportsStored (disks_of D.Disk)
         outside.new.a.now outside.new.b.now ending.status ending.report) }
     ensures report { IfOk result (λ ending. IsReportOf ending.status ending.report) }
     ensures with_report { IfOk result (λ ending. IsReportEnd ending.status) }
     ensures ends { IfErr result IsScannedEnd }
-    ensures goes_on { GoesOn (outside_words F.told F.open_tails F.faults
-        (wire_words W.outcomes W.open_links W.faults W.idles)
-        (disk_words D.contents D.images D.moment D.images_since D.faults)
-        K.moments B.rings)
+    ensures goes_on { GoesOn (outside_words F.Folder W.Wire D.Disk K.Clock B.Bell)
         outside.old outside.new }
-    ensures same_folder { outside.new.folder.ghost_name ≡ outside.old.folder.ghost_name }
-    ensures same_wires { outside.new.wires.ghost_name ≡ outside.old.wires.ghost_name }
-    ensures same_a { outside.new.a.ghost_name ≡ outside.old.a.ghost_name }
-    ensures same_b { outside.new.b.ghost_name ≡ outside.old.b.ghost_name }
-    ensures same_clock { outside.new.clock.ghost_name ≡ outside.old.clock.ghost_name }
-    ensures same_bell { outside.new.bell.ghost_name ≡ outside.old.bell.ghost_name }
+    ensures same_objects { SameOutside outside.old outside.new }
 {
     one_choice();
     disk_images_are_counted::<D>();
@@ -425,8 +314,7 @@ fn finish<D: Disk>(
     requires of_these { IsMetOf (length scanned.now.listed.items) worked.met }
     requires open { AreLeft worked.met → keeper.store.closed ≡ false }
     ensures finished { (now : Met) × (store : Standing) ×
-        Finishes (disk_words D.contents D.images D.moment D.images_since D.faults)
-        context.entry.settings.now scanned.entry.now.listed.items
+        Finishes (disks_of D.Disk) context.entry.settings.now scanned.entry.now.listed.items
         (all_skipped worked.passed.items scanned.entry.now) keeper
         (record { met = worked.met; store = keeper.store; a = a.old; b = b.old })
         (record { met = now; store = store; a = a.new; b = b.new }) result }

@@ -20,8 +20,11 @@ const PIECE: usize = 4_096;
 pub fn read_source<R: Source>(alloc: Global, source: &mut R) -> Result<Settings, Status>
     ensures settings { IfOk result (IsNamed (R.left source.old)) }
     ensures in_range { IfOk result AreInRange }
-    ensures fault_only { (fault : SettingsError) → IsErrOf result (Status.Settings fault) → IfSome (R.left source.old) (λ bytes. IsFirstFault (take LIMIT bytes) fault) }
-    ensures fault_refused { (fault : SettingsError) → IfSome (R.left source.old) (λ bytes. IsFirstFault (take LIMIT bytes) fault → MatchResult result (λ _. ⊥) (RefusesSettings fault)) }
+    ensures fault_only { (fault : SettingsError) → IsErrOf result (Status.Settings fault) →
+        IfSome (R.left source.old) (λ bytes. IsFirstFault (take LIMIT bytes) fault) }
+    ensures fault_refused { (fault : SettingsError) → IfSome (R.left source.old) (λ bytes.
+        IsFirstFault (take LIMIT bytes) fault →
+        MatchResult result (λ _. ⊥) (RefusesSettings fault)) }
     ensures ends { IfErr result (IsSettingsEnd (R.faults source.old) (R.faults source.new)) }
 {
     let bytes = match read_all(alloc, source) {
@@ -41,7 +44,8 @@ pub fn read_source<R: Source>(alloc: Global, source: &mut R) -> Result<Settings,
 
 /// Reads until the source's end or until the limit.
 fn read_all<R: Source>(alloc: Global, source: &mut R) -> Result<Vec<u8>, Status>
-    ensures read { IfOk result (λ all. IfSome (R.left source.old) (λ bytes. all.items ≡ take LIMIT bytes)) }
+    ensures read { IfOk result (λ all. IfSome (R.left source.old) (λ bytes.
+        all.items ≡ take LIMIT bytes)) }
     ensures ends { IfErr result (IsReadEnd (R.faults source.old) (R.faults source.new)) }
 {
     let mut all = Vec::new(alloc);

@@ -7,15 +7,15 @@ ghost use Rattle.outside.specs.DiskImages.{LeavesOnly};
 ghost use Rattle.prospect.specs.Lacks.{IsFirstLack};
 ghost use Rattle.registry_store.specs.Settled.{AreAtRest};
 ghost use Rattle.report.specs.Writing.{WritesAll};
-ghost use Rattle.rounds.specs.Making.{all_seen};
-ghost use Rattle.rounds.specs.Words.{disk_words, wire_words};
+ghost use Rattle.rounds.specs.WordsOf.{disks_of, wires_of};
 ghost use Rattle.run_steps.specs.ClockOn.{MomentsGoOn};
 ghost use Rattle.run_steps.specs.Registry.{AreRefusedAt};
 ghost use Rattle.beat_run.specs.Accounted.{IsAccountedWhereTold};
 ghost use Rattle.beat_run.specs.Asked.{AskFor, AskForOnce, IsAsked};
-ghost use Rattle.beat_run.specs.Cause.{Cause};
-ghost use Rattle.beat_run.specs.Completeness.{IsUntroubled, IsUntroubledEnd};
+ghost use Rattle.beat_run.specs.Cause.{Cause, all_signs};
+ghost use Rattle.beat_run.specs.Completeness.{IsUntroubled, IsUntroubledEnd, given_run};
 ghost use Rattle.beat_run.specs.Ends.{IsBehindOpening, IsPrintingEnd, IsRefusal, IsReportEnd, IsRunEnd, IsUnprepared, RefusesArea, RefusesKey, RefusesLack, RefusesSettings, RefusesWords};
+ghost use Rattle.beat_run.specs.Handed.{handed, lent_by, objects_by, outside_words, signs_of};
 ghost use Rattle.beat_run.specs.Printed.{IsPrinted, IsReportOf, Prints, ReportsStored, StandsBehind};
 ghost use Rattle.beat_run.specs.Untouched.{IsRefused};
 ghost use Rattle.beat_run.specs.declared.settings.TheConstants.{LIMIT};
@@ -76,7 +76,8 @@ where
     ensures keys_of_the_unbuilt_are_refused { (asked : Settings) (key : List ℕ) →
         IfSome (R.left settings.old) (λ bytes.
         AreSettingsOf (take LIMIT bytes) asked → IsFirstLack asked key → RefusesKey key result) }
-    ensures registry_bad_only_where_the_areas_are_refused { (first second : List ℕ) (area : Which) (at : ℕ) →
+    ensures registry_bad_only_where_the_areas_are_refused { (first second : List ℕ)
+        (area : Which) (at : ℕ) →
         D.contents area_a.old ≡ Some first → D.contents area_b.old ≡ Some second →
         result ≡ Status.RegistryBad area at → AreRefusedAt first second area at }
     ensures refused_areas_end_the_run { (first second : List ℕ) (area : Which) (at : ℕ) →
@@ -125,119 +126,40 @@ where
         IsPrinted written (S.written out.new) result) }
 
     // The account of the run, and its rows.
-    ensures accounted_for_where_all_tell { IsAccountedWhereTold
-        (disk_words D.contents D.images D.moment D.images_since D.faults)
-        (R.left settings.old) (record {
-          before = record {
-            folder = folder.old;
-            wires = wires.old.items;
-            a = area_a.old;
-            b = area_b.old;
-          };
-          after = record {
-            folder = folder.new;
-            wires = wires.new.items;
-            a = area_a.new;
-            b = area_b.new;
-          };
-        }) (record {
-          before = record {
-            folder = F.told folder.old;
-            moments = K.moments clock.old;
-            outcomes = map W.outcomes wires.old.items;
-            a = area_a.old;
-            b = area_b.old;
-          };
-          after = record {
-            folder = F.told folder.new;
-            moments = K.moments clock.new;
-            outcomes = map W.outcomes wires.new.items;
-            a = area_a.new;
-            b = area_b.new;
-          };
-        }) result (StandsBehind (S.written out.old) (S.written out.new)) }
+    ensures accounted_for_where_all_tell { let all =
+        outside_words F.Folder W.Wire D.Disk K.Clock B.Bell in
+        let before = handed folder.old wires.old.items area_a.old area_b.old clock.old bell.old in
+        let after = handed folder.new wires.new.items area_a.new area_b.new clock.new bell.new in
+        IsAccountedWhereTold (disks_of D.Disk) (R.left settings.old) (lent_by before after)
+        (objects_by all before after) result
+        (StandsBehind (S.written out.old) (S.written out.new)) }
     ensures reported_rows_are_stored { IsSome (F.told folder.old) →
         AreAtRest D.contents D.images area_a.old area_b.old →
-        IsReportEnd result → IfSome (S.written out.old) (λ written. Prints (ReportsStored
-        (disk_words D.contents D.images D.moment D.images_since D.faults)
-        area_a.new area_b.new result) written (S.written out.new)) }
+        IsReportEnd result → IfSome (S.written out.old) (λ written.
+        Prints (ReportsStored (disks_of D.Disk) area_a.new area_b.new result) written
+        (S.written out.new)) }
     ensures areas_are_at_rest_again { IsSome (F.told folder.old) →
         AreAtRest D.contents D.images area_a.old area_b.old →
         IsBehindOpening result → AreAtRest D.contents D.images area_a.new area_b.new }
 
     // Whom the status blames.
-    ensures each_status_only_for_its_cause { Cause (R.left settings.old)
-        (record {
-          signs = record {
-            folder = F.told folder.old;
-            moments = K.moments clock.old;
-            wires = all_seen (wire_words W.outcomes W.open_links W.faults W.idles) wires.old.items;
-            counts = record {
-              a_faults = D.faults area_a.old;
-              b_faults = D.faults area_b.old;
-              folder_faults = F.faults folder.old;
-              rings = B.rings bell.old;
-            };
-          };
-          source_faults = R.faults settings.old;
-          sink_faults = S.faults out.old;
-        })
-        (record {
-          signs = record {
-            folder = F.told folder.new;
-            moments = K.moments clock.new;
-            wires = all_seen (wire_words W.outcomes W.open_links W.faults W.idles) wires.new.items;
-            counts = record {
-              a_faults = D.faults area_a.new;
-              b_faults = D.faults area_b.new;
-              folder_faults = F.faults folder.new;
-              rings = B.rings bell.new;
-            };
-          };
-          source_faults = R.faults settings.new;
-          sink_faults = S.faults out.new;
-        })
-        result }
+    ensures each_status_only_for_its_cause { let all =
+        outside_words F.Folder W.Wire D.Disk K.Clock B.Bell in
+        let before = handed folder.old wires.old.items area_a.old area_b.old clock.old bell.old in
+        let after = handed folder.new wires.new.items area_a.new area_b.new clock.new bell.new in
+        Cause (R.left settings.old)
+        (all_signs (signs_of all before) (R.faults settings.old) (S.faults out.old))
+        (all_signs (signs_of all after) (R.faults settings.new) (S.faults out.new)) result }
 
     // When it has to be done.
-    ensures what_an_untroubled_run_ends_with { IsUntroubled
-        (disk_words D.contents D.images D.moment D.images_since D.faults)
-        (record {
-          words = words.now;
-          source = R.left settings.old;
-          a = area_a.old;
-          b = area_b.old;
-        })
-        (record {
-          signs = record {
-            folder = F.told folder.old;
-            moments = K.moments clock.old;
-            wires = all_seen (wire_words W.outcomes W.open_links W.faults W.idles) wires.old.items;
-            counts = record {
-              a_faults = D.faults area_a.old;
-              b_faults = D.faults area_b.old;
-              folder_faults = F.faults folder.old;
-              rings = B.rings bell.old;
-            };
-          };
-          source_faults = R.faults settings.old;
-          sink_faults = S.faults out.old;
-        })
-        (record {
-          signs = record {
-            folder = F.told folder.new;
-            moments = K.moments clock.new;
-            wires = all_seen (wire_words W.outcomes W.open_links W.faults W.idles) wires.new.items;
-            counts = record {
-              a_faults = D.faults area_a.new;
-              b_faults = D.faults area_b.new;
-              folder_faults = F.faults folder.new;
-              rings = B.rings bell.new;
-            };
-          };
-          source_faults = R.faults settings.new;
-          sink_faults = S.faults out.new;
-        }) →
+    ensures what_an_untroubled_run_ends_with { let all =
+        outside_words F.Folder W.Wire D.Disk K.Clock B.Bell in
+        let before = handed folder.old wires.old.items area_a.old area_b.old clock.old bell.old in
+        let after = handed folder.new wires.new.items area_a.new area_b.new clock.new bell.new in
+        IsUntroubled (disks_of D.Disk)
+        (given_run words.now (R.left settings.old) area_a.old area_b.old)
+        (all_signs (signs_of all before) (R.faults settings.old) (S.faults out.old))
+        (all_signs (signs_of all after) (R.faults settings.new) (S.faults out.new)) →
         IsUntroubledEnd result }
 
     // What is closed, and what goes on.

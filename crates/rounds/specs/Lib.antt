@@ -20,3 +20,4 @@ pub mod Settled
 pub mod Settling
 pub mod Staying
 pub mod Words
+pub mod WordsOf

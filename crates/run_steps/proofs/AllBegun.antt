@@ -28,19 +28,16 @@ use Rattle.run_steps.specs.SoFar.{SoFar, files_in}
 use Rattle.run_steps.specs.Stands.{Further, Stands}
 use Rattle.run_steps.specs.Telling.{TellMoments}
 use Rattle.run_steps.specs.Worked.{phase_begun}
-use Rattle.run_steps.specs.declared.met.Met.{Met}
+use Rattle.run_steps.specs.declared.begin_error.BeginError.{BeginError}
 use Rattle.run_steps.proofs.BeginningFiles.{BeginsBelow, IsToBegin, Leaves, leaves, one_ends, one_more}
 use Rattle.run_steps.proofs.BeginningOne.{AreBelow, Begins, at_phase, stands_at}
 use Rattle.run_steps.proofs.Openings.{got_at_end}
 use Rattle.run_steps.proofs.SeenMoments.{are_all_seen}
 use Rattle.run_steps.proofs.ToldMoments.{AreListedFrom, StandsUncollected, all_seen}
-
-none_long : {A : Type 0} (xs : List A) → length xs ≡ 0 → xs ≡ []
-none_long [] long = refl
-none_long (x ∷ xs) long = absurd (omega (arith, long))
+use Rattle.run_steps.proofs.Ended.{nil_by}
 
 none_in_front : {A : Type 0} (xs ys : List A) → length (xs ++ ys) ≡ 0 → xs ≡ []
-none_in_front xs ys long = none_long xs (let both = length-append xs ys in omega (arith, long, both))
+none_in_front xs ys long = nil_by xs (let both = length-append xs ys in omega (arith, long, both))
 
 none_behind : {A : Type 0} (xs ys : List A) → length (xs ++ ys) ≡ 0 → length ys ≡ 0
 none_behind xs ys long = let both = length-append xs ys in omega (arith, long, both)
@@ -50,7 +47,7 @@ none_behind xs ys long = let both = length-append xs ys in omega (arith, long, b
 module _ {T W L D : Type 0} (words : Words T W L D) (start : Began D) (moments : Option (List ℕ)) (a b : D) (now : Moment) (old : Beginning T W L) (so_far : SoFar)
     (stands : Stands words start (at_phase words start moments a b old.folder.told old.crew old.keeper Reading) so_far) (none_opened : so_far.opened ≡ []) where
   no_files : files_in so_far ≡ []
-  no_files = none_long (files_in so_far) (let long = often_counted (map (λ (t : Turned). t.slot) (files_in so_far)) (map (λ (o : Opened). o.begin.slot) so_far.opened) stands.each_once.are in
+  no_files = nil_by (files_in so_far) (let long = often_counted (map (λ (t : Turned). t.slot) (files_in so_far)) (map (λ (o : Opened). o.begin.slot) so_far.opened) stands.files.each_once.are in
       let none = ap (λ (l : List Opened). length (map (λ (o : Opened). o.begin.slot) l)) none_opened in
       let same = as_long (files_in so_far) in omega (arith, long, none, same))
     where
@@ -59,17 +56,17 @@ module _ {T W L D : Type 0} (words : Words T W L D) (start : Began D) (moments :
       as_long (t ∷ files) = ap suc (as_long files)
 
   none_issued : length so_far.told.issued ≡ 0
-  none_issued = often_counted so_far.told.issued (flat_map parcels_told (files_in so_far)) stands.gave.parcels ∙ ap (λ (l : List Turned). length (flat_map parcels_told l)) no_files
+  none_issued = often_counted so_far.told.issued (flat_map parcels_told (files_in so_far)) stands.books.gave.parcels ∙ ap (λ (l : List Turned). length (flat_map parcels_told l)) no_files
 
   none_noted : so_far.told.noted ≡ []
-  none_noted = none_long so_far.told.noted (often_counted so_far.told.noted (flat_map notes_told (files_in so_far)) stands.gave.notes_are ∙ ap (λ (l : List Turned). length (flat_map notes_told l)) no_files)
+  none_noted = nil_by so_far.told.noted (often_counted so_far.told.noted (flat_map notes_told (files_in so_far)) stands.books.gave.notes_are ∙ ap (λ (l : List Turned). length (flat_map notes_told l)) no_files)
 
   none_heard : flat so_far.told.acknowledged ≡ []
   none_heard =
       let lanes = lanings old.crew.lanes.items in
       let carriers = old.crew.carriers.items in
-      let all = sym (often_counted so_far.told.issued (held_parcels lanes ++ (so_far.queued ++ (carried_by carriers ++ flat so_far.told.acknowledged))) stands.placed.parcels) ∙ none_issued in
-      none_long (flat so_far.told.acknowledged)
+      let all = sym (often_counted so_far.told.issued (held_parcels lanes ++ (so_far.queued ++ (carried_by carriers ++ flat so_far.told.acknowledged))) stands.books.placed.parcels) ∙ none_issued in
+      nil_by (flat so_far.told.acknowledged)
       (none_behind (carried_by carriers) (flat so_far.told.acknowledged)
       (none_behind so_far.queued (carried_by carriers ++ flat so_far.told.acknowledged)
       (none_behind (held_parcels lanes) (so_far.queued ++ (carried_by carriers ++ flat so_far.told.acknowledged)) all)))
@@ -78,15 +75,15 @@ module _ {T W L D : Type 0} (words : Words T W L D) (start : Began D) (moments :
   none_got =
       let lanes = lanings old.crew.lanes.items in
       let carriers = old.crew.carriers.items in
-      let all = often_counted (so_far.told.noted ++ notes_of (flat so_far.told.acknowledged)) (notes old.keeper.pass.got ++ (so_far.boxed ++ (held_notes lanes ++ owed_notes carriers))) stands.placed.notes in
+      let all = often_counted (so_far.told.noted ++ notes_of (flat so_far.told.acknowledged)) (notes old.keeper.pass.got ++ (so_far.boxed ++ (held_notes lanes ++ owed_notes carriers))) stands.books.placed.notes in
       let none = ap (λ (l : List Note). length (l ++ notes_of (flat so_far.told.acknowledged))) none_noted ∙ ap (λ (l : List Parcel). length (notes_of l)) none_heard in
       none_in_front (notes old.keeper.pass.got) (so_far.boxed ++ (held_notes lanes ++ owed_notes carriers)) (sym all ∙ none)
 
   none_collected : so_far.collected ≡ []
-  none_collected = none_in_front so_far.collected (held_in old.keeper.held) (ap (λ (l : List Note). length l) (sym stands.noted.got ∙ none_got))
+  none_collected = none_in_front so_far.collected (held_in old.keeper.held) (ap (λ (l : List Note). length l) (sym stands.notes.noted.got ∙ none_got))
 
   none_begun : so_far.begun ≡ map (λ (o : Opened). noted_begin o.begin) so_far.opened
-  none_begun = stands.begun.are ∙ ap (λ (l : List Note). map (λ (o : Opened). noted_begin o.begin) so_far.opened ++ l) (none_seen stands.begun.seen stands.begun.seen_are)
+  none_begun = stands.notes.begun.are ∙ ap (λ (l : List Note). map (λ (o : Opened). noted_begin o.begin) so_far.opened ++ l) (none_seen stands.notes.begun.seen stands.notes.begun.seen_are)
       ∙ append-nil (map (λ (o : Opened). noted_begin o.begin) so_far.opened)
     where
       none_seen : (seen : List Note) → AllByRecursion (IsSeenOf start.opening start.listed so_far.opened) seen → seen ≡ []
@@ -144,7 +141,7 @@ module _ {T W L D : Type 0} (words : Words T W L D) (reads : (disk : D) → IfSo
       none_longer n = omega arith
   begins_from slot (one ∷ listed) passed old new to is begins =
       subst (λ (n : ℕ). BeginsBelow words reads counts start moments a b now n new) (one_longer (length listed))
-      (begins_from (suc slot) listed is.later is.mid new to.1 is.rest (one_more words reads counts start moments a b now slot one to.0 old begins is.why is.mid is.first))
+      (begins_from (suc slot) listed is.later is.mid new to.1 is.rest (one_more words reads counts start moments a b now slot one to.0 old begins is.begun is.mid is.first))
     where
       one_longer : (n : ℕ) → n + suc slot ≡ suc n + slot
       one_longer n = omega arith
@@ -211,7 +208,7 @@ module _ {T W L D : Type 0} (words : Words T W L D) (reads : (disk : D) → IfSo
         (all_seen words reads counts start moments a b is.mid.folder.told is.mid.crew Reading begins.so_far.opened 0 start.listed is.mid.keeper new.keeper there is.tell before)
 
     -- or the run is left
-    pub some_begun : (what : Met) (new : Beginning T W L) → BeginsSome words.tails start.settings start.opening now start.listed what old new → Leaves words reads counts start moments a b now new
+    pub some_begun : (what : BeginError) (new : Beginning T W L) → BeginsSome words.tails start.settings start.opening now start.listed what old new → Leaves words reads counts start moments a b now new
     some_begun what new (inl is) =
         let begins = subst (λ (n : ℕ). BeginsBelow words reads counts start moments a b now n is.mid) (none_more (length (take is.count start.listed)) ∙ front_long start.listed is.count is.one is.is)
         (behind_some is.count is.passed is.mid is.begins) in
@@ -227,11 +224,11 @@ module _ {T W L D : Type 0} (words : Words T W L D) (reads : (disk : D) → IfSo
         subst (λ (s : Beginning T W L). Further words start (at_phase words start moments a b s.folder.told s.crew s.keeper Leaving)) (sym is.others)
         (record {
           so_far = told.0;
-          stands = stands_at words start moments a b is.mid.folder.told is.mid.folder.told is.mid.crew new.keeper Leaving told.0 (λ e. let no : Leaving ≡ Finished = e in cc) tt told.1.shown told.1;
+          stands = stands_at words start moments a b is.mid.folder.told is.mid.folder.told is.mid.crew new.keeper Leaving told.0 (λ e. let no : Leaving ≡ Finished = e in cc) tt told.1.files.shown told.1;
         })
 
     -- by what beginning them answered
-    pub stands_begun : (result : Result (Vec Passing Global) Met) (new : Beginning T W L) → IfOk result (λ passed. BeginsAll words.tails start.settings start.opening now start.listed passed.items old new) →
+    pub stands_begun : (result : Result (Vec Passing Global) BeginError) (new : Beginning T W L) → IfOk result (λ passed. BeginsAll words.tails start.settings start.opening now start.listed passed.items old new) →
         IfErr result (λ what. BeginsSome words.tails start.settings start.opening now start.listed what old new) →
         Further words start (at_phase words start moments a b new.folder.told new.crew new.keeper (phase_begun result))
     stands_begun (Ok passed) new begun ended = all_begun passed.items new begun

@@ -32,9 +32,10 @@ use Rattle.run_steps.specs.FolderOn.{FolderGoesOn}
 use Rattle.run_steps.specs.RunOf.{asking_of, opening_by}
 use Rattle.run_steps.specs.ScannedSome.{HasOnlyAsked}
 use Rattle.run_steps.specs.Shown.{HasDone, IsNoListing, WasOnlyAsked}
-use Rattle.run_steps.specs.SoFar.{SoFar}
+use Rattle.run_steps.specs.SoFar.{SoFar, files_of}
 use Rattle.run_steps.proofs.Closing.{closing_both}
-use Rattle.run_steps.proofs.Members.{member_is}
+use Rattle.accounts.proofs.Orderly.{member_is}
+use Rattle.run_steps.proofs.Openings.{got_at_end}
 
 -- ---- places in lists
 
@@ -43,17 +44,13 @@ got_cases [] ys k x is = inr (k, omega arith, is)
 got_cases (first ∷ xs) ys zero x is = inl is
 got_cases (first ∷ xs) ys (suc k) x is = ⊎_elim inl (λ of. inr (of.0, let at = of.1 in omega (arith, at), of.2)) (got_cases xs ys k x is)
 
-got_at_seam : {A : Type 0} (xs : List A) (x : A) (ys : List A) → slice_get (xs ++ x ∷ ys) (length xs) ≡ Some x
-got_at_seam [] x ys = refl
-got_at_seam (first ∷ xs) x ys = got_at_seam xs x ys
-
 behind_seam : {A : Type 0} (xs : List A) (x : A) (ys : List A) → drop (suc (length xs)) (xs ++ x ∷ ys) ≡ ys
 behind_seam [] x ys = refl
 behind_seam (first ∷ xs) x ys = behind_seam xs x ys
 
 -- ---- closings
 
-closes_here : (opening : ℕ) (looks : List Look) (faults : ℕ) (more : List Event) → closing_in opening (Closed opening looks faults ∷ more) ≡ Some (record { looks = looks; faults = faults })
+pub closes_here : (opening : ℕ) (looks : List Look) (faults : ℕ) (more : List Event) → closing_in opening (Closed opening looks faults ∷ more) ≡ Some (record { looks = looks; faults = faults })
 closes_here opening looks faults more =
     ap (λ (b : Bool). first_of_two (if b then Some (record { looks = looks; faults = faults }) else None) (closing_in opening more)) (eq-eqb opening opening refl)
 
@@ -69,7 +66,7 @@ stays_behind opening events more closing within is =
 pub goes_on_asking : (now later : FolderHistory) → HasOnlyAsked now later → FolderGoesOn now later
 goes_on_asking now later asks = record { files = asks.files; more = asks.more; events = asks.events }
 
-pub goes_on_doing : (now later : FolderHistory) (so_far : SoFar) → HasDone now later so_far → FolderGoesOn now later
+pub goes_on_doing : (now later : FolderHistory) (so_far : SoFar) → HasDone now later (files_of so_far) → FolderGoesOn now later
 goes_on_doing now later so_far done = record { files = done.files; more = done.more; events = done.events }
 
 pub goes_on_further : (one two three : FolderHistory) → FolderGoesOn one two → FolderGoesOn two three → FolderGoesOn one three
@@ -279,7 +276,7 @@ module _ (rule : InputRule) (one : Listed) (before : FolderHistory) where
       by_bytes = was.by_bytes;
       number = was.number;
       begun = was.begun;
-      is = got_at_seam before.events (Opened one.path was.number was.begun) (Closed (length before.events) was.looks 0 ∷ []);
+      is = got_at_end before.events (Opened one.path was.number was.begun) (Closed (length before.events) was.looks 0 ∷ []);
       file = was.file;
       file_is = was.file_is;
       looks = was.looks;
@@ -306,7 +303,7 @@ module _ (rule : InputRule) (one : Listed) (before : FolderHistory) where
   stands_there (TooFew opening) after so = has_asked opening None after so
   stands_there (NotFound opening) after so = subst (HasMissed rule one opening) (sym so.kept) (record {
     by_bytes = so.by_bytes;
-    is = ap (slice_get (before.events ++ NotThere one.path ∷ [])) so.opening_is ∙ got_at_seam before.events (NotThere one.path) [];
+    is = ap (slice_get (before.events ++ NotThere one.path ∷ [])) so.opening_is ∙ got_at_end before.events (NotThere one.path) [];
   })
 
   opened_there : (answer : Answer) (after : FolderHistory) → AnswersSo rule one answer before after → IsOpenedIn (length before.events) after answer

@@ -42,15 +42,17 @@ use Rattle.run_steps.specs.FolderSeen.{FolderSeen}
 use Rattle.run_steps.specs.Releasing.{closing_of, with_events}
 use Rattle.run_steps.specs.RunState.{Finished, Leaving, Reading}
 use Rattle.run_steps.specs.Shown.{HasShown}
-use Rattle.run_steps.specs.SoFar.{SoFar}
+use Rattle.run_steps.specs.SoFar.{SoFar, files_of}
 use Rattle.run_steps.specs.Stands.{Further, Stands}
 use Rattle.run_steps.specs.Telling.{TellsBegin, TellsNotes}
-use Rattle.run_steps.specs.declared.met.Met.{Met}
-use Rattle.run_steps.specs.declared.met.Met.TheVariants as met
+use Rattle.run_steps.specs.declared.begin_error.BeginError.{BeginError}
+use Rattle.run_steps.specs.declared.begin_error.BeginError.TheVariants as error
 use Rattle.run_steps.proofs.BegunFolder.{error_shown, none_shown, unread_shown}
 use Rattle.run_steps.proofs.BeginningOne.{Begins, IsBegunSo, at_phase, stands_at, stands_same}
 use Rattle.run_steps.proofs.BeginningSteps.{begins_next, left_after, shown_tells, stands_left}
 use Rattle.run_steps.proofs.TailOpened.{HasTail, IsShown, has_tail, opened_now}
+use Rattle.run_steps.specs.declared.begin.Admission.{Admission}
+use Rattle.run_steps.specs.declared.begin.Admission.TheVariants.{Followed, Skipped}
 
 module _ {T W L D : Type 0} (words : Words T W L D) (reads : (disk : D) → IfSome (words.disks.contents disk) (words.disks.images disk))
     (counts : (disk : D) (at : ℕ) (image : List ℕ) → at ≤ words.disks.moment disk → words.disks.images disk image → words.disks.images_since disk at image)
@@ -73,7 +75,7 @@ module _ {T W L D : Type 0} (words : Words T W L D) (reads : (disk : D) → IfSo
   pub leaves : (state : Beginning T W L) (slot : ℕ) → BeginsBelow slot state → Leaves state
   leaves state slot begins = record {
     so_far = begins.so_far;
-    stands = stands_at words start moments a b state.folder.told state.folder.told state.crew state.keeper Leaving begins.so_far (λ is. let no : Leaving ≡ Finished = is in cc) tt begins.stands.shown begins.stands;
+    stands = stands_at words start moments a b state.folder.told state.folder.told state.crew state.keeper Leaving begins.so_far (λ is. let no : Leaving ≡ Finished = is in cc) tt begins.stands.files.shown begins.stands;
   }
 
   -- the slots below the next one
@@ -89,7 +91,7 @@ module _ {T W L D : Type 0} (words : Words T W L D) (reads : (disk : D) → IfSo
 
   module _ (slot : ℕ) (listed : Listed) (to : IsToBegin slot listed) (old : Beginning T W L) (begins : BeginsBelow slot old) where
     -- nothing but what the folder tells has changed
-    with_shown : (later : Option FolderHistory) → HasShown start.shown later begins.so_far → Begins words start moments a b now later old.crew old.keeper slot
+    with_shown : (later : Option FolderHistory) → HasShown start.shown later (files_of begins.so_far) → Begins words start moments a b now later old.crew old.keeper slot
     with_shown later has = record {
       so_far = begins.so_far;
       stands = stands_at words start moments a b old.folder.told later old.crew old.keeper Reading begins.so_far (λ is. let no : Reading ≡ Finished = is in cc) tt has begins.stands;
@@ -108,15 +110,15 @@ module _ {T W L D : Type 0} (words : Words T W L D) (reads : (disk : D) → IfSo
 
     pub none_opened : (new : Beginning T W L) → OpensNone words.tails (file_at start.opening slot listed now) (Ok None) old new → BeginsBelow (suc slot) new
     none_opened new none = later_slot new slot (moved new slot none.crew none.keeper (with_shown new.folder.told
-        (none_shown begins.so_far listed.path words.tails old.folder.states old.folder.present start.shown old.folder.told new.folder.told begins.stands.shown none.opens.told)))
+        (none_shown begins.so_far listed.path words.tails old.folder.states old.folder.present start.shown old.folder.told new.folder.told begins.stands.files.shown none.opens.told)))
 
     pub failed_opening : (new : Beginning T W L) → OpensNone words.tails (file_at start.opening slot listed now) (Err Failed) old new → Leaves new
     failed_opening new none = leaves new slot (moved new slot none.crew none.keeper (with_shown new.folder.told
-        (error_shown begins.so_far listed.path words.tails old.folder.states old.folder.present Failed start.shown old.folder.told new.folder.told begins.stands.shown none.opens.told)))
+        (error_shown begins.so_far listed.path words.tails old.folder.states old.folder.present Failed start.shown old.folder.told new.folder.told begins.stands.files.shown none.opens.told)))
 
     pub without_memory : (new : Beginning T W L) → OpensNone words.tails (file_at start.opening slot listed now) (Err WithoutMemory) old new → Leaves new
     without_memory new none = leaves new slot (moved new slot none.crew none.keeper (with_shown new.folder.told
-        (error_shown begins.so_far listed.path words.tails old.folder.states old.folder.present WithoutMemory start.shown old.folder.told new.folder.told begins.stands.shown none.opens.told)))
+        (error_shown begins.so_far listed.path words.tails old.folder.states old.folder.present WithoutMemory start.shown old.folder.told new.folder.told begins.stands.files.shown none.opens.told)))
 
     -- ---- one was opened
 
@@ -163,7 +165,7 @@ module _ {T W L D : Type 0} (words : Words T W L D) (reads : (disk : D) → IfSo
           -- its asking gave the key
           found_key : IsSome start.shown → GivesKey to.rule key listed.path has.one.file has.one.asked
           found_key some =
-              let tells = shown_tells begins.so_far has.one (words.tails.told tail) start.shown old.folder.told mid begins.stands.shown has.shown some in
+              let tells = shown_tells begins.so_far has.one (words.tails.told tail) start.shown old.folder.told mid begins.stands.files.shown has.shown some in
               let gave = of_told (words.tails.told tail) tells has.gave in
               subst (λ (r : InputRule). GivesKey r key listed.path has.one.file has.one.asked) (same_rule found.asks.rule to.rule (sym found.asks.rule_is ∙ to.rule_is))
               (record { asking = gave.0; gave = gave.1 ∙ ap Some (same_key found.key key (sym found.listed ∙ key_is)) })
@@ -232,10 +234,10 @@ module _ {T W L D : Type 0} (words : Words T W L D) (reads : (disk : D) → IfSo
 
       -- what the folder shows once it was closed again
       shown_closed : (mid later : Option FolderHistory) → TellsOpening words.tails.told words.tails.numbers old.folder.told old.folder.states old.folder.present listed.path (Ok (Some fresh)) mid →
-          later ≡ with_events (closing_of (words.tails.told tail) (words.tails.faults tail)) mid → HasShown start.shown later begins.so_far
+          later ≡ with_events (closing_of (words.tails.told tail) (words.tails.faults tail)) mid → HasShown start.shown later (files_of begins.so_far)
       shown_closed mid later opens closes =
           let of = opened_some mid opens in
-          unread_shown begins.so_far of.one (words.tails.told tail) of.reads (words.tails.faults tail) start.shown old.folder.told mid later begins.stands.shown of.shown closes
+          unread_shown begins.so_far of.one (words.tails.told tail) of.reads (words.tails.faults tail) start.shown old.folder.told mid later begins.stands.files.shown of.shown closes
 
     -- it was closed again, and the keeper was told nothing
     pub closed_again : (Why : T → T → Type 0) (new : Beginning T W L) → ClosesFile words.tails start.settings (file_at start.opening slot listed now) Why old new → BeginsBelow slot new
@@ -276,23 +278,18 @@ module _ {T W L D : Type 0} (words : Words T W L D) (reads : (disk : D) → IfSo
 
     -- ---- whatever it came to
 
-    pub one_more : (skipped : Option Why) (new : Beginning T W L) → BeginsOne words.tails start.settings (file_at start.opening slot listed now) (Ok skipped) old new → BeginsBelow (suc slot) new
-    one_more None new is = file_begun new is
-    one_more (Some why.Gone) new is = none_opened new is
-    one_more (Some why.Moved) new is = later_slot new slot (closed_again _ new is)
-    one_more (Some why.Doubled) new is = absurd is
-    one_more (Some why.Old) new is = absurd is
-    one_more (Some why.Small) new is = later_slot new slot (closed_again _ new is)
+    pub one_more : (begun : Admission) (new : Beginning T W L) → BeginsOne words.tails start.settings (file_at start.opening slot listed now) (Ok begun) old new → BeginsBelow (suc slot) new
+    one_more Followed new is = file_begun new is
+    one_more (Skipped why.Gone) new is = none_opened new is
+    one_more (Skipped why.Moved) new is = later_slot new slot (closed_again _ new is)
+    one_more (Skipped why.Doubled) new is = absurd is
+    one_more (Skipped why.Old) new is = absurd is
+    one_more (Skipped why.Small) new is = later_slot new slot (closed_again _ new is)
 
-    pub one_ends : (what : Met) (new : Beginning T W L) → BeginsOne words.tails start.settings (file_at start.opening slot listed now) (Err what) old new → Leaves new
-    one_ends met.FolderFault new (inl none) = failed_opening new none
-    one_ends met.FolderFault new (inr closed) = leaves new slot (closed_again _ new closed)
-    one_ends met.NoMemory new (inl none) = without_memory new none
-    one_ends met.NoMemory new (inr (inl up)) = given_up new up
-    one_ends met.NoMemory new (inr (inr closed)) = leaves new slot (closed_again _ new closed)
-    one_ends (met.NoNative other) new is = leaves new slot (closed_again _ new is.1)
-    one_ends met.Done new is = absurd is
-    one_ends met.Stopped new is = absurd is
-    one_ends met.DiskFault new is = absurd is
-    one_ends (met.Unreachable worker) new is = absurd is
-    one_ends (met.Epochs epoch) new is = absurd is
+    pub one_ends : (what : BeginError) (new : Beginning T W L) → BeginsOne words.tails start.settings (file_at start.opening slot listed now) (Err what) old new → Leaves new
+    one_ends error.FolderFault new (inl none) = failed_opening new none
+    one_ends error.FolderFault new (inr closed) = leaves new slot (closed_again _ new closed)
+    one_ends error.NoMemory new (inl none) = without_memory new none
+    one_ends error.NoMemory new (inr (inl up)) = given_up new up
+    one_ends error.NoMemory new (inr (inr closed)) = leaves new slot (closed_again _ new closed)
+    one_ends (error.NoNative other) new is = leaves new slot (closed_again _ new is.1)

@@ -22,14 +22,17 @@ use Rattle.run_steps.specs.BeginsAll.{AreSlotsBelow, BeginsAll, BeginsFrom, Begi
 use Rattle.run_steps.specs.BeginFor.{start_among}
 use Rattle.run_steps.specs.KnownKeys.{KnowsAmong}
 use Rattle.run_steps.specs.Telling.{TellMoments, TellSomeMoments, TellsNotes}
-use Rattle.run_steps.specs.declared.met.Met.{Met}
-use Rattle.run_steps.specs.declared.met.Met.TheVariants as met
-use Rattle.run_steps.specs.declared.met.Met.TheVariants.{NoMemory}
+use Rattle.run_steps.specs.declared.begin_error.BeginError.{BeginError}
+use Rattle.run_steps.specs.declared.begin_error.BeginError.TheVariants as begin
+use Rattle.run_steps.specs.declared.begin_error.BeginError.TheVariants.{NoMemory}
 use Rattle.run_steps.proofs.Admitting.{each_still}
 use Rattle.run_steps.proofs.Keeps.{BeginKeeps, TakesOne, as_many_lanes, begin_keeps, carriers_kept, keeper_others, one_note_more, pace_kept}
 use Rattle.run_steps.proofs.KnownKeys.{IsOfKeys, of_front, told_knows}
 use Rattle.run_steps.proofs.Notes.{moments_are_told}
 use Rattle.run_steps.proofs.Tails.{as_many_harvesters, as_many_open, followed_by}
+use Rattle.run_steps.proofs.MetBy.{rose_since}
+use Rattle.run_steps.specs.declared.begin.Admission.{Admission}
+use Rattle.run_steps.specs.declared.begin.Admission.TheVariants.{Followed, Skipped}
 
 pub take_one : (listed : List Listed) (count : ℕ) (one : Listed) → slice_get listed count ≡ Some one → take (suc count) listed ≡ take count listed ++ one ∷ []
 take_one [] count one is = absurd cc
@@ -40,10 +43,6 @@ take_short : (count : ℕ) (listed : List Listed) → length (take count listed)
 take_short zero listed = omega arith
 take_short (suc count) [] = omega arith
 take_short (suc count) (one ∷ listed) = let rest = take_short count listed in omega (arith, rest)
-
-rose_since : (first mid now : ℕ) → first ≤ mid → Rose mid now → Rose first now
-rose_since first mid now le (inl less) = inl (omega (arith, le, less))
-rose_since first mid now le (inr full) = inr full
 
 -- a tail that met a fault leaves it with the folder
 closing_rose : (count faults now : ℕ) → Rose 0 faults → added_counts count faults ≤ now → Rose count now
@@ -111,7 +110,7 @@ module _ {T W L : Type 0} (tails : TailWords T) (settings : Settings) (rows : Li
     open_tails = keeps.open_tails;
   }
 
-  one_keeps : (slot : ℕ) (listed : Listed) (result : Result (Option Why) Met) (old new : Beginning T W L) → BeginsOne tails settings (file_at rows slot listed now) result old new → KeepsSteps (suc slot) 1 old new
+  one_keeps : (slot : ℕ) (listed : Listed) (result : Result Admission BeginError) (old new : Beginning T W L) → BeginsOne tails settings (file_at rows slot listed now) result old new → KeepsSteps (suc slot) 1 old new
   one_keeps slot listed result old new is = record {
     carriers = carriers_kept tails settings (file_at rows slot listed now) old new keeps;
     pace = pace_kept tails settings (file_at rows slot listed now) old new keeps;
@@ -130,9 +129,9 @@ module _ {T W L : Type 0} (tails : TailWords T) (settings : Settings) (rows : Li
       keeps : BeginKeeps tails settings (file_at rows slot listed now) old new
       keeps = begin_keeps tails settings (file_at rows slot listed now) result old new is
 
-      at_most_one : (r : Result (Option Why) Met) → followed_by r ≤ 1
-      at_most_one (Ok None) = omega arith
-      at_most_one (Ok (Some why)) = omega arith
+      at_most_one : (r : Result Admission BeginError) → followed_by r ≤ 1
+      at_most_one (Ok Followed) = omega arith
+      at_most_one (Ok (Skipped why)) = omega arith
       at_most_one (Err what) = omega arith
 
       by_lanes : (most : ℕ) → suc slot ≤ most → AreSlotsBelow most (lanings old.crew.lanes.items) →
@@ -147,7 +146,7 @@ module _ {T W L : Type 0} (tails : TailWords T) (settings : Settings) (rows : Li
   from_keeps slot (one ∷ listed) passed old new is =
       subst (λ (n : ℕ). KeepsSteps (suc (length listed) + slot) n old new) (one_first (length listed))
       (keeps_then (suc (length listed) + slot) 1 (length listed) old is.mid new
-      (higher (suc slot) (suc (length listed) + slot) 1 old is.mid (omega arith) (one_keeps slot one (Ok is.why) old is.mid is.first))
+      (higher (suc slot) (suc (length listed) + slot) 1 old is.mid (omega arith) (one_keeps slot one (Ok is.begun) old is.mid is.first))
       (higher (length listed + suc slot) (suc (length listed) + slot) (length listed) is.mid new (omega arith) (from_keeps (suc slot) listed is.later is.mid new is.rest)))
     where
       one_first : (n : ℕ) → 1 + n ≡ suc n
@@ -155,7 +154,7 @@ module _ {T W L : Type 0} (tails : TailWords T) (settings : Settings) (rows : Li
 
   -- ---- keys
 
-  one_knows : (keys : List (List ℕ)) (slot : ℕ) (listed : Listed) (result : Result (Option Why) Met) (old new : Beginning T W L) → IsOfKeys keys listed → BeginsOne tails settings (file_at rows slot listed now) result old new →
+  one_knows : (keys : List (List ℕ)) (slot : ℕ) (listed : Listed) (result : Result Admission BeginError) (old new : Beginning T W L) → IsOfKeys keys listed → BeginsOne tails settings (file_at rows slot listed now) result old new →
       KnowsAmong keys old.keeper → KnowsAmong keys new.keeper
   one_knows keys slot listed result old new of is knows =
       ⊎_elim (λ same. subst (KnowsAmong keys) (sym same) knows)
@@ -166,7 +165,7 @@ module _ {T W L : Type 0} (tails : TailWords T) (settings : Settings) (rows : Li
       BeginsFrom tails settings rows now slot listed passed old new → KnowsAmong keys old.keeper → KnowsAmong keys new.keeper
   from_knows keys slot [] passed old new of is knows = subst (λ (s : Beginning T W L). KnowsAmong keys s.keeper) (sym is.1) knows
   from_knows keys slot (one ∷ listed) passed old new of is knows =
-      from_knows keys (suc slot) listed is.later is.mid new of.1 is.rest (one_knows keys slot one (Ok is.why) old is.mid of.0 is.first knows)
+      from_knows keys (suc slot) listed is.later is.mid new of.1 is.rest (one_knows keys slot one (Ok is.begun) old is.mid of.0 is.first knows)
 
   keep_others : (most top count : ℕ) (old new : Beginning T W L) → top ≤ most → count ≤ most → KeepsSteps top count old new → KeepsOthers most old new
   keep_others most top count old new under few keeps = record {
@@ -197,7 +196,7 @@ module _ {T W L : Type 0} (tails : TailWords T) (settings : Settings) (rows : Li
         let few = take_shorter count listed in
         keep_others (length listed) (length (take count listed) + 0) (length (take count listed)) old mid (omega (arith, few)) few (from_keeps 0 (take count listed) passed old mid begins)
 
-    pub files_keep : (what : Met) → EndsInFiles tails settings rows now listed what old new → KeepsOthers (length listed) old new
+    pub files_keep : (what : BeginError) → EndsInFiles tails settings rows now listed what old new → KeepsOthers (length listed) old new
     files_keep what (inl is) =
         let inside = slice_get_within listed is.count is.one is.is in
         let short = take_short is.count listed in
@@ -213,7 +212,7 @@ module _ {T W L : Type 0} (tails : TailWords T) (settings : Settings) (rows : Li
         moments_keep (length listed) more.more old is.mid new
         (keep_others (length listed) (length listed + 0) (length listed) old is.mid (omega arith) (omega arith) (from_keeps 0 listed passed old is.mid is.begins)) more.tells is.others
 
-    pub some_keeps : (what : Met) → BeginsSome tails settings rows now listed what old new → KeepsOthers (length listed) old new
+    pub some_keeps : (what : BeginError) → BeginsSome tails settings rows now listed what old new → KeepsOthers (length listed) old new
     some_keeps what (inl is) = files_keep what (inl is)
     some_keeps what (inr (memory, inl is)) = files_keep what (inr (memory, is))
     some_keeps what (inr (memory, inr is)) =
@@ -222,14 +221,14 @@ module _ {T W L : Type 0} (tails : TailWords T) (settings : Settings) (rows : Li
         (keep_others (length listed) (length listed + 0) (length listed) old is.mid (omega arith) (omega arith) (from_keeps 0 listed is.passed old is.mid is.begins)) more.tells is.others
 
     -- why it ended early
-    pub begin_ends : (what : Met) → BeginsSome tails settings rows now listed what old new → EndsBeginning (length listed) what old new
-    begin_ends what (inr is) = subst (λ (m : Met). EndsBeginning (length listed) m old new) (sym is.0) tt
-    begin_ends met.FolderFault (inl is) =
+    pub begin_ends : (what : BeginError) → BeginsSome tails settings rows now listed what old new → EndsBeginning (length listed) what old new
+    begin_ends what (inr is) = subst (λ (m : BeginError). EndsBeginning (length listed) m old new) (sym is.0) tt
+    begin_ends begin.FolderFault (inl is) =
         let keeps = from_keeps 0 (take is.count listed) is.passed old is.mid is.begins in
         rose_since old.folder.faults is.mid.folder.faults new.folder.faults keeps.faults_never_fall (by_case is.ended)
       where
         -- the opening failed, or a read of its tail did
-        by_case : BeginsOne tails settings (file_at rows is.count is.one now) (Err met.FolderFault) is.mid new → Rose is.mid.folder.faults new.folder.faults
+        by_case : BeginsOne tails settings (file_at rows is.count is.one now) (Err begin.FolderFault) is.mid new → Rose is.mid.folder.faults new.folder.faults
         by_case (inl none) = none.opens.failed_only_where_faults_rose refl
         by_case (inr closed) =
             let asks = closed.closed.why.asks in
@@ -237,49 +236,44 @@ module _ {T W L : Type 0} (tails : TailWords T) (settings : Settings) (rows : Li
             subst (λ (n : ℕ). Rose n (tails.faults closed.closed.asked)) closed.opened.opens.fresh (asks.failed_only_where_faults_rose refl) in
             rose_since is.mid.folder.faults closed.mid.folder.faults new.folder.faults closed.opened.opens.faults_never_fall
             (closing_rose closed.mid.folder.faults (tails.faults closed.closed.asked) new.folder.faults rose closed.closed.closed.closes.counts_faults)
-    begin_ends met.NoMemory (inl is) = tt
-    begin_ends met.Done (inl is) = absurd is.ended
-    begin_ends met.Stopped (inl is) = absurd is.ended
-    begin_ends met.DiskFault (inl is) = absurd is.ended
-    begin_ends (met.Unreachable worker) (inl is) = absurd is.ended
-    begin_ends (met.Epochs epoch) (inl is) = absurd is.ended
-    begin_ends (met.NoNative other) (inl is) =
+    begin_ends begin.NoMemory (inl is) = tt
+    begin_ends (begin.NoNative other) (inl is) =
         let inside = slice_get_within listed is.count is.one is.is in
         let its = ap (λ (s : Slot). s.0) is.ended.0 in
         omega (arith, inside, its)
 
-    pub files_end : {A : Type 0} (result : Result A Met) (what : Met) → IsErrAnd result (λ other. other ≡ what) → EndsInFiles tails settings rows now listed what old new →
+    pub files_end : {A : Type 0} (result : Result A BeginError) (what : BeginError) → IsErrAnd result (λ other. other ≡ what) → EndsInFiles tails settings rows now listed what old new →
         IfErr result (λ other. EndsBeginning (length listed) other old new)
     files_end (Ok value) what is ended = tt
-    files_end (Err other) what is (inl ended) = subst (λ (m : Met). EndsBeginning (length listed) m old new) (sym is) (begin_ends what (inl ended))
-    files_end (Err other) what is (inr ended) = subst (λ (m : Met). EndsBeginning (length listed) m old new) (sym (is ∙ ended.0)) tt
+    files_end (Err other) what is (inl ended) = subst (λ (m : BeginError). EndsBeginning (length listed) m old new) (sym is) (begin_ends what (inl ended))
+    files_end (Err other) what is (inr ended) = subst (λ (m : BeginError). EndsBeginning (length listed) m old new) (sym (is ∙ ended.0)) tt
 
-    pub memory_ends : {A : Type 0} (result : Result A Met) → IsErrAnd result (λ other. other ≡ NoMemory) → IfErr result (λ other. EndsBeginning (length listed) other old new)
+    pub memory_ends : {A : Type 0} (result : Result A BeginError) → IsErrAnd result (λ other. other ≡ NoMemory) → IfErr result (λ other. EndsBeginning (length listed) other old new)
     memory_ends (Ok value) is = tt
-    memory_ends (Err other) is = subst (λ (m : Met). EndsBeginning (length listed) m old new) (sym is) tt
+    memory_ends (Err other) is = subst (λ (m : BeginError). EndsBeginning (length listed) m old new) (sym is) tt
 
   -- ---- one more
 
   pub from_then : (slot : ℕ) (listed : List Listed) (one : Listed) (passed more : List Passing) (old mid new : Beginning T W L) → BeginsFrom tails settings rows now slot listed passed old mid →
       BeginsOrPasses tails settings (file_at rows (length listed + slot) one now) more mid new → BeginsFrom tails settings rows now slot (listed ++ one ∷ []) (passed ++ more) old new
   from_then slot [] one passed more old mid new is then = record {
-    why = then.why;
+    begun = then.begun;
     mid = new;
-    first = subst (λ (n : ℕ). BeginsOne tails settings (file_at rows n one now) (Ok then.why) old new) (none_longer slot)
-        (subst (λ (s : Beginning T W L). BeginsOne tails settings (file_at rows (0 + slot) one now) (Ok then.why) s new) is.1 then.begins);
+    first = subst (λ (n : ℕ). BeginsOne tails settings (file_at rows n one now) (Ok then.begun) old new) (none_longer slot)
+        (subst (λ (s : Beginning T W L). BeginsOne tails settings (file_at rows (0 + slot) one now) (Ok then.begun) s new) is.1 then.begins);
     later = [];
-    passed_are = ap (λ (l : List Passing). l ++ more) is.0 ∙ then.more_is ∙ sym (append-nil (passed_by then.why one));
+    passed_are = ap (λ (l : List Passing). l ++ more) is.0 ∙ then.more_is ∙ sym (append-nil (passed_by then.begun one));
     rest = (refl, refl);
   }
     where
       none_longer : (n : ℕ) → 0 + n ≡ n
       none_longer n = omega arith
   from_then slot (first ∷ listed) one passed more old mid new is then = record {
-    why = is.why;
+    begun = is.begun;
     mid = is.mid;
     first = is.first;
     later = is.later ++ more;
-    passed_are = ap (λ (l : List Passing). l ++ more) is.passed_are ∙ append_assoc (passed_by is.why first) is.later more;
+    passed_are = ap (λ (l : List Passing). l ++ more) is.passed_are ∙ append_assoc (passed_by is.begun first) is.later more;
     rest = from_then (suc slot) listed one is.later more is.mid mid new is.rest
         (subst (λ (n : ℕ). BeginsOrPasses tails settings (file_at rows n one now) more mid new) (one_longer (length listed)) then);
   }
@@ -303,14 +297,14 @@ module _ {T W L : Type 0} (tails : TailWords T) (settings : Settings) (rows : Li
         (from_then 0 (take count listed) one passed more old mid new begins
         (subst (λ (n : ℕ). BeginsOrPasses tails settings (file_at rows n one now) more mid new) (sym at_count) then))
 
-    pub ends_here : (what : Met) (new : Beginning T W L) → EndsInOne tails settings (file_at rows count one now) what mid new → EndsInFiles tails settings rows now listed what old new
+    pub ends_here : (what : BeginError) (new : Beginning T W L) → EndsInOne tails settings (file_at rows count one now) what mid new → EndsInFiles tails settings rows now listed what old new
     ends_here what new (inl ended) = inl (record { count = count; passed = passed; mid = mid; begins = begins; one = one; is = there; ended = ended })
     ends_here what new (inr (memory, why, skipped)) = inr (
       memory,
       record {
         count = suc count;
-        passed = passed ++ passed_by (Some why) one;
-        begins = begins_next (passed_by (Some why) one) new (record { why = Some why; begins = skipped; more_is = refl });
+        passed = passed ++ passed_by (Skipped why) one;
+        begins = begins_next (passed_by (Skipped why) one) new (record { begun = Skipped why; begins = skipped; more_is = refl });
       },
     )
 
@@ -322,10 +316,10 @@ module _ {T W L : Type 0} (tails : TailWords T) (settings : Settings) (rows : Li
         next : suc count ≡ count + 1
         next = omega arith
 
-    pub ends_as : {A : Type 0} (result : Result A Met) (what : Met) (new : Beginning T W L) → IsErrAnd result (λ other. other ≡ what) → EndsInOne tails settings (file_at rows count one now) what mid new →
+    pub ends_as : {A : Type 0} (result : Result A BeginError) (what : BeginError) (new : Beginning T W L) → IsErrAnd result (λ other. other ≡ what) → EndsInOne tails settings (file_at rows count one now) what mid new →
         IfErr result (λ other. EndsInFiles tails settings rows now listed other old new)
     ends_as (Ok value) what new is ended = tt
-    ends_as (Err other) what new is ended = subst (λ (m : Met). EndsInFiles tails settings rows now listed m old new) (sym is) (ends_here what new ended)
+    ends_as (Err other) what new is ended = subst (λ (m : BeginError). EndsInFiles tails settings rows now listed m old new) (sym is) (ends_here what new ended)
 
   -- ---- what stays over so many of them
 
@@ -346,7 +340,7 @@ module _ {T W L : Type 0} (tails : TailWords T) (settings : Settings) (rows : Li
   -- ---- and the moments
 
   module _ (listed : List Listed) (old mid new : Beginning T W L) where
-    pub ends_so : (what : Met) → EndsInFiles tails settings rows now listed what old new → BeginsSome tails settings rows now listed what old new
+    pub ends_so : (what : BeginError) → EndsInFiles tails settings rows now listed what old new → BeginsSome tails settings rows now listed what old new
     ends_so what (inl ended) = inl ended
     ends_so what (inr (memory, behind)) = inr (memory, inl behind)
 
@@ -355,9 +349,9 @@ module _ {T W L : Type 0} (tails : TailWords T) (settings : Settings) (rows : Li
     all_so passed slice same begins tell others =
         record { mid = mid; begins = begins; tell = subst (λ (l : List Listed). TellMoments rows 0 l mid.keeper new.keeper) same tell; others = others }
 
-    pub ends_told : {A : Type 0} (result : Result A Met) (passed : List Passing) (slice : List Listed) → IsErrAnd result (λ met. met ≡ NoMemory) → slice ≡ listed →
+    pub ends_told : {A : Type 0} (result : Result A BeginError) (passed : List Passing) (slice : List Listed) → IsErrAnd result (λ error. error ≡ NoMemory) → slice ≡ listed →
         BeginsFrom tails settings rows now 0 listed passed old mid → TellSomeMoments rows slice mid.keeper new.keeper → new ≡ record mid { keeper = new.keeper } →
-        IfErr result (λ met. BeginsSome tails settings rows now listed met old new)
+        IfErr result (λ error. BeginsSome tails settings rows now listed error old new)
     ends_told (Ok value) passed slice memory same begins tell others = tt
     ends_told (Err what) passed slice memory same begins tell others = inr (
       memory,
@@ -386,7 +380,7 @@ module _ {T W L : Type 0} (tails : TailWords T) (settings : Settings) (rows : Li
 -- ---- one
 
 module _ {T W L : Type 0} (tails : TailWords T) (settings : Settings) where
-  pub followed_one : (file : ListedFile) (why : Option Why) (old new : Beginning T W L) (passed : List Passing) → BeginsOne tails settings file (Ok why) old new → why ≡ None →
+  pub followed_one : (file : ListedFile) (begun : Admission) (old new : Beginning T W L) (passed : List Passing) → BeginsOne tails settings file (Ok begun) old new → begun ≡ Followed →
       (more : List Passing) × (passed ≡ passed ++ more) × BeginsOrPasses tails settings file more old new
-  followed_one file why old new passed begins is =
-      ([], sym (append-nil passed), record { why = None; begins = subst (λ (w : Option Why). BeginsOne tails settings file (Ok w) old new) is begins; more_is = refl })
+  followed_one file begun old new passed begins is =
+      ([], sym (append-nil passed), record { begun = Followed; begins = subst (λ (b : Admission). BeginsOne tails settings file (Ok b) old new) is begins; more_is = refl })

@@ -4,7 +4,6 @@ use Rattle.std.proofs.lemmas.List.{map-append}
 use Rattle.std.specs.List.{AllByRecursion, flat_map}
 use Rattle.accounts.specs.Opened.{Opened}
 use Rattle.accounts.specs.Turned.{Turned, notes_told, parcels_told, spans_in}
-use Rattle.accounts.specs.Turning.{Pairs}
 use Rattle.accounts.proofs.Lists.{each_last, each_then}
 use Rattle.accounts.proofs.Often.{often_back, often_contains, often_then}
 use Rattle.harvester.specs.Standing.{EndsAt}
@@ -13,8 +12,7 @@ use Rattle.lanes.specs.Laning.{Laning}
 use Rattle.outside.specs.Folders.{FolderHistory}
 use Rattle.pass_sums.specs.Weight.{AsOften, weigh}
 use Rattle.pass_sums.proofs.Weights.{weigh-append}
-use Rattle.rounds.specs.Books.{held_notes, held_parcels}
-use Rattle.rounds.specs.Crewed.{lanes_passes, lanings}
+use Rattle.rounds.specs.Crewed.{lanings}
 use Rattle.rounds.specs.Words.{Words}
 use Rattle.rounds.specs.declared.crew.Crew.{Crew}
 use Rattle.settle_box.specs.Senders.{notes}
@@ -28,21 +26,15 @@ use Rattle.run_steps.specs.Begun.{AreBeginNotes, AreSlotsFrom, IsKeyed, IsOpened
 use Rattle.run_steps.specs.LastEpoch.{HaveOneOver}
 use Rattle.run_steps.specs.RunState.{Finished, Phase, Reading, RunState}
 use Rattle.run_steps.specs.Shown.{HasShown, IsTurnedIn}
-use Rattle.run_steps.specs.SoFar.{Left, SoFar, files_in}
-use Rattle.run_steps.specs.Stands.{AreCounted, AreEachOnce, AreTurnedIn, IsReading, Stands, TellIn}
-use Rattle.run_steps.proofs.Admitting.{all_of, booked_by, often_mapped, placed_by, spans_often}
-use Rattle.run_steps.proofs.Filing.{given_as_often, same_slot, tells_slots}
+use Rattle.run_steps.specs.SoFar.{Left, SoFar, books_of, files_in, files_of}
+use Rattle.run_steps.specs.Stands.{AreEachOnce, Books, Files, Stands}
+use Rattle.run_steps.proofs.Admitting.{all_of, often_mapped, spans_often}
+use Rattle.run_steps.proofs.Filing.{same_slot, tells_slots}
 use Rattle.run_steps.proofs.TailOpened.{opened_now}
+use Rattle.accounts.proofs.Backing.{mapped_there}
+use Rattle.accounts.proofs.Joining.{told_as_often}
 
 -- ---- lists
-
-mapped_there : {A B : Type 0} (f : A → B) (xs : List A) (x : A) → Contains xs x → Contains (map f xs) (f x)
-mapped_there {A} {B} f [] x there = absurd (none_there x there)
-mapped_there {A} {B} f (first ∷ xs) x there = from (there_cases first x xs there) (mapped_there f xs x)
-  where
-    from : (first ≡ x) ⊎ Contains xs x → (Contains xs x → Contains (map f xs) (f x)) → Contains (f first ∷ map f xs) (f x)
-    from (inl same) later = subst (λ (y : A). Contains (f first ∷ map f xs) (f y)) same (first_there (f first) (map f xs))
-    from (inr behind) later = later_there (f first) (f x) (map f xs) (later behind)
 
 abbrev slots_of : List Turned → List Slot
 slots_of files = map (λ (turned : Turned). turned.slot) files
@@ -72,29 +64,25 @@ module _ {T W L D : Type 0} (words : Words T W L D) (start : Began D) (moments :
   at_phase shown crew keeper phase = record { shown = shown; moments = moments; crew = crew; keeper = keeper; a = a; b = b; phase = phase }
 
   -- what was done with the folder, and whether files are read on
-  pub stands_at : (shown later : Option FolderHistory) (crew : Crew T W L) (keeper : Keeping) (phase : Phase) (so_far : SoFar) → phase ≢ Finished → HaveOneOver phase (files_in so_far) → HasShown start.shown later so_far →
+  pub stands_at : (shown later : Option FolderHistory) (crew : Crew T W L) (keeper : Keeping) (phase : Phase) (so_far : SoFar) → phase ≢ Finished → HaveOneOver phase (files_in so_far) → HasShown start.shown later (files_of so_far) →
       Stands words start (at_phase shown crew keeper Reading) so_far → Stands words start (at_phase later crew keeper phase) so_far
   stands_at shown later crew keeper phase so_far not_finished over has stands = record {
-    opened = stands.opened;
-    keyed = stands.keyed;
-    each_once = stands.each_once;
-    turned = stands.turned;
-    left = stands.left;
-    reading = λ is. stands.reading refl;
-    finished = λ is some. absurd (not_finished is);
-    over = over;
-    tell = stands.tell;
-    left_tell = stands.left_tell;
-    shown = has;
-    given = stands.given;
-    gave = stands.gave;
-    booked = stands.booked;
-    heard = stands.heard;
-    placed = stands.placed;
-    counted = stands.counted;
-    begun = stands.begun;
-    noted = stands.noted;
-    stores = stands.stores;
+    files = record {
+      opened = stands.files.opened;
+      keyed = stands.files.keyed;
+      each_once = stands.files.each_once;
+      turned = stands.files.turned;
+      left = stands.files.left;
+      reading = λ is. stands.files.reading refl;
+      finished = λ is some. absurd (not_finished is);
+      over = over;
+      tell = stands.files.tell;
+      left_tell = stands.files.left_tell;
+      shown = has;
+      given = stands.files.given;
+    };
+    books = stands.books;
+    notes = stands.notes;
     areas = stands.areas;
   }
 
@@ -109,26 +97,9 @@ module _ {T W L D : Type 0} (words : Words T W L D) (start : Began D) (moments :
 
       with_lanes : Stands words start (at_phase shown (record old { lanes = new.lanes }) keeper phase) so_far
       with_lanes = record {
-        opened = stands.opened;
-        keyed = stands.keyed;
-        each_once = stands.each_once;
-        turned = by (λ l. Pairs (AreTurnedIn words.tails start.settings.processors so_far.opened so_far.moments) so_far.lanes l) stands.turned;
-        left = stands.left;
-        reading = λ is. by (λ l. IsReading l so_far) (stands.reading is);
-        finished = stands.finished;
-        over = stands.over;
-        tell = λ some. by (AllByRecursion (TellIn words.tails)) (stands.tell some);
-        left_tell = stands.left_tell;
-        shown = stands.shown;
-        given = stands.given;
-        gave = stands.gave;
-        booked = booked_by (lanings old.lanes.items) (lanings new.lanes.items) (ap held_parcels same.lanes) (ap held_notes same.lanes) words.links words.wires so_far.told old.carriers.items (ap lanes_passes same.lanes) stands.booked;
-        heard = stands.heard;
-        placed = placed_by (lanings old.lanes.items) (lanings new.lanes.items) (ap held_parcels same.lanes) (ap held_notes same.lanes) so_far.told old.carriers.items so_far.queued (notes keeper.pass.got) so_far.boxed stands.placed;
-        counted = by (λ l. AreCounted l keeper so_far) stands.counted;
-        begun = stands.begun;
-        noted = stands.noted;
-        stores = stands.stores;
+        files = by (λ l. Files words.tails start (record { shown = shown; moments = moments; lanes = l; phase = phase }) (files_of so_far)) stands.files;
+        books = by (λ l. Books words.links words.wires start.heard (record { lanes = l; carriers = old.carriers.items; got = notes keeper.pass.got }) (books_of so_far)) stands.books;
+        notes = stands.notes;
         areas = stands.areas;
       }
 
@@ -154,13 +125,13 @@ module _ {T W L D : Type 0} (words : Words T W L D) (start : Began D) (moments :
     was = begins.so_far
 
     pub none_left : was.left ≡ []
-    none_left = (begins.stands.reading refl).none_left
+    none_left = (begins.stands.files.reading refl).none_left
 
     slots_often : AsOften (slots_of (all_of was.lanes)) (slots_in was.opened)
     slots_often = subst (λ (l : List Turned). AsOften (slots_of l) (slots_in was.opened)) (append-nil (all_of was.lanes))
-        (subst (λ (l : List Left). AsOften (slots_of (all_of was.lanes ++ map (λ (one : Left). one.turned) l)) (slots_in was.opened)) none_left begins.stands.each_once.are)
+        (subst (λ (l : List Left). AsOften (slots_of (all_of was.lanes ++ map (λ (one : Left). one.turned) l)) (slots_in was.opened)) none_left begins.stands.files.each_once.are)
 
-    pub all_turned : (other : Opened) → Contains was.opened other → IsTurnedIn was other
+    pub all_turned : (other : Opened) → Contains was.opened other → IsTurnedIn (files_of was) other
     all_turned other there = often_contains same_slot tells_slots (slots_of (all_of was.lanes)) (slots_in was.opened) other.begin.slot slots_often
         (mapped_there (λ (one : Opened). one.begin.slot) was.opened other there)
 
@@ -172,7 +143,7 @@ module _ {T W L D : Type 0} (words : Words T W L D) (start : Began D) (moments :
       abbrev more : List Opened
       more = was.opened ++ one ∷ []
 
-      pub not_turned : IsTurnedIn was one → ⊥
+      pub not_turned : IsTurnedIn (files_of was) one → ⊥
       not_turned there =
           let below = slots_below slot was.opened begins.below one.begin.slot
           (often_contains same_slot tells_slots (slots_in was.opened) (slots_of (all_of was.lanes)) one.begin.slot (often_back (slots_of (all_of was.lanes)) (slots_in was.opened) slots_often) there) in
@@ -180,10 +151,10 @@ module _ {T W L D : Type 0} (words : Words T W L D) (start : Began D) (moments :
           omega (arith, below, is)
 
       pub opened_as_listed : AllByRecursion (IsOpenedAsListed start.settings start.opening start.listed) more
-      opened_as_listed = each_last (IsOpenedAsListed start.settings start.opening start.listed) was.opened one begins.stands.opened so.as_listed
+      opened_as_listed = each_last (IsOpenedAsListed start.settings start.opening start.listed) was.opened one begins.stands.files.opened so.as_listed
 
       pub keyed : IsSome start.shown → AllByRecursion IsKeyed more
-      keyed some = each_last IsKeyed was.opened one (begins.stands.keyed some) (so.keyed some)
+      keyed some = each_last IsKeyed was.opened one (begins.stands.files.keyed some) (so.keyed some)
 
       pub below_next : AreBelow (suc slot) more
       below_next = each_last (λ (o : Opened). o.begin.slot.0 < suc slot) was.opened one
@@ -199,7 +170,7 @@ module _ {T W L D : Type 0} (words : Words T W L D) (start : Began D) (moments :
       module _ (files : List Turned) (often : AsOften files (turned ∷ files_in was)) where
         pub each_once : AreEachOnce more files
         each_once = record {
-          rise = slots_then 0 was.opened one begins.stands.each_once.rise (omega arith) (subst (λ (n : ℕ). AreBelow n was.opened) (sym so.slot_is) begins.below);
+          rise = slots_then 0 was.opened one begins.stands.files.each_once.rise (omega arith) (subst (λ (n : ℕ). AreBelow n was.opened) (sym so.slot_is) begins.below);
           are = often_then (slots_of files) (slots_of (turned ∷ files_in was)) (slots_in more) (often_mapped (λ (t : Turned). t.slot) files (turned ∷ files_in was) often) together;
         }
           where
@@ -208,16 +179,16 @@ module _ {T W L D : Type 0} (words : Words T W L D) (start : Began D) (moments :
               arith,
               ap (weigh h) (map-append (λ (o : Opened). o.begin.slot) was.opened (one ∷ [])),
               weigh-append h (slots_in was.opened) (one.begin.slot ∷ []),
-              begins.stands.each_once.are h,
+              begins.stands.files.each_once.are h,
             )
 
         pub parcels : AsOften was.told.issued (flat_map parcels_told files)
-        parcels = often_then was.told.issued (flat_map parcels_told (files_in was)) (flat_map parcels_told files) begins.stands.gave.parcels
-            (often_back (flat_map parcels_told files) (flat_map parcels_told (files_in was)) (given_as_often parcels_told files (turned ∷ files_in was) often))
+        parcels = often_then was.told.issued (flat_map parcels_told (files_in was)) (flat_map parcels_told files) begins.stands.books.gave.parcels
+            (often_back (flat_map parcels_told files) (flat_map parcels_told (files_in was)) (told_as_often parcels_told files (turned ∷ files_in was) often))
 
         pub notes_are : AsOften was.told.noted (flat_map notes_told files)
-        notes_are = often_then was.told.noted (flat_map notes_told (files_in was)) (flat_map notes_told files) begins.stands.gave.notes_are
-            (often_back (flat_map notes_told files) (flat_map notes_told (files_in was)) (given_as_often notes_told files (turned ∷ files_in was) often))
+        notes_are = often_then was.told.noted (flat_map notes_told (files_in was)) (flat_map notes_told files) begins.stands.books.gave.notes_are
+            (often_back (flat_map notes_told files) (flat_map notes_told (files_in was)) (told_as_often notes_told files (turned ∷ files_in was) often))
 
         pub spans : spans_in files ≡ spans_in (files_in was)
         spans = let is = spans_often files (turned ∷ files_in was) often in omega (arith, is)

@@ -13,10 +13,12 @@ use Rattle.report.specs.declared.passing.Why.{Why}
 use Rattle.report.specs.declared.passing.Why.TheVariants.{Doubled, Gone, Moved, Old, Small}
 use Rattle.run_steps.specs.Beginning.{AsksKey, Beginning, BeginsOne, ClosesAsked, ClosesFile, ClosesUntold, FailsToTell, Follows, FollowsListed, ForSomeReason, GivesUp, HasOpened, HasOtherKey, IsOpenedFor, IsTooSmall, ListedFile, OpensNone, SameLanes, TakesIn, TellsKey}
 use Rattle.run_steps.specs.FolderSeen.{Closes, FolderSeen, OpensBy}
-use Rattle.run_steps.specs.Met.{IsMetByFolder}
+use Rattle.run_steps.specs.BeginErrors.{IsErrorOfFolder}
 use Rattle.run_steps.specs.Telling.{TellsBegin}
-use Rattle.run_steps.specs.declared.met.Met.{Met}
-use Rattle.run_steps.specs.declared.met.Met.TheVariants.{DiskFault, Done, Epochs, FolderFault, NoMemory, NoNative, Stopped, Unreachable}
+use Rattle.run_steps.specs.declared.begin_error.BeginError.{BeginError}
+use Rattle.run_steps.specs.declared.begin_error.BeginError.TheVariants.{FolderFault, NoMemory, NoNative}
+use Rattle.run_steps.specs.declared.begin.Admission.{Admission}
+use Rattle.run_steps.specs.declared.begin.Admission.TheVariants.{Followed, Skipped}
 
 -- ---- by what its tail told of its key
 
@@ -35,7 +37,7 @@ module _ {T : Type 0} (tails : TailWords T) (settings : Settings) (file : Listed
   key_is_other key same asks of is = record { key = key; asks = asks; other = λ listed. let q : true ≡ false = sym (of.1 listed) ∙ is in cc }
 
   -- whatever came of it, the tail was asked
-  pub told_of_key : (result : Result (Option Why) Met) → TellsKey tails settings file fresh asked result → (answer : Result Identity IdentityError) × Asks answer
+  pub told_of_key : (result : Result (Option Why) BeginError) → TellsKey tails settings file fresh asked result → (answer : Result Identity IdentityError) × Asks answer
   told_of_key (Ok None) of = (Ok (Key of.key), of.asks)
   told_of_key (Ok (Some Moved)) of = (Ok (Key of.key), of.asks)
   told_of_key (Ok (Some Small)) of = (Ok (TooSmall of.place), of.asks)
@@ -45,11 +47,6 @@ module _ {T : Type 0} (tails : TailWords T) (settings : Settings) (file : Listed
   told_of_key (Err NoMemory) of = of
   told_of_key (Err FolderFault) of = (Err ReadFault, of.asks)
   told_of_key (Err (NoNative slot)) of = (Err WithoutNumbers, of.1.asks)
-  told_of_key (Err Done) of = absurd of
-  told_of_key (Err Stopped) of = absurd of
-  told_of_key (Err DiskFault) of = absurd of
-  told_of_key (Err (Unreachable worker)) of = absurd of
-  told_of_key (Err (Epochs slot)) of = absurd of
 
 module _ {T W L : Type 0} (tails : TailWords T) (settings : Settings) (file : ListedFile) where
   pub gives_up : (tail back : T) (old new : Beginning T W L) → back ≡ tail → Closes tails back old.folder new.folder → SameLanes old.crew new.crew
@@ -75,7 +72,7 @@ module _ {T W L : Type 0} (tails : TailWords T) (settings : Settings) (file : Li
 
   -- as its key was found
   pub followed_listed : (tail : T) (old new : Beginning T W L) (folder : FolderSeen) (opened : Result (Option T) FolderError) → OpensBy tails file.listed.path opened old.folder folder → (found : Option T) → opened ≡ Ok found → found ≡ Some tail
-      → (result : Result (Option Why) Met) → FollowsListed tails settings file tail result (opened_so old folder) new → BeginsOne tails settings file result old new
+      → (result : Result Admission BeginError) → FollowsListed tails settings file tail result (opened_so old folder) new → BeginsOne tails settings file result old new
   followed_listed tail old new folder opened opens found is found_is result follows = by_result result follows
     where
       has : HasOpened tails file tail old (opened_so old folder)
@@ -84,22 +81,17 @@ module _ {T W L : Type 0} (tails : TailWords T) (settings : Settings) (file : Li
       closes_so : (Why : T → T → Type 0) → ClosesAsked tails settings file tail Why (opened_so old folder) new → ClosesFile tails settings file Why old new
       closes_so Why closed = record { fresh = tail; mid = opened_so old folder; opened = has; closed = closed }
 
-      by_result : (r : Result (Option Why) Met) → FollowsListed tails settings file tail r (opened_so old folder) new → BeginsOne tails settings file r old new
-      by_result (Ok None) of = record { fresh = tail; tail = of.tail; mid = opened_so old folder; opened = has; keyed = of.keyed; follows = of.follows }
-      by_result (Ok (Some Moved)) of = closes_so (HasOtherKey tails settings file) of
-      by_result (Ok (Some Small)) of = closes_so (IsTooSmall tails settings file) of
-      by_result (Ok (Some Doubled)) of = absurd of
-      by_result (Ok (Some Gone)) of = absurd of
-      by_result (Ok (Some Old)) of = absurd of
+      by_result : (r : Result Admission BeginError) → FollowsListed tails settings file tail r (opened_so old folder) new → BeginsOne tails settings file r old new
+      by_result (Ok Followed) of = record { fresh = tail; tail = of.tail; mid = opened_so old folder; opened = has; keyed = of.keyed; follows = of.follows }
+      by_result (Ok (Skipped Moved)) of = closes_so (HasOtherKey tails settings file) of
+      by_result (Ok (Skipped Small)) of = closes_so (IsTooSmall tails settings file) of
+      by_result (Ok (Skipped Doubled)) of = absurd of
+      by_result (Ok (Skipped Gone)) of = absurd of
+      by_result (Ok (Skipped Old)) of = absurd of
       by_result (Err NoMemory) (inl up) = inr (inl (record { fresh = tail; tail = up.tail; mid = opened_so old folder; opened = has; keyed = up.keyed; gives_up = up.gives_up }))
       by_result (Err NoMemory) (inr closed) = inr (inr (closes_so ForSomeReason closed))
       by_result (Err (NoNative slot)) of = (of.0, closes_so (λ fresh asked. FailsToTell tails settings file fresh asked WithoutNumbers) of.1)
       by_result (Err FolderFault) of = inr (closes_so (λ fresh asked. FailsToTell tails settings file fresh asked ReadFault) of)
-      by_result (Err Done) of = absurd of
-      by_result (Err Stopped) of = absurd of
-      by_result (Err DiskFault) of = absurd of
-      by_result (Err (Unreachable worker)) of = absurd of
-      by_result (Err (Epochs slot)) of = absurd of
 
   -- ---- closed again
 
@@ -110,31 +102,26 @@ module _ {T W L : Type 0} (tails : TailWords T) (settings : Settings) (file : Li
     closes_asked : (Why : T → T → Type 0) (answer : Result Identity IdentityError) → AsksKey tails settings file fresh asked answer → Why fresh asked → ClosesAsked tails settings file fresh Why old new
     closes_asked Why answer asks why = record { asked = asked; result = answer; asks = asks; closed = closed; why = why }
 
-    pub key_skips : (why : Why) → TellsKey tails settings file fresh asked (Ok (Some why)) → FollowsListed tails settings file fresh (Ok (Some why)) old new
+    pub key_skips : (why : Why) → TellsKey tails settings file fresh asked (Ok (Some why)) → FollowsListed tails settings file fresh (Ok (Skipped why)) old new
     key_skips Moved of = closes_asked (HasOtherKey tails settings file) (Ok (Key of.key)) of.asks of
     key_skips Small of = closes_asked (IsTooSmall tails settings file) (Ok (TooSmall of.place)) of.asks of
     key_skips Doubled of = absurd of
     key_skips Gone of = absurd of
     key_skips Old of = absurd of
 
-    pub key_unknown : (met : Met) → TellsKey tails settings file fresh asked (Err met) → FollowsListed tails settings file fresh (Err met) old new
+    pub key_unknown : (error : BeginError) → TellsKey tails settings file fresh asked (Err error) → FollowsListed tails settings file fresh (Err error) old new
     key_unknown NoMemory of = inr (closes_asked ForSomeReason of.0 of.1 tt)
     key_unknown (NoNative slot) of = (of.0, closes_asked (λ fresh asked. FailsToTell tails settings file fresh asked WithoutNumbers) (Err WithoutNumbers) of.1.asks of.1)
     key_unknown FolderFault of = closes_asked (λ fresh asked. FailsToTell tails settings file fresh asked ReadFault) (Err ReadFault) of.asks of
-    key_unknown Done of = absurd of
-    key_unknown Stopped of = absurd of
-    key_unknown DiskFault of = absurd of
-    key_unknown (Unreachable worker) of = absurd of
-    key_unknown (Epochs slot) of = absurd of
 
   -- ---- followed, or given up
 
-  pub asked_follows : (fresh tail : T) (old new : Beginning T W L) → TellsKey tails settings file fresh tail (Ok None) → Follows tails settings file tail old new → FollowsListed tails settings file fresh (Ok None) old new
+  pub asked_follows : (fresh tail : T) (old new : Beginning T W L) → TellsKey tails settings file fresh tail (Ok None) → Follows tails settings file tail old new → FollowsListed tails settings file fresh (Ok Followed) old new
   asked_follows fresh tail old new keyed follows = record { tail = tail; keyed = keyed; follows = follows }
 
   pub asked_gives_up : (fresh tail : T) (old new : Beginning T W L) → TellsKey tails settings file fresh tail (Ok None) → GivesUp tails file tail old new → FollowsListed tails settings file fresh (Err NoMemory) old new
   asked_gives_up fresh tail old new keyed up = inl (record { tail = tail; keyed = keyed; gives_up = up })
 
-  pub none_opened : (old new : Beginning T W L) (error : FolderError) (met : Met) → IsMetByFolder error met → OpensNone tails file (Err error) old new → BeginsOne tails settings file (Err met) old new
-  none_opened old new Failed met is opens = subst (λ (m : Met). BeginsOne tails settings file (Err m) old new) (sym is) (inl opens)
-  none_opened old new WithoutMemory met is opens = subst (λ (m : Met). BeginsOne tails settings file (Err m) old new) (sym is) (inl opens)
+  pub none_opened : (old new : Beginning T W L) (failed : FolderError) (error : BeginError) → IsErrorOfFolder failed error → OpensNone tails file (Err failed) old new → BeginsOne tails settings file (Err error) old new
+  none_opened old new Failed error is opens = subst (λ (e : BeginError). BeginsOne tails settings file (Err e) old new) (sym is) (inl opens)
+  none_opened old new WithoutMemory error is opens = subst (λ (e : BeginError). BeginsOne tails settings file (Err e) old new) (sym is) (inl opens)

@@ -21,10 +21,11 @@ use Rattle.run_steps.specs.Beginning.{Beginning, BeginsOne}
 use Rattle.run_steps.specs.BeginsAll.{BeginsAll, BeginsFrom, BeginsSome, file_at}
 use Rattle.run_steps.specs.Telling.{TellsBegin, TellsNotes}
 use Rattle.run_steps.specs.Worked.{lent}
-use Rattle.run_steps.specs.declared.met.Met.{Met}
+use Rattle.run_steps.specs.declared.begin_error.BeginError.{BeginError}
 use Rattle.run_steps.proofs.Able.{able_on}
 use Rattle.run_steps.proofs.Keeps.{begin_keeps, keeper_others}
 use Rattle.run_steps.proofs.Notes.{moments_are_told}
+use Rattle.run_steps.specs.declared.begin.Admission.{Admission}
 
 rests_on : {D : Type 0} (disks : DiskWords D) (a b : D) (more : List Note) (old new : Keeping) → TellsNotes more old new → IsAtRest disks old a b → IsAtRest disks new a b
 rests_on disks a b more old new tells rests = record {
@@ -38,14 +39,14 @@ rests_on disks a b more old new tells rests = record {
 
 module _ {T W L : Type 0} (tails : TailWords T) (settings : Settings) (rows : List Row) (now : Moment) where
   -- what each step keeps, all of them keep
-  module _ (P : Beginning T W L → Type 0) (one : (slot : ℕ) (listed : Listed) (result : Result (Option Why) Met) (old new : Beginning T W L) → BeginsOne tails settings (file_at rows slot listed now) result old new → P old → P new)
+  module _ (P : Beginning T W L → Type 0) (one : (slot : ℕ) (listed : Listed) (result : Result Admission BeginError) (old new : Beginning T W L) → BeginsOne tails settings (file_at rows slot listed now) result old new → P old → P new)
       (told : (mid new : Beginning T W L) (more : List Note) → TellsNotes more mid.keeper new.keeper → new ≡ record mid { keeper = new.keeper } → P mid → P new) where
     through_files : (slot : ℕ) (listed : List Listed) (passed : List Passing) (old new : Beginning T W L) → BeginsFrom tails settings rows now slot listed passed old new → P old → P new
     through_files slot [] passed old new is holds = subst P (sym is.1) holds
     through_files slot (first ∷ listed) passed old new is holds =
-        through_files (suc slot) listed is.later is.mid new is.rest (one slot first (Ok is.why) old is.mid is.first holds)
+        through_files (suc slot) listed is.later is.mid new is.rest (one slot first (Ok is.begun) old is.mid is.first holds)
 
-    through : (listed : List Listed) (result : Result (Vec Passing Global) Met) (old new : Beginning T W L) → IfOk result (λ passed. BeginsAll tails settings rows now listed passed.items old new) →
+    through : (listed : List Listed) (result : Result (Vec Passing Global) BeginError) (old new : Beginning T W L) → IfOk result (λ passed. BeginsAll tails settings rows now listed passed.items old new) →
         IfErr result (λ what. BeginsSome tails settings rows now listed what old new) → P old → P new
     through listed (Ok passed) old new is ended holds =
         let more = moments_are_told rows 0 listed is.mid.keeper new.keeper is.tell in
@@ -63,7 +64,7 @@ module _ {T W L : Type 0} (tails : TailWords T) (settings : Settings) (rows : Li
     abbrev pub MayRun : Beginning T W L → Type 0
     MayRun state = IsReady tails queue desk (crewing state.crew (lent loan state.keeper a b))
 
-    one_runs : (slot : ℕ) (listed : Listed) (result : Result (Option Why) Met) (old new : Beginning T W L) → BeginsOne tails settings (file_at rows slot listed now) result old new → MayRun old → MayRun new
+    one_runs : (slot : ℕ) (listed : Listed) (result : Result Admission BeginError) (old new : Beginning T W L) → BeginsOne tails settings (file_at rows slot listed now) result old new → MayRun old → MayRun new
     one_runs slot listed result old new is ready =
         let keeps = begin_keeps tails settings (file_at rows slot listed now) result old new is in
         let others = keeper_others tails settings (file_at rows slot listed now) old new keeps in
@@ -84,7 +85,7 @@ module _ {T W L : Type 0} (tails : TailWords T) (settings : Settings) (rows : Li
       is_open = ap (λ (k : Keeping). k.store.closed) tells.others_stay ∙ ready.is_open;
     })
 
-    pub ready_begun : (listed : List Listed) (result : Result (Vec Passing Global) Met) (old new : Beginning T W L) → IfOk result (λ passed. BeginsAll tails settings rows now listed passed.items old new) →
+    pub ready_begun : (listed : List Listed) (result : Result (Vec Passing Global) BeginError) (old new : Beginning T W L) → IfOk result (λ passed. BeginsAll tails settings rows now listed passed.items old new) →
         IfErr result (λ what. BeginsSome tails settings rows now listed what old new) → MayRun old → MayRun new
     ready_begun listed result old new begun ended ready = through MayRun one_runs told_runs listed result old new begun ended ready
 
@@ -94,7 +95,7 @@ module _ {T W L : Type 0} (tails : TailWords T) (settings : Settings) (rows : Li
     abbrev pub Rests : Beginning T W L → Type 0
     Rests state = IsAtRest disks state.keeper a b
 
-    one_rests : (slot : ℕ) (listed : Listed) (result : Result (Option Why) Met) (old new : Beginning T W L) → BeginsOne tails settings (file_at rows slot listed now) result old new → Rests old → Rests new
+    one_rests : (slot : ℕ) (listed : Listed) (result : Result Admission BeginError) (old new : Beginning T W L) → BeginsOne tails settings (file_at rows slot listed now) result old new → Rests old → Rests new
     one_rests slot listed result old new is rests = by_case (begin_keeps tails settings (file_at rows slot listed now) result old new is).keeper
       where
         by_case : (new.keeper ≡ old.keeper) ⊎ TellsBegin (record { 0 = slot }) listed (start_among rows listed) old.keeper new.keeper → IsAtRest disks new.keeper a b
@@ -104,6 +105,6 @@ module _ {T W L : Type 0} (tails : TailWords T) (settings : Settings) (rows : Li
     told_rests : (mid new : Beginning T W L) (more : List Note) → TellsNotes more mid.keeper new.keeper → new ≡ record mid { keeper = new.keeper } → Rests mid → Rests new
     told_rests mid new more tells others rests = rests_on disks a b more mid.keeper new.keeper tells rests
 
-    pub rest_begun : (listed : List Listed) (result : Result (Vec Passing Global) Met) (old new : Beginning T W L) → IfOk result (λ passed. BeginsAll tails settings rows now listed passed.items old new) →
+    pub rest_begun : (listed : List Listed) (result : Result (Vec Passing Global) BeginError) (old new : Beginning T W L) → IfOk result (λ passed. BeginsAll tails settings rows now listed passed.items old new) →
         IfErr result (λ what. BeginsSome tails settings rows now listed what old new) → Rests old → Rests new
     rest_begun listed result old new begun ended rests = through Rests one_rests told_rests listed result old new begun ended rests

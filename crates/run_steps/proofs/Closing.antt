@@ -18,6 +18,8 @@ use Rattle.run_steps.specs.Releasing.{all_closings, closing_of, closings_of}
 use Rattle.run_steps.specs.SoFar.{Left}
 use Rattle.run_steps.specs.Shown.{IsStillOpen, WasClosedWith}
 use Rattle.run_steps.proofs.Releasing.{left_of, left_of_all}
+use Rattle.prospect.proofs.Lists.{all_append}
+use Rattle.run_steps.proofs.LastOver.{some_behind, some_first}
 
 -- ---- the first closing of an opening
 
@@ -68,7 +70,7 @@ pub record FirstCloses (opening : ℕ) (looks : List Look) (events : List Event)
   pub faults : ℕ
   pub closing : closing_in opening events ≡ Some (record { looks = looks; faults = faults })
 
-number_itself : (n : ℕ) → (n == n) ≡ true
+pub number_itself : (n : ℕ) → (n == n) ≡ true
 number_itself n = eq-eqb n n refl
 
 closed_here : (opening : ℕ) (looks : List Look) (event : Event) (events : List Event) → OnlyWith opening looks event → ClosesWith opening looks event ⊎ FirstCloses opening looks events →
@@ -122,18 +124,6 @@ pub record ClosesOne (left : List Left) (event : Event) : Type 0 where
 abbrev pub HasClosing : List Event → TailHistory → Type 0
 HasClosing events tail = SomeOf (ClosesWith tail.opening tail.looks) events
 
-some_first : {A : Type 0} (P : A → Type 0) (xs ys : List A) → SomeOf P xs → SomeOf P (xs ++ ys)
-some_first P [] ys some = absurd some
-some_first P (x ∷ xs) ys some = ⊎_elim (λ one. inl one) (λ others. inr (some_first P xs ys others)) some
-
-some_behind : {A : Type 0} (P : A → Type 0) (xs ys : List A) → SomeOf P ys → SomeOf P (xs ++ ys)
-some_behind P [] ys some = some
-some_behind P (x ∷ xs) ys some = inr (some_behind P xs ys some)
-
-both : {A : Type 0} (P : A → Type 0) (xs ys : List A) → AllByRecursion P xs → AllByRecursion P ys → AllByRecursion P (xs ++ ys)
-both P [] ys one other = other
-both P (x ∷ xs) ys one other = (one.0, both P xs ys one.1 other)
-
 more_of : (left others : List Left) (events : List Event) → ((one : Left) → Contains left one → Contains others one) → AllByRecursion (ClosesOne left) events → AllByRecursion (ClosesOne others) events
 more_of left others [] into each = tt
 more_of left others (event ∷ events) into each = (
@@ -168,7 +158,7 @@ module _ {T : Type 0} (told : T → Option TailHistory) (faults : T → ℕ) whe
   each_closes (turned ∷ files) (harvester ∷ harvesters) same =
       let rest = left_of told files harvesters in
       let head : Left = record { turned = turned; told = told harvester.tail } in
-      both (ClosesOne (head ∷ rest)) (closings_of told faults harvesters) (closing_of (told harvester.tail) (faults harvester.tail))
+      all_append (ClosesOne (head ∷ rest)) (closings_of told faults harvesters) (closing_of (told harvester.tail) (faults harvester.tail))
       (more_of rest (head ∷ rest) (closings_of told faults harvesters) (λ one there. later_there head one rest there) (each_closes files harvesters (omega (arith, same))))
       (closes_one turned harvester rest)
 
@@ -181,7 +171,7 @@ module _ {T : Type 0} (told : T → Option TailHistory) (faults : T → ℕ) whe
   all_close (first ∷ files) (lane ∷ lanes) same =
       let here = left_of told first lane.harvesters in
       let rest = left_of_all told files lanes in
-      both (ClosesOne (here ++ rest)) (closings_of told faults lane.harvesters) (all_closings told faults lanes)
+      all_append (ClosesOne (here ++ rest)) (closings_of told faults lane.harvesters) (all_closings told faults lanes)
       (more_of here (here ++ rest) (closings_of told faults lane.harvesters) (λ one there. Contains-append_left here rest one there) (each_closes first lane.harvesters same.0))
       (more_of rest (here ++ rest) (all_closings told faults lanes) (λ one there. Contains-append_right here rest one there) (all_close files lanes same.1))
 
@@ -223,7 +213,7 @@ module _ {T : Type 0} (told : T → Option TailHistory) (faults : T → ℕ) whe
   all_have (first ∷ files) (lane ∷ lanes) =
       let here = closings_of told faults lane.harvesters in
       let rest = all_closings told faults lanes in
-      both (HasOne (here ++ rest)) (left_of told first lane.harvesters) (left_of_all told files lanes)
+      all_append (HasOne (here ++ rest)) (left_of told first lane.harvesters) (left_of_all told files lanes)
       (has_still here (here ++ rest) (left_of told first lane.harvesters) (λ tail some. some_first (ClosesWith tail.opening tail.looks) here rest some) (each_has first lane.harvesters))
       (has_still rest (here ++ rest) (left_of_all told files lanes) (λ tail some. some_behind (ClosesWith tail.opening tail.looks) here rest some) (all_have files lanes))
 

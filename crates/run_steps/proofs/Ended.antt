@@ -9,7 +9,7 @@ use Rattle.rounds.specs.declared.carrier.Carrier.{Carrier}
 use Rattle.rounds.proofs.Making.{all_but_last, last_of}
 use Rattle.run_steps.specs.CarriersEnd.{EndsCarriers, PutsWire}
 
-nil_by : {A : Type 0} (xs : List A) → length xs ≡ 0 → xs ≡ []
+pub nil_by : {A : Type 0} (xs : List A) → length xs ≡ 0 → xs ≡ []
 nil_by [] none = refl
 nil_by (x ∷ xs) none = absurd (omega (arith, none))
 

@@ -11,6 +11,7 @@ use Rattle.pass_sums.specs.Weight.{AsOften, weigh}
 use Rattle.pass_sums.proofs.Weights.{weigh-append}
 use Rattle.ship_core.proofs.Members.{first_there, none_there, there_cases}
 use Rattle.wire_base.specs.declared.numbers.Slot.{Slot}
+use Rattle.run_steps.proofs.Closing.{number_itself}
 
 -- ---- one of them by its slot
 
@@ -19,9 +20,6 @@ slots_of files = map (λ (turned : Turned). turned.slot) files
 
 abbrev slots_in : List Opened → List Slot
 slots_in opened = map (λ (one : Opened). one.begin.slot) opened
-
-number_itself : (n : ℕ) → (n == n) ≡ true
-number_itself n = eq-eqb n n refl
 
 abbrev pub same_slot : Slot → Slot → Bool
 same_slot one other = one.0 == other.0
@@ -96,11 +94,3 @@ arranged P [] (first ∷ files) often each = absurd (let long = often_counted (s
 arranged P (slot ∷ slots) files often each =
     let of = part_at files slot (often_contains same_slot tells_slots (slots_of files) (slot ∷ slots) slot often (first_there slot slots)) in
     with_one P slot slots files often each of (arranged P slots (of.front ++ of.back) (rest P slot slots files often each of) (parts P slot slots files often each of).1)
-
--- what is given of each is given as often
-pub given_as_often : {A : Type 0} (f : Turned → List A) (xs ys : List Turned) → AsOften xs ys → AsOften (flat_map f xs) (flat_map f ys)
-given_as_often {A} f xs ys often h = sym (by_each xs) ∙ often (λ t. weigh h (f t)) ∙ by_each ys
-  where
-    by_each : (l : List Turned) → weigh (λ t. weigh h (f t)) l ≡ weigh h (flat_map f l)
-    by_each [] = refl
-    by_each (t ∷ l) = let rest = by_each l in let both = weigh-append h (f t) (flat_map f l) in omega (arith, rest, both)

@@ -44,7 +44,7 @@ use Rattle.run_steps.specs.Areas.{BeganAtRest, HaveHeldFronts}
 use Rattle.run_steps.specs.Began.{Began}
 use Rattle.run_steps.specs.RunState.{Finished, Reading, RunState}
 use Rattle.run_steps.specs.Shown.{HasShown}
-use Rattle.run_steps.specs.SoFar.{SoFar, files_in}
+use Rattle.run_steps.specs.SoFar.{SoFar, files_in, files_of}
 use Rattle.run_steps.specs.Stands.{AreCounted, AreTurnedIn, Stands}
 use Rattle.run_steps.proofs.Giving.{FirstGiven, first_given}
 
@@ -52,7 +52,7 @@ posted_both : (xs ys : List Sender) → posted_by (xs ++ ys) ≡ posted_by xs ++
 posted_both [] ys = refl
 posted_both (x ∷ xs) ys = ap (λ (l : List Note). x.posted ++ l) (posted_both xs ys) ∙ sym (append_assoc x.posted (posted_by xs) (posted_by ys))
 
-got_within : (events : List Event) (k : ℕ) (event : Event) → slice_get events k ≡ Some event → k < length events
+pub got_within : (events : List Event) (k : ℕ) (event : Event) → slice_get events k ≡ Some event → k < length events
 got_within [] k event is = absurd cc
 got_within (e ∷ events) zero event is = omega arith
 got_within (e ∷ events) (suc k) event is = let more = got_within events k event is in omega (arith, more)
@@ -220,18 +220,20 @@ module _ {T W L D : Type 0} (words : Words T W L D) (start : Began D) (crew : Cr
           (two_none (held_notes (lanings crew.lanes.items)) (owed_notes crew.carriers.items) no_held_notes no_owed));
     }
 
-    counted : AreCounted (lanings crew.lanes.items) keeper so_far
+    spans_are : spans_told (lanings crew.lanes.items) < 2 ^ 64 - 1 → spans_in (files_in so_far) ≡ spans_told (lanings crew.lanes.items)
+    spans_are few = ap spans_in no_files ∙ sym (no_spans (lanings crew.lanes.items) none)
+
+    counted : AreCounted keeper
     counted = record {
-      spans = λ few. ap spans_in no_files ∙ sym (no_spans (lanings crew.lanes.items) none);
       shipped = ap (λ (got : List Sent). min (count_by is_shipped (notes got)) (2 ^ 64 - 1)) (sym made.none_got);
       dropped = ap (λ (got : List Sent). min (count_by is_dropped (notes got)) (2 ^ 64 - 1)) (sym made.none_got);
       collected = ap (λ (got : List Sent). min (length got) (2 ^ 64 - 1)) (sym made.none_got);
     }
 
-    has_shown : HasShown start.shown start.shown so_far
+    has_shown : HasShown start.shown start.shown (files_of so_far)
     has_shown = by_case start.shown
       where
-        by_case : (o : Option FolderHistory) → HasShown o o so_far
+        by_case : (o : Option FolderHistory) → HasShown o o (files_of so_far)
         by_case None = refl
         by_case (Some told) = record {
           files = refl;
@@ -247,28 +249,35 @@ module _ {T W L D : Type 0} (words : Words T W L D) (start : Began D) (crew : Cr
 
     pub stands_first : Stands words start state so_far
     stands_first = record {
-      opened = tt;
-      keyed = λ some. tt;
-      each_once = record { rise = tt; are = subst (λ (l : List Turned). AsOften (map (λ (t : Turned). t.slot) l) []) (sym no_files) (λ h. refl) };
-      turned = turned_none words.tails start.settings.processors [] given.since (lanings crew.lanes.items) none;
-      left = tt;
-      reading = λ is. record { none_left = refl; none_over = each_of_none (λ (h : Harvester T). h.reader.stage ≢ stage.Over) (lanings crew.lanes.items) none };
-      finished = λ is some. absurd (let no : Reading ≡ Finished = is in cc);
-      over = tt;
-      tell = λ some. each_of_none (λ (h : Harvester T). IsSome (words.tails.told h.tail)) (lanings crew.lanes.items) none;
-      left_tell = λ some. tt;
-      shown = has_shown;
-      given = given.given;
-      gave = record {
-        parcels = subst (λ (l : List Turned). AsOften [] (flat_map parcels_told l)) (sym no_files) (λ h. refl);
-        notes_are = subst (λ (l : List Turned). AsOften [] (flat_map notes_told l)) (sym no_files) (λ h. refl);
+      files = record {
+        opened = tt;
+        keyed = λ some. tt;
+        each_once = record { rise = tt; are = subst (λ (l : List Turned). AsOften (map (λ (t : Turned). t.slot) l) []) (sym no_files) (λ h. refl) };
+        turned = turned_none words.tails start.settings.processors [] given.since (lanings crew.lanes.items) none;
+        left = tt;
+        reading = λ is. record { none_left = refl; none_over = each_of_none (λ (h : Harvester T). h.reader.stage ≢ stage.Over) (lanings crew.lanes.items) none };
+        finished = λ is some. absurd (let no : Reading ≡ Finished = is in cc);
+        over = tt;
+        tell = λ some. each_of_none (λ (h : Harvester T). IsSome (words.tails.told h.tail)) (lanings crew.lanes.items) none;
+        left_tell = λ some. tt;
+        shown = has_shown;
+        given = given.given;
       };
-      booked = booked;
-      heard = starts_are words.links words.wires crew.carriers.items ∙ sym made.heard;
-      placed = placed;
-      counted = counted;
-      begun = record { seen = []; are = refl; seen_are = tt };
-      noted = record { opening_is = made.opening_is; are = refl; got = ap notes made.none_got };
-      stores = λ orderly opened. record { in_order = made.in_order; each = λ key. refl };
+      books = record {
+        gave = record {
+          parcels = subst (λ (l : List Turned). AsOften [] (flat_map parcels_told l)) (sym no_files) (λ h. refl);
+          notes_are = subst (λ (l : List Turned). AsOften [] (flat_map notes_told l)) (sym no_files) (λ h. refl);
+        };
+        booked = booked;
+        heard = starts_are words.links words.wires crew.carriers.items ∙ sym made.heard;
+        placed = placed;
+        spans = spans_are;
+      };
+      notes = record {
+        counted = counted;
+        begun = record { seen = []; are = refl; seen_are = tt };
+        noted = record { opening_is = made.opening_is; are = refl; got = ap notes made.none_got };
+        stores = λ orderly opened. record { in_order = made.in_order; each = λ key. refl };
+      };
       areas = made.areas;
     }

@@ -16,7 +16,7 @@ use Rattle.wire_base.specs.declared.note.Note.{Note}
 use Rattle.wire_base.specs.declared.parcel.Parcel.{Parcel}
 use Rattle.run_steps.specs.SoFar.{SoFar, files_in}
 use Rattle.run_steps.specs.Stands.{HaveGiven}
-use Rattle.run_steps.proofs.Filing.{given_as_often}
+use Rattle.accounts.proofs.Joining.{told_as_often}
 
 -- ---- what workers took
 
@@ -35,14 +35,14 @@ taken_same (h ∷ heard) = append_assoc h.parcels [] (taken_in (heard_only heard
 -- ---- ground
 
 module _ {T W L : Type 0} (lanes : List (Laning T)) (carriers : List (Carrier W L)) (queued : List Parcel) (got boxed : List Note) (so_far : SoFar)
-    (gave : HaveGiven so_far) (placed : ArePlaced so_far.told lanes carriers queued got boxed) where
+    (gave : HaveGiven so_far.told (files_in so_far)) (placed : ArePlaced so_far.told lanes carriers queued got boxed) where
   module _ (turned : List Turned) (same : AsOften (files_in so_far) turned) where
     fits : FitBooks turned (heard_only so_far.told.acknowledged) got
     fits = record {
       issued = so_far.told.issued;
       noted = so_far.told.noted;
-      issued_are = often_then so_far.told.issued (flat_map parcels_told (files_in so_far)) (flat_map parcels_told turned) gave.parcels (given_as_often parcels_told (files_in so_far) turned same);
-      noted_are = often_then so_far.told.noted (flat_map notes_told (files_in so_far)) (flat_map notes_told turned) gave.notes_are (given_as_often notes_told (files_in so_far) turned same);
+      issued_are = often_then so_far.told.issued (flat_map parcels_told (files_in so_far)) (flat_map parcels_told turned) gave.parcels (told_as_often parcels_told (files_in so_far) turned same);
+      noted_are = often_then so_far.told.noted (flat_map notes_told (files_in so_far)) (flat_map notes_told turned) gave.notes_are (told_as_often notes_told (files_in so_far) turned same);
       parcels = held_parcels lanes ++ (queued ++ carried_by carriers);
       parcels_are = λ h. omega (
         arith,

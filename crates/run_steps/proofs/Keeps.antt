@@ -12,8 +12,10 @@ use Rattle.rounds.specs.Words.{TailWords}
 use Rattle.rounds.specs.declared.crew.Crew.{Crew}
 use Rattle.run_steps.specs.Beginning.{AdmitsAt, Beginning, BeginsOne, ClosesFile, GivesUp, HasOpened, IsOpenedFor, ListedFile, TakesIn}
 use Rattle.run_steps.specs.Telling.{TellsBegin, begin_note}
-use Rattle.run_steps.specs.declared.met.Met.{Met}
-use Rattle.run_steps.specs.declared.met.Met.TheVariants.{DiskFault, Done, Epochs, FolderFault, NoMemory, NoNative, Stopped, Unreachable}
+use Rattle.run_steps.specs.declared.begin_error.BeginError.{BeginError}
+use Rattle.run_steps.specs.declared.begin_error.BeginError.TheVariants.{FolderFault, NoMemory, NoNative}
+use Rattle.run_steps.specs.declared.begin.Admission.{Admission}
+use Rattle.run_steps.specs.declared.begin.Admission.TheVariants.{Followed, Skipped}
 
 -- the lanes have the same harvesters, or one of them has one more
 pub record TakesOne {T : Type 0} (tails : TailWords T) (settings : Settings) (file : ListedFile) (old new : List (Laning T)) : Type 0 where
@@ -76,24 +78,19 @@ module _ {T W L : Type 0} (tails : TailWords T) (settings : Settings) (file : Li
   closes_keeps Why old new closed = behind_opening closed.fresh old closed.mid new closed.opened
       (none_opened closed.mid new closed.closed.closed.crew closed.closed.closed.keeper (omega (arith, closed.closed.closed.closes.counts_faults)))
 
-  pub begin_keeps : (result : Result (Option Why) Met) (old new : Beginning T W L) → BeginsOne tails settings file result old new → BeginKeeps tails settings file old new
-  begin_keeps (Ok None) old new begins = behind_opening begins.fresh old begins.mid new begins.opened (follows_keeps begins.tail begins.follows.harvester begins.mid new begins.follows.opened begins.follows.taken)
-  begin_keeps (Ok (Some Gone)) old new begins = none_opened old new begins.crew begins.keeper begins.opens.faults_never_fall
-  begin_keeps (Ok (Some Moved)) old new begins = closes_keeps _ old new begins
-  begin_keeps (Ok (Some Doubled)) old new begins = absurd begins
-  begin_keeps (Ok (Some Old)) old new begins = absurd begins
-  begin_keeps (Ok (Some Small)) old new begins = closes_keeps _ old new begins
+  pub begin_keeps : (result : Result Admission BeginError) (old new : Beginning T W L) → BeginsOne tails settings file result old new → BeginKeeps tails settings file old new
+  begin_keeps (Ok Followed) old new begins = behind_opening begins.fresh old begins.mid new begins.opened (follows_keeps begins.tail begins.follows.harvester begins.mid new begins.follows.opened begins.follows.taken)
+  begin_keeps (Ok (Skipped Gone)) old new begins = none_opened old new begins.crew begins.keeper begins.opens.faults_never_fall
+  begin_keeps (Ok (Skipped Moved)) old new begins = closes_keeps _ old new begins
+  begin_keeps (Ok (Skipped Doubled)) old new begins = absurd begins
+  begin_keeps (Ok (Skipped Old)) old new begins = absurd begins
+  begin_keeps (Ok (Skipped Small)) old new begins = closes_keeps _ old new begins
   begin_keeps (Err FolderFault) old new (inr begins) = closes_keeps _ old new begins
   begin_keeps (Err FolderFault) old new (inl begins) = none_opened old new begins.crew begins.keeper begins.opens.faults_never_fall
   begin_keeps (Err NoMemory) old new (inl begins) = none_opened old new begins.crew begins.keeper begins.opens.faults_never_fall
   begin_keeps (Err NoMemory) old new (inr (inl begins)) = behind_opening begins.fresh old begins.mid new begins.opened (gives_up_keeps begins.tail begins.mid new begins.gives_up)
   begin_keeps (Err NoMemory) old new (inr (inr begins)) = closes_keeps _ old new begins
   begin_keeps (Err (NoNative slot)) old new begins = closes_keeps _ old new begins.1
-  begin_keeps (Err Done) old new begins = absurd begins
-  begin_keeps (Err Stopped) old new begins = absurd begins
-  begin_keeps (Err DiskFault) old new begins = absurd begins
-  begin_keeps (Err (Unreachable worker)) old new begins = absurd begins
-  begin_keeps (Err (Epochs slot)) old new begins = absurd begins
 
   -- ---- in numbers
 

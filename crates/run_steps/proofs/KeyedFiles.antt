@@ -13,7 +13,8 @@ use Rattle.prospect.specs.AskedFiles.{Answer, AskedFile, ByName, Gave, NotFound,
 use Rattle.prospect.specs.ListedFiles.{AreApart, AreInOrder, HasFile, Name, Place, name_of, place_of, place_order}
 use Rattle.prospect.specs.declared.listed.Listed.{Listed}
 use Rattle.ship_core.proofs.Members.{first_there, later_there, none_there, there_cases}
-use Rattle.run_steps.proofs.Members.{member_is, some_is}
+use Rattle.run_steps.proofs.Members.{some_is}
+use Rattle.accounts.proofs.Orderly.{member_is}
 
 abbrev pub listed_of : AskedFile → Listed
 listed_of asked = asked.listed

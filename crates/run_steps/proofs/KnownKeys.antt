@@ -21,7 +21,7 @@ use Rattle.run_steps.specs.KnownKeys.{BeginsAmong, HasRoomToBegin, KnowsAmong}
 use Rattle.run_steps.specs.Starting.{AreFewFiles, new_files}
 use Rattle.run_steps.specs.Telling.{TellsBegin, begin_note}
 use Rattle.run_steps.proofs.RowsFound.{found_key, found_there}
-use Rattle.run_steps.proofs.Members.{member_is}
+use Rattle.accounts.proofs.Orderly.{member_is}
 
 abbrev pub IsOfKeys : List (List ℕ) → Listed → Type 0
 IsOfKeys keys listed = IfSome listed.key (Contains keys)

@@ -43,15 +43,21 @@ use Rattle.run_steps.specs.Releasing.{all_closings, released, with_events}
 use Rattle.run_steps.specs.LastEpoch.{IsLastOver, HaveOneOver}
 use Rattle.run_steps.specs.RunState.{Finished, Leaving, OutOfEpochs, Phase, Reading, RunState, phase_left}
 use Rattle.run_steps.specs.Shown.{HasDone, HasShown, IsNoListing, IsStillOpen, WasClosedWith, WasOnlyAsked, WasOpenedSince, openings_of}
-use Rattle.run_steps.specs.SoFar.{Left, SoFar, files_in}
+use Rattle.run_steps.specs.SoFar.{Left, SoFar, files_in, files_of}
 use Rattle.run_steps.specs.Stands.{AreEachOnce, AreTurnedIn, Further, IsLeftSo, Stands, TellIn}
 use Rattle.run_steps.proofs.Causing.{some_parted}
 use Rattle.run_steps.proofs.Closing.{ClosesOne, HasClosing, HasOne, all_close, all_have, closed_now, closed_still, each_closed}
-use Rattle.run_steps.proofs.Filing.{given_as_often, same_slot, tells_slots}
+use Rattle.run_steps.proofs.Filing.{same_slot, tells_slots}
 use Rattle.run_steps.proofs.Lanes.{spans_of_both}
 use Rattle.run_steps.proofs.LastOver.{some_behind, some_first}
-use Rattle.run_steps.proofs.Members.{member_is}
 use Rattle.run_steps.proofs.Releasing.{each_left, each_left_so, each_left_tells, emptied, left_of_all, none_of_all, none_tell, none_turned}
+use Rattle.accounts.proofs.Backing.{mapped_there}
+use Rattle.prospect.proofs.Lists.{all_append}
+use Rattle.accounts.proofs.Grounded.{each_member}
+use Rattle.accounts.proofs.Orderly.{member_is}
+use Rattle.run_steps.proofs.First.{got_within}
+use Rattle.run_steps.proofs.Admitting.{often_mapped}
+use Rattle.accounts.proofs.Joining.{told_as_often}
 
 -- ---- slots, each once
 
@@ -81,14 +87,6 @@ files_once opened files once = once_often same_slot tells_slots (slots_in opened
 abbrev left_slots : List Left → List Slot
 left_slots left = map (λ (one : Left). one.turned.slot) left
 
-mapped : {A B : Type 0} (f : A → B) (xs : List A) (x : A) → Contains xs x → Contains (map f xs) (f x)
-mapped f [] x there = absurd (none_there x there)
-mapped f (first ∷ xs) x there = by_case (there_cases first x xs there) (mapped f xs x)
-  where
-    by_case : (first ≡ x) ⊎ Contains xs x → (Contains xs x → Contains (map f xs) (f x)) → Contains (f first ∷ map f xs) (f x)
-    by_case (inl same) later = subst (λ y. Contains (f first ∷ map f xs) (f y)) same (first_there (f first) (map f xs))
-    by_case (inr behind) later = later_there (f first) (f x) (map f xs) (later behind)
-
 -- of one slot there is one
 one_of_slot : (left : List Left) (one other : Left) → AreOnce same_slot (left_slots left) → Contains left one → Contains left other → one.turned.slot ≡ other.turned.slot → one ≡ other
 one_of_slot [] one other once there also same = absurd (none_there one there)
@@ -97,7 +95,7 @@ one_of_slot (first ∷ left) one other once there also same =
   where
     not_there : (l : Left) → Contains left l → first.turned.slot ≡ l.turned.slot → ⊥
     not_there l among is =
-        once_apart same_slot tells_slots first.turned.slot (left_slots left) once (subst (λ (s : Slot). Contains (left_slots left) s) (sym is) (mapped (λ (x : Left). x.turned.slot) left l among))
+        once_apart same_slot tells_slots first.turned.slot (left_slots left) once (subst (λ (s : Slot). Contains (left_slots left) s) (sym is) (mapped_there (λ (x : Left). x.turned.slot) left l among))
 
     by_case : (first ≡ one) ⊎ Contains left one → (first ≡ other) ⊎ Contains left other → (Contains left one → Contains left other → one ≡ other) → one ≡ other
     by_case (inl x) (inl y) later = sym x ∙ y
@@ -114,9 +112,9 @@ one_opened (first ∷ opened) one other apart there also same =
     by_case : (first ≡ one) ⊎ Contains opened one → (first ≡ other) ⊎ Contains opened other → (Contains opened one → Contains opened other → one ≡ other) → one ≡ other
     by_case (inl x) (inl y) later = sym x ∙ y
     by_case (inl x) (inr y) later =
-        absurd (apart.0 (subst (λ (n : ℕ). Contains (openings_of opened) n) (sym (ap (λ (o : Opened). o.opening) x ∙ same)) (mapped (λ (o : Opened). o.opening) opened other y)))
+        absurd (apart.0 (subst (λ (n : ℕ). Contains (openings_of opened) n) (sym (ap (λ (o : Opened). o.opening) x ∙ same)) (mapped_there (λ (o : Opened). o.opening) opened other y)))
     by_case (inr x) (inl y) later =
-        absurd (apart.0 (subst (λ (n : ℕ). Contains (openings_of opened) n) (sym (ap (λ (o : Opened). o.opening) y ∙ sym same)) (mapped (λ (o : Opened). o.opening) opened one x)))
+        absurd (apart.0 (subst (λ (n : ℕ). Contains (openings_of opened) n) (sym (ap (λ (o : Opened). o.opening) y ∙ sym same)) (mapped_there (λ (o : Opened). o.opening) opened one x)))
     by_case (inr x) (inr y) later = later x y
 
 -- ---- lanes without harvesters
@@ -140,29 +138,9 @@ module _ {T : Type 0} where
 
 -- ---- lists
 
-map_often : {A B : Type 0} (f : A → B) (xs ys : List A) → AsOften xs ys → AsOften (map f xs) (map f ys)
-map_often {A} {B} f xs ys often h = sym (by_each xs) ∙ often (λ x. h (f x)) ∙ by_each ys
-  where
-    by_each : (l : List A) → weigh (λ x. h (f x)) l ≡ weigh h (map f l)
-    by_each [] = refl
-    by_each (x ∷ l) = let rest = by_each l in omega (arith, rest)
-
 parts_of : {A : Type 0} (P : A → Type 0) (xs ys : List A) → AllByRecursion P (xs ++ ys) → AllByRecursion P xs × AllByRecursion P ys
 parts_of P [] ys each = (tt, each)
 parts_of P (x ∷ xs) ys each = let rest = parts_of P xs ys each.1 in ((each.0, rest.0), rest.1)
-
-both : {A : Type 0} (P : A → Type 0) (xs ys : List A) → AllByRecursion P xs → AllByRecursion P ys → AllByRecursion P (xs ++ ys)
-both P [] ys one other = other
-both P (x ∷ xs) ys one other = (one.0, both P xs ys one.1 other)
-
-each_there : {A : Type 0} (P : A → Type 0) (xs : List A) → ((x : A) → Contains xs x → P x) → AllByRecursion P xs
-each_there P [] each = tt
-each_there P (x ∷ xs) each = (each x (first_there x xs), each_there P xs (λ y there. each y (later_there x y xs there)))
-
-got_within : (events : List Event) (k : ℕ) (event : Event) → slice_get events k ≡ Some event → k < length events
-got_within [] k event is = absurd cc
-got_within (e ∷ events) zero event is = omega arith
-got_within (e ∷ events) (suc k) event is = let more = got_within events k event is in omega (arith, more)
 
 got_first : (events more : List Event) (k : ℕ) (event : Event) → slice_get events k ≡ Some event → slice_get (events ++ more) k ≡ Some event
 got_first [] more k event is = absurd cc
@@ -207,7 +185,7 @@ module _ {T W L D : Type 0} (words : Words T W L D) (start : Began D) (so_far : 
   state = record before { shown = later; crew = crew; phase = phase_left before.phase }
 
   new_are : map (λ (one : Left). one.turned) new_left ≡ all_files
-  new_are = each_left words.tails processors so_far.opened so_far.moments so_far.lanes lanes stands.turned
+  new_are = each_left words.tails processors so_far.opened so_far.moments so_far.lanes lanes stands.files.turned
 
   files_are : files_in after ≡ left_files ++ all_files
   files_are = ap (λ (l : List Turned). l ++ map (λ (one : Left). one.turned) (so_far.left ++ new_left)) (none_of_all so_far.lanes)
@@ -218,18 +196,18 @@ module _ {T W L D : Type 0} (words : Words T W L D) (start : Began D) (so_far : 
 
   each_once : AreEachOnce so_far.opened (files_in after)
   each_once = record {
-    rise = stands.each_once.rise;
+    rise = stands.files.each_once.rise;
     are = often_then (slots_of (files_in after)) (slots_of (files_in so_far)) (slots_in so_far.opened)
-        (map_often (λ (t : Turned). t.slot) (files_in after) (files_in so_far) (often_back (files_in so_far) (files_in after) same_files)) stands.each_once.are;
+        (often_mapped (λ (t : Turned). t.slot) (files_in after) (files_in so_far) (often_back (files_in so_far) (files_in after) same_files)) stands.files.each_once.are;
   }
 
   turned : Pairs (AreTurnedIn words.tails processors so_far.opened so_far.moments) (emptied so_far.lanes) (lanings crew.lanes.items)
   turned = subst (λ (l : List (Laning T)). Pairs (AreTurnedIn words.tails processors so_far.opened so_far.moments) (emptied so_far.lanes) l) (sym lanes_are)
-      (none_turned words.tails processors so_far.opened so_far.moments so_far.lanes lanes stands.turned)
+      (none_turned words.tails processors so_far.opened so_far.moments so_far.lanes lanes stands.files.turned)
 
   left : AllByRecursion (IsLeftSo processors so_far.opened so_far.moments) (so_far.left ++ new_left)
-  left = both (IsLeftSo processors so_far.opened so_far.moments) so_far.left new_left stands.left
-      (each_left_so words.tails processors so_far.opened so_far.moments so_far.lanes lanes stands.turned)
+  left = all_append (IsLeftSo processors so_far.opened so_far.moments) so_far.left new_left stands.files.left
+      (each_left_so words.tails processors so_far.opened so_far.moments so_far.lanes lanes stands.files.turned)
 
   abbrev ReadThrough : Turned → Type 0
   ReadThrough turned = IsReadThrough turned.history
@@ -237,12 +215,12 @@ module _ {T W L D : Type 0} (words : Words T W L D) (start : Began D) (so_far : 
   read_through : AllByRecursion ReadThrough (files_in so_far) → AllByRecursion ReadThrough (files_in after)
   read_through each =
       let parts = parts_of ReadThrough all_files left_files each in
-      subst (AllByRecursion ReadThrough) (sym files_are) (both ReadThrough left_files all_files parts.1 parts.0)
+      subst (AllByRecursion ReadThrough) (sym files_are) (all_append ReadThrough left_files all_files parts.1 parts.0)
 
   finished : (phase : Phase) → before.phase ≡ phase → phase_left phase ≡ Finished → IsSome start.shown → AllByRecursion ReadThrough (files_in after)
   finished Reading was is some = absurd (let no : Leaving ≡ Finished = is in cc)
   finished Leaving was is some = absurd (let no : Leaving ≡ Finished = is in cc)
-  finished Finished was is some = read_through (stands.finished was some)
+  finished Finished was is some = read_through (stands.files.finished was some)
   finished (OutOfEpochs slot) was is some = absurd (let no : OutOfEpochs slot ≡ Finished = is in cc)
 
   -- one of the files is one of them still
@@ -263,7 +241,7 @@ module _ {T W L D : Type 0} (words : Words T W L D) (start : Began D) (so_far : 
   spans_are : spans_told (lanings crew.lanes.items) < 2 ^ 64 - 1 → spans_in (files_in after) ≡ spans_told (lanings crew.lanes.items)
   spans_are few =
       let same = ap spans_told lanes_are ∙ spans_same lanes in
-      let was = stands.counted.spans (omega (arith, few, same)) in
+      let was = stands.books.spans (omega (arith, few, same)) in
       let now = ap spans_in files_are ∙ spans_of_both left_files all_files in
       let before_were = spans_of_both all_files left_files in
       omega (arith, same, was, now, before_were)
@@ -274,21 +252,21 @@ module _ {T W L D : Type 0} (words : Words T W L D) (start : Began D) (so_far : 
   booked = subst (λ (c : List (Carrier W L)). AreBooked words.links words.wires so_far.told (lanings crew.lanes.items) c) (sym (ap (λ (v : Vec (Carrier W L) Global). v.items) others))
       (subst (λ (l : List (Laning T)). AreBooked words.links words.wires so_far.told l before.crew.carriers.items) (sym lanes_are) (record {
         put = subst (λ (p : List Passes). AsOften so_far.told.issued (parcels (entries p) ++ held_parcels (map released lanes))) (sym (passes_kept lanes))
-            (subst (λ (p : List Parcel). AsOften so_far.told.issued (parcels (entries (lanes_passes lanes)) ++ p)) (sym (parcels_kept lanes)) stands.booked.put);
-        taken = stands.booked.taken;
+            (subst (λ (p : List Parcel). AsOften so_far.told.issued (parcels (entries (lanes_passes lanes)) ++ p)) (sym (parcels_kept lanes)) stands.books.booked.put);
+        taken = stands.books.booked.taken;
         posted = subst (λ (p : List Passes). AsOften (so_far.told.noted ++ notes_of (flat so_far.told.acknowledged))
             (posted_by (senders p ++ senders (carriers_passes before.crew.carriers.items)) ++ (held_notes (map released lanes) ++ owed_notes before.crew.carriers.items))) (sym (passes_kept lanes))
             (subst (λ (n : List Note). AsOften (so_far.told.noted ++ notes_of (flat so_far.told.acknowledged))
-            (posted_by (senders (lanes_passes lanes) ++ senders (carriers_passes before.crew.carriers.items)) ++ (n ++ owed_notes before.crew.carriers.items))) (sym (notes_kept lanes)) stands.booked.posted);
-        acknowledged = stands.booked.acknowledged;
+            (posted_by (senders (lanes_passes lanes) ++ senders (carriers_passes before.crew.carriers.items)) ++ (n ++ owed_notes before.crew.carriers.items))) (sym (notes_kept lanes)) stands.books.booked.posted);
+        acknowledged = stands.books.booked.acknowledged;
       }))
 
   placed : ArePlaced so_far.told (lanings crew.lanes.items) crew.carriers.items so_far.queued (notes before.keeper.pass.got) so_far.boxed
   placed = subst (λ (c : List (Carrier W L)). ArePlaced so_far.told (lanings crew.lanes.items) c so_far.queued (notes before.keeper.pass.got) so_far.boxed) (sym (ap (λ (v : Vec (Carrier W L) Global). v.items) others))
       (subst (λ (l : List (Laning T)). ArePlaced so_far.told l before.crew.carriers.items so_far.queued (notes before.keeper.pass.got) so_far.boxed) (sym lanes_are) (record {
-        parcels = subst (λ (p : List Parcel). AsOften so_far.told.issued (p ++ (so_far.queued ++ (carried_by before.crew.carriers.items ++ flat so_far.told.acknowledged)))) (sym (parcels_kept lanes)) stands.placed.parcels;
+        parcels = subst (λ (p : List Parcel). AsOften so_far.told.issued (p ++ (so_far.queued ++ (carried_by before.crew.carriers.items ++ flat so_far.told.acknowledged)))) (sym (parcels_kept lanes)) stands.books.placed.parcels;
         notes = subst (λ (n : List Note). AsOften (so_far.told.noted ++ notes_of (flat so_far.told.acknowledged))
-            (notes before.keeper.pass.got ++ (so_far.boxed ++ (n ++ owed_notes before.crew.carriers.items)))) (sym (notes_kept lanes)) stands.placed.notes;
+            (notes before.keeper.pass.got ++ (so_far.boxed ++ (n ++ owed_notes before.crew.carriers.items)))) (sym (notes_kept lanes)) stands.books.placed.notes;
       }))
 
   -- ---- the folder
@@ -305,13 +283,13 @@ module _ {T W L D : Type 0} (words : Words T W L D) (start : Began D) (so_far : 
 
   left_as : (one : Left) → Contains new_left one → LeftAs one
   left_as one there =
-      let of = member_is (IsLeftSo processors so_far.opened so_far.moments) new_left one (each_left_so words.tails processors so_far.opened so_far.moments so_far.lanes lanes stands.turned) there in
+      let of = member_is (IsLeftSo processors so_far.opened so_far.moments) new_left one (each_left_so words.tails processors so_far.opened so_far.moments so_far.lanes lanes stands.files.turned) there in
       record { opened = of.file; among = of.among; slot_is = of.is_told.slot; tail = of.is_told.tail }
 
   new_once : AreOnce same_slot (left_slots new_left)
   new_once = subst (AreOnce same_slot) (sym (slots_same new_left ∙ ap slots_of new_are))
       (once_front same_slot tells_slots (slots_of all_files) (slots_of left_files)
-      (subst (AreOnce same_slot) (map-append (λ (t : Turned). t.slot) all_files left_files) (files_once so_far.opened (files_in so_far) stands.each_once)))
+      (subst (AreOnce same_slot) (map-append (λ (t : Turned). t.slot) all_files left_files) (files_once so_far.opened (files_in so_far) stands.files.each_once)))
     where
       slots_same : (l : List Left) → left_slots l ≡ slots_of (map (λ (one : Left). one.turned) l)
       slots_same [] = refl
@@ -330,7 +308,7 @@ module _ {T W L D : Type 0} (words : Words T W L D) (start : Began D) (so_far : 
       lengths (x ∷ xs) [] pairs = absurd pairs
       lengths (x ∷ xs) (h ∷ hs) pairs = let rest = lengths xs hs pairs.1 in omega (arith, rest)
 
-  module _ (first now : FolderHistory) (done : HasDone first now so_far) where
+  module _ (first now : FolderHistory) (done : HasDone first now (files_of so_far)) where
     abbrev then_told : FolderHistory
     then_told = record now { events = now.events ++ closings }
 
@@ -355,7 +333,7 @@ module _ {T W L D : Type 0} (words : Words T W L D) (start : Began D) (so_far : 
 
     turned_slot : (one : Left) → Contains new_left one → Contains (slots_of all_files) one.turned.slot
     turned_slot one there = subst (λ (l : List Turned). Contains (slots_of l) one.turned.slot) new_are
-        (mapped (λ (t : Turned). t.slot) (map (λ (l : Left). l.turned) new_left) one.turned (mapped (λ (l : Left). l.turned) new_left one there))
+        (mapped_there (λ (t : Turned). t.slot) (map (λ (l : Left). l.turned) new_left) one.turned (mapped_there (λ (l : Left). l.turned) new_left one there))
 
     closed_one : (one : Left) → Contains new_left one → IfSome one.told (λ tail. WasClosedWith then_told tail.opening tail.looks)
     closed_one one there = by_case one.told refl
@@ -367,7 +345,7 @@ module _ {T W L D : Type 0} (words : Words T W L D) (start : Began D) (so_far : 
             let tail_is : IsTailOf of.opened tail = subst (λ (o : Option TailHistory). IfSome o (IsTailOf of.opened)) is of.tail in
             let has = subst (λ (o : Option TailHistory). IfSome o (HasClosing closings)) is
             (member_is (HasOne words.tails.told words.tails.faults closings) new_left one (all_have words.tails.told words.tails.faults so_far.lanes lanes) there) in
-            let found = each_closed new_left closings (all_close words.tails.told words.tails.faults so_far.lanes lanes (same_lengths so_far.lanes lanes stands.turned)) apart one tail there is has in
+            let found = each_closed new_left closings (all_close words.tails.told words.tails.faults so_far.lanes lanes (same_lengths so_far.lanes lanes stands.files.turned)) apart one tail there is has in
             let below : tail.opening < length now.events = subst (λ (n : ℕ). n < length now.events) (sym tail_is.opening) (within of.opened of.among) in
             let still : IsStillOpen now tail.opening =
             subst (IsStillOpen now) (sym tail_is.opening) (done.still_open of.opened of.among (subst (Contains (slots_of all_files)) of.slot_is (turned_slot one there))) in
@@ -379,7 +357,7 @@ module _ {T W L D : Type 0} (words : Words T W L D) (start : Began D) (so_far : 
         by_case : (o : Option TailHistory) → one.told ≡ o → IfSome o (λ tail. WasClosedWith then_told tail.opening tail.looks)
         by_case None is = tt
         by_case (Some tail) is =
-            let of = member_is (IsLeftSo processors so_far.opened so_far.moments) so_far.left one stands.left there in
+            let of = member_is (IsLeftSo processors so_far.opened so_far.moments) so_far.left one stands.files.left there in
             let tail_is : IsTailOf of.file tail = subst (λ (o : Option TailHistory). IfSome o (IsTailOf of.file)) is of.is_told.tail in
             let below : tail.opening < length now.events = subst (λ (n : ℕ). n < length now.events) (sym tail_is.opening) (within of.file of.among) in
             closed_still now closings tail.opening tail.looks below
@@ -387,7 +365,7 @@ module _ {T W L D : Type 0} (words : Words T W L D) (start : Began D) (so_far : 
             (member_is (λ (l : Left). IfSome l.told (λ tail. WasClosedWith now tail.opening tail.looks)) so_far.left one done.closed there))
 
     no_listings : AllByRecursion IsNoListing closings
-    no_listings = each closings (all_close words.tails.told words.tails.faults so_far.lanes lanes (same_lengths so_far.lanes lanes stands.turned))
+    no_listings = each closings (all_close words.tails.told words.tails.faults so_far.lanes lanes (same_lengths so_far.lanes lanes stands.files.turned))
       where
         each : (events : List Event) → AllByRecursion (ClosesOne new_left) events → AllByRecursion IsNoListing events
         each [] all = tt
@@ -396,20 +374,20 @@ module _ {T W L D : Type 0} (words : Words T W L D) (start : Began D) (so_far : 
     no_opening : (path : List ℕ) (number : ℕ) (begun : Sight) → Contains closings (folders.Opened path number begun) → ⊥
     no_opening path number begun there =
         let of = member_is (ClosesOne new_left) closings (folders.Opened path number begun)
-        (all_close words.tails.told words.tails.faults so_far.lanes lanes (same_lengths so_far.lanes lanes stands.turned)) there in
+        (all_close words.tails.told words.tails.faults so_far.lanes lanes (same_lengths so_far.lanes lanes stands.files.turned)) there in
         let no : folders.Opened path number begun ≡ Closed of.tail.opening of.tail.looks of.faults = of.is in cc
 
     -- one that was only asked for its key stays so
     asked_still : (opening : ℕ) → opening < length now.events → WasOnlyAsked now opening → WasOnlyAsked then_told opening
     asked_still opening below was = record { looks = was.looks; closed = closed_still now closings opening was.looks below was.closed; reads = was.reads }
 
-    has_done : HasDone first then_told after
+    has_done : HasDone first then_told (files_of after)
     has_done = record {
       files = done.files;
       more = done.more ++ closings;
       events = ap (λ (l : List Event). l ++ closings) done.events ∙ append_assoc first.events done.more closings;
-      no_listing = both IsNoListing done.more closings done.no_listing no_listings;
-      opened = each_there (WasOpenedSince first then_told) so_far.opened (λ one there.
+      no_listing = all_append IsNoListing done.more closings done.no_listing no_listings;
+      opened = each_member (WasOpenedSince first then_told) so_far.opened (λ one there.
           let of = member_is (WasOpenedSince first now) so_far.opened one done.opened there in
           record { since = of.since; stands = got_first now.events closings one.opening (folders.Opened one.begin.path one.number one.begun) of.stands; file_is = of.file_is });
       apart = done.apart;
@@ -417,49 +395,51 @@ module _ {T W L D : Type 0} (words : Words T W L D) (start : Began D) (so_far : 
           (λ here. ⊎_elim (λ one. inl one)
           (λ was. inr (asked_still opening (got_within now.events opening (folders.Opened path number begun) here) was)) (done.serve opening path number begun since here))
           (λ there. absurd (no_opening path number begun there)) (got_in now.events closings opening (folders.Opened path number begun) is);
-      closed = each_there (λ (one : Left). IfSome one.told (λ tail. WasClosedWith then_told tail.opening tail.looks)) (so_far.left ++ new_left) (λ one there.
+      closed = each_member (λ (one : Left). IfSome one.told (λ tail. WasClosedWith then_told tail.opening tail.looks)) (so_far.left ++ new_left) (λ one there.
           ⊎_elim (λ earlier. closed_before one earlier) (λ later. closed_one one later) (Contains-append_cases so_far.left new_left one there));
       still_open = λ one among is_turned. absurd (none_there one.begin.slot (subst (λ (l : List Turned). Contains (slots_of l) one.begin.slot) (none_of_all so_far.lanes) is_turned));
     }
 
-  has_shown : HasShown start.shown later after
-  has_shown = by_case start.shown before.shown later shows stands.shown
+  has_shown : HasShown start.shown later (files_of after)
+  has_shown = by_case start.shown before.shown later shows stands.files.shown
     where
-      by_case : (first now then : Option FolderHistory) → then ≡ with_events closings now → HasShown first now so_far → HasShown first then after
+      by_case : (first now then : Option FolderHistory) → then ≡ with_events closings now → HasShown first now (files_of so_far) → HasShown first then (files_of after)
       by_case None now then is shown = is ∙ ap (with_events closings) shown
       by_case (Some first) None then is shown = absurd shown
-      by_case (Some first) (Some now) then is shown = subst (λ (o : Option FolderHistory). HasShown (Some first) o after) (sym is) (has_done first now shown)
+      by_case (Some first) (Some now) then is shown = subst (λ (o : Option FolderHistory). HasShown (Some first) o (files_of after)) (sym is) (has_done first now shown)
 
   pub stands_released : Further words start state
   stands_released = record {
     so_far = after;
     stands = record {
-      opened = stands.opened;
-      keyed = stands.keyed;
-      each_once = each_once;
-      turned = turned;
-      left = left;
-      reading = λ is. absurd (not_reading before.phase is);
-      finished = λ is some. finished before.phase refl is some;
-      over = some_over before.phase stands.over;
-      tell = λ some. subst (AllByRecursion (TellIn words.tails)) (sym lanes_are) (none_tell words.tails processors so_far.opened so_far.moments lanes);
-      left_tell = λ some. both (λ (one : Left). IsSome one.told) so_far.left new_left (stands.left_tell some)
-          (each_left_tells words.tails processors so_far.opened so_far.moments so_far.lanes lanes (stands.tell some));
-      shown = has_shown;
-      given = stands.given;
-      gave = record {
-        parcels = often_then so_far.told.issued (flat_map parcels_told (files_in so_far)) (flat_map parcels_told (files_in after)) stands.gave.parcels
-            (given_as_often parcels_told (files_in so_far) (files_in after) same_files);
-        notes_are = often_then so_far.told.noted (flat_map notes_told (files_in so_far)) (flat_map notes_told (files_in after)) stands.gave.notes_are
-            (given_as_often notes_told (files_in so_far) (files_in after) same_files);
+      files = record {
+        opened = stands.files.opened;
+        keyed = stands.files.keyed;
+        each_once = each_once;
+        turned = turned;
+        left = left;
+        reading = λ is. absurd (not_reading before.phase is);
+        finished = λ is some. finished before.phase refl is some;
+        over = some_over before.phase stands.files.over;
+        tell = λ some. subst (AllByRecursion (TellIn words.tails)) (sym lanes_are) (none_tell words.tails processors so_far.opened so_far.moments lanes);
+        left_tell = λ some. all_append (λ (one : Left). IsSome one.told) so_far.left new_left (stands.files.left_tell some)
+            (each_left_tells words.tails processors so_far.opened so_far.moments so_far.lanes lanes (stands.files.tell some));
+        shown = has_shown;
+        given = stands.files.given;
       };
-      booked = booked;
-      heard = stands.heard;
-      placed = placed;
-      counted = record { spans = spans_are; shipped = stands.counted.shipped; dropped = stands.counted.dropped; collected = stands.counted.collected };
-      begun = stands.begun;
-      noted = stands.noted;
-      stores = stands.stores;
+      books = record {
+        gave = record {
+          parcels = often_then so_far.told.issued (flat_map parcels_told (files_in so_far)) (flat_map parcels_told (files_in after)) stands.books.gave.parcels
+              (told_as_often parcels_told (files_in so_far) (files_in after) same_files);
+          notes_are = often_then so_far.told.noted (flat_map notes_told (files_in so_far)) (flat_map notes_told (files_in after)) stands.books.gave.notes_are
+              (told_as_often notes_told (files_in so_far) (files_in after) same_files);
+        };
+        booked = booked;
+        heard = stands.books.heard;
+        placed = placed;
+        spans = spans_are;
+      };
+      notes = stands.notes;
       areas = stands.areas;
     };
   }

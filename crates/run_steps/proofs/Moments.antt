@@ -38,7 +38,3 @@ rows_told slot changed old new (inr nothing) = ap (λ (k : Keeping). k.store.row
 pub told_as : (rows others : List Row) (listed : Listed) (slot : Slot) (old new : Keeping) → others ≡ rows → TellsMoment slot (moment_noted others listed) old new →
     TellsMoment slot (moment_noted rows listed) old new
 told_as rows others listed slot old new same told = subst (λ (l : List Row). TellsMoment slot (moment_noted l listed) old new) same told
-
-pub on_err : {A E : Type 0} (result : Result A E) (P : Type 0) → P → OnErr result P
-on_err (Ok value) P holds = tt
-on_err (Err error) P holds = holds

@@ -14,7 +14,7 @@ use Rattle.prospect.specs.declared.listed.Listed.{Listed}
 use Rattle.ship_core.proofs.Members.{none_there, there_cases}
 use Rattle.wire_base.specs.declared.row.Row.{Row}
 use Rattle.run_steps.specs.Begun.{IsOpenedAsListed}
-use Rattle.run_steps.proofs.Members.{member_is}
+use Rattle.accounts.proofs.Orderly.{member_is}
 
 -- ---- lists
 

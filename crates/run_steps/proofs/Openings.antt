@@ -19,12 +19,12 @@ use Rattle.outside.specs.declared.history.Look.{Look}
 use Rattle.outside.specs.declared.history.Sight.{Sight}
 use Rattle.ship_core.proofs.Members.{first_there, later_there, none_there, there_cases}
 use Rattle.run_steps.specs.Shown.{HasDone, IsNoListing, IsStillOpen, IsTurnedIn, WasClosedWith, WasOnlyAsked, WasOpenedSince, openings_of}
-use Rattle.run_steps.specs.SoFar.{Left, SoFar}
-use Rattle.run_steps.proofs.Members.{member_is}
+use Rattle.run_steps.specs.SoFar.{Left, SoFar, files_of}
+use Rattle.accounts.proofs.Orderly.{member_is}
 
 -- ---- closings
 
-closing_stays : (opening : ℕ) (events more : List Event) (closing : Closing) → closing_in opening events ≡ Some closing → closing_in opening (events ++ more) ≡ Some closing
+pub closing_stays : (opening : ℕ) (events more : List Event) (closing : Closing) → closing_in opening events ≡ Some closing → closing_in opening (events ++ more) ≡ Some closing
 closing_stays opening [] more closing is = absurd (let q : None ≡ Some closing = is in cc)
 closing_stays opening (event ∷ events) more closing is = go (closing_by opening event) is (λ e. closing_stays opening events more closing e)
   where
@@ -132,11 +132,11 @@ openings_below before now (one ∷ files) each opening there = from (there_cases
     from (inl same) later = let less = slice_get_within now.events one.opening (Opened one.begin.path one.number one.begun) each.0.stands in omega (arith, less, same)
     from (inr behind) later = later behind
 
-pub below_all : (before now : FolderHistory) (so_far : SoFar) → HasDone before now so_far → (one : OpenedFile) → Contains so_far.opened one → one.opening < length now.events
+pub below_all : (before now : FolderHistory) (so_far : SoFar) → HasDone before now (files_of so_far) → (one : OpenedFile) → Contains so_far.opened one → one.opening < length now.events
 below_all before now so_far done one there =
     slice_get_within now.events one.opening (Opened one.begin.path one.number one.begun) (member_is (WasOpenedSince before now) so_far.opened one done.opened there).stands
 
-module _ (before now : FolderHistory) (so_far : SoFar) (done : HasDone before now so_far) (more : List Event) where
+module _ (before now : FolderHistory) (so_far : SoFar) (done : HasDone before now (files_of so_far)) (more : List Event) where
   pub closed_stays : (opening : ℕ) (looks : List Look) → WasClosedWith now opening looks → WasClosedWith (with_more now more) opening looks
   closed_stays opening looks was = record {
     faults = was.faults;
@@ -197,8 +197,8 @@ module _ (before now : FolderHistory) (so_far : SoFar) (done : HasDone before no
         from (inr of) = new of.place of.at (adds.serve of.place path number begun of.stands)
 
     pub done_on : (after : SoFar) → after.opened ≡ so_far.opened ++ news → AreDistinct (openings_of so_far.opened ++ openings_of news) →
-        AllByRecursion (IsClosedIn (with_more now more)) after.left → ((one : OpenedFile) → Contains (so_far.opened ++ news) one → IsTurnedIn after one → IsStillOpen (with_more now more) one.opening) →
-        HasDone before (with_more now more) after
+        AllByRecursion (IsClosedIn (with_more now more)) after.left → ((one : OpenedFile) → Contains (so_far.opened ++ news) one → IsTurnedIn (files_of after) one → IsStillOpen (with_more now more) one.opening) →
+        HasDone before (with_more now more) (files_of after)
     done_on after opened_are apart closed still = record {
       files = done.files;
       more = done.more ++ more;

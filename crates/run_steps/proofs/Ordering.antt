@@ -34,7 +34,7 @@ use Rattle.run_steps.specs.Begun.{AreBeginNotes, AreSlotsFrom, IsOpenedAsListed,
 use Rattle.run_steps.specs.SoFar.{Left}
 use Rattle.run_steps.specs.Stands.{AreEachOnce, AreTurnedIn, IsLeftSo}
 use Rattle.run_steps.proofs.Filing.{Arranged, arranged}
-use Rattle.run_steps.proofs.Members.{member_is}
+use Rattle.accounts.proofs.Orderly.{member_is}
 
 -- ---- with what was opened
 

@@ -5,7 +5,7 @@ use Rattle.std.specs.Prelude.{slice_get}
 use Rattle.std.specs.List.{AllByRecursion}
 use Rattle.accounts.proofs.Accounting.{as_many}
 use Rattle.accounts.proofs.Askings.{asking_reads}
-use Rattle.accounts.proofs.Falls.{fallen, fallen_are, segments_with_fall}
+use Rattle.accounts.proofs.Falls.{fallen_are, segments_with_fall}
 use Rattle.accounts.proofs.Joined.{joined}
 use Rattle.accounts.proofs.JoinedFile.{joined_turned}
 use Rattle.accounts.proofs.Parting.{all_kept}
@@ -40,13 +40,14 @@ use Rattle.run_steps.specs.Releasing.{HasNoHarvesters}
 use Rattle.run_steps.specs.RunEnds.{HasEnded}
 use Rattle.run_steps.specs.RunState.{Phase}
 use Rattle.run_steps.specs.Shown.{HasDone, HasShown, WasClosedWith, WasOpenedSince}
-use Rattle.run_steps.specs.SoFar.{Left, SoFar, files_in}
+use Rattle.run_steps.specs.SoFar.{Left, SoFar, files_in, files_of}
 use Rattle.run_steps.specs.Stands.{IsLeftSo}
 use Rattle.run_steps.specs.declared.met.Met.{Met}
 use Rattle.run_steps.specs.declared.met.Met.TheVariants.{Epochs}
-use Rattle.run_steps.proofs.Members.{member_is, some_is}
+use Rattle.run_steps.proofs.Members.{some_is}
 use Rattle.run_steps.proofs.NamedInputs.{each_of}
 use Rattle.run_steps.proofs.RunFiles.{none_turned}
+use Rattle.accounts.proofs.Orderly.{member_is}
 
 -- ---- the number of the present epoch
 
@@ -111,30 +112,30 @@ module _ {T W L D : Type 0} (words : Words T W L D) (start : Began D) (ending : 
   all_left : files_in so_far ≡ map (λ (one : Left). one.turned) so_far.left
   all_left =
       ap (λ (l : List Turned). l ++ map (λ (one : Left). one.turned) so_far.left)
-      (none_turned words.tails start.settings.processors so_far.opened so_far.moments so_far.lanes (lanings ended.ends.crew.lanes.items) ended.ends.stands.turned
+      (none_turned words.tails start.settings.processors so_far.opened so_far.moments so_far.lanes (lanings ended.ends.crew.lanes.items) ended.ends.stands.files.turned
       (each_of HasNoHarvesters (lanings ended.ends.crew.lanes.items) ended.left.released))
 
   last_over : Found (IsLastOver slot) (λ (one : Left). one.turned) so_far.left
   last_over =
       found (IsLastOver slot) (λ (one : Left). one.turned) so_far.left
-      (subst (SomeOf (IsLastOver slot)) all_left (subst (λ (p : Phase). HaveOneOver p (files_in so_far)) (ended.ends.out_of_epochs slot is_out) ended.ends.stands.over))
+      (subst (SomeOf (IsLastOver slot)) all_left (subst (λ (p : Phase). HaveOneOver p (files_in so_far)) (ended.ends.out_of_epochs slot is_out) ended.ends.stands.files.over))
 
   abbrev left : Left
   left = last_over.one
 
   is_left : IsLeftSo start.settings.processors so_far.opened so_far.moments left
-  is_left = member_is (IsLeftSo start.settings.processors so_far.opened so_far.moments) so_far.left left ended.ends.stands.left last_over.among
+  is_left = member_is (IsLeftSo start.settings.processors so_far.opened so_far.moments) so_far.left left ended.ends.stands.files.left last_over.among
 
   abbrev file : Opened
   file = is_left.file
 
   as_listed : IsOpenedAsListed start.settings start.opening start.listed file
-  as_listed = member_is (IsOpenedAsListed start.settings start.opening start.listed) so_far.opened file ended.ends.stands.opened is_left.among
+  as_listed = member_is (IsOpenedAsListed start.settings start.opening start.listed) so_far.opened file ended.ends.stands.files.opened is_left.among
 
   slot_is : file.begin.slot ≡ slot
   slot_is = sym is_left.is_told.slot ∙ last_over.is.of_slot
 
-  module _ (before after : FolderHistory) (tells : IsSome start.shown) (done : HasDone before after so_far) (one : Listed) (there : slice_get start.listed slot.0 ≡ Some one) where
+  module _ (before after : FolderHistory) (tells : IsSome start.shown) (done : HasDone before after (files_of so_far)) (one : Listed) (there : slice_get start.listed slot.0 ≡ Some one) where
     same : as_listed.one ≡ one
     same = some_is as_listed.one one (sym as_listed.listed_there ∙ ap (λ (s : Slot). slice_get start.listed s.0) slot_is ∙ there)
 
@@ -156,7 +157,7 @@ module _ {T W L D : Type 0} (words : Words T W L D) (start : Began D) (ending : 
 
       only_asked : AllByRecursion (λ (look : Look). IsRead look.question) h.before
       only_asked = subst (AllByRecursion (λ (look : Look). IsRead look.question)) (sym told.history.asked_before)
-          (asking_reads file.rule.file_identity file.asked (member_is IsKeyed so_far.opened file (ended.ends.stands.keyed tells) is_left.among).asking)
+          (asking_reads file.rule.file_identity file.asked (member_is IsKeyed so_far.opened file (ended.ends.stands.files.keyed tells) is_left.among).asking)
 
       -- each epoch was begun by a fall, and there was one more
       falls : falls_in file.begin.base tail.looks ≡ length h.past + 1
@@ -179,7 +180,7 @@ module _ {T W L D : Type 0} (words : Words T W L D) (start : Began D) (ending : 
           (file_is_read start.settings.processors file so_far.moments left.turned tail keyed told).kept
         where
           keyed : IsKeyed file
-          keyed = member_is IsKeyed so_far.opened file (ended.ends.stands.keyed tells) is_left.among
+          keyed = member_is IsKeyed so_far.opened file (ended.ends.stands.files.keyed tells) is_left.among
 
           keeps : has_lost_key left.turned.history ≡ false
           keeps = ap (λ (s : Stage). loses_key_at s left.turned.history.rule.file_identity) last_over.is.over
@@ -212,7 +213,7 @@ module _ {T W L D : Type 0} (words : Words T W L D) (start : Began D) (ending : 
 
     ran_out : RanOutOfEpochs start.settings.inputs start.opening one before after
     ran_out =
-        by_told left.told (member_is (λ (l : Left). IsSome l.told) so_far.left left (ended.ends.stands.left_tell tells) last_over.among) is_left.is_told
+        by_told left.told (member_is (λ (l : Left). IsSome l.told) so_far.left left (ended.ends.stands.files.left_tell tells) last_over.among) is_left.is_told
         (member_is (λ (l : Left). IfSome l.told (λ tail. WasClosedWith after tail.opening tail.looks)) so_far.left left done.closed last_over.among)
 
   -- by what the folder told behind the scan, and at the end
@@ -220,4 +221,4 @@ module _ {T W L D : Type 0} (words : Words T W L D) (start : Began D) (ending : 
       RanOutOfEpochs start.settings.inputs start.opening one before after
   has_run_out before after told tells one there =
       ran_out before after (subst (λ (o : Option FolderHistory). IsSome o) (sym told) refl)
-      (subst (λ (o : Option FolderHistory). HasShown (Some before) o so_far) tells (subst (λ (o : Option FolderHistory). HasShown o ending.shown so_far) told ended.ends.stands.shown)) one there
+      (subst (λ (o : Option FolderHistory). HasShown (Some before) o (files_of so_far)) tells (subst (λ (o : Option FolderHistory). HasShown o ending.shown (files_of so_far)) told ended.ends.stands.files.shown)) one there

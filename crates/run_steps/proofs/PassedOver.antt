@@ -10,15 +10,15 @@ use Rattle.run_steps.specs.Beginning.{Beginning}
 use Rattle.run_steps.specs.BeginsAll.{BeginsAll, BeginsFrom, passed_by}
 use Rattle.run_steps.specs.PassedOver.{ArePassedOver}
 use Rattle.run_steps.specs.Worked.{HasPassed}
-use Rattle.run_steps.specs.declared.met.Met.{Met}
+use Rattle.run_steps.specs.declared.begin_error.BeginError.{BeginError}
 
 module _ {T W L : Type 0} (tails : TailWords T) (settings : Settings) (rows : List Row) (now : Moment) where
   passed_from : (slot : ℕ) (listed : List Listed) (passed : List Passing) (old new : Beginning T W L) → BeginsFrom tails settings rows now slot listed passed old new → ArePassedOver listed passed
-  passed_from slot [] passed old new begins = record { whys = []; are = begins.0 }
+  passed_from slot [] passed old new begins = record { begun = []; are = begins.0 }
   passed_from slot (one ∷ listed) passed old new begins =
       let rest = passed_from (suc slot) listed begins.later begins.mid new begins.rest in
-      record { whys = begins.why ∷ rest.whys; are = begins.passed_are ∙ ap (λ (l : List Passing). passed_by begins.why one ++ l) rest.are }
+      record { begun = begins.begun ∷ rest.begun; are = begins.passed_are ∙ ap (λ (l : List Passing). passed_by begins.begun one ++ l) rest.are }
 
-  pub passed_over : (listed : List Listed) (old new : Beginning T W L) (result : Result (Vec Passing Global) Met) (after : List Passing) → IfOk result (λ passed. BeginsAll tails settings rows now listed passed.items old new) → HasPassed result after → ArePassedOver listed after
+  pub passed_over : (listed : List Listed) (old new : Beginning T W L) (result : Result (Vec Passing Global) BeginError) (after : List Passing) → IfOk result (λ passed. BeginsAll tails settings rows now listed passed.items old new) → HasPassed result after → ArePassedOver listed after
   passed_over listed old new (Ok passed) after begins is = subst (ArePassedOver listed) (sym is) (passed_from 0 listed passed.items old begins.mid begins.begins)
-  passed_over listed old new (Err met) after begins is = record { whys = []; are = is }
+  passed_over listed old new (Err met) after begins is = record { begun = []; are = is }

@@ -9,6 +9,7 @@ use Rattle.outside.specs.Counts.{Rose, added_counts}
 use Rattle.outside.specs.Folders.{Event, FolderHistory}
 use Rattle.outside.specs.Tails.{TailHistory}
 use Rattle.run_steps.specs.Releasing.{CountsFaults, all_closings, closing_of, closings_of, harvesters_of, released, with_events}
+use Rattle.pass_sums.proofs.Each.{all_then}
 
 -- what a folder shows of its tails at one moment
 pub record Shows : Type 0 where
@@ -18,9 +19,6 @@ pub record Shows : Type 0 where
 
 abbrev pub shows : Option FolderHistory → ℕ → ℕ → Shows
 shows told open_tails faults = record { told = told; open_tails = open_tails; faults = faults }
-
-each_so : {A : Type 0} (P Q : A → Type 0) (xs : List A) → ((x : A) → P x → Q x) → All P xs → All Q xs
-each_so P Q xs then all = λ k d inside. then _ (all k d inside)
 
 none_added : (told : Option FolderHistory) → with_events [] told ≡ told
 none_added None = refl
@@ -48,11 +46,11 @@ rose_where_some {T} faults before now harvesters counted (place, one, inside, is
 module _ {T : Type 0} (told : T → Option TailHistory) (faults : T → ℕ) where
   counted_on : (before mid now : ℕ) (harvesters : List (Harvester T)) → mid ≤ now → CountsFaults faults before mid harvesters → CountsFaults faults before now harvesters
   counted_on before mid now harvesters le counted =
-      each_so (λ (h : Harvester T). added_counts before (faults h.tail) ≤ mid) (λ (h : Harvester T). added_counts before (faults h.tail) ≤ now) harvesters (λ h counts. omega (arith, le, counts)) counted
+      all_then (λ (h : Harvester T). added_counts before (faults h.tail) ≤ mid) (λ (h : Harvester T). added_counts before (faults h.tail) ≤ now) harvesters (λ h counts. omega (arith, le, counts)) counted
 
   counted_from : (before mid now : ℕ) (harvesters : List (Harvester T)) → before ≤ mid → CountsFaults faults mid now harvesters → CountsFaults faults before now harvesters
   counted_from before mid now harvesters le counted =
-      each_so (λ (h : Harvester T). added_counts mid (faults h.tail) ≤ now) (λ (h : Harvester T). added_counts before (faults h.tail) ≤ now) harvesters
+      all_then (λ (h : Harvester T). added_counts mid (faults h.tail) ≤ now) (λ (h : Harvester T). added_counts before (faults h.tail) ≤ now) harvesters
       (λ h counts. earlier_counts before mid (faults h.tail) now le counts) counted
 
   -- some of a lane's harvesters were let go, from the last one on

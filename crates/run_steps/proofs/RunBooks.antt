@@ -23,6 +23,7 @@ use Rattle.run_steps.specs.Begun.{AreBeginNotes, IsSeenOf, noted_begin}
 use Rattle.run_steps.specs.SoFar.{SoFar, files_in}
 use Rattle.run_steps.specs.Stands.{AreNoted, HaveGiven}
 use Rattle.run_steps.proofs.RunFiles.{moment_listed}
+use Rattle.accounts.proofs.Settling.{taken_weighs}
 
 -- ---- first notes
 
@@ -61,21 +62,11 @@ module _ (rows : List Row) (listed : List Listed) where
 
 -- ---- the books
 
-taken_weighs : (h : Parcel → ℕ) (workers : List Taken) → weigh h (taken_in workers) ≡ weigh h (acknowledged_in workers) + weigh h (carried_in workers)
-taken_weighs h [] = omega arith
-taken_weighs h (taken ∷ workers) =
-    let later = taken_weighs h workers in
-    let all = weigh-append h (taken_by taken) (taken_in workers) in
-    let own = weigh-append h taken.acknowledged taken.carried in
-    let one = weigh-append h taken.acknowledged (acknowledged_in workers) in
-    let two = weigh-append h taken.carried (carried_in workers) in
-    omega (arith, later, all, own, one, two)
-
 -- what is noted and neither collected nor settled
 abbrev pub others_in : {T W L : Type 0} → List (Laning T) → List (Carrier W L) → Keeping → List Note → List Note
 others_in lanes carriers keeper boxed = held_in keeper.held ++ (boxed ++ (held_notes lanes ++ owed_notes carriers))
 
-module _ {T W L : Type 0} (lanes : List (Laning T)) (carriers : List (Carrier W L)) (keeper : Keeping) (so_far : SoFar) (gave : HaveGiven so_far)
+module _ {T W L : Type 0} (lanes : List (Laning T)) (carriers : List (Carrier W L)) (keeper : Keeping) (so_far : SoFar) (gave : HaveGiven so_far.told (files_in so_far))
     (placed : ArePlaced so_far.told lanes carriers so_far.queued (notes keeper.pass.got) so_far.boxed) (opening : List Row) (noted : AreNoted opening keeper so_far.begun so_far.collected)
     (workers : List Taken) (acknowledged : acknowledged_in workers ≡ flat so_far.told.acknowledged) (carried : carried_in workers ≡ carried_by carriers) where
   abbrev others : List Note

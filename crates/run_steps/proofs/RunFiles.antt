@@ -9,7 +9,7 @@ use Rattle.accounts.proofs.Backing.{mapped_there}
 use Rattle.accounts.proofs.Following.{got_there}
 use Rattle.accounts.proofs.Grounded.{each_member, of_map}
 use Rattle.accounts.proofs.Joining.{AreJoined, AreOpenedInSlots, IsJoined, join, joined_in_slots, told_by_its_tail}
-use Rattle.accounts.proofs.Orderly.{same_item}
+use Rattle.accounts.proofs.Orderly.{member_is, same_item}
 use Rattle.accounts.specs.Filed.{Filed}
 use Rattle.accounts.specs.FollowedFile.{AreFollowedFiles, AreInSlots, EachOpeningIsOne, IsFollowedFile, IsListedAs, moment_by, opening_in, start_in}
 use Rattle.accounts.specs.Opened.{Opened}
@@ -48,11 +48,10 @@ use Rattle.run_steps.specs.RunOf.{FolderTold, run_of, scan_of}
 use Rattle.run_steps.specs.RunState.{RunState}
 use Rattle.run_steps.specs.Scanned.{HasScanned}
 use Rattle.run_steps.specs.Shown.{HasDone, HasShown, WasClosedWith, WasOnlyAsked, WasOpenedSince, openings_of}
-use Rattle.run_steps.specs.SoFar.{Left, SoFar, files_in}
+use Rattle.run_steps.specs.SoFar.{Left, SoFar, files_in, files_of}
 use Rattle.run_steps.specs.Stands.{AreTurnedIn, IsLeftSo, Stands}
 use Rattle.run_steps.proofs.AskedEvents.{distinct_both, openings_asked, openings_distinct}
 use Rattle.run_steps.proofs.NamedInputs.{each_of}
-use Rattle.run_steps.proofs.Members.{member_is}
 use Rattle.prospect.proofs.Doubled.{keys_apart as files_keys_apart}
 use Rattle.prospect.specs.AskedFiles.{keyed_by}
 use Rattle.run_steps.proofs.Named.{keys_apart}
@@ -154,8 +153,8 @@ module _ {T W L D : Type 0} (words : Words T W L D) (start : Began D) (state : R
   abbrev changed : Opened → ℕ
   changed = moment_listed start.opening start.listed
 
-  pub done : HasDone folder.scanned folder.ended so_far
-  done = subst (λ (o : Option FolderHistory). HasShown (Some folder.scanned) o so_far) shown (subst (λ (o : Option FolderHistory). HasShown o state.shown so_far) has.shown stands.shown)
+  pub done : HasDone folder.scanned folder.ended (files_of so_far)
+  done = subst (λ (o : Option FolderHistory). HasShown (Some folder.scanned) o (files_of so_far)) shown (subst (λ (o : Option FolderHistory). HasShown o state.shown (files_of so_far)) has.shown stands.files.shown)
 
   tells : IsSome start.shown
   tells = subst (λ (o : Option FolderHistory). IsSome o) (sym has.shown) refl
@@ -163,11 +162,11 @@ module _ {T W L D : Type 0} (words : Words T W L D) (start : Began D) (state : R
   pub files_are : files_in so_far ≡ map (λ (one : Left). one.turned) so_far.left
   files_are =
       ap (λ (l : List Turned). l ++ map (λ (one : Left). one.turned) so_far.left)
-      (none_turned words.tails processors so_far.opened so_far.moments so_far.lanes (lanings state.crew.lanes.items) stands.turned
+      (none_turned words.tails processors so_far.opened so_far.moments so_far.lanes (lanings state.crew.lanes.items) stands.files.turned
       (each_of HasNoHarvesters (lanings state.crew.lanes.items) released))
 
   pub joined : AreJoined looks changed so_far.opened (files_in so_far)
-  joined = join looks changed so_far.opened (files_in so_far) stands.each_once.are
+  joined = join looks changed so_far.opened (files_in so_far) stands.files.each_once.are
 
   abbrev pub files : List Filed
   files = joined.files
@@ -188,7 +187,7 @@ module _ {T W L D : Type 0} (words : Words T W L D) (start : Began D) (state : R
         mapped_in some there = mapped_there (λ (f : Filed). f.opened) some file there
 
     pub as_listed : IsOpenedAsListed start.settings start.opening start.listed one
-    as_listed = member_is (IsOpenedAsListed start.settings start.opening start.listed) so_far.opened one stands.opened was_opened
+    as_listed = member_is (IsOpenedAsListed start.settings start.opening start.listed) so_far.opened one stands.files.opened was_opened
 
     left_there : Contains (map (λ (l : Left). l.turned) so_far.left) file.turned
     left_there = subst (λ (l : List Turned). Contains l file.turned) files_are is_joined.among
@@ -197,16 +196,16 @@ module _ {T W L D : Type 0} (words : Words T W L D) (start : Began D) (state : R
     pub its_tail : HasTail processors so_far.moments folder.ended one file.turned
     its_tail =
         let of = of_map (λ (l : Left). l.turned) so_far.left file.turned left_there in
-        let so = member_is (IsLeftSo processors so_far.opened so_far.moments) so_far.left of.item stands.left of.among in
+        let so = member_is (IsLeftSo processors so_far.opened so_far.moments) so_far.left of.item stands.files.left of.among in
         let same_number : slot_number so.file ≡ slot_number one =
         sym (ap (λ s. s.0) so.is_told.slot) ∙ ap (λ (t : Turned). t.slot.0) of.is ∙ ap (λ s. s.0) is_joined.slot in
         let same : so.file ≡ one =
-        same_item slot_number so_far.opened so.file one (slots_distinct 0 so_far.opened stands.each_once.rise) so.among was_opened same_number in
+        same_item slot_number so_far.opened so.file one (slots_distinct 0 so_far.opened stands.files.each_once.rise) so.among was_opened same_number in
         let told : IsToldFile processors one so_far.moments file.turned of.item.told =
         subst (λ (t : Turned). IsToldFile processors one so_far.moments t of.item.told) of.is
         (subst (λ (o : Opened). IsToldFile processors o so_far.moments of.item.turned of.item.told) same so.is_told) in
         has_tail processors so_far.moments folder.ended one file.turned of.item.told
-        (member_is (λ (l : Left). IsSome l.told) so_far.left of.item (stands.left_tell tells) of.among) told
+        (member_is (λ (l : Left). IsSome l.told) so_far.left of.item (stands.files.left_tell tells) of.among) told
         (member_is (λ (l : Left). IfSome l.told (λ tail. WasClosedWith folder.ended tail.opening tail.looks)) so_far.left of.item done.closed of.among)
 
     closing_is : closing_in one.opening (drop (suc one.opening) folder.ended.events) ≡ Some (record { looks = its_tail.tail.looks; faults = its_tail.closed.faults })
@@ -288,7 +287,7 @@ module _ {T W L D : Type 0} (words : Words T W L D) (start : Began D) (state : R
     moment_is = is_joined.changed_is ∙ ap (λ (o : Option Listed). option_map_or (λ (e : Listed). (moment_noted start.opening e).0) o 0) as_listed.listed_there
 
     keyed : IsKeyed one
-    keyed = member_is IsKeyed so_far.opened one (stands.keyed tells) was_opened
+    keyed = member_is IsKeyed so_far.opened one (stands.files.keyed tells) was_opened
 
     changed_by_entry : (moment_noted start.opening entry).0 ≡ max (opening_moment start.opening key) (moment_in its_entry)
     changed_by_entry = ap (λ (m : Moment). max (option_map_or (λ (row : Row). row.changed.0) (row_of start.opening entry.key) 0) (min m.0 MAX_MOMENT)) of_entry.changed_is
@@ -318,7 +317,7 @@ module _ {T W L D : Type 0} (words : Words T W L D) (start : Began D) (state : R
   -- ---- all of them
 
   in_slots : AreInSlots 0 files
-  in_slots = joined_in_slots 0 files so_far.opened joined.opened_are (opened_in_slots 0 so_far.opened stands.each_once.rise)
+  in_slots = joined_in_slots 0 files so_far.opened joined.opened_are (opened_in_slots 0 so_far.opened stands.files.each_once.rise)
 
   openings_are : map opening_in files ≡ openings_of so_far.opened
   openings_are = mapped_twice files ∙ ap openings_of joined.opened_are

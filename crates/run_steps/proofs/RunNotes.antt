@@ -17,7 +17,7 @@ use Rattle.wire_base.specs.declared.numbers.Slot.{Slot}
 use Rattle.wire_base.specs.declared.parcel.Parcel.{Parcel}
 use Rattle.wire_base.specs.declared.row.Row.{Row}
 use Rattle.run_steps.specs.Begun.{AreBeginNotes, IsSeenOf, noted_begin}
-use Rattle.run_steps.proofs.Members.{member_is}
+use Rattle.accounts.proofs.Orderly.{member_is}
 
 -- neither how a file begins nor when it was changed
 abbrev IsOfEvents : Note → Type 0

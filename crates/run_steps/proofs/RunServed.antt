@@ -47,18 +47,19 @@ use Rattle.run_steps.specs.Scanned.{HasScanned}
 use Rattle.run_steps.specs.Served.{AreServed, HasBegin, WasSkippedBy, folder_trace}
 use Rattle.run_steps.specs.SkippedFor.{GaveAsOpened, IsSkippedFor, WasMoved, WasTooSmall}
 use Rattle.run_steps.specs.Shown.{HasDone}
-use Rattle.run_steps.specs.SoFar.{SoFar, files_in}
+use Rattle.run_steps.specs.SoFar.{SoFar, files_in, files_of}
 use Rattle.run_steps.specs.Stands.{Stands}
 use Rattle.run_steps.proofs.AskedEvents.{AnswerStands, HasAsked, HasMissed}
 use Rattle.run_steps.proofs.FirstPaths.{double_has_earlier}
 use Rattle.run_steps.proofs.FollowedOrSkipped.{IsSkippedSince, came_so}
 use Rattle.run_steps.proofs.KeyedFiles.{KeepsEntry, keeps_entry}
-use Rattle.run_steps.proofs.Members.{member_is, some_is}
+use Rattle.run_steps.proofs.Members.{some_is}
 use Rattle.run_steps.proofs.RunFiles.{as_listed, done, files, is_joined, joined, moment_is, moment_noted_is, of_entry, path_is, input_is, was_opened}
 use Rattle.run_steps.proofs.RunNotes.{begin_opened, opened_is_in_notes, opened_is_noted, own_seen}
 use Rattle.run_steps.proofs.ScanAsked.{asks_for, in_this_run, of_its_input, of_no_asking}
 use Rattle.run_steps.proofs.ScanList.{answered, entry_of, everyone, in_parts, is_before, shows_entry, since_listed}
 use Rattle.run_steps.proofs.ScanOf.{IsListedFor, ShowsSome, answer_by, gave_there, is_listed_for, key_is_told, rule_of, shows_asked, shows_file}
+use Rattle.accounts.proofs.Orderly.{member_is}
 
 got_some : {A : Type 0} (P : A → Type 0) (o : Option A) (x : A) → o ≡ Some x → IfSome o P → P x
 got_some P o x is all = subst (λ (q : Option _). IfSome q P) is all
@@ -79,7 +80,7 @@ module _ {T W L D : Type 0} (words : Words T W L D) (start : Began D) (state : R
   abbrev notes : List Note
   notes = state.keeper.tracked.notes
 
-  has_done : HasDone folder.scanned folder.ended so_far
+  has_done : HasDone folder.scanned folder.ended (files_of so_far)
   has_done = done words start state so_far stands released folder has shown wires
 
   ground : AllByRecursion (HasGround (files_in so_far) (acknowledged_in workers)) so_far.collected
@@ -96,7 +97,7 @@ module _ {T W L D : Type 0} (words : Words T W L D) (start : Began D) (state : R
   pub file_of_begin : (slot : ℕ) → HasBegin notes slot → HasFileAt slot
   file_of_begin slot begun =
       let opened =
-      begin_opened (files_in so_far) (acknowledged_in workers) so_far.begun so_far.collected notes stands.noted.are ground start.opening start.listed so_far.opened stands.begun begun.begin begun.noted in
+      begin_opened (files_in so_far) (acknowledged_in workers) so_far.begun so_far.collected notes stands.notes.noted.are ground start.opening start.listed so_far.opened stands.notes.begun begun.begin begun.noted in
       let of =
       of_map (λ (file : Filed). file.opened) run_files opened.one
       (subst (λ (l : List Opened). Contains l opened.one) (sym (joined words start state so_far stands released folder has shown wires).opened_are) opened.among) in
@@ -326,7 +327,7 @@ module _ {T W L D : Type 0} (words : Words T W L D) (start : Began D) (state : R
     begin_carries : file.changed ≡ 0 → CarriesMoment
     begin_carries none = record {
       note = noted_begin one.begin;
-      of_first = opened_is_noted (files_in so_far) (acknowledged_in workers) so_far.begun so_far.collected notes stands.noted.are ground start.opening start.listed so_far.opened stands.begun one opened_there;
+      of_first = opened_is_noted (files_in so_far) (acknowledged_in workers) so_far.begun so_far.collected notes stands.notes.noted.are ground start.opening start.listed so_far.opened stands.notes.begun one opened_there;
       slot_is = refl;
       carries = ap (λ (n : ℕ). Some n) (sym none);
     }
@@ -335,11 +336,11 @@ module _ {T W L D : Type 0} (words : Words T W L D) (start : Began D) (state : R
     seen_carries later = record {
       note = Seen one.begin.slot (moment_noted start.opening its_entry);
       of_first =
-          own_seen (files_in so_far) (acknowledged_in workers) so_far.begun so_far.collected notes stands.noted.are ground one.begin.slot (moment_noted start.opening its_entry)
+          own_seen (files_in so_far) (acknowledged_in workers) so_far.begun so_far.collected notes stands.notes.noted.are ground one.begin.slot (moment_noted start.opening its_entry)
           (got_some (λ (entry : Listed). 0 < (moment_noted start.opening entry).0 → Contains notes (Seen one.begin.slot (moment_noted start.opening entry))) (slice_get start.listed one.begin.slot.0) its_entry
           (as_listed words start state so_far stands released folder has shown wires file among).listed_there
           (served.seen one.begin
-          (opened_is_in_notes (files_in so_far) (acknowledged_in workers) so_far.begun so_far.collected notes stands.noted.are ground start.opening start.listed so_far.opened stands.begun one opened_there)) later);
+          (opened_is_in_notes (files_in so_far) (acknowledged_in workers) so_far.begun so_far.collected notes stands.notes.noted.are ground start.opening start.listed so_far.opened stands.notes.begun one opened_there)) later);
       slot_is = refl;
       carries = ap (λ (n : ℕ). Some n) (sym changed_is);
     }

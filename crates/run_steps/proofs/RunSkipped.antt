@@ -32,12 +32,13 @@ use Rattle.run_steps.specs.Shown.{WasOpenedSince}
 use Rattle.run_steps.specs.SoFar.{SoFar, files_in}
 use Rattle.run_steps.specs.Stands.{Stands}
 use Rattle.run_steps.proofs.FollowedOrSkipped.{each_then_so}
-use Rattle.run_steps.proofs.Members.{member_is, some_is}
+use Rattle.run_steps.proofs.Members.{some_is}
 use Rattle.run_steps.proofs.Named.{later_has_other}
 use Rattle.run_steps.proofs.RunFiles.{as_listed, done, files, input_is, path_is, was_opened}
 use Rattle.run_steps.proofs.RunNotes.{opened_is_in_notes}
 use Rattle.run_steps.proofs.RunServed.{file_of_begin}
 use Rattle.run_steps.proofs.SkippedFor.{skipped_still}
+use Rattle.accounts.proofs.Orderly.{member_is}
 
 -- files of one key stand at one place
 same_place_by_key : (listed : List Listed) (place other : ℕ) (one later : Listed) (key : List ℕ) → AreKeysApart listed → slice_get listed place ≡ Some one → slice_get listed other ≡ Some later →
@@ -105,8 +106,8 @@ module _ {T W L D : Type 0} (words : Words T W L D) (start : Began D) (state : R
         begin = of.item.opened.begin;
         slot_is = same_slot;
         noted =
-            opened_is_in_notes (files_in so_far) (acknowledged_in workers) so_far.begun so_far.collected notes stands.noted.are (each_has_ground (files_in so_far) workers so_far.collected fits)
-            start.opening start.listed so_far.opened stands.begun of.item.opened (was_opened words start state so_far stands released folder has shown wires of.item of.among);
+            opened_is_in_notes (files_in so_far) (acknowledged_in workers) so_far.begun so_far.collected notes stands.notes.noted.are (each_has_ground (files_in so_far) workers so_far.collected fits)
+            start.opening start.listed so_far.opened stands.notes.begun of.item.opened (was_opened words start state so_far stands released folder has shown wires of.item of.among);
       }
 
   pub followed_or_skipped : AreFollowedOrSkipped run account scanned start.listed passed

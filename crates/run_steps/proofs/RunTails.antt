@@ -12,6 +12,7 @@ use Rattle.rounds.specs.declared.carrier.Carrier.{Carrier}
 use Rattle.wire_base.specs.declared.note.Begin.{Begin}
 use Rattle.run_steps.specs.CarriersEnd.{EndsCarrier, EndsCarriers}
 use Rattle.run_steps.specs.Releasing.{harvesters_of}
+use Rattle.rounds.proofs.Slices.{paired_many}
 
 abbrev total : List (List Begin) → ℕ
 total [] = 0
@@ -37,16 +38,10 @@ module _ {T : Type 0} where
       let rest = none_begun lanes begun.1 in
       omega (arith, both, here, rest)
 
-as_long : {A B : Type 0} (R : A → B → Type 0) (xs : List A) (ys : List B) → Pairs R xs ys → length ys ≡ length xs
-as_long R [] [] pairs = refl
-as_long R [] (y ∷ ys) pairs = absurd pairs
-as_long R (x ∷ xs) [] pairs = absurd pairs
-as_long R (x ∷ xs) (y ∷ ys) pairs = ap suc (as_long R xs ys pairs.1)
-
 pub wires_back : {W L : Type 0} (links : LinkWords L) (wires : WireWords W) (carriers : List (Carrier W L)) (old new : List W) → EndsCarriers links wires carriers old new →
     length new ≡ length carriers + length old
 wires_back links wires carriers old new ends =
     let all = ap (λ (l : List _). length l) ends.is in
     let both = length-append ends.ended old in
-    let each = as_long (EndsCarrier links wires) carriers ends.ended ends.each in
+    let each = paired_many (EndsCarrier links wires) carriers ends.ended ends.each in
     omega (arith, all, both, each)

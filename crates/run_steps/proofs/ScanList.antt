@@ -27,12 +27,13 @@ use Rattle.run_steps.specs.RunOf.{FolderTold, run_of, scan_of}
 use Rattle.run_steps.specs.Scanned.{HasScanned}
 use Rattle.run_steps.specs.ScannedSome.{HasOnlyAsked}
 use Rattle.run_steps.specs.Shown.{HasDone, IsNoListing, WasOnlyAsked}
-use Rattle.run_steps.specs.SoFar.{SoFar}
+use Rattle.run_steps.specs.SoFar.{SoFar, files_of}
 use Rattle.run_steps.proofs.AskedEvents.{IsAnsweredIn, all_asked, answered_still, asked_at, each_answered, event_was, goes_on_asking, goes_on_doing, longer, only_asked_still, openings_asked, goes_on_further}
 use Rattle.run_steps.proofs.KeyedFiles.{IsKeyedFrom, keeps_entry, keyed_from, keyed_there, listed_of}
 use Rattle.run_steps.proofs.NamedInputs.{each_of}
-use Rattle.run_steps.proofs.Members.{member_is, some_is}
+use Rattle.run_steps.proofs.Members.{some_is}
 use Rattle.run_steps.proofs.Scanning.{AreAt, are_at, list_globs, listings_before, no_more_listings, no_opening, shown_by, shows_at}
+use Rattle.accounts.proofs.Orderly.{member_is}
 
 -- ---- from the entry of which a listed file is
 
@@ -73,7 +74,7 @@ since_earlier start folder has =
     let asked = longer folder.listed folder.scanned (goes_on_asking folder.listed folder.scanned (all_asked start.settings.inputs folder.asked folder.listed folder.scanned has.asks)) in
     omega (arith, listed, long, asked)
 
-module _ {D : Type 0} (start : Began D) (folder : FolderTold) (has : HasScanned start folder) (so_far : SoFar) (done : HasDone folder.scanned folder.ended so_far)
+module _ {D : Type 0} (start : Began D) (folder : FolderTold) (has : HasScanned start folder) (so_far : SoFar) (done : HasDone folder.scanned folder.ended (files_of so_far))
     (wires : List WireTold) where
   abbrev run : Run
   run = run_of start folder so_far.moments wires

@@ -13,6 +13,7 @@ use Rattle.prospect.specs.ListedFiles.{shown_in}
 use Rattle.prospect.specs.Scan.{Listing, event_of}
 use Rattle.ship_core.proofs.Members.{first_there, later_there, none_there, there_cases}
 use Rattle.run_steps.specs.Shown.{IsNoListing}
+use Rattle.run_steps.proofs.Openings.{got_at_end}
 
 -- ---- places in a list
 
@@ -21,14 +22,10 @@ abbrev pub AreAt : List Event → ℕ → List Event → Type 0
 AreAt events place [] = Unit {0}
 AreAt events place (event ∷ more) = (slice_get events place ≡ Some event) × AreAt events (suc place) more
 
-got_seam : {A : Type 0} (front : List A) (x : A) (back : List A) → slice_get (front ++ x ∷ back) (length front) ≡ Some x
-got_seam [] x back = refl
-got_seam (y ∷ front) x back = got_seam front x back
-
 pub are_at : (xs front back : List Event) → AreAt (front ++ (xs ++ back)) (length front) xs
 are_at [] front back = tt
 are_at (x ∷ xs) front back = (
-  got_seam front x (xs ++ back),
+  got_at_end front x (xs ++ back),
   subst (λ (l : List Event). AreAt l (suc (length front)) xs) (append_assoc front (x ∷ []) (xs ++ back))
       (subst (λ (n : ℕ). AreAt ((front ++ x ∷ []) ++ (xs ++ back)) n xs) one_more (are_at xs (front ++ x ∷ []) back)),
 )

@@ -25,10 +25,10 @@ use Rattle.run_steps.specs.Begun.{AreAllSeen, IsSeenOf, noted_begin}
 use Rattle.run_steps.specs.RunState.{Phase}
 use Rattle.run_steps.specs.SoFar.{files_in}
 use Rattle.run_steps.specs.Telling.{IsNotFollowed, TellMoments, TellsMoment, seen_note, moment_noted}
-use Rattle.run_steps.proofs.Members.{member_is}
 use Rattle.run_steps.proofs.Notes.{moments_are_told}
 use Rattle.run_steps.proofs.Ordering.{all_in_epochs, notes_are_orderly}
 use Rattle.run_steps.proofs.ToldMoments.{AreListedFrom, FileOfSlot, StandsUncollected, notes_are_begun, one_seen}
+use Rattle.accounts.proofs.Orderly.{member_is}
 
 -- ---- a file that was begun has a place
 
@@ -120,13 +120,13 @@ module _ {T W L D : Type 0} (words : Words T W L D) (reads : (disk : D) → IfSo
 
   notes_orderly : (opened : List Opened) (keeper : Keeping) (is : Stand opened keeper) → AreOrderly keeper.tracked.notes
   notes_orderly opened keeper is = subst AreOrderly (append-nil is.so_far.begun ∙ sym (notes_are_begun words reads counts start moments a b shown crew phase opened keeper is))
-      (notes_are_orderly start.opening start.listed is.so_far.opened (files_in is.so_far) is.stands.each_once
-      (all_in_epochs words.tails start.settings start.opening start.listed is.so_far.opened is.so_far.moments is.stands.opened is.so_far.lanes (lanings crew.lanes.items) is.so_far.left is.stands.turned is.stands.left)
-      is.so_far.begun [] (flat is.so_far.told.acknowledged) is.stands.begun (λ turned same. tt))
+      (notes_are_orderly start.opening start.listed is.so_far.opened (files_in is.so_far) is.stands.files.each_once
+      (all_in_epochs words.tails start.settings start.opening start.listed is.so_far.opened is.so_far.moments is.stands.files.opened is.so_far.lanes (lanings crew.lanes.items) is.so_far.left is.stands.files.turned is.stands.files.left)
+      is.so_far.begun [] (flat is.so_far.told.acknowledged) is.stands.notes.begun (λ turned same. tt))
 
-  notes_so : (opened : List Opened) (keeper : Keeping) (is : Stand opened keeper) → keeper.tracked.notes ≡ begins_of opened ++ is.stands.begun.seen
-  notes_so opened keeper is = notes_are_begun words reads counts start moments a b shown crew phase opened keeper is ∙ is.stands.begun.are
-      ∙ ap (λ (l : List Opened). begins_of l ++ is.stands.begun.seen) is.opened_are
+  notes_so : (opened : List Opened) (keeper : Keeping) (is : Stand opened keeper) → keeper.tracked.notes ≡ begins_of opened ++ is.stands.notes.begun.seen
+  notes_so opened keeper is = notes_are_begun words reads counts start moments a b shown crew phase opened keeper is ∙ is.stands.notes.begun.are
+      ∙ ap (λ (l : List Opened). begins_of l ++ is.stands.notes.begun.seen) is.opened_are
 
   one_told : (opened : List Opened) (slot : ℕ) (entry : Listed) (old new : Keeping) → TellsMoment (record { 0 = slot }) (moment_noted start.opening entry) old new → Stand opened old → FileOfSlot opened slot →
       0 < (moment_noted start.opening entry).0 → Contains new.tracked.notes (Seen (record { 0 = slot }) (moment_noted start.opening entry))
@@ -137,7 +137,7 @@ module _ {T W L D : Type 0} (words : Words T W L D) (reads : (disk : D) → IfSo
     where
       why : ((moment_noted start.opening entry).0 ≡ 0) ⊎ IsNotFollowed slot old.tracked → ⊥
       why (inl never) = omega (arith, never, later)
-      why (inr not) = has_place start.opening start.listed is.so_far.opened opened is.stands.begun.seen slot is.stands.begun.seen_are of
+      why (inr not) = has_place start.opening start.listed is.so_far.opened opened is.stands.notes.begun.seen slot is.stands.notes.begun.seen_are of
           (subst (λ (l : List Note). place_over slot l ≡ None) (notes_so opened old is) (not.no_place (notes_orderly opened old is)))
 
   pub seen_from : (opened : List Opened) (slot : ℕ) (listed : List Listed) (old new : Keeping) → AreListedFrom start.listed slot listed → TellMoments start.opening slot listed old new → Stand opened old →
@@ -164,7 +164,7 @@ module _ {T W L D : Type 0} (words : Words T W L D) (reads : (disk : D) → IfSo
   are_all_seen opened old new there tell is after begin among = go (slice_get start.listed begin.slot.0) refl
     where
       of : FileOfSlot opened begin.slot.0
-      of = file_of_note start.opening start.listed after.so_far.opened opened after.stands.begun.seen begin after.stands.begun.seen_are
+      of = file_of_note start.opening start.listed after.so_far.opened opened after.stands.notes.begun.seen begin after.stands.notes.begun.seen_are
           (subst (λ (l : List Note). Contains l (noted_begin begin)) (notes_so opened new after) among)
 
       go : (o : Option Listed) → slice_get start.listed begin.slot.0 ≡ o → IfSome o (λ one. 0 < (moment_noted start.opening one).0 → Contains new.tracked.notes (Seen begin.slot (moment_noted start.opening one)))

@@ -40,8 +40,11 @@ use Rattle.run_steps.specs.Releasing.{closing_of, with_events}
 use Rattle.run_steps.specs.Served.{AreServedFrom, HasBegin, WasSkippedBy, folder_trace}
 use Rattle.run_steps.specs.SkippedFor.{GaveAsOpened, IsSkippedFor}
 use Rattle.run_steps.proofs.FollowedOrSkipped.{each_then_so}
-use Rattle.run_steps.proofs.Members.{member_is}
 use Rattle.run_steps.proofs.SkippedFor.{skipped_still}
+use Rattle.accounts.proofs.Orderly.{member_is}
+use Rattle.run_steps.proofs.AskedEvents.{closes_here}
+use Rattle.run_steps.specs.declared.begin.Admission.{Admission}
+use Rattle.run_steps.specs.declared.begin.Admission.TheVariants.{Followed, Skipped}
 
 -- ---- notes
 
@@ -88,18 +91,18 @@ record IsSkippedIn (inputs : List InputRule) (began : ℕ) (one : Listed) (befor
   are : more ≡ []
   reason : IsSkippedFor inputs (folder_trace began (with_more before events)) one (length before.events) why
 
-abbrev ComesTo : List InputRule → ℕ → ℕ → Listed → FolderHistory → List Event → Option Why → List Note → Type 0
-ComesTo inputs began slot one before events None more = IsBegunBy slot more
-ComesTo inputs began slot one before events (Some why) more = IsSkippedIn inputs began one before events why more
+abbrev ComesTo : List InputRule → ℕ → ℕ → Listed → FolderHistory → List Event → Admission → List Note → Type 0
+ComesTo inputs began slot one before events Followed more = IsBegunBy slot more
+ComesTo inputs began slot one before events (Skipped why) more = IsSkippedIn inputs began one before events why more
 
 -- the folder tells these things more, and the keeper maybe a note: so the file is begun or skipped
-record ServesOne {T W L : Type 0} (inputs : List InputRule) (began slot : ℕ) (one : Listed) (skipped : Option Why) (before : FolderHistory) (old new : Beginning T W L) : Type 0 where
+record ServesOne {T W L : Type 0} (inputs : List InputRule) (began slot : ℕ) (one : Listed) (begun : Admission) (before : FolderHistory) (old new : Beginning T W L) : Type 0 where
   events : List Event
   some : 0 < length events
   told : new.folder.told ≡ Some (with_more before events)
   more : List Note
   noted : new.keeper.tracked.notes ≡ old.keeper.tracked.notes ++ more
-  came : ComesTo inputs began slot one before events skipped more
+  came : ComesTo inputs began slot one before events begun more
 
 pub got_at_end : {A : Type 0} (front : List A) (x : A) (back : List A) (place : ℕ) → place ≡ length front → slice_get (front ++ (x ∷ back)) place ≡ Some x
 got_at_end [] x back place is = ap (slice_get (x ∷ back)) is
@@ -110,10 +113,6 @@ behind_it : {A : Type 0} (front : List A) (x : A) (back : List A) (place : ℕ) 
 behind_it [] x back place is = ap (λ (n : ℕ). drop (suc n) (x ∷ back)) is
 behind_it (y ∷ front) x back zero is = absurd (omega (arith, is))
 behind_it (y ∷ front) x back (suc place) is = behind_it front x back place (omega (arith, is))
-
-closes_first : (opening : ℕ) (looks : List Look) (faults : ℕ) (back : List Event) → closing_in opening (Closed opening looks faults ∷ back) ≡ Some (record { looks = looks; faults = faults })
-closes_first opening looks faults back =
-    ap (λ (b : Bool). first_of_two (if b then Some (record { looks = looks; faults = faults }) else None) (closing_in opening back)) (eq-eqb opening opening refl)
 
 module _ {T : Type 0} (tails : TailWords T) where
   pub opened_file : (path : List ℕ) (tail : T) (before : FolderHistory) (told after : Option FolderHistory) (states : List Sight) (present : List Shown) → told ≡ Some before →
@@ -185,7 +184,7 @@ module _ {T W L : Type 0} (tails : TailWords T) (settings : Settings) (rows : Li
           tells = ap (λ (o : Option Closing). first_of_two (option_map (λ (c : Closing). c.looks) o) (open_looks_in (length before.events) []))
               (ap (closing_in (length before.events))
               (behind_it before.events (Opened file.listed.path its.opens.one.file (sight_of its.opens.one)) (Closed (length before.events) its.looks faults ∷ []) (length before.events) refl)
-              ∙ closes_first (length before.events) its.looks faults []);
+              ∙ closes_here (length before.events) its.looks faults []);
         };
         file_is = its.opens.file_is;
         asking = asking;
@@ -194,7 +193,7 @@ module _ {T W L : Type 0} (tails : TailWords T) (settings : Settings) (rows : Li
     }
 
     closed_serves : (began slot : ℕ) (why : Why) (its : ToldClosed) → IsSkippedFor settings.inputs (folder_trace began (with_more before (events_of its))) file.listed (length before.events) why →
-        ServesOne settings.inputs began slot file.listed (Some why) before old new
+        ServesOne settings.inputs began slot file.listed (Skipped why) before old new
     closed_serves began slot why its reason = record {
       events = events_of its;
       some = omega arith;
@@ -204,10 +203,10 @@ module _ {T W L : Type 0} (tails : TailWords T) (settings : Settings) (rows : Li
       came = record { are = refl; reason = reason };
     }
 
-  serves_one : (began slot : ℕ) (one : Listed) (skipped : Option Why) (before : FolderHistory) (old new : Beginning T W L) → old.folder.told ≡ Some before → began ≤ length before.events →
-      BeginsOne tails settings (file_at rows slot one now) (Ok skipped) old new → ServesOne settings.inputs began slot one skipped before old new
+  serves_one : (began slot : ℕ) (one : Listed) (begun : Admission) (before : FolderHistory) (old new : Beginning T W L) → old.folder.told ≡ Some before → began ≤ length before.events →
+      BeginsOne tails settings (file_at rows slot one now) (Ok begun) old new → ServesOne settings.inputs began slot one begun before old new
   unfolding gave_so
-  serves_one began slot one None before old new is within begins =
+  serves_one began slot one Followed before old new is within begins =
       let opens = opened_file tails one.path begins.fresh before old.folder.told begins.mid.folder.told old.folder.states old.folder.present is begins.opened.opens.told in
       let tells = begins.follows.taken.tells in
       record {
@@ -218,7 +217,7 @@ module _ {T W L : Type 0} (tails : TailWords T) (settings : Settings) (rows : Li
         noted = tells.tells.told ∙ ap (λ (k : Keeping). k.tracked.notes ++ noted_begin (begin_for (record { 0 = slot }) one tells.key (start_among rows one)) ∷ []) begins.opened.keeper;
         came = record { begin = begin_for (record { 0 = slot }) one tells.key (start_among rows one); slot_is = refl; are = refl };
       }
-  serves_one began slot one (Some Gone) before old new is within opens = record {
+  serves_one began slot one (Skipped Gone) before old new is within opens = record {
     events = NotThere one.path ∷ [];
     some = omega arith;
     told = none_event tails one.path before old.folder.told new.folder.told old.folder.states old.folder.present is opens.opens.told;
@@ -226,7 +225,7 @@ module _ {T W L : Type 0} (tails : TailWords T) (settings : Settings) (rows : Li
     noted = ap (λ (k : Keeping). k.tracked.notes) opens.keeper ∙ sym (append-nil old.keeper.tracked.notes);
     came = record { are = refl; reason = record { in_this_run = within; not_there = got_at_end before.events (NotThere one.path) [] (length before.events) refl } };
   }
-  serves_one began slot one (Some Moved) before old new is within closed =
+  serves_one began slot one (Skipped Moved) before old new is within closed =
       let file = file_at rows slot one now in
       let key = closed.closed.why.key in
       let asks = closed.closed.why.asks in
@@ -237,7 +236,7 @@ module _ {T W L : Type 0} (tails : TailWords T) (settings : Settings) (rows : Li
         opened = gave_so file (HasOtherKey tails settings file) before old new closed (Ok (Key key)) asks began within its (Some key) its.gave.0 its.gave.1;
         other_key = closed.closed.why.other;
       })
-  serves_one began slot one (Some Small) before old new is within closed =
+  serves_one began slot one (Skipped Small) before old new is within closed =
       let file = file_at rows slot one now in
       let place = closed.closed.why.place in
       let asks = closed.closed.why.asks in
@@ -247,8 +246,8 @@ module _ {T W L : Type 0} (tails : TailWords T) (settings : Settings) (rows : Li
         opened = gave_so file (IsTooSmall tails settings file) before old new closed (Ok (TooSmall place)) asks began within its None its.gave.0 its.gave.1;
         by_bytes = within_bytes asks.rule.file_identity place asks.answer;
       })
-  serves_one began slot one (Some Doubled) before old new is within begins = absurd begins
-  serves_one began slot one (Some Old) before old new is within begins = absurd begins
+  serves_one began slot one (Skipped Doubled) before old new is within begins = absurd begins
+  serves_one began slot one (Skipped Old) before old new is within begins = absurd begins
 
 -- ---- one file before others
 
@@ -285,7 +284,7 @@ module _ {T W L : Type 0} (tails : TailWords T) (settings : Settings) (rows : Li
 
   module _ (slot place : ℕ) (one : Listed) (listed : List Listed) (passed later : List Passing) (before : FolderHistory) (old mid new : Beginning T W L) where
     -- the first of them was begun
-    join_begun : (first : ServesOne settings.inputs began slot one None before old mid) → ServesFrom (suc slot) place listed later (with_more before first.events) mid new → passed ≡ later →
+    join_begun : (first : ServesOne settings.inputs began slot one Followed before old mid) → ServesFrom (suc slot) place listed later (with_more before first.events) mid new → passed ≡ later →
         ServesFrom slot place (one ∷ listed) passed before old new
     join_begun first rest are = record {
       events = first.events ++ rest.events;
@@ -309,7 +308,7 @@ module _ {T W L : Type 0} (tails : TailWords T) (settings : Settings) (rows : Li
         only other has = only_begun first.came.begin other (subst (λ (l : List Note). HasBegin l other) first.came.are has) ∙ first.came.slot_is
 
     -- or skipped
-    join_skipped : (why : Why) → place ≤ length before.events → (first : ServesOne settings.inputs began slot one (Some why) before old mid) →
+    join_skipped : (why : Why) → place ≤ length before.events → (first : ServesOne settings.inputs began slot one (Skipped why) before old mid) →
         ServesFrom (suc slot) (suc (length before.events)) listed later (with_more before first.events) mid new → passed ≡ record { path = one.path; why = why } ∷ later →
         ServesFrom slot place (one ∷ listed) passed before old new
     join_skipped why behind first rest are = record {
@@ -351,19 +350,19 @@ module _ {T W L : Type 0} (tails : TailWords T) (settings : Settings) (rows : Li
     each = begins.0;
   }
   serves_from slot place (one ∷ listed) passed before old new is within behind begins =
-      by_why begins.why begins.first begins.passed_are (λ next more. serves_from (suc slot) next listed begins.later (with_more before more) begins.mid new)
+      by_begun begins.begun begins.first begins.passed_are (λ next more. serves_from (suc slot) next listed begins.later (with_more before more) begins.mid new)
     where
-      by_why : (why : Option Why) → BeginsOne tails settings (file_at rows slot one now) (Ok why) old begins.mid → passed ≡ passed_by why one ++ begins.later →
+      by_begun : (begun : Admission) → BeginsOne tails settings (file_at rows slot one now) (Ok begun) old begins.mid → passed ≡ passed_by begun one ++ begins.later →
           ((next : ℕ) (more : List Event) → begins.mid.folder.told ≡ Some (with_more before more) → began ≤ length (before.events ++ more) → next ≤ length (before.events ++ more) →
           BeginsFrom tails settings rows now (suc slot) listed begins.later begins.mid new → ServesFrom (suc slot) next listed begins.later (with_more before more) begins.mid new) →
           ServesFrom slot place (one ∷ listed) passed before old new
-      by_why None begun are others =
-          let first = serves_one tails settings rows now began slot one None before old begins.mid is within begun in
+      by_begun Followed begun are others =
+          let first = serves_one tails settings rows now began slot one Followed before old begins.mid is within begun in
           let long = length-append before.events first.events in
           join_begun slot place one listed passed begins.later before old begins.mid new first
           (others place first.events first.told (omega (arith, within, long)) (omega (arith, behind, long)) begins.rest) are
-      by_why (Some why) skipped are others =
-          let first = serves_one tails settings rows now began slot one (Some why) before old begins.mid is within skipped in
+      by_begun (Skipped why) skipped are others =
+          let first = serves_one tails settings rows now began slot one (Skipped why) before old begins.mid is within skipped in
           let long = length-append before.events first.events in
           let some = first.some in
           join_skipped slot place one listed passed begins.later before old begins.mid new why behind first

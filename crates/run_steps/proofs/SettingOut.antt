@@ -46,6 +46,7 @@ use Rattle.run_steps.specs.Scanned.{HasScanned}
 use Rattle.run_steps.specs.Stands.{Further, Stands}
 use Rattle.run_steps.specs.WireOn.{OutcomesGoOn}
 use Rattle.run_steps.specs.Worked.{HasPassed, phase_begun}
+use Rattle.run_steps.specs.declared.begin_error.BeginError.{BeginError}
 use Rattle.run_steps.specs.declared.met.Met.{Met}
 use Rattle.run_steps.proofs.AllBegun.{all_are_seen, stands_begun}
 use Rattle.run_steps.proofs.BeginningOne.{at_phase}
@@ -152,7 +153,7 @@ module _ {T W L D : Type 0} (words : Words T W L D) (reads : (disk : D) → IfSo
         (sym first.is) (stands_first words start old.crew first.store first.pass a b moments settings.output made)
 
     -- once files are begun
-    module _ (result : Result (Vec Passing Global) Met) (new : Beginning T W L) (begins : IfOk result (λ passed. BeginsAll words.tails settings old.keeper.store.rows now listed passed.items old new))
+    module _ (result : Result (Vec Passing Global) BeginError) (new : Beginning T W L) (begins : IfOk result (λ passed. BeginsAll words.tails settings old.keeper.store.rows now listed passed.items old new))
         (ended : IfErr result (λ what. BeginsSome words.tails settings old.keeper.store.rows now listed what old new)) where
       pub further : Further words start (at_phase words start moments a b new.folder.told new.crew new.keeper (phase_begun result))
       further = stands_begun words reads counts start moments a b now old (so_far words start old.crew first.store first.pass a b moments settings.output made) stands_out refl
@@ -176,7 +177,7 @@ module _ {T W L D : Type 0} (words : Words T W L D) (reads : (disk : D) → IfSo
             (events : List Event) → ending.shown ≡ with_events events new.folder.told → IsServedAtEnd settings old.keeper.store.rows listed passed ending.keeper.tracked.notes folder ending.shown
         served passed has_passed telling untold collects none_held events then = by_result result begins has_passed untold
           where
-            by_result : (r : Result (Vec Passing Global) Met) → IfOk r (λ all. BeginsAll words.tails settings old.keeper.store.rows now listed all.items old new) → HasPassed r passed →
+            by_result : (r : Result (Vec Passing Global) BeginError) → IfOk r (λ all. BeginsAll words.tails settings old.keeper.store.rows now listed all.items old new) → HasPassed r passed →
                 IfErr r (λ _. ¬ (IsTelling met)) → IsServedAtEnd settings old.keeper.store.rows listed passed ending.keeper.tracked.notes folder ending.shown
             by_result (Ok paths) all are not = subst (λ (l : List Passing). IsServedAtEnd settings old.keeper.store.rows listed l ending.keeper.tracked.notes folder ending.shown) (sym are)
                 (served_at_end words.tails settings old.keeper.store.rows now listed paths.items folder old new has.shown (since_earlier start folder has)

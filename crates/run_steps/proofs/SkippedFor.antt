@@ -12,32 +12,23 @@ use Rattle.prospect.specs.declared.listed.Listed.{Listed}
 use Rattle.report.specs.declared.passing.Why.{Why}
 use Rattle.report.specs.declared.passing.Why.TheVariants.{Doubled, Gone, Moved, Old, Small}
 use Rattle.run_steps.specs.SkippedFor.{GaveAsOpened, IsSkippedFor}
-
--- what stands at a place of a list stands there still
-pub got_still : {A : Type 0} (xs more : List A) (k : ℕ) (x : A) → slice_get xs k ≡ Some x → slice_get (xs ++ more) k ≡ Some x
-got_still [] more k x at = absurd (let q : None ≡ Some x = at in cc)
-got_still (y ∷ xs) more zero x at = at
-got_still (y ∷ xs) more (suc k) x at = got_still xs more k x at
+use Rattle.run_steps.proofs.Openings.{closing_stays}
+use Rattle.kept_rows.proofs.Acknowledging.{got_in_front}
 
 found_first : (o : Option Closing) (rest later : Option Closing) (closing : Closing) → first_of_two o rest ≡ Some closing → (rest ≡ Some closing → later ≡ Some closing) → first_of_two o later ≡ Some closing
 found_first None rest later closing is on = on is
 found_first (Some found) rest later closing is on = is
-
-first_found : (opening : ℕ) (events later : List Event) (closing : Closing) → closing_in opening events ≡ Some closing → closing_in opening (events ++ later) ≡ Some closing
-first_found opening [] later closing is = absurd (let q : None ≡ Some closing = is in cc)
-first_found opening (event ∷ events) later closing is =
-    found_first (closing_by opening event) (closing_in opening events) (closing_in opening (events ++ later)) closing is (first_found opening events later closing)
 
 -- a closing that stands in a list stands there however it goes on
 closed_still : (xs more : List Event) (opening : ℕ) (x : Event) (closing : Closing) → slice_get xs opening ≡ Some x → closing_in opening (drop (suc opening) xs) ≡ Some closing →
     closing_in opening (drop (suc opening) (xs ++ more)) ≡ Some closing
 closed_still xs more opening x closing at is =
     let within = slice_get_within xs opening x at in
-    ap (closing_in opening) (drop-append-le (suc opening) xs more (omega (arith, within))) ∙ first_found opening (drop (suc opening) xs) more closing is
+    ap (closing_in opening) (drop-append-le (suc opening) xs more (omega (arith, within))) ∙ closing_stays opening (drop (suc opening) xs) more closing is
 
 module _ (old new : Trace) (more : List Event) (files : new.files ≡ old.files) (events : new.events ≡ old.events ++ more) (began : new.began ≤ old.began) (none_open : old.open_tails ≡ []) where
   stands_still : (place : ℕ) (event : Event) → slice_get old.events place ≡ Some event → slice_get new.events place ≡ Some event
-  stands_still place event is = subst (λ (l : List Event). slice_get l place ≡ Some event) (sym events) (got_still old.events more place event is)
+  stands_still place event is = subst (λ (l : List Event). slice_get l place ≡ Some event) (sym events) (got_in_front old.events more place event is)
 
   tells_still : (opening : ℕ) (event : Event) (looks : List Look) → slice_get old.events opening ≡ Some event → looks_of old opening ≡ Some looks → looks_of new opening ≡ Some looks
   tells_still opening event looks is tells = by_closing (closing_of old opening) (closed_still old.events more opening event) closed

@@ -29,11 +29,11 @@ use Rattle.run_steps.specs.RunOf.{FolderTold}
 use Rattle.run_steps.specs.Served.{AreServed, AreServedFrom, HasBegin, WasSkippedBy, folder_trace}
 use Rattle.run_steps.specs.Telling.{TellMoments, TellsMoment, moment_noted}
 use Rattle.run_steps.proofs.FollowedOrSkipped.{each_then_so}
-use Rattle.run_steps.proofs.Members.{member_is}
 use Rattle.run_steps.proofs.NamedInputs.{each_of}
 use Rattle.run_steps.proofs.RunNotes.{IsNoBegin}
 use Rattle.run_steps.proofs.Serving.{ServesFrom, begun_in, begun_left, serves_from, with_more}
 use Rattle.run_steps.proofs.SkippedFor.{skipped_still}
+use Rattle.accounts.proofs.Orderly.{member_is}
 
 -- ---- notes that begin no file
 

@@ -35,6 +35,7 @@ use Rattle.outside.specs.declared.history.Sight.{Sight}
 use Rattle.rounds.specs.Words.{TailWords}
 use Rattle.wire_base.specs.declared.note.Begin.{Begin}
 use Rattle.run_steps.specs.Beginning.{AsksKey, ListedFile}
+use Rattle.accounts.proofs.Askings.{asking_reads}
 
 -- ---- an asking only reads
 
@@ -66,11 +67,6 @@ cut_reads_only [] place wanted are = tt
 cut_reads_only (look ∷ looks) place wanted are =
     read_on place wanted (λ next left. AreCutReads looks next left) ⊥ looks (λ next left. cut_reads_only looks next left) (λ no. absurd no) look.question are.1
 
-pub asking_only_reads : (rule : IdentityRule) (looks : List Look) → IsAsking rule looks → OnlyRead looks
-asking_only_reads (Fingerprint offset count) looks is = reads_only looks offset count is
-asking_only_reads Native looks is = nothing_read looks is
-asking_only_reads Path looks is = nothing_read looks is
-
 part_only_reads : (rule : IdentityRule) (looks : List Look) → IsPartOfAsking rule looks → OnlyRead looks
 part_only_reads (Fingerprint offset count) looks is = part_reads_only looks offset count is
 part_only_reads Native looks is = nothing_read looks is
@@ -83,8 +79,8 @@ cut_only_reads Path looks is = absurd is
 
 -- whatever it gave
 pub given_only_reads : (id : List ℕ) (rule : IdentityRule) (path : List ℕ) (file : File) (looks : List Look) (result : Result Identity IdentityError) → IsGiven id rule path file looks result → OnlyRead looks
-given_only_reads id rule path file looks (Ok (Key key)) gave = asking_only_reads rule looks gave.0
-given_only_reads id rule path file looks (Ok (TooSmall place)) gave = asking_only_reads rule looks gave.0
+given_only_reads id rule path file looks (Ok (Key key)) gave = asking_reads rule looks gave.0
+given_only_reads id rule path file looks (Ok (TooSmall place)) gave = asking_reads rule looks gave.0
 given_only_reads id rule path file looks (Err ReadFault) gave = cut_only_reads rule looks gave
 given_only_reads id rule path file looks (Err NoNative) gave = part_only_reads rule looks gave
 given_only_reads id rule path file looks (Err NoMemory) gave = part_only_reads rule looks gave

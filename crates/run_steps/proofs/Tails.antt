@@ -11,14 +11,16 @@ use Rattle.rounds.specs.Words.{TailWords}
 use Rattle.rounds.specs.declared.crew.Crew.{Crew}
 use Rattle.run_steps.specs.Beginning.{AdmitsAt, Beginning, BeginsOne, ClosesFile, ListedFile}
 use Rattle.run_steps.specs.Releasing.{harvesters_of}
-use Rattle.run_steps.specs.declared.met.Met.{Met}
-use Rattle.run_steps.specs.declared.met.Met.TheVariants.{DiskFault, Done, Epochs, FolderFault, NoMemory, NoNative, Stopped, Unreachable}
+use Rattle.run_steps.specs.declared.begin_error.BeginError.{BeginError}
+use Rattle.run_steps.specs.declared.begin_error.BeginError.TheVariants.{FolderFault, NoMemory, NoNative}
+use Rattle.run_steps.specs.declared.begin.Admission.{Admission}
+use Rattle.run_steps.specs.declared.begin.Admission.TheVariants.{Followed, Skipped}
 
 -- how many files are followed by this answer
-abbrev pub followed_by : Result (Option Why) Met → ℕ
-followed_by (Ok None) = 1
-followed_by (Ok (Some why)) = 0
-followed_by (Err met) = 0
+abbrev pub followed_by : Result Admission BeginError → ℕ
+followed_by (Ok Followed) = 1
+followed_by (Ok (Skipped why)) = 0
+followed_by (Err error) = 0
 
 many_in : {T : Type 0} (front back : List (Laning T)) (lane : Laning T) → length (harvesters_of (front ++ lane ∷ back)) ≡ length (harvesters_of front) + (length lane.harvesters + length (harvesters_of back))
 many_in [] back lane = omega (arith, length-append lane.harvesters (harvesters_of back))
@@ -46,19 +48,19 @@ module _ {T W L : Type 0} (tails : TailWords T) (settings : Settings) (file : Li
     ap (λ (c : Crew T W L). length (harvesters_of (lanings c.lanes.items))) closed.closed.closed.crew,
   )
 
-  pub as_many_harvesters : (result : Result (Option Why) Met) (old new : Beginning T W L) → BeginsOne tails settings file result old new
+  pub as_many_harvesters : (result : Result Admission BeginError) (old new : Beginning T W L) → BeginsOne tails settings file result old new
       → length (harvesters_of (lanings new.crew.lanes.items)) ≡ length (harvesters_of (lanings old.crew.lanes.items)) + followed_by result
-  as_many_harvesters (Ok None) old new begins =
+  as_many_harvesters (Ok Followed) old new begins =
       omega (
         arith,
         ap (λ (c : Crew T W L). length (harvesters_of (lanings c.lanes.items))) begins.opened.crew,
         one_harvester_more _ begins.follows.harvester (lanings begins.mid.crew.lanes.items) (lanings new.crew.lanes.items) begins.follows.taken.admits,
       )
-  as_many_harvesters (Ok (Some Gone)) old new begins = omega (arith, ap (λ (c : Crew T W L). length (harvesters_of (lanings c.lanes.items))) begins.crew)
-  as_many_harvesters (Ok (Some Moved)) old new begins = as_many_closed _ old new begins
-  as_many_harvesters (Ok (Some Doubled)) old new begins = absurd begins
-  as_many_harvesters (Ok (Some Old)) old new begins = absurd begins
-  as_many_harvesters (Ok (Some Small)) old new begins = as_many_closed _ old new begins
+  as_many_harvesters (Ok (Skipped Gone)) old new begins = omega (arith, ap (λ (c : Crew T W L). length (harvesters_of (lanings c.lanes.items))) begins.crew)
+  as_many_harvesters (Ok (Skipped Moved)) old new begins = as_many_closed _ old new begins
+  as_many_harvesters (Ok (Skipped Doubled)) old new begins = absurd begins
+  as_many_harvesters (Ok (Skipped Old)) old new begins = absurd begins
+  as_many_harvesters (Ok (Skipped Small)) old new begins = as_many_closed _ old new begins
   as_many_harvesters (Err FolderFault) old new (inr begins) = as_many_closed _ old new begins
   as_many_harvesters (Err FolderFault) old new (inl begins) = omega (arith, ap (λ (c : Crew T W L). length (harvesters_of (lanings c.lanes.items))) begins.crew)
   as_many_harvesters (Err NoMemory) old new (inl begins) = omega (arith, ap (λ (c : Crew T W L). length (harvesters_of (lanings c.lanes.items))) begins.crew)
@@ -66,32 +68,22 @@ module _ {T W L : Type 0} (tails : TailWords T) (settings : Settings) (file : Li
   as_many_harvesters (Err NoMemory) old new (inr (inr begins)) = as_many_closed _ old new begins
   as_many_harvesters (Err NoMemory) old new (inr (inl begins)) =
       omega (arith, ap (λ (c : Crew T W L). length (harvesters_of (lanings c.lanes.items))) begins.opened.crew, ap (λ l. length (harvesters_of l)) begins.gives_up.lanes.lanes)
-  as_many_harvesters (Err Done) old new begins = absurd begins
-  as_many_harvesters (Err Stopped) old new begins = absurd begins
-  as_many_harvesters (Err DiskFault) old new begins = absurd begins
-  as_many_harvesters (Err (Unreachable worker)) old new begins = absurd begins
-  as_many_harvesters (Err (Epochs slot)) old new begins = absurd begins
 
   -- where the count of open tails does not stand at its end
   none_more_open : (Why : T → T → Type 0) (old new : Beginning T W L) → old.folder.open_tails < 2 ^ 64 - 1 → ClosesFile tails settings file Why old new → new.folder.open_tails ≡ old.folder.open_tails + 0
   none_more_open Why old new below closed = omega (arith, below, closed.opened.opens.open_tails, closed.closed.closed.closes.open_tails)
 
-  pub as_many_open : (result : Result (Option Why) Met) (old new : Beginning T W L) → old.folder.open_tails < 2 ^ 64 - 1 → BeginsOne tails settings file result old new
+  pub as_many_open : (result : Result Admission BeginError) (old new : Beginning T W L) → old.folder.open_tails < 2 ^ 64 - 1 → BeginsOne tails settings file result old new
       → new.folder.open_tails ≡ old.folder.open_tails + followed_by result
-  as_many_open (Ok None) old new below begins = omega (arith, below, begins.opened.opens.open_tails, ap (λ f. f.open_tails) begins.follows.taken.folder)
-  as_many_open (Ok (Some Gone)) old new below begins = omega (arith, begins.opens.open_tails)
-  as_many_open (Ok (Some Moved)) old new below begins = none_more_open _ old new below begins
-  as_many_open (Ok (Some Doubled)) old new below begins = absurd begins
-  as_many_open (Ok (Some Old)) old new below begins = absurd begins
-  as_many_open (Ok (Some Small)) old new below begins = none_more_open _ old new below begins
+  as_many_open (Ok Followed) old new below begins = omega (arith, below, begins.opened.opens.open_tails, ap (λ f. f.open_tails) begins.follows.taken.folder)
+  as_many_open (Ok (Skipped Gone)) old new below begins = omega (arith, begins.opens.open_tails)
+  as_many_open (Ok (Skipped Moved)) old new below begins = none_more_open _ old new below begins
+  as_many_open (Ok (Skipped Doubled)) old new below begins = absurd begins
+  as_many_open (Ok (Skipped Old)) old new below begins = absurd begins
+  as_many_open (Ok (Skipped Small)) old new below begins = none_more_open _ old new below begins
   as_many_open (Err FolderFault) old new below (inr begins) = none_more_open _ old new below begins
   as_many_open (Err FolderFault) old new below (inl begins) = omega (arith, begins.opens.open_tails)
   as_many_open (Err NoMemory) old new below (inl begins) = omega (arith, begins.opens.open_tails)
   as_many_open (Err (NoNative slot)) old new below begins = none_more_open _ old new below begins.1
   as_many_open (Err NoMemory) old new below (inr (inr begins)) = none_more_open _ old new below begins
   as_many_open (Err NoMemory) old new below (inr (inl begins)) = omega (arith, below, begins.opened.opens.open_tails, begins.gives_up.closes.open_tails)
-  as_many_open (Err Done) old new below begins = absurd begins
-  as_many_open (Err Stopped) old new below begins = absurd begins
-  as_many_open (Err DiskFault) old new below begins = absurd begins
-  as_many_open (Err (Unreachable worker)) old new below begins = absurd begins
-  as_many_open (Err (Epochs slot)) old new below begins = absurd begins

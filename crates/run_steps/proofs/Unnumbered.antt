@@ -13,15 +13,18 @@ use Rattle.rounds.specs.declared.crew.Crew.{Crew}
 use Rattle.wire_base.specs.declared.numbers.Moment.{Moment}
 use Rattle.wire_base.specs.declared.numbers.Slot.{Slot}
 use Rattle.wire_base.specs.declared.row.Row.{Row}
+use Rattle.run_steps.specs.BeginErrors.{met_of}
 use Rattle.run_steps.specs.Beginning.{Beginning, ClosesFile, FailsToTell, ListedFile}
 use Rattle.run_steps.specs.BeginsAll.{EndsInFiles, file_at}
 use Rattle.run_steps.specs.Releasing.{with_events}
 use Rattle.run_steps.specs.Unnumbered.{IsMetUnnumbered, WasOpenedUnnumbered}
 use Rattle.run_steps.specs.Worked.{IsBegunWith, IsWorkedBy, Tolls}
+use Rattle.run_steps.specs.declared.begin_error.BeginError.{BeginError}
+use Rattle.run_steps.specs.declared.begin_error.BeginError.TheVariants as begin
 use Rattle.run_steps.specs.declared.met.Met.{Met}
 use Rattle.run_steps.specs.declared.met.Met.TheVariants.{DiskFault, Done, Epochs, FolderFault, NoMemory, NoNative, Stopped, Unreachable}
 use Rattle.run_steps.proofs.Serving.{ServesFrom, closed_told, got_at_end, serves_from, with_more}
-use Rattle.run_steps.proofs.SkippedFor.{got_still}
+use Rattle.kept_rows.proofs.Acknowledging.{got_in_front}
 
 -- ---- as files are begun
 
@@ -51,8 +54,8 @@ module _ {T W L : Type 0} (tails : TailWords T) (settings : Settings) (rows : Li
   where_told P None each = tt
   where_told P (Some before) each = each before refl
 
-  files_unnumbered : (met : Met) → EndsInFiles tails settings rows now listed met old new → IsMetUnnumbered settings listed old.folder.told new.folder.told met
-  files_unnumbered (NoNative slot) (inl is) =
+  files_unnumbered : (error : BeginError) → EndsInFiles tails settings rows now listed error old new → IsMetUnnumbered settings listed old.folder.told new.folder.told (met_of error)
+  files_unnumbered (begin.NoNative slot) (inl is) =
       let closed = is.ended.1 in
       let asks = closed.closed.why.asks in
       record {
@@ -66,25 +69,20 @@ module _ {T W L : Type 0} (tails : TailWords T) (settings : Settings) (rows : Li
             was_opened is.count is.one is.mid is.passed before told
             (serves_from tails settings rows now 0 0 0 (take is.count listed) is.passed before old is.mid told (omega arith) (omega arith) is.begins) closed asks.refused.1);
       }
-  files_unnumbered (NoNative slot) (inr is) = absurd (let q : NoNative slot ≡ NoMemory = is.0 in cc)
-  files_unnumbered Done is = tt
-  files_unnumbered Stopped is = tt
-  files_unnumbered NoMemory is = tt
-  files_unnumbered DiskFault is = tt
-  files_unnumbered FolderFault is = tt
-  files_unnumbered (Unreachable worker) is = tt
-  files_unnumbered (Epochs slot) is = tt
+  files_unnumbered (begin.NoNative slot) (inr is) = absurd (let q : begin.NoNative slot ≡ begin.NoMemory = is.0 in cc)
+  files_unnumbered begin.NoMemory is = tt
+  files_unnumbered begin.FolderFault is = tt
 
-  pub begun_unnumbered : {A : Type 0} (result : Result A Met) (what : Met) → IsErrAnd result (λ other. other ≡ what) → EndsInFiles tails settings rows now listed what old new →
-      IfErr result (IsMetUnnumbered settings listed old.folder.told new.folder.told)
+  pub begun_unnumbered : {A : Type 0} (result : Result A BeginError) (what : BeginError) → IsErrAnd result (λ other. other ≡ what) → EndsInFiles tails settings rows now listed what old new →
+      IfErr result (λ error. IsMetUnnumbered settings listed old.folder.told new.folder.told (met_of error))
   begun_unnumbered (Ok value) what is ended = tt
-  begun_unnumbered (Err other) what is ended = subst (IsMetUnnumbered settings listed old.folder.told new.folder.told) (sym is) (files_unnumbered what ended)
+  begun_unnumbered (Err other) what is ended = subst (λ (e : BeginError). IsMetUnnumbered settings listed old.folder.told new.folder.told (met_of e)) (sym is) (files_unnumbered what ended)
 
 -- out of memory is not that
-pub memory_unnumbered : {A : Type 0} (settings : Settings) (listed : List Listed) (before after : Option FolderHistory) (result : Result A Met) → IsErrAnd result (λ other. other ≡ NoMemory) →
-    IfErr result (IsMetUnnumbered settings listed before after)
+pub memory_unnumbered : {A : Type 0} (settings : Settings) (listed : List Listed) (before after : Option FolderHistory) (result : Result A BeginError) → IsErrAnd result (λ other. other ≡ begin.NoMemory) →
+    IfErr result (λ error. IsMetUnnumbered settings listed before after (met_of error))
 memory_unnumbered settings listed before after (Ok value) is = tt
-memory_unnumbered settings listed before after (Err other) is = subst (IsMetUnnumbered settings listed before after) (sym is) tt
+memory_unnumbered settings listed before after (Err other) is = subst (λ (e : BeginError). IsMetUnnumbered settings listed before after (met_of e)) (sym is) tt
 
 -- ---- at the end of the run
 
@@ -95,7 +93,7 @@ module _ (settings : Settings) (listed : List Listed) (before mid after : Option
     since = was.since;
     number = was.number;
     begun = was.begun;
-    is = got_still later.events events was.opening (Opened path was.number was.begun) was.is;
+    is = got_in_front later.events events was.opening (Opened path was.number was.begun) was.is;
     file = was.file;
     file_is = was.file_is;
     none = was.none;
@@ -137,8 +135,8 @@ module _ (settings : Settings) (listed : List Listed) (before mid after : Option
   none_worked crew was now (Unreachable worker) by = tt
   none_worked crew was now (Epochs slot) by = tt
 
-  pub met_unnumbered : {T W L : Type 0} (begun : Result (Vec Passing Global) Met) (met : Met) → IfErr begun (IsMetUnnumbered settings listed before mid) → (events : List Event) → after ≡ with_events events mid →
+  pub met_unnumbered : {T W L : Type 0} (begun : Result (Vec Passing Global) BeginError) (met : Met) → IfErr begun (λ error. IsMetUnnumbered settings listed before mid (met_of error)) → (events : List Event) → after ≡ with_events events mid →
       (crew : Crew T W L) (was now : Tolls) → IsBegunWith begun met ⊎ IsWorkedBy crew was now met → IsMetUnnumbered settings listed before after met
   met_unnumbered (Ok passed) met unnumbered events is crew was now (inl of) = absurd of
-  met_unnumbered (Err first) met unnumbered events is crew was now (inl of) = subst (IsMetUnnumbered settings listed before after) (sym of) (unnumbered_on first events is unnumbered)
+  met_unnumbered (Err error) met unnumbered events is crew was now (inl of) = subst (IsMetUnnumbered settings listed before after) (sym of) (unnumbered_on (met_of error) events is unnumbered)
   met_unnumbered begun met unnumbered events is crew was now (inr by) = none_worked crew was now met by

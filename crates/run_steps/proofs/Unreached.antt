@@ -28,7 +28,9 @@ use Rattle.run_steps.specs.CarriersFail.{AreFailing, CarrierFails, FailedAsMet, 
 use Rattle.run_steps.specs.MetBy.{Since}
 use Rattle.run_steps.specs.MetIn.{HasFailed, HasTriesLeft, NoneFailed}
 use Rattle.run_steps.specs.Settling.{IsMetByStoring, Written}
-use Rattle.run_steps.specs.Worked.{IsBeginEnd, IsFollowedBy}
+use Rattle.run_steps.specs.Worked.{IsFollowedBy}
+use Rattle.run_steps.specs.declared.begin_error.BeginError.{BeginError}
+use Rattle.run_steps.specs.declared.begin_error.BeginError.TheVariants as begin
 use Rattle.run_steps.specs.declared.met.Met.{Met}
 use Rattle.run_steps.specs.declared.met.Met.TheVariants.{DiskFault, Done, Epochs, FolderFault, NoMemory, Stopped, Unreachable, NoNative}
 use Rattle.run_steps.proofs.Members.{some_is}
@@ -108,22 +110,24 @@ module _ {W L : Type 0} (links : LinkWords L) (wires : WireWords W) (attempts ti
   has_failed_at None worker failing failed stay ended = tt
   has_failed_at (Some list) worker failing failed stay ended = by_list list worker failing failed stay ended
 
-module _ {T W L D : Type 0} (words : Words T W L D) (attempts timeout earlier : ℕ) (starts : List (Option ℕ)) (moments : Option (List ℕ)) (begun : Result (Vec Passing Global) Met) (since : Since T W L D) (written : Written D) (three : List (Carrier W L)) (unused all : List W) where
-  by_following : (met : Met) → IfErr begun IsBeginEnd → IsFollowedBy words.tails words.disks attempts since begun met → AreFailing words.links words.wires attempts timeout earlier starts (sending moments since.now.carriers.items) →
+module _ {T W L D : Type 0} (words : Words T W L D) (attempts timeout earlier : ℕ) (starts : List (Option ℕ)) (moments : Option (List ℕ)) (begun : Result (Vec Passing Global) BeginError) (since : Since T W L D) (written : Written D) (three : List (Carrier W L)) (unused all : List W) where
+  by_following : (met : Met) → IsFollowedBy words.tails words.disks attempts since begun met → AreFailing words.links words.wires attempts timeout earlier starts (sending moments since.now.carriers.items) →
       LinksStay since.now.carriers.items three → EndsCarriers words.links words.wires three unused all → FailedAsMet words.wires attempts timeout earlier starts moments all met
-  by_following Done range follows failing stay ended = tt
-  by_following Stopped range follows failing stay ended = tt
-  by_following NoMemory range follows failing stay ended = tt
-  by_following DiskFault range follows failing stay ended = tt
-  by_following FolderFault range follows failing stay ended = tt
-  by_following (Epochs slot) range follows failing stay ended = tt
-  by_following (NoNative slot) range follows failing stay ended = tt
-  by_following (Unreachable worker) range follows failing stay ended =
-      has_failed_at words.links words.wires attempts timeout earlier starts since.now.carriers.items three unused all moments worker failing (failed begun range follows) stay ended
+  by_following Done follows failing stay ended = tt
+  by_following Stopped follows failing stay ended = tt
+  by_following NoMemory follows failing stay ended = tt
+  by_following DiskFault follows failing stay ended = tt
+  by_following FolderFault follows failing stay ended = tt
+  by_following (Epochs slot) follows failing stay ended = tt
+  by_following (NoNative slot) follows failing stay ended = tt
+  by_following (Unreachable worker) follows failing stay ended =
+      has_failed_at words.links words.wires attempts timeout earlier starts since.now.carriers.items three unused all moments worker failing (failed begun follows) stay ended
     where
-      failed : (b : Result (Vec Passing Global) Met) → IfErr b IsBeginEnd → IsFollowedBy words.tails words.disks attempts since b (Unreachable worker) → HasFailed attempts since.now.carriers.items worker
-      failed (Ok passed) range follows = follows (λ is. cc)
-      failed (Err first) range follows = absurd (subst IsBeginEnd (sym follows) range)
+      failed : (b : Result (Vec Passing Global) BeginError) → IsFollowedBy words.tails words.disks attempts since b (Unreachable worker) → HasFailed attempts since.now.carriers.items worker
+      failed (Ok passed) follows = follows (λ is. cc)
+      failed (Err begin.FolderFault) follows = let no : Unreachable worker ≡ FolderFault = follows in cc
+      failed (Err begin.NoMemory) follows = let no : Unreachable worker ≡ NoMemory = follows in cc
+      failed (Err (begin.NoNative slot)) follows = let no : Unreachable worker ≡ NoNative slot = follows in cc
 
   by_storing : (met : Met) → IsMetByStoring words.disks written met → FailedAsMet words.wires attempts timeout earlier starts moments all met
   by_storing Done met = tt
@@ -135,11 +139,11 @@ module _ {T W L D : Type 0} (words : Words T W L D) (attempts timeout earlier : 
   by_storing (NoNative slot) met = tt
   by_storing (Unreachable worker) met = absurd met
 
-  pub failed_as_met : (met now : Met) → IfErr begun IsBeginEnd → IsFollowedBy words.tails words.disks attempts since begun met → (now ≡ met) ⊎ IsMetByStoring words.disks written now →
+  pub failed_as_met : (met now : Met) → IsFollowedBy words.tails words.disks attempts since begun met → (now ≡ met) ⊎ IsMetByStoring words.disks written now →
       AreFailing words.links words.wires attempts timeout earlier starts (sending moments since.now.carriers.items) → LinksStay since.now.carriers.items three → EndsCarriers words.links words.wires three unused all →
       FailedAsMet words.wires attempts timeout earlier starts moments all now
-  failed_as_met met now range follows (inl same) failing stay ended = subst (FailedAsMet words.wires attempts timeout earlier starts moments all) (sym same) (by_following met range follows failing stay ended)
-  failed_as_met met now range follows (inr stored) failing stay ended = by_storing now stored
+  failed_as_met met now follows (inl same) failing stay ended = subst (FailedAsMet words.wires attempts timeout earlier starts moments all) (sym same) (by_following met follows failing stay ended)
+  failed_as_met met now follows (inr stored) failing stay ended = by_storing now stored
 
 -- ---- as the run begins
 

@@ -22,6 +22,7 @@ use Rattle.wire_base.specs.declared.note.Begin.{Begin}
 use Rattle.wire_base.specs.declared.numbers.Slot.{Slot}
 use Rattle.run_steps.specs.Areas.{BeganAtRest, IsAtRest}
 use Rattle.run_steps.specs.Began.{Began}
+use Rattle.run_steps.specs.BeginErrors.{met_of}
 use Rattle.run_steps.specs.CarriersEnd.{EndsCarriers}
 use Rattle.run_steps.specs.Ends.{IsAllSettled}
 use Rattle.run_steps.specs.Met.{AreLeft, IsTelling}
@@ -33,7 +34,9 @@ use Rattle.run_steps.specs.RunState.{Finished, Phase, phase_left, within, OutOfE
 use Rattle.run_steps.specs.Settling.{IsMetByStoring, Written}
 use Rattle.run_steps.specs.SoFar.{SoFar}
 use Rattle.run_steps.specs.Stands.{Further, Stands}
-use Rattle.run_steps.specs.Worked.{IsBeginEnd, IsBegunWith, IsFollowedBy, IsWorkedBy, Tolls, phase_begun, phase_worked}
+use Rattle.run_steps.specs.Worked.{IsBegunWith, IsFollowedBy, IsWorkedBy, Tolls, phase_begun, phase_worked}
+use Rattle.run_steps.specs.declared.begin_error.BeginError.{BeginError}
+use Rattle.run_steps.specs.declared.begin_error.BeginError.TheVariants as begin
 use Rattle.run_steps.specs.declared.met.Met.{Met}
 use Rattle.run_steps.specs.declared.met.Met.TheVariants.{DiskFault, Done, Epochs, FolderFault, NoMemory, Stopped, Unreachable, NoNative}
 use Rattle.run_steps.proofs.Leaving.{spans_same, stands_released}
@@ -72,21 +75,25 @@ left_still disks written met (Unreachable worker) (inr by) left = absurd by
 left_still disks written met (Epochs slot) (inr by) left = absurd by
 left_still disks written met (NoNative slot) (inr by) left = absurd by
 
-pub finished_by : (begun : Result (Vec Passing Global) Met) (met : Met) → IfErr begun IsBeginEnd → (IfErr begun (λ first. met ≡ first)) → met ≡ Done →
-    phase_left (phase_worked begun met) ≡ Finished
-finished_by (Ok passed) met ends first is = ap (λ (m : Met). phase_left (phase_met m)) is
-finished_by (Err other) met ends first is = absurd (subst IsBeginEnd (sym first ∙ is) ends)
+-- what ended the beginning of files is neither of these, and tells no report
+not_done : (error : BeginError) → met_of error ≡ Done → ⊥
+not_done begin.FolderFault is = let no : FolderFault ≡ Done = is in cc
+not_done begin.NoMemory is = let no : NoMemory ≡ Done = is in cc
+not_done (begin.NoNative slot) is = let no : NoNative slot ≡ Done = is in cc
 
--- what ended the beginning of files tells no report
-ends_untold : (met : Met) → IsBeginEnd met → ¬ (IsTelling met)
-ends_untold Done ends telling = absurd ends
-ends_untold Stopped ends telling = absurd ends
-ends_untold NoMemory ends telling = telling
-ends_untold DiskFault ends telling = telling
-ends_untold FolderFault ends telling = telling
-ends_untold (Unreachable worker) ends telling = telling
-ends_untold (Epochs slot) ends telling = telling
-ends_untold (NoNative slot) ends telling = telling
+not_epochs : (error : BeginError) (slot : Slot) → met_of error ≡ Epochs slot → ⊥
+not_epochs begin.FolderFault slot is = let no : FolderFault ≡ Epochs slot = is in cc
+not_epochs begin.NoMemory slot is = let no : NoMemory ≡ Epochs slot = is in cc
+not_epochs (begin.NoNative other) slot is = let no : NoNative other ≡ Epochs slot = is in cc
+
+ends_untold : (error : BeginError) → ¬ (IsTelling (met_of error))
+ends_untold begin.FolderFault telling = telling
+ends_untold begin.NoMemory telling = telling
+ends_untold (begin.NoNative slot) telling = telling
+
+pub finished_by : (begun : Result (Vec Passing Global) BeginError) (met : Met) → IfErr begun (λ error. met ≡ met_of error) → met ≡ Done → phase_left (phase_worked begun met) ≡ Finished
+finished_by (Ok passed) met first is = ap (λ (m : Met). phase_left (phase_met m)) is
+finished_by (Err error) met first is = absurd (not_done error (sym first ∙ is))
 
 -- nor does what the last steps met
 pub telling_before : {D : Type 0} (disks : DiskWords D) (written : Written D) (met now : Met) → (now ≡ met) ⊎ IsMetByStoring disks written now → IsTelling now → IsTelling met
@@ -100,19 +107,18 @@ telling_before disks written met (Unreachable worker) (inr by) telling = absurd 
 telling_before disks written met (Epochs slot) (inr by) telling = absurd by
 telling_before disks written met (NoNative slot) (inr by) telling = absurd by
 
-pub untold_by : {D : Type 0} (disks : DiskWords D) (written : Written D) (begun : Result (Vec Passing Global) Met) (met now : Met) → IfErr begun IsBeginEnd → IfErr begun (λ first. met ≡ first) →
+pub untold_by : {D : Type 0} (disks : DiskWords D) (written : Written D) (begun : Result (Vec Passing Global) BeginError) (met now : Met) → IfErr begun (λ error. met ≡ met_of error) →
     (now ≡ met) ⊎ IsMetByStoring disks written now → IfErr begun (λ _. ¬ (IsTelling now))
-untold_by disks written (Ok passed) met now ends first stored = tt
-untold_by disks written (Err other) met now ends first stored = λ telling. ends_untold other ends (subst IsTelling first (telling_before disks written met now stored telling))
+untold_by disks written (Ok passed) met now first stored = tt
+untold_by disks written (Err error) met now first stored = λ telling. ends_untold error (subst IsTelling first (telling_before disks written met now stored telling))
 
-pub out_by : (begun : Result (Vec Passing Global) Met) (met : Met) (slot : Slot) → IfErr begun IsBeginEnd → (IfErr begun (λ first. met ≡ first)) → met ≡ Epochs slot →
-    phase_left (phase_worked begun met) ≡ OutOfEpochs slot
-out_by (Ok passed) met slot ends first is = ap (λ (m : Met). phase_left (phase_met m)) is
-out_by (Err other) met slot ends first is = absurd (subst IsBeginEnd (sym first ∙ is) ends)
+pub out_by : (begun : Result (Vec Passing Global) BeginError) (met : Met) (slot : Slot) → IfErr begun (λ error. met ≡ met_of error) → met ≡ Epochs slot → phase_left (phase_worked begun met) ≡ OutOfEpochs slot
+out_by (Ok passed) met slot first is = ap (λ (m : Met). phase_left (phase_met m)) is
+out_by (Err error) met slot first is = absurd (not_epochs error slot (sym first ∙ is))
 
 -- ---- the end
 
-module _ {T W L D : Type 0} (words : Words T W L D) (start : Began D) (begun : Result (Vec Passing Global) Met)
+module _ {T W L D : Type 0} (words : Words T W L D) (start : Began D) (begun : Result (Vec Passing Global) BeginError)
     (shown later : Option FolderHistory) (moments then : Option (List ℕ)) (crew one two three : Crew T W L) (storing first second : Storing D) (met now : Met) (old new : List W) where
   -- what each step gave
   pub record Steps : Type 0 where
@@ -185,19 +191,19 @@ module _ {T W L D : Type 0} (words : Words T W L D) (start : Began D) (begun : R
 -- ---- why
 
 -- the phase by what was met as rounds were made
-pub first_met : {T W L D : Type 0} (words : Words T W L D) (attempts : ℕ) (since : Since T W L D) (begun : Result (Vec Passing Global) Met) (met : Met) →
-    IsFollowedBy words.tails words.disks attempts since begun met → IfErr begun (λ first. met ≡ first)
+pub first_met : {T W L D : Type 0} (words : Words T W L D) (attempts : ℕ) (since : Since T W L D) (begun : Result (Vec Passing Global) BeginError) (met : Met) →
+    IsFollowedBy words.tails words.disks attempts since begun met → IfErr begun (λ error. met ≡ met_of error)
 first_met words attempts since (Ok passed) met is = tt
 first_met words attempts since (Err first) met is = is
 
 not_stopped : Done ≡ Stopped → ⊥
 not_stopped is = cc
 
-pub done_in : {T W L D : Type 0} (words : Words T W L D) (attempts : ℕ) (since : Since T W L D) (begun : Result (Vec Passing Global) Met) (met : Met) → IfErr begun IsBeginEnd →
+pub done_in : {T W L D : Type 0} (words : Words T W L D) (attempts : ℕ) (since : Since T W L D) (begun : Result (Vec Passing Global) BeginError) (met : Met) →
     IsFollowedBy words.tails words.disks attempts since begun met → met ≡ Done → IsDoneIn (crew_of since.now) since.now.storing.keeper.now
-done_in words attempts since (Ok passed) met range by is =
+done_in words attempts since (Ok passed) met by is =
     subst (IsMetBy words.tails words.disks attempts since) is (by (λ stopped. not_stopped (sym is ∙ stopped)))
-done_in words attempts since (Err first) met range by is = absurd (subst IsBeginEnd (sym by ∙ is) range)
+done_in words attempts since (Err error) met by is = absurd (not_done error (sym by ∙ is))
 
 some_mapped : {A B : Type 0} (P : B → Type 0) (f : A → B) (xs : List A) → SomeOf (λ x. P (f x)) xs → SomeOf P (map f xs)
 some_mapped P f [] some = absurd some
@@ -292,7 +298,7 @@ module _ {T W L D : Type 0} (words : Words T W L D) (attempts : ℕ) (crew one :
     by_storing (Epochs slot) is = absurd is
     by_storing (NoNative slot) is = absurd is
 
-    by_following : (begun : Result (Vec Passing Global) Met) (met : Met) →
+    by_following : (begun : Result (Vec Passing Global) BeginError) (met : Met) →
         IsFollowedBy words.tails words.disks attempts (record { a = storing.a.now; b = storing.b.now; now = crewing one first }) begun met →
         IfOk begun (λ _. met ≡ Stopped → Rose before.rings after.rings) → IsBegunWith begun met ⊎ IsWorkedBy crew before after met
     by_following (Err other) met is rang = inl is
@@ -305,7 +311,7 @@ module _ {T W L D : Type 0} (words : Words T W L D) (attempts : ℕ) (crew one :
     by_following (Ok passed) (Epochs slot) is rang = inr (by_rounds (Epochs slot) (is (λ e. cc)))
     by_following (Ok passed) (NoNative slot) is rang = inr (by_rounds (NoNative slot) (is (λ e. cc)))
 
-    pub cause : (begun : Result (Vec Passing Global) Met) (met now : Met) →
+    pub cause : (begun : Result (Vec Passing Global) BeginError) (met now : Met) →
         IsFollowedBy words.tails words.disks attempts (record { a = storing.a.now; b = storing.b.now; now = crewing one first }) begun met →
         IfOk begun (λ _. met ≡ Stopped → Rose before.rings after.rings) →
         (now ≡ met) ⊎ IsMetByStoring words.disks (record { a = first.a.now; b = first.b.now; new_a = second.a.now; new_b = second.b.now }) now →

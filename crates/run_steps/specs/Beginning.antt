@@ -16,6 +16,7 @@ use Rattle.lanes.specs.Laning.{Laning}
 use Rattle.outside.specs.Counts.{Rose}
 use Rattle.outside.specs.declared.failed.FolderError.{FolderError}
 use Rattle.outside.specs.declared.failed.FolderError.TheVariants.{Failed, NoMemory as WithoutMemory}
+use Rattle.outside.specs.declared.folder.Folder.{Ghosts as FolderGhosts}
 use Rattle.prospect.specs.declared.listed.Listed.{Listed}
 use Rattle.report.specs.declared.passing.Why.{Why}
 use Rattle.report.specs.declared.passing.Why.TheVariants.{Doubled, Gone, Moved, Old, Small}
@@ -27,10 +28,13 @@ use Rattle.wire_base.specs.declared.note.Begin.{Begin}
 use Rattle.wire_base.specs.declared.numbers.Moment.{Moment}
 use Rattle.wire_base.specs.declared.numbers.Slot.{Slot}
 use Rattle.run_steps.specs.BeginFor.{IsBeginFor}
-use Rattle.run_steps.specs.FolderSeen.{Closes, FolderSeen, FolderWords, OpensBy, seen_in}
+use Rattle.run_steps.specs.FolderSeen.{Closes, FolderSeen, OpensBy, seen_in}
 use Rattle.run_steps.specs.Telling.{TellsBegin}
-use Rattle.run_steps.specs.declared.met.Met.{Met}
-use Rattle.run_steps.specs.declared.met.Met.TheVariants.{DiskFault, Done, Epochs, FolderFault, NoMemory, NoNative, Stopped, Unreachable}
+use Rattle.run_steps.specs.declared.begin_error.BeginError.{BeginError}
+use Rattle.run_steps.specs.declared.begin_error.BeginError.TheVariants.{FolderFault, NoMemory, NoNative}
+use Rattle.run_steps.specs.declared.opening.Opening.{Opening}
+use Rattle.run_steps.specs.declared.begin.Admission.{Admission}
+use Rattle.run_steps.specs.declared.begin.Admission.TheVariants.{Followed, Skipped}
 
 -- a listed file, its slot, where it starts, and the moment of the scan
 pub record ListedFile : Type 0 where
@@ -41,6 +45,9 @@ pub record ListedFile : Type 0 where
 
 abbrev pub listed_file : Slot → Listed → Start → Moment → ListedFile
 listed_file slot listed start now = record { slot = slot; listed = listed; start = start; now = now }
+
+abbrev pub file_of : Opening → ListedFile
+file_of opening = listed_file opening.slot opening.listed.now opening.start opening.now
 
 -- a harvester over the open file, by the rule of its input
 pub record IsOpenedFor {T : Type 0} (tails : TailWords T) (settings : Settings) (file : ListedFile) (tail : T) (harvester : Harvester T) : Type 0 where
@@ -69,7 +76,7 @@ pub record Beginning (T W L : Type 0) : Type 0 where
   pub crew : Crew T W L
   pub keeper : Keeping
 
-abbrev pub beginning : {F T W L : Type 0} → FolderWords F → F → Crew T W L → Keeping → Beginning T W L
+abbrev pub beginning : {F T W L : Type 0} → FolderGhosts F T → F → Crew T W L → Keeping → Beginning T W L
 beginning words folder crew keeper = record { folder = seen_in words folder; crew = crew; keeper = keeper }
 
 -- the crew is the same but for its lanes, and these have the same harvesters
@@ -134,7 +141,7 @@ module _ {T : Type 0} (tails : TailWords T) (settings : Settings) (file : Listed
       pub asks : AsksKey fresh asked (Err error)
 
     -- why the file is skipped, if it is; or why that is not known
-    abbrev pub TellsKey : Result (Option Why) Met → Type 0
+    abbrev pub TellsKey : Result (Option Why) BeginError → Type 0
     TellsKey (Ok None) = HasListedKey
     TellsKey (Ok (Some Moved)) = HasOtherKey
     TellsKey (Ok (Some Small)) = IsTooSmall
@@ -144,11 +151,6 @@ module _ {T : Type 0} (tails : TailWords T) (settings : Settings) (file : Listed
     TellsKey (Err NoMemory) = (result : Result Identity IdentityError) × AsksKey fresh asked result
     TellsKey (Err FolderFault) = FailsToTell ReadFault
     TellsKey (Err (NoNative slot)) = (slot ≡ file.slot) × FailsToTell WithoutNumbers
-    TellsKey (Err Done) = ⊥
-    TellsKey (Err Stopped) = ⊥
-    TellsKey (Err DiskFault) = ⊥
-    TellsKey (Err (Unreachable worker)) = ⊥
-    TellsKey (Err (Epochs slot)) = ⊥
 
 -- ---- by what the folder answered
 
@@ -220,39 +222,29 @@ abbrev pub ForSomeReason : {T : Type 0} → T → T → Type 0
 ForSomeReason fresh asked = Unit {0}
 
 -- the file of this tail is followed, or was skipped for this reason, or ended the run
-abbrev pub FollowsListed : {T W L : Type 0} → TailWords T → Settings → ListedFile → T → Result (Option Why) Met → Beginning T W L → Beginning T W L → Type 0
-FollowsListed tails settings file fresh (Ok None) old new = FollowsAsked tails settings file fresh old new
-FollowsListed tails settings file fresh (Ok (Some Moved)) old new = ClosesAsked tails settings file fresh (HasOtherKey tails settings file) old new
-FollowsListed tails settings file fresh (Ok (Some Small)) old new = ClosesAsked tails settings file fresh (IsTooSmall tails settings file) old new
-FollowsListed tails settings file fresh (Ok (Some Doubled)) old new = ⊥
-FollowsListed tails settings file fresh (Ok (Some Gone)) old new = ⊥
-FollowsListed tails settings file fresh (Ok (Some Old)) old new = ⊥
+abbrev pub FollowsListed : {T W L : Type 0} → TailWords T → Settings → ListedFile → T → Result Admission BeginError → Beginning T W L → Beginning T W L → Type 0
+FollowsListed tails settings file fresh (Ok Followed) old new = FollowsAsked tails settings file fresh old new
+FollowsListed tails settings file fresh (Ok (Skipped Moved)) old new = ClosesAsked tails settings file fresh (HasOtherKey tails settings file) old new
+FollowsListed tails settings file fresh (Ok (Skipped Small)) old new = ClosesAsked tails settings file fresh (IsTooSmall tails settings file) old new
+FollowsListed tails settings file fresh (Ok (Skipped Doubled)) old new = ⊥
+FollowsListed tails settings file fresh (Ok (Skipped Gone)) old new = ⊥
+FollowsListed tails settings file fresh (Ok (Skipped Old)) old new = ⊥
 FollowsListed tails settings file fresh (Err NoMemory) old new = GivesAskedUp tails settings file fresh old new ⊎ ClosesAsked tails settings file fresh ForSomeReason old new
 FollowsListed tails settings file fresh (Err FolderFault) old new =
     ClosesAsked tails settings file fresh (λ fresh asked. FailsToTell tails settings file fresh asked ReadFault) old new
 FollowsListed tails settings file fresh (Err (NoNative slot)) old new =
     (slot ≡ file.slot) × ClosesAsked tails settings file fresh (λ fresh asked. FailsToTell tails settings file fresh asked WithoutNumbers) old new
-FollowsListed tails settings file fresh (Err Done) old new = ⊥
-FollowsListed tails settings file fresh (Err Stopped) old new = ⊥
-FollowsListed tails settings file fresh (Err DiskFault) old new = ⊥
-FollowsListed tails settings file fresh (Err (Unreachable worker)) old new = ⊥
-FollowsListed tails settings file fresh (Err (Epochs slot)) old new = ⊥
 
-abbrev pub BeginsOne : {T W L : Type 0} → TailWords T → Settings → ListedFile → Result (Option Why) Met → Beginning T W L → Beginning T W L → Type 0
-BeginsOne tails settings file (Ok None) old new = BeginsFile tails settings file old new
-BeginsOne tails settings file (Ok (Some Gone)) old new = OpensNone tails file (Ok None) old new
-BeginsOne tails settings file (Ok (Some Moved)) old new = ClosesFile tails settings file (HasOtherKey tails settings file) old new
-BeginsOne tails settings file (Ok (Some Small)) old new = ClosesFile tails settings file (IsTooSmall tails settings file) old new
-BeginsOne tails settings file (Ok (Some Doubled)) old new = ⊥
-BeginsOne tails settings file (Ok (Some Old)) old new = ⊥
+abbrev pub BeginsOne : {T W L : Type 0} → TailWords T → Settings → ListedFile → Result Admission BeginError → Beginning T W L → Beginning T W L → Type 0
+BeginsOne tails settings file (Ok Followed) old new = BeginsFile tails settings file old new
+BeginsOne tails settings file (Ok (Skipped Gone)) old new = OpensNone tails file (Ok None) old new
+BeginsOne tails settings file (Ok (Skipped Moved)) old new = ClosesFile tails settings file (HasOtherKey tails settings file) old new
+BeginsOne tails settings file (Ok (Skipped Small)) old new = ClosesFile tails settings file (IsTooSmall tails settings file) old new
+BeginsOne tails settings file (Ok (Skipped Doubled)) old new = ⊥
+BeginsOne tails settings file (Ok (Skipped Old)) old new = ⊥
 BeginsOne tails settings file (Err FolderFault) old new =
     OpensNone tails file (Err Failed) old new ⊎ ClosesFile tails settings file (λ fresh asked. FailsToTell tails settings file fresh asked ReadFault) old new
 BeginsOne tails settings file (Err NoMemory) old new =
     OpensNone tails file (Err WithoutMemory) old new ⊎ (GivesFileUp tails settings file old new ⊎ ClosesFile tails settings file ForSomeReason old new)
 BeginsOne tails settings file (Err (NoNative slot)) old new =
     (slot ≡ file.slot) × ClosesFile tails settings file (λ fresh asked. FailsToTell tails settings file fresh asked WithoutNumbers) old new
-BeginsOne tails settings file (Err Done) old new = ⊥
-BeginsOne tails settings file (Err Stopped) old new = ⊥
-BeginsOne tails settings file (Err DiskFault) old new = ⊥
-BeginsOne tails settings file (Err (Unreachable worker)) old new = ⊥
-BeginsOne tails settings file (Err (Epochs slot)) old new = ⊥

@@ -21,13 +21,15 @@ use Rattle.run_steps.specs.BeginFor.{start_among}
 use Rattle.run_steps.specs.Beginning.{Beginning, BeginsOne, ListedFile, listed_file}
 use Rattle.run_steps.specs.Releasing.{harvesters_of}
 use Rattle.run_steps.specs.Telling.{TellMoments, TellSomeMoments}
-use Rattle.run_steps.specs.declared.met.Met.{Met}
-use Rattle.run_steps.specs.declared.met.Met.TheVariants.{DiskFault, Done, Epochs, FolderFault, NoMemory, NoNative, Stopped, Unreachable}
+use Rattle.run_steps.specs.declared.begin_error.BeginError.{BeginError}
+use Rattle.run_steps.specs.declared.begin_error.BeginError.TheVariants.{FolderFault, NoMemory, NoNative}
+use Rattle.run_steps.specs.declared.begin.Admission.{Admission}
+use Rattle.run_steps.specs.declared.begin.Admission.TheVariants.{Followed, Skipped}
 
--- the path is skipped where there is a reason to
-abbrev pub passed_by : Option Why → Listed → List Passing
-passed_by None listed = []
-passed_by (Some why) listed = record { path = listed.path; why = why } ∷ []
+-- the paths that were skipped with it
+abbrev pub passed_by : Admission → Listed → List Passing
+passed_by Followed listed = []
+passed_by (Skipped why) listed = record { path = listed.path; why = why } ∷ []
 
 -- it starts by its row among these
 abbrev pub file_at : List Row → ℕ → Listed → Moment → ListedFile
@@ -36,22 +38,22 @@ file_at rows slot listed now = listed_file (record { 0 = slot }) listed (start_a
 module _ {T W L : Type 0} (tails : TailWords T) (settings : Settings) where
   -- a file was opened and followed, or skipped with this path
   pub record BeginsOrPasses (file : ListedFile) (more : List Passing) (old new : Beginning T W L) : Type 0 where
-    pub why : Option Why
-    pub begins : BeginsOne tails settings file (Ok why) old new
-    pub more_is : more ≡ passed_by why file.listed
+    pub begun : Admission
+    pub begins : BeginsOne tails settings file (Ok begun) old new
+    pub more_is : more ≡ passed_by begun file.listed
 
   -- the call ended in it, or as its path was to be noted as skipped
-  abbrev pub EndsInOne : ListedFile → Met → Beginning T W L → Beginning T W L → Type 0
-  EndsInOne file met old new = BeginsOne tails settings file (Err met) old new ⊎ ((met ≡ NoMemory) × (why : Why) × BeginsOne tails settings file (Ok (Some why)) old new)
+  abbrev pub EndsInOne : ListedFile → BeginError → Beginning T W L → Beginning T W L → Type 0
+  EndsInOne file error old new = BeginsOne tails settings file (Err error) old new ⊎ ((error ≡ NoMemory) × (why : Why) × BeginsOne tails settings file (Ok (Skipped why)) old new)
 
 module _ {T W L : Type 0} (tails : TailWords T) (settings : Settings) (rows : List Row) (now : Moment) where
   -- one file was opened or skipped, and then the rest
   pub record BeginsFirst (slot : ℕ) (listed : Listed) (Rest : List Passing → Beginning T W L → Type 0) (passed : List Passing) (old : Beginning T W L) : Type 0 where
-    pub why : Option Why
+    pub begun : Admission
     pub mid : Beginning T W L
-    pub first : BeginsOne tails settings (file_at rows slot listed now) (Ok why) old mid
+    pub first : BeginsOne tails settings (file_at rows slot listed now) (Ok begun) old mid
     pub later : List Passing
-    pub passed_are : passed ≡ passed_by why listed ++ later
+    pub passed_are : passed ≡ passed_by begun listed ++ later
     pub rest : Rest later mid
 
   -- these files, in the order of their slots from this one on
@@ -70,14 +72,14 @@ module _ {T W L : Type 0} (tails : TailWords T) (settings : Settings) (rows : Li
     -- ---- where it ended early
 
     -- in a file, behind the first so many
-    pub record EndsInFile (met : Met) (old new : Beginning T W L) : Type 0 where
+    pub record EndsInFile (error : BeginError) (old new : Beginning T W L) : Type 0 where
       pub count : ℕ
       pub passed : List Passing
       pub mid : Beginning T W L
       pub begins : BeginsFrom 0 (take count listed) passed old mid
       pub one : Listed
       pub is : slice_get listed count ≡ Some one
-      pub ended : BeginsOne tails settings (file_at rows count one now) (Err met) mid new
+      pub ended : BeginsOne tails settings (file_at rows count one now) (Err error) mid new
 
     -- out of memory behind the first so many, as the last path was to be noted as skipped
     pub record EndsBehindFile (old new : Beginning T W L) : Type 0 where
@@ -93,11 +95,11 @@ module _ {T W L : Type 0} (tails : TailWords T) (settings : Settings) (rows : Li
       pub tell : TellSomeMoments rows listed mid.keeper new.keeper
       pub others : new ≡ record mid { keeper = new.keeper }
 
-    abbrev pub EndsInFiles : Met → Beginning T W L → Beginning T W L → Type 0
-    EndsInFiles met old new = EndsInFile met old new ⊎ ((met ≡ NoMemory) × EndsBehindFile old new)
+    abbrev pub EndsInFiles : BeginError → Beginning T W L → Beginning T W L → Type 0
+    EndsInFiles error old new = EndsInFile error old new ⊎ ((error ≡ NoMemory) × EndsBehindFile old new)
 
-    abbrev pub BeginsSome : Met → Beginning T W L → Beginning T W L → Type 0
-    BeginsSome met old new = EndsInFile met old new ⊎ ((met ≡ NoMemory) × (EndsBehindFile old new ⊎ EndsInMoments old new))
+    abbrev pub BeginsSome : BeginError → Beginning T W L → Beginning T W L → Type 0
+    BeginsSome error old new = EndsInFile error old new ⊎ ((error ≡ NoMemory) × (EndsBehindFile old new ⊎ EndsInMoments old new))
 
 -- a listed file of an input whose rules are in their ranges
 pub record IsOfRuledInput (settings : Settings) (listed : Listed) : Type 0 where
@@ -110,15 +112,10 @@ abbrev pub IsOfInputs : Settings → Listed → Type 0
 IsOfInputs settings listed = listed.input < length settings.inputs
 
 -- beginning so many files ends early where memory is out, where the folder failed, or where one told no native numbers
-abbrev pub EndsBeginning : {T W L : Type 0} → ℕ → Met → Beginning T W L → Beginning T W L → Type 0
+abbrev pub EndsBeginning : {T W L : Type 0} → ℕ → BeginError → Beginning T W L → Beginning T W L → Type 0
 EndsBeginning count NoMemory old new = Unit {0}
 EndsBeginning count FolderFault old new = Rose old.folder.faults new.folder.faults
 EndsBeginning count (NoNative slot) old new = slot.0 < count
-EndsBeginning count Done old new = ⊥
-EndsBeginning count Stopped old new = ⊥
-EndsBeginning count DiskFault old new = ⊥
-EndsBeginning count (Unreachable worker) old new = ⊥
-EndsBeginning count (Epochs slot) old new = ⊥
 
 -- each harvester is of one of so many slots
 abbrev pub IsSlotBelow : {T : Type 0} → ℕ → Harvester T → Type 0

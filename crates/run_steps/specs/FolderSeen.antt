@@ -5,6 +5,7 @@ use Rattle.outside.specs.Files.{NoneEarlier}
 use Rattle.outside.specs.Folders.{FolderHistory, StartsFresh, TellsOpening, count_after_opening}
 use Rattle.outside.specs.declared.failed.FolderError.{FolderError}
 use Rattle.outside.specs.declared.failed.FolderError.TheVariants.{Failed}
+use Rattle.outside.specs.declared.folder.Folder.{Ghosts as FolderGhosts}
 use Rattle.outside.specs.declared.history.Shown.{Shown}
 use Rattle.outside.specs.declared.history.Sight.{Sight}
 use Rattle.rounds.specs.Words.{TailWords}
@@ -18,19 +19,8 @@ pub record FolderSeen : Type 0 where
   pub open_tails : ℕ
   pub faults : ℕ
 
--- the words in which the contracts of its calls speak
-pub record FolderWords (F : Type 0) : Type 0 where
-  pub told : F → Option FolderHistory
-  pub states : F → List Sight
-  pub present : F → List Shown
-  pub open_tails : F → ℕ
-  pub faults : F → ℕ
-
-abbrev pub folder_words : {F : Type 0} → (F → Option FolderHistory) → (F → List Sight) → (F → List Shown) → (F → ℕ) → (F → ℕ) → FolderWords F
-folder_words told states present open_tails faults =
-    record { told = told; states = states; present = present; open_tails = open_tails; faults = faults }
-
-abbrev pub seen_in : {F : Type 0} → FolderWords F → F → FolderSeen
+-- by the members of its trait: `F.Folder` in a clause, `g.F.Folder` in a proof
+abbrev pub seen_in : {F T : Type 0} → FolderGhosts F T → F → FolderSeen
 seen_in words folder = record {
   told = words.told folder;
   states = words.states folder;

@@ -1,15 +1,7 @@
--- What a run met (this project's profile): where a call of the folder did not open a file, which files it may name, behind what the last steps
--- are made, and behind what a report is told.
-use Rattle.std.specs.Prelude.{◌≡◌, ℕ, ◌<◌}
-use Rattle.outside.specs.declared.failed.FolderError.{FolderError}
-use Rattle.outside.specs.declared.failed.FolderError.TheVariants.{Failed as Failing, NoMemory as WithoutMemory}
+-- What a run met (this project's profile): which files it may name, after what the last steps are made, and after what a report is told.
+use Rattle.std.specs.Prelude.{ℕ, ◌<◌}
 use Rattle.run_steps.specs.declared.met.Met.{Met}
 use Rattle.run_steps.specs.declared.met.Met.TheVariants.{DiskFault, Done, Epochs, FolderFault, NoMemory, NoNative, Stopped, Unreachable}
-
--- how an error of the folder is met
-abbrev pub IsMetByFolder : FolderError → Met → Type 0
-IsMetByFolder Failing met = met ≡ FolderFault
-IsMetByFolder WithoutMemory met = met ≡ NoMemory
 
 -- a file that it names is one of so many
 abbrev pub IsMetOf : ℕ → Met → Type 0

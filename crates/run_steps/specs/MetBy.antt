@@ -12,6 +12,7 @@ use Rattle.rounds.specs.Crewing.{Crewing, crew_of}
 use Rattle.rounds.specs.Pairs.{SomeOf}
 use Rattle.rounds.specs.Settled.{IsDoneIn}
 use Rattle.rounds.specs.Words.{DiskWords, TailWords}
+use Rattle.rounds.specs.declared.storing.Storing.{Storing}
 use Rattle.wire_base.specs.declared.numbers.Slot.{Slot}
 use Rattle.run_steps.specs.Met.{AreLeft}
 use Rattle.run_steps.specs.MetIn.{HasFailed}
@@ -37,6 +38,9 @@ pub record Since (T W L D : Type 0) : Type 0 where
   pub a : D
   pub b : D
   pub now : Crewing T W L D
+
+abbrev pub since_of : {T W L D : Type 0} → Storing D → Crewing T W L D → Since T W L D
+since_of before now = record { a = before.a.now; b = before.b.now; now = now }
 
 module _ {T W L D : Type 0} (tails : TailWords T) (disks : DiskWords D) (attempts : ℕ) where
   abbrev pub IsMetBy : Since T W L D → Met → Type 0

@@ -9,7 +9,7 @@ use Rattle.kept_rows.specs.Trace.{closing_in}
 use Rattle.outside.specs.Folders.{Closed, Event, FolderHistory, Listed, ListingFailed, NotThere, Opened, OpeningFailed}
 use Rattle.outside.specs.declared.history.Look.{Look}
 use Rattle.outside.specs.declared.history.Sight.{Sight}
-use Rattle.run_steps.specs.SoFar.{Left, SoFar}
+use Rattle.run_steps.specs.SoFar.{FilesSoFar, Left}
 
 abbrev pub IsNoListing : Event → Type 0
 IsNoListing (Listed root depth shown) = ⊥
@@ -48,10 +48,10 @@ abbrev pub openings_of : List OpenedFile → List ℕ
 openings_of files = map (λ one. one.opening) files
 
 -- the slots of the files that harvesters turn
-abbrev pub IsTurnedIn : SoFar → OpenedFile → Type 0
+abbrev pub IsTurnedIn : FilesSoFar → OpenedFile → Type 0
 IsTurnedIn so_far one = Contains (map (λ turned. turned.slot) (flat_map (λ turned. turned) so_far.lanes)) one.begin.slot
 
-pub record HasDone (before after : FolderHistory) (so_far : SoFar) : Type 0 where
+pub record HasDone (before after : FolderHistory) (so_far : FilesSoFar) : Type 0 where
   pub files : after.files ≡ before.files
   pub more : List Event
   pub events : after.events ≡ before.events ++ more
@@ -63,7 +63,7 @@ pub record HasDone (before after : FolderHistory) (so_far : SoFar) : Type 0 wher
   pub closed : AllByRecursion (λ (one : Left). IfSome one.told (λ tail. WasClosedWith after tail.opening tail.looks)) so_far.left
   pub still_open : (one : OpenedFile) → Contains so_far.opened one → IsTurnedIn so_far one → IsStillOpen after one.opening
 
-abbrev pub HasShown : Option FolderHistory → Option FolderHistory → SoFar → Type 0
+abbrev pub HasShown : Option FolderHistory → Option FolderHistory → FilesSoFar → Type 0
 HasShown None after so_far = after ≡ None
 HasShown (Some before) None so_far = ⊥
 HasShown (Some before) (Some after) so_far = HasDone before after so_far

@@ -31,6 +31,40 @@ pub record SoFar : Type 0 where
   pub queued : List Parcel
   pub boxed : List Note
 
--- all files of which something may have been told
+-- ---- its parts: a step that leaves one as it is keeps all that is said of it
+
+-- the files
+pub record FilesSoFar : Type 0 where
+  pub moments : List ℕ
+  pub opened : List Opened
+  pub lanes : List (List Turned)
+  pub left : List Left
+
+abbrev pub files_of : SoFar → FilesSoFar
+files_of so_far = record { moments = so_far.moments; opened = so_far.opened; lanes = so_far.lanes; left = so_far.left }
+
+-- all of which something may have been told
+abbrev pub files_within : FilesSoFar → List Turned
+files_within files = flat_map (λ turned. turned) files.lanes ++ map (λ one. one.turned) files.left
+
 abbrev pub files_in : SoFar → List Turned
-files_in so_far = flat_map (λ turned. turned) so_far.lanes ++ map (λ one. one.turned) so_far.left
+files_in so_far = files_within (files_of so_far)
+
+-- what was told of them, and where each event of it is
+pub record BooksSoFar : Type 0 where
+  pub files : List Turned
+  pub told : Told
+  pub queued : List Parcel
+  pub boxed : List Note
+
+abbrev pub books_of : SoFar → BooksSoFar
+books_of so_far = record { files = files_in so_far; told = so_far.told; queued = so_far.queued; boxed = so_far.boxed }
+
+-- the notes
+pub record NotesSoFar : Type 0 where
+  pub opened : List Opened
+  pub begun : List Note
+  pub collected : List Note
+
+abbrev pub notes_of : SoFar → NotesSoFar
+notes_of so_far = record { opened = so_far.opened; begun = so_far.begun; collected = so_far.collected }

@@ -1,6 +1,6 @@
 -- What a run keeps from step to step (this project's profile): what it has told of its files, where each event of it is, what the
 -- keeper noted of it, and what the areas may hold. Each step leads from a state for which this stands to another one.
-use Rattle.std.specs.Prelude.{◌≡◌, ◌≢◌, ℕ, ◌^◌, ◌-◌, ◌<◌, min, List, [], ◌++◌, Contains, IsSome, count_by, length, map}
+use Rattle.std.specs.Prelude.{◌≡◌, ◌≢◌, ℕ, ◌^◌, ◌-◌, ◌<◌, min, List, [], ◌++◌, Contains, Option, IsSome, count_by, length, map}
 use Rattle.std.specs.List.{AllByRecursion, flat_map}
 use Rattle.accounts.specs.Opened.{Opened}
 use Rattle.accounts.specs.ToldFile.{IsReadThrough, IsToldFile}
@@ -12,11 +12,13 @@ use Rattle.keeper.specs.Collecting.{is_dropped, is_shipped}
 use Rattle.keeper.specs.Keeping.{Keeping, held_in}
 use Rattle.keeper.specs.Storing.{Stores}
 use Rattle.lanes.specs.Laning.{Laning}
+use Rattle.outside.specs.Folders.{FolderHistory}
 use Rattle.pass_sums.specs.Weight.{AsOften}
-use Rattle.rounds.specs.Books.{AreBooked, ArePlaced, Heard}
+use Rattle.rounds.specs.Books.{AreBooked, ArePlaced, Heard, Told}
 use Rattle.rounds.specs.Crewed.{lanings}
 use Rattle.rounds.specs.Settled.{spans_told}
-use Rattle.rounds.specs.Words.{TailWords, Words}
+use Rattle.rounds.specs.Words.{LinkWords, TailWords, WireWords, Words}
+use Rattle.rounds.specs.declared.carrier.Carrier.{Carrier}
 use Rattle.settle_box.specs.Senders.{notes}
 use Rattle.wire_base.specs.declared.note.Note.{Note}
 use Rattle.wire_base.specs.declared.row.Row.{Row}
@@ -24,9 +26,9 @@ use Rattle.run_steps.specs.Areas.{BeganAtRest, HaveHeldFronts}
 use Rattle.run_steps.specs.Began.{Began}
 use Rattle.run_steps.specs.Begun.{AreBeginNotes, AreSlotsFrom, IsKeyed, IsOpenedAsListed}
 use Rattle.run_steps.specs.LastEpoch.{HaveOneOver}
-use Rattle.run_steps.specs.RunState.{Finished, Reading, RunState}
+use Rattle.run_steps.specs.RunState.{Finished, Phase, Reading, RunState}
 use Rattle.run_steps.specs.Shown.{HasGiven, HasShown}
-use Rattle.run_steps.specs.SoFar.{Left, SoFar, files_in}
+use Rattle.run_steps.specs.SoFar.{BooksSoFar, FilesSoFar, Left, NotesSoFar, SoFar, books_of, files_of, files_within, notes_of}
 
 -- ---- the files
 
@@ -51,20 +53,19 @@ pub record AreEachOnce (opened : List Opened) (files : List Turned) : Type 0 whe
   pub are : AsOften (map (λ turned. turned.slot) files) (map (λ one. one.begin.slot) opened)
 
 -- while files are read, no tail was closed, and none is out of epochs
-pub record IsReading {T : Type 0} (lanes : List (Laning T)) (so_far : SoFar) : Type 0 where
+pub record IsReading {T : Type 0} (lanes : List (Laning T)) (so_far : FilesSoFar) : Type 0 where
   pub none_left : so_far.left ≡ []
   pub none_over : AllByRecursion (λ lane. AllByRecursion (λ harvester. harvester.reader.stage ≢ Over) lane.harvesters) lanes
 
 -- ---- what was told of them
 
 -- what lanes gave is what was told of the files, each once
-pub record HaveGiven (so_far : SoFar) : Type 0 where
-  pub parcels : AsOften so_far.told.issued (flat_map parcels_told (files_in so_far))
-  pub notes_are : AsOften so_far.told.noted (flat_map notes_told (files_in so_far))
+pub record HaveGiven (told : Told) (files : List Turned) : Type 0 where
+  pub parcels : AsOften told.issued (flat_map parcels_told files)
+  pub notes_are : AsOften told.noted (flat_map notes_told files)
 
--- counts of spans and notes, which saturate at 2^64 - 1
-pub record AreCounted {T : Type 0} (lanes : List (Laning T)) (keeper : Keeping) (so_far : SoFar) : Type 0 where
-  pub spans : spans_told lanes < 2 ^ 64 - 1 → spans_in (files_in so_far) ≡ spans_told lanes
+-- the keeper's counts, which saturate at 2^64 - 1
+pub record AreCounted (keeper : Keeping) : Type 0 where
   pub shipped : keeper.shipped ≡ min (count_by is_shipped (notes keeper.pass.got)) (2 ^ 64 - 1)
   pub dropped : keeper.dropped ≡ min (count_by is_dropped (notes keeper.pass.got)) (2 ^ 64 - 1)
   pub collected : keeper.collected ≡ min (length keeper.pass.got) (2 ^ 64 - 1)
@@ -75,32 +76,63 @@ pub record AreNoted (opening : List Row) (keeper : Keeping) (begun collected : L
   pub are : keeper.tracked.notes ≡ begun ++ collected
   pub got : notes keeper.pass.got ≡ collected ++ held_in keeper.held
 
--- ---- all of it
+-- ---- all of it, in parts: a step that leaves what a part reads as it was keeps the part
 
-pub record Stands {T W L D : Type 0} (words : Words T W L D) (start : Began D) (state : RunState T W L D) (so_far : SoFar) : Type 0 where
+-- folder, clock and lanes, and how far the run is
+pub record FilesNow (T : Type 0) : Type 0 where
+  pub shown : Option FolderHistory
+  pub moments : Option (List ℕ)
+  pub lanes : List (Laning T)
+  pub phase : Phase
+
+pub record Files {T D : Type 0} (tails : TailWords T) (start : Began D) (now : FilesNow T) (so_far : FilesSoFar) : Type 0 where
   pub opened : AllByRecursion (IsOpenedAsListed start.settings start.opening start.listed) so_far.opened
   pub keyed : IsSome start.shown → AllByRecursion IsKeyed so_far.opened
-  pub each_once : AreEachOnce so_far.opened (files_in so_far)
-  pub turned : Pairs (AreTurnedIn words.tails start.settings.processors so_far.opened so_far.moments) so_far.lanes (lanings state.crew.lanes.items)
+  pub each_once : AreEachOnce so_far.opened (files_within so_far)
+  pub turned : Pairs (AreTurnedIn tails start.settings.processors so_far.opened so_far.moments) so_far.lanes now.lanes
   pub left : AllByRecursion (IsLeftSo start.settings.processors so_far.opened so_far.moments) so_far.left
-  pub reading : state.phase ≡ Reading → IsReading (lanings state.crew.lanes.items) so_far
-  pub finished : state.phase ≡ Finished → IsSome start.shown → AllByRecursion (λ turned. IsReadThrough turned.history) (files_in so_far)
-  pub over : HaveOneOver state.phase (files_in so_far)
+  pub reading : now.phase ≡ Reading → IsReading now.lanes so_far
+  pub finished : now.phase ≡ Finished → IsSome start.shown → AllByRecursion (λ turned. IsReadThrough turned.history) (files_within so_far)
+  pub over : HaveOneOver now.phase (files_within so_far)
   -- where the folder tells, so do the tails
-  pub tell : IsSome start.shown → AllByRecursion (TellIn words.tails) (lanings state.crew.lanes.items)
+  pub tell : IsSome start.shown → AllByRecursion (TellIn tails) now.lanes
   pub left_tell : IsSome start.shown → AllByRecursion (λ (one : Left). IsSome one.told) so_far.left
-  pub shown : HasShown start.shown state.shown so_far
-  pub given : HasGiven start.moments state.moments start.moment so_far.moments
-  -- each event is in one place
-  pub gave : HaveGiven so_far
-  pub booked : AreBooked words.links words.wires so_far.told (lanings state.crew.lanes.items) state.crew.carriers.items
-  pub heard : map (λ (heard : Heard). heard.start) so_far.told.acknowledged ≡ start.heard
-  pub placed : ArePlaced so_far.told (lanings state.crew.lanes.items) state.crew.carriers.items so_far.queued (notes state.keeper.pass.got) so_far.boxed
-  pub counted : AreCounted (lanings state.crew.lanes.items) state.keeper so_far
-  -- what is noted and stored
+  pub shown : HasShown start.shown now.shown so_far
+  pub given : HasGiven start.moments now.moments start.moment so_far.moments
+
+-- lanes and workers, and what the keeper's pass collected
+pub record BooksNow (T W L : Type 0) : Type 0 where
+  pub lanes : List (Laning T)
+  pub carriers : List (Carrier W L)
+  pub got : List Note
+
+-- each event is in one place
+pub record Books {T W L : Type 0} (links : LinkWords L) (wires : WireWords W) (starts : List ℕ) (now : BooksNow T W L) (so_far : BooksSoFar) : Type 0 where
+  pub gave : HaveGiven so_far.told so_far.files
+  pub booked : AreBooked links wires so_far.told now.lanes now.carriers
+  pub heard : map (λ (heard : Heard). heard.start) so_far.told.acknowledged ≡ starts
+  pub placed : ArePlaced so_far.told now.lanes now.carriers so_far.queued now.got so_far.boxed
+  -- a count that saturates at 2^64 - 1
+  pub spans : spans_told now.lanes < 2 ^ 64 - 1 → spans_in so_far.files ≡ spans_told now.lanes
+
+-- what is noted and stored
+pub record Notes {D : Type 0} (start : Began D) (keeper : Keeping) (so_far : NotesSoFar) : Type 0 where
+  pub counted : AreCounted keeper
   pub begun : AreBeginNotes start.opening start.listed so_far.opened so_far.begun
-  pub noted : AreNoted start.opening state.keeper so_far.begun so_far.collected
-  pub stores : Stores state.keeper.tracked state.keeper.store
+  pub noted : AreNoted start.opening keeper so_far.begun so_far.collected
+  pub stores : Stores keeper.tracked keeper.store
+
+module _ {T W L D : Type 0} where
+  abbrev pub files_now : RunState T W L D → FilesNow T
+  files_now state = record { shown = state.shown; moments = state.moments; lanes = lanings state.crew.lanes.items; phase = state.phase }
+
+  abbrev pub books_now : RunState T W L D → BooksNow T W L
+  books_now state = record { lanes = lanings state.crew.lanes.items; carriers = state.crew.carriers.items; got = notes state.keeper.pass.got }
+
+pub record Stands {T W L D : Type 0} (words : Words T W L D) (start : Began D) (state : RunState T W L D) (so_far : SoFar) : Type 0 where
+  pub files : Files words.tails start (files_now state) (files_of so_far)
+  pub books : Books words.links words.wires start.heard (books_now state) (books_of so_far)
+  pub notes : Notes start state.keeper (notes_of so_far)
   pub areas : BeganAtRest words.disks start → HaveHeldFronts words.disks start.opening state.keeper.tracked.notes start.a start.b state.a state.b
 
 -- it stands, whatever was done

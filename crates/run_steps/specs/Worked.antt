@@ -11,39 +11,30 @@ use Rattle.rounds.specs.Staying.{HaveSlot}
 use Rattle.rounds.specs.Words.{DiskWords, TailWords}
 use Rattle.rounds.specs.declared.crew.Crew.{Crew}
 use Rattle.rounds.specs.declared.storing.Storing.{Storing}
+use Rattle.run_steps.specs.BeginErrors.{met_of}
 use Rattle.run_steps.specs.MetBy.{IsMetBy, Since, phase_met}
 use Rattle.run_steps.specs.RunState.{Leaving, Phase, Reading}
+use Rattle.run_steps.specs.declared.begin_error.BeginError.{BeginError}
 use Rattle.run_steps.specs.declared.met.Met.{Met}
 use Rattle.run_steps.specs.declared.met.Met.TheVariants.{DiskFault, Done, Epochs, FolderFault, NoMemory, NoNative, Stopped, Unreachable}
 
--- what may end the beginning of files
-abbrev pub IsBeginEnd : Met → Type 0
-IsBeginEnd Done = ⊥
-IsBeginEnd Stopped = ⊥
-IsBeginEnd NoMemory = Unit {0}
-IsBeginEnd DiskFault = ⊥
-IsBeginEnd FolderFault = Unit {0}
-IsBeginEnd (Unreachable worker) = ⊥
-IsBeginEnd (Epochs slot) = ⊥
-IsBeginEnd (NoNative slot) = Unit {0}
-
-abbrev pub phase_begun : Result (Vec Passing Global) Met → Phase
+abbrev pub phase_begun : Result (Vec Passing Global) BeginError → Phase
 phase_begun (Ok passed) = Reading
-phase_begun (Err met) = Leaving
+phase_begun (Err error) = Leaving
 
-abbrev pub phase_worked : Result (Vec Passing Global) Met → Met → Phase
+abbrev pub phase_worked : Result (Vec Passing Global) BeginError → Met → Phase
 phase_worked (Ok passed) met = phase_met met
-phase_worked (Err first) met = Leaving
+phase_worked (Err error) met = Leaving
 
 -- the paths that were skipped as files were begun
-abbrev pub HasPassed : Result (Vec Passing Global) Met → List Passing → Type 0
+abbrev pub HasPassed : Result (Vec Passing Global) BeginError → List Passing → Type 0
 HasPassed (Ok passed) after = after ≡ passed.items
-HasPassed (Err met) after = after ≡ []
+HasPassed (Err error) after = after ≡ []
 
 -- what was met as files were begun ends the run; else a round, or the bell, did
-abbrev pub IsFollowedBy : {T W L D : Type 0} → TailWords T → DiskWords D → ℕ → Since T W L D → Result (Vec Passing Global) Met → Met → Type 0
+abbrev pub IsFollowedBy : {T W L D : Type 0} → TailWords T → DiskWords D → ℕ → Since T W L D → Result (Vec Passing Global) BeginError → Met → Type 0
 IsFollowedBy tails disks attempts since (Ok passed) met = met ≢ Stopped → IsMetBy tails disks attempts since met
-IsFollowedBy tails disks attempts since (Err first) met = met ≡ first
+IsFollowedBy tails disks attempts since (Err error) met = met ≡ met_of error
 
 -- what counts tell of the objects of a run, before it works and behind it
 pub record Tolls : Type 0 where
@@ -60,9 +51,9 @@ pub record NeverFall (before after : Tolls) : Type 0 where
   pub rings : before.rings ≤ after.rings
 
 -- what was met as files were begun is met still, or what the last steps met
-abbrev pub IsBegunWith : Result (Vec Passing Global) Met → Met → Type 0
+abbrev pub IsBegunWith : Result (Vec Passing Global) BeginError → Met → Type 0
 IsBegunWith (Ok passed) met = ⊥
-IsBegunWith (Err first) met = met ≡ first
+IsBegunWith (Err error) met = met ≡ met_of error
 
 -- why the run with this crew met this behind its files' beginning
 abbrev pub IsWorkedBy : {T W L : Type 0} → Crew T W L → Tolls → Tolls → Met → Type 0

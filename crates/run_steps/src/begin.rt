@@ -2,15 +2,15 @@ ghost use Rattle.std.specs.Prelude.{◌≡◌, ◌∷◌, ◌++◌, ◌%◌, ◌
 ghost use Rattle.beat_config.specs.InRange.{AreInRange};
 ghost use Rattle.prospect.specs.ListedFiles.{IsListedInRange};
 ghost use Rattle.rounds.specs.Crewed.{lanings};
-ghost use Rattle.rounds.specs.Words.{tail_words};
 ghost use Rattle.wire_base.specs.Ranges.{IsMoment};
-ghost use Rattle.run_steps.specs.Beginning.{AdmitsAt, BeginsOne, Follows, FollowsListed, GivesUp, IsOpenedFor, SameLanes, TakesIn, TellsKey, beginning, listed_file};
-ghost use Rattle.run_steps.specs.FolderSeen.{folder_words};
+ghost use Rattle.run_steps.specs.Beginnable.{IsBeginnable};
+ghost use Rattle.run_steps.specs.Beginning.{AdmitsAt, BeginsOne, Follows, FollowsListed, GivesUp, IsOpenedFor, SameLanes, TakesIn, TellsKey, beginning, file_of};
 ghost use Rattle.run_steps.specs.KnownKeys.{HasRoomToBegin};
+ghost use Rattle.rounds.specs.WordsOf.{tails_of};
 
+use crate::begin_error::BeginError;
 use crate::context::Context;
 use crate::leave::release;
-use crate::met::Met;
 use crate::opening::{Opening, begin_of};
 use crate::telling::tell_begin;
 use file_identity::{Identity, IdentityError, opened_key};
@@ -22,6 +22,13 @@ use report::{Passing, Why};
 use rounds::Crew;
 use std::alloc::Global;
 use wire_base::{NoMemory, Slot, Text};
+
+/// Whether a listed file is followed.
+#[derive(Clone, Copy, Debug, PartialEq, Eq)]
+pub enum Admission {
+    Followed,
+    Skipped(Why),
+}
 
 /// Adds the path of a file that was listed and is skipped.
 pub fn pass_over(
@@ -39,7 +46,7 @@ pub fn pass_over(
     Ok(())
 }
 
-/// Opens the file, asks it for its key and follows it in the lane of its slot; or why it is skipped. `Err` is `FolderFault`
+/// Opens the file, asks it for its key and follows it in the lane of its slot; or skips it. `Err` is `FolderFault`
 /// where the folder or a read failed, `NoNative` where the file wants numbers and told none, and `NoMemory`; a file that was
 /// opened is closed again then.
 pub fn begin_one<F: Folder, L: Link, W: Wire<Link = L>>(
@@ -48,26 +55,15 @@ pub fn begin_one<F: Folder, L: Link, W: Wire<Link = L>>(
     folder: &mut F,
     crew: &mut Crew<F::Tail, W, L>,
     keeper: &mut Keeper,
-) -> Result<Option<Why>, Met>
-    requires settings { AreInRange context.settings.now }
-    requires in_range { IsListedInRange opening.listed.now }
-    requires input { opening.listed.now.input < length context.settings.now.inputs }
-    requires moment { IsMoment opening.now }
-    requires some_lanes { 0 < length crew.old.lanes.items }
-    requires start { opening.start.base ≤ opening.listed.now.size }
-    requires few { HasRoomToBegin opening.listed.now keeper.old }
-    ensures { BeginsOne (tail_words F.Tail.numbers F.Tail.told F.Tail.faults)
-        context.entry.settings.now
-        (listed_file opening.entry.slot opening.entry.listed.now opening.entry.start
-        opening.entry.now) result
-        (beginning (folder_words F.told F.states F.present F.open_tails F.faults)
-        folder.old crew.old keeper.old)
-        (beginning (folder_words F.told F.states F.present F.open_tails F.faults)
-        folder.new crew.new keeper.new) }
+) -> Result<Admission, BeginError>
+    requires { IsBeginnable context.settings.now (file_of opening) crew.old keeper.old }
+    ensures { BeginsOne (tails_of F.Tail.Tail) context.entry.settings.now (file_of opening.entry)
+        result (beginning F.Folder folder.old crew.old keeper.old)
+        (beginning F.Folder folder.new crew.new keeper.new) }
 {
     match folder.open(context.alloc, &opening.listed.path) {
         Ok(Some(tail)) => follow_listed(context, opening, tail, folder, crew, keeper),
-        Ok(None) => Ok(Some(Why::Gone)),
+        Ok(None) => Ok(Admission::Skipped(Why::Gone)),
         Err(error) => Err(error.into()),
     }
 }
@@ -80,35 +76,25 @@ fn follow_listed<F: Folder, L: Link, W: Wire<Link = L>>(
     folder: &mut F,
     crew: &mut Crew<F::Tail, W, L>,
     keeper: &mut Keeper,
-) -> Result<Option<Why>, Met>
-    requires settings { AreInRange context.settings.now }
-    requires in_range { IsListedInRange opening.listed.now }
-    requires input { opening.listed.now.input < length context.settings.now.inputs }
-    requires moment { IsMoment opening.now }
-    requires some_lanes { 0 < length crew.old.lanes.items }
-    requires start { opening.start.base ≤ opening.listed.now.size }
-    requires few { HasRoomToBegin opening.listed.now keeper.old }
-    ensures { FollowsListed (tail_words F.Tail.numbers F.Tail.told F.Tail.faults)
-        context.entry.settings.now
-        (listed_file opening.entry.slot opening.entry.listed.now opening.entry.start
-        opening.entry.now) tail result
-        (beginning (folder_words F.told F.states F.present F.open_tails F.faults)
-        folder.old crew.old keeper.old)
-        (beginning (folder_words F.told F.states F.present F.open_tails F.faults)
-        folder.new crew.new keeper.new) }
+) -> Result<Admission, BeginError>
+    requires { IsBeginnable context.settings.now (file_of opening) crew.old keeper.old }
+    ensures { FollowsListed (tails_of F.Tail.Tail) context.entry.settings.now
+        (file_of opening.entry) tail result
+        (beginning F.Folder folder.old crew.old keeper.old)
+        (beginning F.Folder folder.new crew.new keeper.new) }
 {
     match ask_key(context, opening, &mut tail) {
         Ok(None) => match follow_one(context, opening, tail, folder, crew, keeper) {
-            Ok(()) => Ok(None),
-            Err(NoMemory) => Err(Met::NoMemory),
+            Ok(()) => Ok(Admission::Followed),
+            Err(NoMemory) => Err(BeginError::NoMemory),
         },
         Ok(Some(why)) => {
             folder.close(tail);
-            Ok(Some(why))
+            Ok(Admission::Skipped(why))
         }
-        Err(met) => {
+        Err(error) => {
             folder.close(tail);
-            Err(met)
+            Err(error)
         }
     }
 }
@@ -118,12 +104,11 @@ fn ask_key<T: Tail>(
     context: Context<'_, '_>,
     opening: Opening<'_>,
     tail: &mut T,
-) -> Result<Option<Why>, Met>
+) -> Result<Option<Why>, BeginError>
     requires settings { AreInRange context.settings.now }
     requires input { opening.listed.now.input < length context.settings.now.inputs }
-    ensures { TellsKey (tail_words T.numbers T.told T.faults) context.entry.settings.now
-        (listed_file opening.entry.slot opening.entry.listed.now opening.entry.start
-        opening.entry.now) tail.old tail.new result }
+    ensures { TellsKey (tails_of T.Tail) context.entry.settings.now (file_of opening.entry)
+        tail.old tail.new result }
 {
     let listed = opening.listed;
     let rule = &context.settings.inputs.as_slice()[listed.input as usize];
@@ -137,9 +122,9 @@ fn ask_key<T: Tail>(
         Ok(Identity::Key(key)) if is_same(&listed.key, &key) => Ok(None),
         Ok(Identity::Key(_)) => Ok(Some(Why::Moved)),
         Ok(Identity::TooSmall(_)) => Ok(Some(Why::Small)),
-        Err(IdentityError::NoNative) => Err(Met::NoNative(opening.slot)),
-        Err(IdentityError::ReadFault) => Err(Met::FolderFault),
-        Err(IdentityError::NoMemory) => Err(Met::NoMemory),
+        Err(IdentityError::NoNative) => Err(BeginError::NoNative(opening.slot)),
+        Err(IdentityError::ReadFault) => Err(BeginError::FolderFault),
+        Err(IdentityError::NoMemory) => Err(BeginError::NoMemory),
     }
 }
 
@@ -161,29 +146,14 @@ fn follow_one<F: Folder, L: Link, W: Wire<Link = L>>(
     crew: &mut Crew<F::Tail, W, L>,
     keeper: &mut Keeper,
 ) -> Result<(), NoMemory>
-    requires settings { AreInRange context.settings.now }
-    requires in_range { IsListedInRange opening.listed.now }
-    requires input { opening.listed.now.input < length context.settings.now.inputs }
-    requires moment { IsMoment opening.now }
-    requires some_lanes { 0 < length crew.old.lanes.items }
-    requires start { opening.start.base ≤ opening.listed.now.size }
-    requires few { HasRoomToBegin opening.listed.now keeper.old }
-    ensures follows { OnOk result (Follows
-        (tail_words F.Tail.numbers F.Tail.told F.Tail.faults) context.entry.settings.now
-        (listed_file opening.entry.slot opening.entry.listed.now opening.entry.start
-        opening.entry.now) tail
-        (beginning (folder_words F.told F.states F.present F.open_tails F.faults)
-        folder.old crew.old keeper.old)
-        (beginning (folder_words F.told F.states F.present F.open_tails F.faults)
-        folder.new crew.new keeper.new)) }
-    ensures gives_up { OnErr result (GivesUp
-        (tail_words F.Tail.numbers F.Tail.told F.Tail.faults)
-        (listed_file opening.entry.slot opening.entry.listed.now opening.entry.start
-        opening.entry.now) tail
-        (beginning (folder_words F.told F.states F.present F.open_tails F.faults)
-        folder.old crew.old keeper.old)
-        (beginning (folder_words F.told F.states F.present F.open_tails F.faults)
-        folder.new crew.new keeper.new)) }
+    requires { IsBeginnable context.settings.now (file_of opening) crew.old keeper.old }
+    ensures follows { OnOk result (Follows (tails_of F.Tail.Tail) context.entry.settings.now
+        (file_of opening.entry) tail
+        (beginning F.Folder folder.old crew.old keeper.old)
+        (beginning F.Folder folder.new crew.new keeper.new)) }
+    ensures gives_up { OnErr result (GivesUp (tails_of F.Tail.Tail) (file_of opening.entry) tail
+        (beginning F.Folder folder.old crew.old keeper.old)
+        (beginning F.Folder folder.new crew.new keeper.new)) }
 {
     match harvest(context, opening, tail) {
         Ok(harvester) => take_in(context.alloc, opening, harvester, folder, crew, keeper),
@@ -206,10 +176,8 @@ fn harvest<T: Tail>(
     requires input { opening.listed.now.input < length context.settings.now.inputs }
     requires moment { IsMoment opening.now }
     requires start { opening.start.base ≤ opening.listed.now.size }
-    ensures opened { IfOk result (IsOpenedFor (tail_words T.numbers T.told T.faults)
-        context.entry.settings.now
-        (listed_file opening.entry.slot opening.entry.listed.now opening.entry.start
-        opening.entry.now) tail) }
+    ensures opened { IfOk result (IsOpenedFor (tails_of T.Tail) context.entry.settings.now
+        (file_of opening.entry) tail) }
     ensures given_back { IfErr result (λ back. back ≡ tail) }
 {
     let Ok(begin) = begin_of(context.alloc, opening) else {
@@ -234,21 +202,13 @@ fn take_in<F: Folder, L: Link, W: Wire<Link = L>>(
     requires some_lanes { 0 < length crew.old.lanes.items }
     requires start { opening.start.base ≤ opening.listed.now.size }
     requires few { HasRoomToBegin opening.listed.now keeper.old }
-    ensures taken { OnOk result (TakesIn
-        (listed_file opening.entry.slot opening.entry.listed.now opening.entry.start
-        opening.entry.now) harvester
-        (beginning (folder_words F.told F.states F.present F.open_tails F.faults)
-        folder.old crew.old keeper.old)
-        (beginning (folder_words F.told F.states F.present F.open_tails F.faults)
-        folder.new crew.new keeper.new)) }
-    ensures gives_up { OnErr result (GivesUp
-        (tail_words F.Tail.numbers F.Tail.told F.Tail.faults)
-        (listed_file opening.entry.slot opening.entry.listed.now opening.entry.start
-        opening.entry.now) harvester.tail
-        (beginning (folder_words F.told F.states F.present F.open_tails F.faults)
-        folder.old crew.old keeper.old)
-        (beginning (folder_words F.told F.states F.present F.open_tails F.faults)
-        folder.new crew.new keeper.new)) }
+    ensures taken { OnOk result (TakesIn (file_of opening.entry) harvester
+        (beginning F.Folder folder.old crew.old keeper.old)
+        (beginning F.Folder folder.new crew.new keeper.new)) }
+    ensures gives_up { OnErr result (GivesUp (tails_of F.Tail.Tail) (file_of opening.entry)
+        harvester.tail
+        (beginning F.Folder folder.old crew.old keeper.old)
+        (beginning F.Folder folder.new crew.new keeper.new)) }
 {
     if let Err(error) = tell_begin(alloc, opening, keeper) {
         release(folder, harvester);

@@ -2,18 +2,19 @@ ghost use Rattle.std.specs.Prelude.{◌≡◌, ◌++◌, ◌<◌, ◌≤◌, [],
 ghost use Rattle.beat_config.specs.InRange.{AreInRange};
 ghost use Rattle.prospect.specs.ListedFiles.{IsListedInRange};
 ghost use Rattle.report.specs.declared.passing.Passing.{Passing};
-ghost use Rattle.rounds.specs.Words.{tail_words};
 ghost use Rattle.wire_base.specs.Ranges.{IsMoment};
-ghost use Rattle.run_steps.specs.Beginning.{beginning, listed_file};
+ghost use Rattle.run_steps.specs.BeginErrors.{met_of};
+ghost use Rattle.run_steps.specs.Beginnable.{AreBeginnable};
+ghost use Rattle.run_steps.specs.Beginning.{beginning, file_of};
 ghost use Rattle.run_steps.specs.BeginsAll.{BeginsAll, BeginsFrom, BeginsOrPasses, BeginsSome, EndsBeginning, EndsInFiles, EndsInOne, IsOfInputs, KeepsOthers};
-ghost use Rattle.run_steps.specs.FolderSeen.{folder_words};
 ghost use Rattle.run_steps.specs.KnownKeys.{HasRoomToBegin};
 ghost use Rattle.run_steps.specs.Starting.{AreFewFiles, starts_among};
 ghost use Rattle.run_steps.specs.Unnumbered.{IsMetUnnumbered};
+ghost use Rattle.rounds.specs.WordsOf.{tails_of};
 
-use crate::begin::{begin_one, pass_over};
+use crate::begin::{Admission, begin_one, pass_over};
+use crate::begin_error::BeginError;
 use crate::context::Context;
-use crate::met::Met;
 use crate::opening::Opening;
 use crate::telling::tell_moments;
 use keeper::Keeper;
@@ -47,44 +48,27 @@ pub fn begin_all<F: Folder, L: Link, W: Wire<Link = L>>(
     folder: &mut F,
     crew: &mut Crew<F::Tail, W, L>,
     keeper: &mut Keeper,
-) -> Result<Vec<Passing>, Met>
-    requires settings { AreInRange context.settings.now }
-    requires in_range { All IsListedInRange scanned.now.listed.items }
-    requires of_inputs { All (IsOfInputs context.settings.now) scanned.now.listed.items }
-    requires few { AreFewFiles keeper.old.store.rows scanned.now.listed.items }
-    requires few_listed { length scanned.now.listed.items ≤ 65_536 }
-    requires starts { scanned.now.starts.items
-        ≡ starts_among keeper.old.store.rows scanned.now.listed.items }
-    requires moment { IsMoment scanned.now.now }
-    requires some_lanes { 0 < length crew.old.lanes.items }
-    requires nothing_told { keeper.old.tracked.notes ≡ [] }
-    ensures begun { IfOk result (λ passed. BeginsAll
-        (tail_words F.Tail.numbers F.Tail.told F.Tail.faults) context.entry.settings.now
-        keeper.old.store.rows scanned.entry.now.now scanned.entry.now.listed.items passed.items
-        (beginning (folder_words F.told F.states F.present F.open_tails F.faults)
-        folder.old crew.old keeper.old)
-        (beginning (folder_words F.told F.states F.present F.open_tails F.faults)
-        folder.new crew.new keeper.new)) }
-    ensures ended { IfErr result (λ met. BeginsSome
-        (tail_words F.Tail.numbers F.Tail.told F.Tail.faults) context.entry.settings.now
-        keeper.old.store.rows scanned.entry.now.now scanned.entry.now.listed.items met
-        (beginning (folder_words F.told F.states F.present F.open_tails F.faults)
-        folder.old crew.old keeper.old)
-        (beginning (folder_words F.told F.states F.present F.open_tails F.faults)
-        folder.new crew.new keeper.new)) }
-    ensures ends { IfErr result (λ met. EndsBeginning
-        (length scanned.entry.now.listed.items) met
-        (beginning (folder_words F.told F.states F.present F.open_tails F.faults)
-        folder.old crew.old keeper.old)
-        (beginning (folder_words F.told F.states F.present F.open_tails F.faults)
-        folder.new crew.new keeper.new)) }
-    ensures unnumbered { IfErr result (IsMetUnnumbered context.entry.settings.now
-        scanned.entry.now.listed.items (F.told folder.old) (F.told folder.new)) }
+) -> Result<Vec<Passing>, BeginError>
+    requires { AreBeginnable context.settings.now scanned.now crew.old keeper.old }
+    ensures begun { IfOk result (λ passed. BeginsAll (tails_of F.Tail.Tail)
+        context.entry.settings.now keeper.old.store.rows scanned.entry.now.now
+        scanned.entry.now.listed.items passed.items
+        (beginning F.Folder folder.old crew.old keeper.old)
+        (beginning F.Folder folder.new crew.new keeper.new)) }
+    ensures ended { IfErr result (λ error. BeginsSome (tails_of F.Tail.Tail)
+        context.entry.settings.now keeper.old.store.rows scanned.entry.now.now
+        scanned.entry.now.listed.items error
+        (beginning F.Folder folder.old crew.old keeper.old)
+        (beginning F.Folder folder.new crew.new keeper.new)) }
+    ensures ends { IfErr result (λ error.
+        EndsBeginning (length scanned.entry.now.listed.items) error
+        (beginning F.Folder folder.old crew.old keeper.old)
+        (beginning F.Folder folder.new crew.new keeper.new)) }
+    ensures unnumbered { IfErr result (λ error. IsMetUnnumbered context.entry.settings.now
+        scanned.entry.now.listed.items (F.told folder.old) (F.told folder.new) (met_of error)) }
     ensures kept { KeepsOthers (length scanned.entry.now.listed.items)
-        (beginning (folder_words F.told F.states F.present F.open_tails F.faults)
-        folder.old crew.old keeper.old)
-        (beginning (folder_words F.told F.states F.present F.open_tails F.faults)
-        folder.new crew.new keeper.new) }
+        (beginning F.Folder folder.old crew.old keeper.old)
+        (beginning F.Folder folder.new crew.new keeper.new) }
 {
     let passed = begin_files(context, scanned, folder, crew, keeper)?;
     tell_moments(context.alloc, scanned.listed.as_slice(), keeper)?;
@@ -98,31 +82,18 @@ fn begin_files<F: Folder, L: Link, W: Wire<Link = L>>(
     folder: &mut F,
     crew: &mut Crew<F::Tail, W, L>,
     keeper: &mut Keeper,
-) -> Result<Vec<Passing>, Met>
-    requires settings { AreInRange context.settings.now }
-    requires in_range { All IsListedInRange scanned.now.listed.items }
-    requires of_inputs { All (IsOfInputs context.settings.now) scanned.now.listed.items }
-    requires few { AreFewFiles keeper.old.store.rows scanned.now.listed.items }
-    requires few_listed { length scanned.now.listed.items ≤ 65_536 }
-    requires starts { scanned.now.starts.items
-        ≡ starts_among keeper.old.store.rows scanned.now.listed.items }
-    requires moment { IsMoment scanned.now.now }
-    requires some_lanes { 0 < length crew.old.lanes.items }
-    requires nothing_told { keeper.old.tracked.notes ≡ [] }
-    ensures begun { IfOk result (λ passed. BeginsFrom
-        (tail_words F.Tail.numbers F.Tail.told F.Tail.faults) context.entry.settings.now
-        keeper.old.store.rows scanned.entry.now.now 0 scanned.entry.now.listed.items passed.items
-        (beginning (folder_words F.told F.states F.present F.open_tails F.faults)
-        folder.old crew.old keeper.old)
-        (beginning (folder_words F.told F.states F.present F.open_tails F.faults)
-        folder.new crew.new keeper.new)) }
-    ensures ended { IfErr result (λ met. EndsInFiles
-        (tail_words F.Tail.numbers F.Tail.told F.Tail.faults) context.entry.settings.now
-        keeper.old.store.rows scanned.entry.now.now scanned.entry.now.listed.items met
-        (beginning (folder_words F.told F.states F.present F.open_tails F.faults)
-        folder.old crew.old keeper.old)
-        (beginning (folder_words F.told F.states F.present F.open_tails F.faults)
-        folder.new crew.new keeper.new)) }
+) -> Result<Vec<Passing>, BeginError>
+    requires { AreBeginnable context.settings.now scanned.now crew.old keeper.old }
+    ensures begun { IfOk result (λ passed. BeginsFrom (tails_of F.Tail.Tail)
+        context.entry.settings.now keeper.old.store.rows scanned.entry.now.now 0
+        scanned.entry.now.listed.items passed.items
+        (beginning F.Folder folder.old crew.old keeper.old)
+        (beginning F.Folder folder.new crew.new keeper.new)) }
+    ensures ended { IfErr result (λ error. EndsInFiles (tails_of F.Tail.Tail)
+        context.entry.settings.now keeper.old.store.rows scanned.entry.now.now
+        scanned.entry.now.listed.items error
+        (beginning F.Folder folder.old crew.old keeper.old)
+        (beginning F.Folder folder.new crew.new keeper.new)) }
 {
     let mut passed = Vec::new(context.alloc);
     let mut slot = 0;
@@ -147,7 +118,7 @@ fn begin_or_pass<F: Folder, L: Link, W: Wire<Link = L>>(
     crew: &mut Crew<F::Tail, W, L>,
     keeper: &mut Keeper,
     passed: &mut Vec<Passing>,
-) -> Result<(), Met>
+) -> Result<(), BeginError>
     requires settings { AreInRange context.settings.now }
     requires in_range { IsListedInRange opening.listed.now }
     requires input { opening.listed.now.input < length context.settings.now.inputs }
@@ -156,24 +127,17 @@ fn begin_or_pass<F: Folder, L: Link, W: Wire<Link = L>>(
     requires start { opening.start.base ≤ opening.listed.now.size }
     requires few { HasRoomToBegin opening.listed.now keeper.old }
     ensures begun { OnOk result ((more : List Passing) ×
-        (passed.new.items ≡ passed.old.items ++ more) × BeginsOrPasses
-        (tail_words F.Tail.numbers F.Tail.told F.Tail.faults) context.entry.settings.now
-        (listed_file opening.entry.slot opening.entry.listed.now opening.entry.start
-        opening.entry.now) more
-        (beginning (folder_words F.told F.states F.present F.open_tails F.faults)
-        folder.old crew.old keeper.old)
-        (beginning (folder_words F.told F.states F.present F.open_tails F.faults)
-        folder.new crew.new keeper.new)) }
-    ensures ended { IfErr result (λ met. EndsInOne
-        (tail_words F.Tail.numbers F.Tail.told F.Tail.faults) context.entry.settings.now
-        (listed_file opening.entry.slot opening.entry.listed.now opening.entry.start
-        opening.entry.now) met
-        (beginning (folder_words F.told F.states F.present F.open_tails F.faults)
-        folder.old crew.old keeper.old)
-        (beginning (folder_words F.told F.states F.present F.open_tails F.faults)
-        folder.new crew.new keeper.new)) }
+        (passed.new.items ≡ passed.old.items ++ more) ×
+        BeginsOrPasses (tails_of F.Tail.Tail) context.entry.settings.now
+        (file_of opening.entry) more
+        (beginning F.Folder folder.old crew.old keeper.old)
+        (beginning F.Folder folder.new crew.new keeper.new)) }
+    ensures ended { IfErr result (λ error. EndsInOne (tails_of F.Tail.Tail)
+        context.entry.settings.now (file_of opening.entry) error
+        (beginning F.Folder folder.old crew.old keeper.old)
+        (beginning F.Folder folder.new crew.new keeper.new)) }
 {
-    if let Some(why) = begin_one(context, opening, folder, crew, keeper)? {
+    if let Admission::Skipped(why) = begin_one(context, opening, folder, crew, keeper)? {
         pass_over(context.alloc, opening.listed, why, passed)?;
     }
     Ok(())

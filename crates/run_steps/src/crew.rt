@@ -1,7 +1,7 @@
 ghost use Rattle.std.specs.Prelude.{◌≡◌, ◌≤◌, length, IfOk, OnErr, vec_capacity};
 ghost use Rattle.beat_config.specs.InRange.{AreInRange};
 ghost use Rattle.rounds.specs.Making.{all_seen};
-ghost use Rattle.rounds.specs.Words.{wire_words};
+ghost use Rattle.rounds.specs.WordsOf.{wires_of};
 ghost use Rattle.run_steps.specs.BegunCrew.{AreFirstPasses, IsBegunCrew};
 
 use crate::context::Context;
@@ -38,9 +38,8 @@ pub fn crew_of<T: Tail, L: Link, W: Wire<Link = L>>(
     ensures begun { IfOk result (IsBegunCrew L.told context.entry.outlets.queue.now.id
         context.entry.outlets.desk.now.id context.entry.settings.now
         wires.old.items wires.new.items) }
-    ensures back { OnErr result
-        (all_seen (wire_words W.outcomes W.open_links W.faults W.idles) wires.new.items
-        ≡ all_seen (wire_words W.outcomes W.open_links W.faults W.idles) wires.old.items) }
+    ensures back { OnErr result (all_seen (wires_of W.Wire) wires.new.items
+        ≡ all_seen (wires_of W.Wire) wires.old.items) }
     ensures capacity { vec_capacity wires.new ≡ vec_capacity wires.old }
 {
     let Context {

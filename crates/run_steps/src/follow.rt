@@ -7,7 +7,7 @@ use outside::{Clock, Link, Tail, Wire};
 use rounds::{Carrier, Crew, Round};
 
 /// How long the clock pauses after a round in which nothing moved, in milliseconds.
-pub const PAUSE: u64 = 100;
+pub const PAUSE_MS: u64 = 100;
 
 /// Lets the clock pause where the round ended nothing and moved nothing.
 pub fn pause_where_still<K: Clock>(met: Option<Met>, round: Round, clock: &mut K)
@@ -16,7 +16,7 @@ pub fn pause_where_still<K: Clock>(met: Option<Met>, round: Round, clock: &mut K
     ensures faults_never_fall { K.faults clock.old ≤ K.faults clock.new }
 {
     if met.is_none() && !round.moved {
-        clock.pause(PAUSE);
+        clock.pause(PAUSE_MS);
     }
 }
 

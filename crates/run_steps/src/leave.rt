@@ -3,7 +3,7 @@ ghost use Rattle.lanes.specs.Laning.{laning};
 ghost use Rattle.outside.specs.Counts.{added_counts};
 ghost use Rattle.outside.specs.Files.{NoneEarlier};
 ghost use Rattle.rounds.specs.Crewed.{lanings};
-ghost use Rattle.rounds.specs.Words.{link_words, wire_words};
+ghost use Rattle.rounds.specs.WordsOf.{links_of, wires_of};
 ghost use Rattle.run_steps.specs.CarriersEnd.{EndsCarriers, HasCarrierPasses, HasLanePasses, PutsWire};
 ghost use Rattle.run_steps.specs.Releasing.{CountsFaults, HasNoHarvesters, all_closings, closing_of, closings_of, harvesters_of, released, with_events};
 
@@ -66,8 +66,7 @@ pub fn end_crew<T: Tail, L: Link, W: Wire<Link = L>>(crew: Crew<T, W, L>, wires:
     requires no_harvesters { All HasNoHarvesters (lanings crew.lanes.items) }
     requires carriers { All HasCarrierPasses crew.carriers.items }
     requires room { vec_len crew.carriers + vec_len wires.old ≤ vec_capacity wires.old }
-    ensures ended { EndsCarriers (link_words L.told L.faults L.idles)
-        (wire_words W.outcomes W.open_links W.faults W.idles)
+    ensures ended { EndsCarriers (links_of L.Link) (wires_of W.Wire)
         crew.carriers.items wires.old.items wires.new.items }
     ensures capacity { vec_capacity wires.new ≡ vec_capacity wires.old }
 {
@@ -98,8 +97,7 @@ fn end_lane<T: Tail>(lane: Lane<T>)
 fn end_carriers<L: Link, W: Wire<Link = L>>(mut carriers: Vec<Carrier<W, L>>, wires: &mut Vec<W>)
     requires passes { All HasCarrierPasses carriers.items }
     requires room { vec_len carriers + vec_len wires.old ≤ vec_capacity wires.old }
-    ensures ended { EndsCarriers (link_words L.told L.faults L.idles)
-        (wire_words W.outcomes W.open_links W.faults W.idles)
+    ensures ended { EndsCarriers (links_of L.Link) (wires_of W.Wire)
         carriers.items wires.old.items wires.new.items }
     ensures capacity { vec_capacity wires.new ≡ vec_capacity wires.old }
 {
@@ -112,8 +110,7 @@ fn end_carriers<L: Link, W: Wire<Link = L>>(mut carriers: Vec<Carrier<W, L>>, wi
 fn end_carrier<L: Link, W: Wire<Link = L>>(carrier: Carrier<W, L>, wires: &mut Vec<W>)
     requires passes { HasCarrierPasses carrier }
     requires room { vec_len wires.old < vec_capacity wires.old }
-    ensures ended { PutsWire (link_words L.told L.faults L.idles)
-        (wire_words W.outcomes W.open_links W.faults W.idles)
+    ensures ended { PutsWire (links_of L.Link) (wires_of W.Wire)
         carrier wires.old.items wires.new.items }
     ensures len { vec_len wires.new ≡ vec_len wires.old + 1 }
     ensures capacity { vec_capacity wires.new ≡ vec_capacity wires.old }

@@ -6,6 +6,7 @@
 #![tactic(auto)]
 
 mod begin;
+mod begin_error;
 mod beginning;
 mod context;
 mod crew;
@@ -23,11 +24,12 @@ mod starts;
 mod telling;
 mod working;
 
-pub use begin::{begin_one, pass_over};
+pub use begin::{Admission, begin_one, pass_over};
+pub use begin_error::BeginError;
 pub use beginning::{Scanned, begin_all};
 pub use context::{Context, Surroundings};
 pub use crew::{BOX_NOTES, Passes, crew_of};
-pub use follow::{PAUSE, met_in, pause_where_still};
+pub use follow::{PAUSE_MS, met_in, pause_where_still};
 pub use laws::disk_images_are_counted;
 pub use leave::{end_crew, end_lanes, release_all};
 pub use met::Met;

@@ -1,6 +1,5 @@
-use outside::FolderError;
-use std::alloc::AllocFailed;
-use wire_base::{NoMemory, Slot};
+use crate::begin_error::BeginError;
+use wire_base::Slot;
 
 /// Why a run goes no further.
 #[derive(Clone, Copy, Debug, PartialEq, Eq)]
@@ -20,37 +19,17 @@ pub enum Met {
     NoNative(Slot),
 }
 
-impl From<NoMemory> for Met {
+impl From<BeginError> for Met {
     ghost use Rattle.std.specs.Prelude.{◌≡◌};
-    ghost use Rattle.run_steps.specs.declared.met.Met.TheVariants.{NoMemory};
+    ghost use Rattle.run_steps.specs.BeginErrors.{met_of};
 
-    ghost from_gives = { λ _ met. met ≡ NoMemory };
+    ghost from_gives = { λ error met. met ≡ met_of error };
 
-    fn from(_: NoMemory) -> Self {
-        Met::NoMemory
-    }
-}
-
-impl<T: Drop> From<AllocFailed<T>> for Met {
-    ghost use Rattle.std.specs.Prelude.{◌≡◌};
-    ghost use Rattle.run_steps.specs.declared.met.Met.TheVariants.{NoMemory};
-
-    ghost from_gives = { λ _ met. met ≡ NoMemory };
-
-    fn from(_: AllocFailed<T>) -> Self {
-        Met::NoMemory
-    }
-}
-
-impl From<FolderError> for Met {
-    ghost use Rattle.run_steps.specs.Met.{IsMetByFolder};
-
-    ghost from_gives = { IsMetByFolder };
-
-    fn from(error: FolderError) -> Self {
+    fn from(error: BeginError) -> Self {
         match error {
-            FolderError::Failed => Met::FolderFault,
-            FolderError::NoMemory => Met::NoMemory,
+            BeginError::NoMemory => Met::NoMemory,
+            BeginError::FolderFault => Met::FolderFault,
+            BeginError::NoNative(slot) => Met::NoNative(slot),
         }
     }
 }

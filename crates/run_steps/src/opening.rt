@@ -23,7 +23,8 @@ pub struct Opening<'a> {
 /// How the file begins. `Err` means out of memory, or a key that the listing did not tell.
 pub(crate) fn begin_of(alloc: Global, opening: Opening<'_>) -> Result<Begin, NoMemory>
     requires start { opening.start.base ≤ opening.listed.now.size }
-    ensures begin { IfOk result (IsBeginFor opening.entry.slot opening.entry.listed.now opening.entry.start) }
+    ensures begin { IfOk result
+        (IsBeginFor opening.entry.slot opening.entry.listed.now opening.entry.start) }
     ensures in_range { IsListedInRange opening.entry.listed.now → IfOk result IsBegin }
 {
     let listed = opening.listed;

@@ -4,7 +4,7 @@ ghost use Rattle.registry_log.specs.OnlyRead.{IsOnlyRead};
 ghost use Rattle.registry_store.specs.Choice.{GivesRows};
 ghost use Rattle.registry_store.specs.Settled.{AreAtRest, AreSettled};
 ghost use Rattle.registry_store.specs.Standing.{chosen_by};
-ghost use Rattle.rounds.specs.Words.{disk_words};
+ghost use Rattle.rounds.specs.WordsOf.{disks_of};
 ghost use Rattle.wire_base.specs.declared.limits.Which.{Which};
 ghost use Rattle.wire_base.specs.declared.row.Row.{Row};
 ghost use Rattle.run_steps.specs.Areas.{GiveTheRows, HaveHeldFronts};
@@ -22,8 +22,8 @@ use std::alloc::Global;
 pub fn open_registry<D: Disk>(alloc: Global, a: &mut D, b: &mut D) -> Result<Store, RegistryError>
     // The store is open, with the rows that the areas give.
     ensures open { IfOk result (λ store. store.closed ≡ false) }
-    ensures gives { IfOk result (λ store. GiveTheRows
-        (disk_words D.contents D.images D.moment D.images_since D.faults) a.old b.old store.rows) }
+    ensures gives { IfOk result (λ store.
+        GiveTheRows (disks_of D.Disk) a.old b.old store.rows) }
 
     // And the areas are as a commit wants them.
     ensures settled { AreAtRest D.contents D.images a.old b.old →
@@ -34,8 +34,7 @@ pub fn open_registry<D: Disk>(alloc: Global, a: &mut D, b: &mut D) -> Result<Sto
         AreAtRest D.contents D.images a.old b.old →
         D.contents a.old ≡ Some first → D.contents b.old ≡ Some second →
         GivesRows first second rows →
-        HaveHeldFronts (disk_words D.contents D.images D.moment D.images_since D.faults) rows []
-        a.old b.old a.new b.new }
+        HaveHeldFronts (disks_of D.Disk) rows [] a.old b.old a.new b.new }
 
     // Areas that are refused are only read.
     ensures refused { (first second : List ℕ) →

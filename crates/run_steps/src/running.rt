@@ -1,16 +1,16 @@
-ghost use Rattle.std.specs.Prelude.{◌≡◌, ◌≤◌, ◌+◌, ◌-◌, ◌^◌, ◌<◌, ℕ, All, IfOk, IfSome, IsSome, OnErr, Some, drop, length, map, vec_len, false};
+ghost use Rattle.std.specs.Prelude.{◌≡◌, ◌≤◌, ◌+◌, ◌-◌, ◌^◌, ◌<◌, ℕ, All, IfOk, IfSome, IsSome, OnErr, drop, length, map, vec_len, false};
 ghost use Rattle.std.specs.List.{AllByRecursion};
 ghost use Rattle.beat_config.specs.InRange.{AreInRange};
 ghost use Rattle.prospect.specs.ListedFiles.{IsListedInRange};
 ghost use Rattle.rounds.specs.KeeperTurns.{StillTell};
 ghost use Rattle.rounds.specs.Making.{all_seen};
-ghost use Rattle.rounds.specs.Words.{disk_words, link_words, tail_words, wire_words, words};
 ghost use Rattle.wire_base.specs.Ranges.{IsMoment};
 ghost use Rattle.run_steps.specs.AccountedOver.{AccountedOver};
 ghost use Rattle.run_steps.specs.BegunCrew.{AreFirstPasses};
 ghost use Rattle.run_steps.specs.BeginsAll.{IsOfInputs};
 ghost use Rattle.run_steps.specs.CarriersFail.{FailedAsMet, counts_told};
 ghost use Rattle.run_steps.specs.ClockOn.{MomentsGoOn};
+ghost use Rattle.run_steps.specs.Lent.{ending_of, objects_of, outset_of, tolls_of};
 ghost use Rattle.run_steps.specs.Met.{AreLeft};
 ghost use Rattle.run_steps.specs.Outset.{Earlier, IsFirstKeeper, SetsOut, began_with};
 ghost use Rattle.run_steps.specs.PassedOver.{ArePassedOver};
@@ -20,6 +20,7 @@ ghost use Rattle.run_steps.specs.RunState.{Phase};
 ghost use Rattle.run_steps.specs.Scanned.{HasScanned};
 ghost use Rattle.run_steps.specs.Starting.{AreFewFiles, starts_among};
 ghost use Rattle.run_steps.specs.Unnumbered.{IsMetUnnumbered};
+ghost use Rattle.rounds.specs.WordsOf.{disks_of, wires_of, words_of};
 ghost use Rattle.run_steps.specs.Worked.{IsMetByRun};
 
 use crate::beginning::{Scanned, begin_all};
@@ -66,135 +67,37 @@ where
     requires moment { IsMoment scanned.now.now }
     requires keeper { IsFirstKeeper context.outlets.desk.now.id storing.old.keeper.now }
     requires wires { vec_len around.old.wires.now ≡ 16 }
-    // What stood as the run set out stands at the end.
+    // What was known of the run as it set out is known at the end.
     ensures ends { (earlier : Earlier D) →
-        SetsOut (disk_words D.contents D.images D.moment D.images_since D.faults)
-        (began_with (wire_words W.outcomes W.open_links W.faults W.idles) (record {
-          settings = context.entry.settings.now;
-          listed = scanned.entry.now.listed.items;
-          doubled = scanned.entry.now.doubled.items;
-          moment = scanned.entry.now.now.0;
-          shown = F.told around.old.folder.now;
-          moments = K.moments around.old.clock.now;
-          wires = around.old.wires.now.items;
-          keeper = storing.old.keeper.now;
-          a = storing.old.a.now;
-          b = storing.old.b.now;
-        }) earlier) (record {
-          settings = context.entry.settings.now;
-          listed = scanned.entry.now.listed.items;
-          doubled = scanned.entry.now.doubled.items;
-          moment = scanned.entry.now.now.0;
-          shown = F.told around.old.folder.now;
-          moments = K.moments around.old.clock.now;
-          wires = around.old.wires.now.items;
-          keeper = storing.old.keeper.now;
-          a = storing.old.a.now;
-          b = storing.old.b.now;
-        }) → IfOk result (λ worked. (phase : Phase) × HasEnded
-        (words (tail_words F.Tail.numbers F.Tail.told F.Tail.faults)
-        (link_words L.told L.faults L.idles)
-        (wire_words W.outcomes W.open_links W.faults W.idles)
-        (disk_words D.contents D.images D.moment D.images_since D.faults))
-        (began_with (wire_words W.outcomes W.open_links W.faults W.idles) (record {
-          settings = context.entry.settings.now;
-          listed = scanned.entry.now.listed.items;
-          doubled = scanned.entry.now.doubled.items;
-          moment = scanned.entry.now.now.0;
-          shown = F.told around.old.folder.now;
-          moments = K.moments around.old.clock.now;
-          wires = around.old.wires.now.items;
-          keeper = storing.old.keeper.now;
-          a = storing.old.a.now;
-          b = storing.old.b.now;
-        }) earlier)
-        (record {
-          shown = F.told around.new.folder.now;
-          moments = K.moments around.new.clock.now;
-          keeper = storing.new.keeper.now;
-          a = storing.new.a.now;
-          b = storing.new.b.now;
-          phase = phase;
-        }) worked.met
-        (drop context.entry.settings.now.output.workers around.old.wires.now.items)
-        around.new.wires.now.items) }
-    // Where the scan is known, and folder, clock and wires tell, the run is accounted for, and each key keeps its row; where
-    // the last steps were made, the keeper counted the events of the account; and a run that is done or stopped skipped the
-    // listed files that it does not follow, each for its reason.
+        let scan = scanned.entry.now in
+        let outset = outset_of F.Folder K.Clock context.entry scan storing.old around.old in
+        let start = began_with (wires_of W.Wire) outset earlier in
+        SetsOut (disks_of D.Disk) start outset →
+        IfOk result (λ worked. (phase : Phase) ×
+        HasEnded (words_of F.Tail.Tail L.Link W.Wire D.Disk) start
+        (ending_of F.Folder K.Clock storing.new around.new phase) worked.met
+        (drop context.entry.settings.now.output.workers outset.wires) around.new.wires.now.items) }
+    // If the scan is known, and folder, clock and wires tell, the run is accounted for, and each key keeps its row; after the
+    // last steps, the keeper has counted the events of the account; and a run that is done or stopped skipped the listed files
+    // that it does not follow, each for its reason.
     ensures accounted { (earlier : Earlier D) (folder : FolderTold) →
-        SetsOut (disk_words D.contents D.images D.moment D.images_since D.faults)
-        (began_with (wire_words W.outcomes W.open_links W.faults W.idles) (record {
-          settings = context.entry.settings.now;
-          listed = scanned.entry.now.listed.items;
-          doubled = scanned.entry.now.doubled.items;
-          moment = scanned.entry.now.now.0;
-          shown = F.told around.old.folder.now;
-          moments = K.moments around.old.clock.now;
-          wires = around.old.wires.now.items;
-          keeper = storing.old.keeper.now;
-          a = storing.old.a.now;
-          b = storing.old.b.now;
-        }) earlier) (record {
-          settings = context.entry.settings.now;
-          listed = scanned.entry.now.listed.items;
-          doubled = scanned.entry.now.doubled.items;
-          moment = scanned.entry.now.now.0;
-          shown = F.told around.old.folder.now;
-          moments = K.moments around.old.clock.now;
-          wires = around.old.wires.now.items;
-          keeper = storing.old.keeper.now;
-          a = storing.old.a.now;
-          b = storing.old.b.now;
-        }) → HasScanned
-        (began_with (wire_words W.outcomes W.open_links W.faults W.idles) (record {
-          settings = context.entry.settings.now;
-          listed = scanned.entry.now.listed.items;
-          doubled = scanned.entry.now.doubled.items;
-          moment = scanned.entry.now.now.0;
-          shown = F.told around.old.folder.now;
-          moments = K.moments around.old.clock.now;
-          wires = around.old.wires.now.items;
-          keeper = storing.old.keeper.now;
-          a = storing.old.a.now;
-          b = storing.old.b.now;
-        }) earlier) folder → IsSome earlier.moments →
+        let scan = scanned.entry.now in
+        let outset = outset_of F.Folder K.Clock context.entry scan storing.old around.old in
+        let start = began_with (wires_of W.Wire) outset earlier in
+        let objects = objects_of F.Folder K.Clock W.Wire folder earlier around.old storing.new
+        around.new in
+        SetsOut (disks_of D.Disk) start outset → HasScanned start folder →
+        IsSome earlier.moments →
         AllByRecursion (λ wire. IsSome (W.outcomes wire)) around.new.wires.now.items →
-        IfOk result (λ worked. AccountedOver
-        (disk_words D.contents D.images D.moment D.images_since D.faults)
-        context.entry.settings.now storing.old.keeper.now.store.rows
-        scanned.entry.now.listed.items (length folder.scanned.events) (record {
-          before = record {
-            folder = Some folder.earlier;
-            moments = earlier.moments;
-            outcomes = map W.outcomes around.old.wires.now.items;
-            a = earlier.a;
-            b = earlier.b;
-          };
-          after = record {
-            folder = F.told around.new.folder.now;
-            moments = K.moments around.new.clock.now;
-            outcomes = map W.outcomes around.new.wires.now.items;
-            a = storing.new.a.now;
-            b = storing.new.b.now;
-          };
-        }) worked.met worked.passed.items
+        IfOk result (λ worked. AccountedOver (disks_of D.Disk) outset.settings start.opening
+        outset.listed (length folder.scanned.events) objects worked.met worked.passed.items
         storing.new.keeper.now.shipped storing.new.keeper.now.dropped) }
     ensures is_open { IfOk result (λ worked.
         AreLeft worked.met → storing.new.keeper.now.store.closed ≡ false) }
     ensures cause { IfOk result (λ worked. IsMetByRun context.entry.settings.now.output.workers
         (length scanned.entry.now.listed.items)
-        (record {
-          a_faults = D.faults storing.old.a.now;
-          b_faults = D.faults storing.old.b.now;
-          folder_faults = F.faults around.old.folder.now;
-          rings = B.rings around.old.bell.now;
-        })
-        (record {
-          a_faults = D.faults storing.new.a.now;
-          b_faults = D.faults storing.new.b.now;
-          folder_faults = F.faults around.new.folder.now;
-          rings = B.rings around.new.bell.now;
-        }) worked.met) }
+        (tolls_of F.Folder D.Disk B.Bell storing.old around.old)
+        (tolls_of F.Folder D.Disk B.Bell storing.new around.new) worked.met) }
     // A file that is said to have no numbers told none as it was opened.
     ensures unnumbered { IfOk result (λ worked. IsMetUnnumbered context.entry.settings.now
         scanned.entry.now.listed.items (F.told around.old.folder.now)
@@ -202,11 +105,10 @@ where
     // A worker that is called unreachable failed as often in a row as it may, by the outcomes of its wire since the run began, and
     // by the moments that the clock gave from this one on.
     ensures failing { (earlier : ℕ) →
+        let output = context.entry.settings.now.output in
         IfSome (K.moments around.old.clock.now) (λ moments. earlier < length moments) →
-        IfOk result (λ worked. FailedAsMet (wire_words W.outcomes W.open_links W.faults W.idles)
-        context.entry.settings.now.output.attempts context.entry.settings.now.output.timeout
-        earlier (counts_told (wire_words W.outcomes W.open_links W.faults W.idles)
-        context.entry.settings.now.output.workers around.old.wires.now.items)
+        IfOk result (λ worked. FailedAsMet (wires_of W.Wire) output.attempts output.timeout earlier
+        (counts_told (wires_of W.Wire) output.workers around.old.wires.now.items)
         (K.moments around.new.clock.now) around.new.wires.now.items worked.met) }
     ensures a_faults_never_fall { D.faults storing.old.a.now ≤ D.faults storing.new.a.now }
     ensures b_faults_never_fall { D.faults storing.old.b.now ≤ D.faults storing.new.b.now }
@@ -226,9 +128,8 @@ where
         × (around.new.folder.now ≡ around.old.folder.now)
         × (around.new.clock.now ≡ around.old.clock.now)
         × (around.new.bell.now ≡ around.old.bell.now)) }
-    ensures back { OnErr result
-        (all_seen (wire_words W.outcomes W.open_links W.faults W.idles) around.new.wires.now.items
-        ≡ all_seen (wire_words W.outcomes W.open_links W.faults W.idles) around.old.wires.now.items) }
+    ensures back { OnErr result (all_seen (wires_of W.Wire) around.new.wires.now.items
+        ≡ all_seen (wires_of W.Wire) around.old.wires.now.items) }
     ensures same_keeper { storing.new.keeper.ghost_name ≡ storing.old.keeper.ghost_name }
     ensures same_a { storing.new.a.ghost_name ≡ storing.old.a.ghost_name }
     ensures same_b { storing.new.b.ghost_name ≡ storing.old.b.ghost_name }

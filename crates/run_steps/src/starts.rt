@@ -69,8 +69,10 @@ fn start_at(
     place: usize,
 ) -> Result<Start, JoinError>
     requires few_listed { place < 65_536 }
-    ensures started { IfOk result (λ start. start ≡ start_of listed.now.size (option_copied row.entry)) }
-    ensures room { OnOk result (full_for files place listed.now.size (option_copied row.entry) ≡ None) }
+    ensures started { IfOk result (λ start.
+        start ≡ start_of listed.now.size (option_copied row.entry)) }
+    ensures room { OnOk result
+        (full_for files place listed.now.size (option_copied row.entry) ≡ None) }
     ensures few { OnOk result (IsNone row.entry → files < 65_536) }
     ensures refused { IfErr result (IsTooManyAt files place listed.now (option_copied row.entry)) }
 {

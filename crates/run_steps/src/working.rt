@@ -1,34 +1,32 @@
-ghost use Rattle.std.specs.Prelude.{◌≡◌, ◌⊎◌, ◌+◌, ◌-◌, ◌^◌, ◌<◌, ◌≤◌, All, ℕ, IfErr, IfOk, List, Option, Result, false, length, vec_capacity, vec_len};
+ghost use Rattle.std.specs.Prelude.{◌≡◌, ◌⊎◌, ◌+◌, ◌-◌, ◌^◌, ◌<◌, ◌≤◌, ℕ, IfErr, IfOk, List, Option, Result, Some, false, length, vec_capacity, vec_len};
 ghost use Rattle.keeper.specs.Collecting.{Collects};
 ghost use Rattle.outside.specs.Counts.{Rose};
-ghost use Rattle.outside.specs.Folders.{Event, FolderHistory};
+ghost use Rattle.outside.specs.Folders.{Event};
 ghost use Rattle.rounds.specs.Crewed.{lanings};
 ghost use Rattle.rounds.specs.Crewing.{crewing};
 ghost use Rattle.rounds.specs.KeeperTurns.{SameObjects, StillTell};
-ghost use Rattle.rounds.specs.Rounds.{IsAble, IsReady};
-ghost use Rattle.rounds.specs.Settled.{AreSettledIn};
-ghost use Rattle.rounds.specs.Settling.{ArePostsCounted};
-ghost use Rattle.rounds.specs.Staying.{AreAsMany, begins_of};
-ghost use Rattle.rounds.specs.Words.{disk_words, link_words, tail_words, wire_words, words};
 ghost use Rattle.run_steps.specs.Areas.{BeganAtRest, IsAtRest};
 ghost use Rattle.run_steps.specs.Began.{Began};
-ghost use Rattle.run_steps.specs.CarriersFail.{AreFailing, FailOn, FailedAsMet, LinksStay, sending};
-ghost use Rattle.run_steps.specs.CarriersGoOn.{CarriersGoOn, WiresReturn};
+ghost use Rattle.run_steps.specs.CarriersFail.{AreFailing, FailedAsMet, sending};
+ghost use Rattle.run_steps.specs.CarriersGoOn.{WiresReturn};
 ghost use Rattle.run_steps.specs.ClockOn.{MomentsGoOn};
-ghost use Rattle.run_steps.specs.Ends.{IsAllSettled};
+ghost use Rattle.run_steps.specs.Goes.{Goes, step_words, stop_at};
+ghost use Rattle.run_steps.specs.LastSteps.{LastSteps};
+ghost use Rattle.run_steps.specs.Lent.{ending_of, tolls_of};
 ghost use Rattle.run_steps.specs.Met.{AreLeft, IsTelling};
-ghost use Rattle.run_steps.specs.MetBy.{IsMetBy};
+ghost use Rattle.run_steps.specs.MetBy.{since_of};
 ghost use Rattle.run_steps.specs.MetIn.{NoneFailed};
-ghost use Rattle.run_steps.specs.Onward.{Onward};
-ghost use Rattle.run_steps.specs.Releasing.{HasNoHarvesters, harvesters_of, with_events};
+ghost use Rattle.run_steps.specs.Readiness.{IsAbleIn, IsReadyIn};
+ghost use Rattle.run_steps.specs.Releasing.{harvesters_of, with_events};
 ghost use Rattle.run_steps.specs.RunEnds.{HasEnded};
 ghost use Rattle.run_steps.specs.RunState.{Phase, within};
-ghost use Rattle.run_steps.specs.Settling.{IsMetByStoring};
 ghost use Rattle.run_steps.specs.SoFar.{SoFar};
 ghost use Rattle.run_steps.specs.Stands.{Stands};
-ghost use Rattle.run_steps.specs.Worked.{HasPassed, IsBeginEnd, IsBegunWith, IsFollowedBy, IsWorkedBy, NeverFall, phase_begun, phase_worked};
+ghost use Rattle.rounds.specs.WordsOf.{disks_of, links_of, tails_of, wires_of, words_of};
+ghost use Rattle.run_steps.specs.Worked.{HasPassed, IsBegunWith, IsFollowedBy, IsWorkedBy, NeverFall, phase_begun, phase_worked};
 ghost use Rattle.run_steps.specs.declared.met.Met.TheVariants.{Stopped};
 
+use crate::begin_error::BeginError;
 use crate::context::{Context, Surroundings};
 use crate::leave::{end_crew, release_all};
 use crate::met::Met;
@@ -61,41 +59,27 @@ pub fn work<
 >(
     rt: &X,
     context: Context<'_, '_>,
-    begun: Result<Vec<Passing>, Met>,
+    begun: Result<Vec<Passing>, BeginError>,
     mut crew: Crew<F::Tail, W, L>,
     storing: &mut Storing<'_, D>,
     around: &mut Surroundings<F, W, K, B>,
 ) -> Worked
 where
     F::Tail: Send,
-    requires ready { IsReady (tail_words F.Tail.numbers F.Tail.told F.Tail.faults)
-        context.outlets.queue.now.id context.outlets.desk.now.id (crewing crew storing.old) }
+    requires ready { IsReadyIn (tails_of F.Tail.Tail) context (crewing crew storing.old) }
     requires few { length crew.carriers.items ≤ 2 ^ 32 - 1 }
-    requires begins { IfErr begun IsBeginEnd }
     requires room { vec_len crew.carriers + vec_len around.old.wires.now
         ≤ vec_capacity around.old.wires.now }
-    // What stood as the files were begun stands at the end, and by it the run is accounted for.
-    ensures ends { (start : Began D) (so_far : SoFar) → Stands (words (tail_words F.Tail.numbers F.Tail.told F.Tail.faults)
-        (link_words L.told L.faults L.idles)
-        (wire_words W.outcomes W.open_links W.faults W.idles)
-        (disk_words D.contents D.images D.moment D.images_since D.faults))
-        start (within (F.told around.old.folder.now) (K.moments around.old.clock.now)
-        crew storing.old (phase_begun begun)) so_far →
-        (BeganAtRest (disk_words D.contents D.images D.moment D.images_since D.faults) start →
-        IsAtRest (disk_words D.contents D.images D.moment D.images_since D.faults)
-        storing.old.keeper.now storing.old.a.now storing.old.b.now) →
-        (phase : Phase) × HasEnded (words (tail_words F.Tail.numbers F.Tail.told F.Tail.faults)
-        (link_words L.told L.faults L.idles)
-        (wire_words W.outcomes W.open_links W.faults W.idles)
-        (disk_words D.contents D.images D.moment D.images_since D.faults))
-        start (record {
-          shown = F.told around.new.folder.now;
-          moments = K.moments around.new.clock.now;
-          keeper = storing.new.keeper.now;
-          a = storing.new.a.now;
-          b = storing.new.b.now;
-          phase = phase;
-        }) result.met
+    // What was known of the run as its files were begun is known at the end, and by it the run is accounted for.
+    ensures ends { (start : Began D) (so_far : SoFar) →
+        let all = words_of F.Tail.Tail L.Link W.Wire D.Disk in
+        let shown = F.told around.old.folder.now in
+        let moments = K.moments around.old.clock.now in
+        Stands all start (within shown moments crew storing.old (phase_begun begun)) so_far →
+        (BeganAtRest all.disks start →
+        IsAtRest all.disks storing.old.keeper.now storing.old.a.now storing.old.b.now) →
+        (phase : Phase) × HasEnded all start
+        (ending_of F.Folder K.Clock storing.new around.new phase) result.met
         around.old.wires.now.items around.new.wires.now.items }
     // The folder's list grows.
     ensures told { (events : List Event) ×
@@ -111,44 +95,22 @@ where
     ensures is_open { AreLeft result.met → storing.new.keeper.now.store.closed ≡ false }
     ensures passed { HasPassed begun result.passed.items }
     ensures cause { IsBegunWith begun result.met ⊎ IsWorkedBy crew
-        (record {
-          a_faults = D.faults storing.old.a.now;
-          b_faults = D.faults storing.old.b.now;
-          folder_faults = F.faults around.old.folder.now;
-          rings = B.rings around.old.bell.now;
-        })
-        (record {
-          a_faults = D.faults storing.new.a.now;
-          b_faults = D.faults storing.new.b.now;
-          folder_faults = F.faults around.new.folder.now;
-          rings = B.rings around.new.bell.now;
-        }) result.met }
+        (tolls_of F.Folder D.Disk B.Bell storing.old around.old)
+        (tolls_of F.Folder D.Disk B.Bell storing.new around.new) result.met }
     // A worker that is called unreachable failed as often in a row as it may.
-    ensures failing { (timeout earlier : ℕ) (starts : List (Option ℕ)) → 0 < timeout →
-        NoneFailed context.entry.settings.now.output.attempts crew.carriers.items →
-        AreFailing (link_words L.told L.faults L.idles)
-        (wire_words W.outcomes W.open_links W.faults W.idles)
-        context.entry.settings.now.output.attempts timeout earlier starts
+    ensures failing { (timeout earlier : ℕ) (starts : List (Option ℕ)) →
+        let attempts = context.entry.settings.now.output.attempts in
+        0 < timeout → NoneFailed attempts crew.carriers.items →
+        AreFailing (links_of L.Link) (wires_of W.Wire) attempts timeout earlier starts
         (sending (K.moments around.old.clock.now) crew.carriers.items) →
-        FailedAsMet (wire_words W.outcomes W.open_links W.faults W.idles)
-        context.entry.settings.now.output.attempts timeout earlier starts
+        FailedAsMet (wires_of W.Wire) attempts timeout earlier starts
         (K.moments around.new.clock.now) around.new.wires.now.items result.met }
     // The workers' wires come back, each without an open link of its worker.
-    ensures wires_return { WiresReturn (wire_words W.outcomes W.open_links W.faults W.idles)
+    ensures wires_return { WiresReturn (wires_of W.Wire)
         crew.carriers.items around.old.wires.now.items around.new.wires.now.items }
     ensures never_fall { NeverFall
-        (record {
-          a_faults = D.faults storing.old.a.now;
-          b_faults = D.faults storing.old.b.now;
-          folder_faults = F.faults around.old.folder.now;
-          rings = B.rings around.old.bell.now;
-        })
-        (record {
-          a_faults = D.faults storing.new.a.now;
-          b_faults = D.faults storing.new.b.now;
-          folder_faults = F.faults around.new.folder.now;
-          rings = B.rings around.new.bell.now;
-        }) }
+        (tolls_of F.Folder D.Disk B.Bell storing.old around.old)
+        (tolls_of F.Folder D.Disk B.Bell storing.new around.new) }
     ensures collects { Collects storing.old.keeper.now storing.new.keeper.now }
     ensures same_objects { SameObjects storing.old storing.new }
     ensures still_tell { StillTell D.contents storing.old storing.new }
@@ -180,76 +142,31 @@ pub fn follow_begun<
 >(
     rt: &R,
     context: Context<'_, '_>,
-    begun: Result<Vec<Passing>, Met>,
+    begun: Result<Vec<Passing>, BeginError>,
     crew: &mut Crew<T, W, L>,
     storing: &mut Storing<'_, D>,
     signals: &mut Signals<'_, K, B>,
 ) -> Worked
-    requires ready { IsReady (tail_words T.numbers T.told T.faults) context.outlets.queue.now.id
-        context.outlets.desk.now.id (crewing crew.old storing.old) }
+    requires ready { IsReadyIn (tails_of T.Tail) context (crewing crew.old storing.old) }
     requires few { length crew.old.carriers.items ≤ 2 ^ 32 - 1 }
-    ensures onward { (shown : Option FolderHistory) → Onward (words (tail_words T.numbers T.told T.faults)
-        (link_words L.told L.faults L.idles)
-        (wire_words W.outcomes W.open_links W.faults W.idles)
-        (disk_words D.contents D.images D.moment D.images_since D.faults))
-        (within shown (K.moments signals.old.clock.now) crew.old storing.old
-        (phase_begun begun))
-        (within shown (K.moments signals.new.clock.now) crew.new storing.new
-        (phase_worked begun result.met)) }
-    ensures at_rest { AreLeft result.met →
-        IsAtRest (disk_words D.contents D.images D.moment D.images_since D.faults)
-        storing.old.keeper.now storing.old.a.now storing.old.b.now →
-        IsAtRest (disk_words D.contents D.images D.moment D.images_since D.faults)
-        storing.new.keeper.now storing.new.a.now storing.new.b.now }
-    ensures ready { AreLeft result.met →
-        IsReady (tail_words T.numbers T.told T.faults) context.entry.outlets.queue.now.id
-        context.entry.outlets.desk.now.id (crewing crew.new storing.new) }
-    ensures able { IsAble (tail_words T.numbers T.told T.faults)
-        context.entry.outlets.queue.now.id context.entry.outlets.desk.now.id
-        (crewing crew.new storing.new) }
+    ensures goes { Goes (step_words T.Tail L.Link W.Wire D.Disk K.Clock B.Bell) context.entry
+        (Some result.met) (stop_at (phase_begun begun) crew.old storing.old signals.old)
+        (stop_at (phase_worked begun result.met) crew.new storing.new signals.new) }
     ensures passed { HasPassed begun result.passed.items }
-    ensures met { IsFollowedBy (tail_words T.numbers T.told T.faults)
-        (disk_words D.contents D.images D.moment D.images_since D.faults)
+    ensures met { IsFollowedBy (tails_of T.Tail) (disks_of D.Disk)
         context.entry.settings.now.output.attempts
-        (record {
-          a = storing.old.a.now;
-          b = storing.old.b.now;
-          now = crewing crew.new storing.new;
-        }) begun result.met }
+        (since_of storing.old (crewing crew.new storing.new)) begun result.met }
     ensures stopped { IfOk begun (λ _. result.met ≡ Stopped →
         Rose (B.rings signals.old.bell.now) (B.rings signals.new.bell.now)) }
-    // Workers that failed so before it fail so behind it.
-    ensures failing { FailOn (link_words L.told L.faults L.idles)
-        (wire_words W.outcomes W.open_links W.faults W.idles)
-        context.entry.settings.now.output.attempts
-        (sending (K.moments signals.old.clock.now) crew.old.carriers.items)
-        (sending (K.moments signals.new.clock.now) crew.new.carriers.items) }
-    // The workers' wires go on, and so do the counts of their links.
-    ensures carriers_go_on { CarriersGoOn
-        (wire_words W.outcomes W.open_links W.faults W.idles)
-        crew.old.carriers.items crew.new.carriers.items }
-    ensures as_many { AreAsMany (crewing crew.old storing.old) (crewing crew.new storing.new) }
-    ensures slots { begins_of (lanings crew.new.lanes.items)
-        ≡ begins_of (lanings crew.old.lanes.items) }
-    ensures a_faults_never_fall { D.faults storing.old.a.now ≤ D.faults storing.new.a.now }
-    ensures b_faults_never_fall { D.faults storing.old.b.now ≤ D.faults storing.new.b.now }
-    ensures rings_never_fall { B.rings signals.old.bell.now ≤ B.rings signals.new.bell.now }
-    ensures clock_goes_on { MomentsGoOn (K.moments signals.old.clock.now)
-        (K.moments signals.new.clock.now) }
-    ensures collects { Collects storing.old.keeper.now storing.new.keeper.now }
-    ensures same_objects { SameObjects storing.old storing.new }
-    ensures still_tell { StillTell D.contents storing.old storing.new }
-    ensures same_clock { signals.new.clock.ghost_name ≡ signals.old.clock.ghost_name }
-    ensures same_bell { signals.new.bell.ghost_name ≡ signals.old.bell.ghost_name }
 {
     match begun {
         Ok(passed) => Worked {
             passed,
             met: follow_all(rt, context, crew, storing, signals),
         },
-        Err(met) => Worked {
+        Err(error) => Worked {
             passed: Vec::new(context.alloc),
-            met,
+            met: Met::from(error),
         },
     }
 }
@@ -269,49 +186,13 @@ pub fn settle_after<
     storing: &mut Storing<'_, D>,
 ) -> Worked
     requires ready { AreLeft worked.met →
-        IsReady (tail_words T.numbers T.told T.faults) context.outlets.queue.now.id
-        context.outlets.desk.now.id (crewing crew.old storing.old) }
-    requires able { IsAble (tail_words T.numbers T.told T.faults) context.outlets.queue.now.id
-        context.outlets.desk.now.id (crewing crew.old storing.old) }
-    ensures onward { (shown : Option FolderHistory) (moments : Option (List ℕ)) (phase : Phase) →
-        Onward (words (tail_words T.numbers T.told T.faults)
-        (link_words L.told L.faults L.idles)
-        (wire_words W.outcomes W.open_links W.faults W.idles)
-        (disk_words D.contents D.images D.moment D.images_since D.faults))
-        (within shown moments crew.old storing.old phase)
-        (within shown moments crew.new storing.new phase) }
+        IsReadyIn (tails_of T.Tail) context (crewing crew.old storing.old) }
+    requires able { IsAbleIn (tails_of T.Tail) context (crewing crew.old storing.old) }
     ensures passed { result.passed ≡ worked.passed }
-    ensures met { (result.met ≡ worked.met) ⊎ IsMetByStoring
-        (disk_words D.contents D.images D.moment D.images_since D.faults)
-        (record {
-          a = storing.old.a.now;
-          b = storing.old.b.now;
-          new_a = storing.new.a.now;
-          new_b = storing.new.b.now;
-        }) result.met }
-    ensures still { ¬ AreLeft worked.met → (crew.new ≡ crew.old) × (storing.new ≡ storing.old) }
-    ensures settled { AreLeft result.met → AreSettledIn crew.new storing.new.keeper.now }
-    ensures counted { AreLeft result.met → ArePostsCounted crew.new }
-    ensures is_open { AreLeft result.met → storing.new.keeper.now.store.closed ≡ false }
-    ensures at_rest { AreLeft result.met →
-        IsAtRest (disk_words D.contents D.images D.moment D.images_since D.faults)
-        storing.old.keeper.now storing.old.a.now storing.old.b.now →
-        IsAtRest (disk_words D.contents D.images D.moment D.images_since D.faults)
-        storing.new.keeper.now storing.new.a.now storing.new.b.now }
-    ensures able { IsAble (tail_words T.numbers T.told T.faults)
-        context.entry.outlets.queue.now.id context.entry.outlets.desk.now.id
-        (crewing crew.new storing.new) }
-    ensures no_harvesters { All HasNoHarvesters (lanings crew.old.lanes.items) →
-        All HasNoHarvesters (lanings crew.new.lanes.items) }
-    ensures all_settled { IsAllSettled (lanings crew.old.lanes.items) storing.old.keeper.now →
-        IsAllSettled (lanings crew.new.lanes.items) storing.new.keeper.now }
-    ensures links_stay { LinksStay crew.old.carriers.items crew.new.carriers.items }
-    ensures as_many { AreAsMany (crewing crew.old storing.old) (crewing crew.new storing.new) }
-    ensures a_faults_never_fall { D.faults storing.old.a.now ≤ D.faults storing.new.a.now }
-    ensures b_faults_never_fall { D.faults storing.old.b.now ≤ D.faults storing.new.b.now }
-    ensures collects { Collects storing.old.keeper.now storing.new.keeper.now }
-    ensures same_objects { SameObjects storing.old storing.new }
-    ensures still_tell { StillTell D.contents storing.old storing.new }
+    ensures still { ¬ AreLeft worked.met →
+        (crew.new ≡ crew.old) × (storing.new ≡ storing.old) }
+    ensures last { LastSteps (words_of T.Tail L.Link W.Wire D.Disk) context.entry worked.met
+        result.met (crewing crew.old storing.old) (crewing crew.new storing.new) }
 {
     let Worked { passed, met } = worked;
     let met = settle_where_left(rt, context, met, crew, storing);
@@ -333,48 +214,11 @@ fn settle_where_left<
     storing: &mut Storing<'_, D>,
 ) -> Met
     requires ready { AreLeft met →
-        IsReady (tail_words T.numbers T.told T.faults) context.outlets.queue.now.id
-        context.outlets.desk.now.id (crewing crew.old storing.old) }
-    requires able { IsAble (tail_words T.numbers T.told T.faults) context.outlets.queue.now.id
-        context.outlets.desk.now.id (crewing crew.old storing.old) }
-    ensures onward { (shown : Option FolderHistory) (moments : Option (List ℕ)) (phase : Phase) →
-        Onward (words (tail_words T.numbers T.told T.faults)
-        (link_words L.told L.faults L.idles)
-        (wire_words W.outcomes W.open_links W.faults W.idles)
-        (disk_words D.contents D.images D.moment D.images_since D.faults))
-        (within shown moments crew.old storing.old phase)
-        (within shown moments crew.new storing.new phase) }
-    ensures met { (result ≡ met) ⊎ IsMetByStoring
-        (disk_words D.contents D.images D.moment D.images_since D.faults)
-        (record {
-          a = storing.old.a.now;
-          b = storing.old.b.now;
-          new_a = storing.new.a.now;
-          new_b = storing.new.b.now;
-        }) result }
+        IsReadyIn (tails_of T.Tail) context (crewing crew.old storing.old) }
+    requires able { IsAbleIn (tails_of T.Tail) context (crewing crew.old storing.old) }
     ensures still { ¬ AreLeft met → (crew.new ≡ crew.old) × (storing.new ≡ storing.old) }
-    ensures settled { AreLeft result → AreSettledIn crew.new storing.new.keeper.now }
-    ensures counted { AreLeft result → ArePostsCounted crew.new }
-    ensures is_open { AreLeft result → storing.new.keeper.now.store.closed ≡ false }
-    ensures at_rest { AreLeft result →
-        IsAtRest (disk_words D.contents D.images D.moment D.images_since D.faults)
-        storing.old.keeper.now storing.old.a.now storing.old.b.now →
-        IsAtRest (disk_words D.contents D.images D.moment D.images_since D.faults)
-        storing.new.keeper.now storing.new.a.now storing.new.b.now }
-    ensures able { IsAble (tail_words T.numbers T.told T.faults)
-        context.entry.outlets.queue.now.id context.entry.outlets.desk.now.id
-        (crewing crew.new storing.new) }
-    ensures no_harvesters { All HasNoHarvesters (lanings crew.old.lanes.items) →
-        All HasNoHarvesters (lanings crew.new.lanes.items) }
-    ensures all_settled { IsAllSettled (lanings crew.old.lanes.items) storing.old.keeper.now →
-        IsAllSettled (lanings crew.new.lanes.items) storing.new.keeper.now }
-    ensures links_stay { LinksStay crew.old.carriers.items crew.new.carriers.items }
-    ensures as_many { AreAsMany (crewing crew.old storing.old) (crewing crew.new storing.new) }
-    ensures a_faults_never_fall { D.faults storing.old.a.now ≤ D.faults storing.new.a.now }
-    ensures b_faults_never_fall { D.faults storing.old.b.now ≤ D.faults storing.new.b.now }
-    ensures collects { Collects storing.old.keeper.now storing.new.keeper.now }
-    ensures same_objects { SameObjects storing.old storing.new }
-    ensures still_tell { StillTell D.contents storing.old storing.new }
+    ensures last { LastSteps (words_of T.Tail L.Link W.Wire D.Disk) context.entry met result
+        (crewing crew.old storing.old) (crewing crew.new storing.new) }
 {
     match met {
         Met::NoMemory | Met::DiskFault => met,

@@ -3,7 +3,7 @@ use Rattle.beat_config.specs.Document.{AreSettingsOf, IsFirstFault}
 use Rattle.prospect.specs.Lacks.{IsFirstLack}
 use Rattle.report.specs.declared.status.Status.{Status}
 use Rattle.report.specs.declared.status.Status.TheVariants.{Usage}
-use Rattle.rounds.specs.Words.{disk_words}
+use Rattle.rounds.specs.WordsOf.{disks_of}
 use Rattle.run_steps.proofs.Clocks.{clock_stays}
 use Rattle.run_steps.proofs.HeldRows.{rows_held_as_read}
 use Rattle.beat_run.specs.Ended.{ended}
@@ -26,7 +26,7 @@ returns-in-Err-clause-cause g c = prepare_caused _ _ _ _ c.in-Err.status c.in-Er
 
 pub returns-in-Err-clause-accounted : goal.returns-in-Err-clause-accounted
 returns-in-Err-clause-accounted g c = λ all.
-    let disks = disk_words g.D.Disk.contents g.D.Disk.images g.D.Disk.moment g.D.Disk.images_since g.D.Disk.faults in
+    let disks = disks_of g.D.Disk in
     let a = c.args.outside.now.a.now in
     let b = c.args.outside.now.b.now in
     record {
@@ -68,18 +68,7 @@ returns-clause-cause g c = caused_by_named _ c.in-Ok.settings _ _ _ _ (ended c.r
 
 -- so only the areas refuse the run
 
-pub returns-clause-a_only_read_where_refused : goal.returns-clause-a_only_read_where_refused
-returns-clause-a_only_read_where_refused g c =
-    refused_by_areas _ (g.R.Source.left c.args.source.now) _ _ _ c.in-Ok.ensures.other_words_refused c.in-Ok.ensures.unbuilt_refused c.in-Ok.ensures.fault_refused c.in-Ok.ensures.key_refused c.run_settings.ensures.a_only_read_where_areas_are_refused
-
-pub returns-clause-b_only_read_where_refused : goal.returns-clause-b_only_read_where_refused
-returns-clause-b_only_read_where_refused g c =
-    refused_by_areas _ (g.R.Source.left c.args.source.now) _ _ _ c.in-Ok.ensures.other_words_refused c.in-Ok.ensures.unbuilt_refused c.in-Ok.ensures.fault_refused c.in-Ok.ensures.key_refused c.run_settings.ensures.b_only_read_where_areas_are_refused
-
-pub returns-clause-folder_kept_where_refused : goal.returns-clause-folder_kept_where_refused
-returns-clause-folder_kept_where_refused g c =
-    refused_by_areas _ (g.R.Source.left c.args.source.now) _ _ _ c.in-Ok.ensures.other_words_refused c.in-Ok.ensures.unbuilt_refused c.in-Ok.ensures.fault_refused c.in-Ok.ensures.key_refused c.run_settings.ensures.folder_kept_where_areas_are_refused
-
-pub returns-clause-wires_kept_where_refused : goal.returns-clause-wires_kept_where_refused
-returns-clause-wires_kept_where_refused g c =
-    refused_by_areas _ (g.R.Source.left c.args.source.now) _ _ _ c.in-Ok.ensures.other_words_refused c.in-Ok.ensures.unbuilt_refused c.in-Ok.ensures.fault_refused c.in-Ok.ensures.key_refused c.run_settings.ensures.wires_kept_where_areas_are_refused
+pub returns-clause-untouched_where_refused : goal.returns-clause-untouched_where_refused
+returns-clause-untouched_where_refused g c =
+    refused_by_areas _ (g.R.Source.left c.args.source.now) _ _ _ c.in-Ok.ensures.other_words_refused c.in-Ok.ensures.unbuilt_refused c.in-Ok.ensures.fault_refused c.in-Ok.ensures.key_refused
+    c.run_settings.ensures.untouched_where_areas_are_refused

@@ -1,7 +1,7 @@
 use Rattle.std.proofs.Common.{◌≡◌, ◌∙◌, ℕ, List, map, Err, ap, refl, subst, sym}
 use Rattle.report.specs.declared.status.Status.{Status}
 use Rattle.report.specs.declared.status.Status.TheVariants.{DiskFault, NoMemory, RegistryBad}
-use Rattle.rounds.specs.Words.{disk_words}
+use Rattle.rounds.specs.WordsOf.{disks_of}
 use Rattle.run_steps.specs.declared.registry_error.RegistryError.{RegistryError}
 use Rattle.run_steps.proofs.Clocks.{clock_stays}
 use Rattle.run_steps.proofs.HeldRows.{some_of}
@@ -45,7 +45,7 @@ returns-in-Err-clause-cause g c = registry_caused c.args.settings.now _ _ c.in-E
 
 pub returns-in-Err-clause-accounted : goal.returns-in-Err-clause-accounted
 returns-in-Err-clause-accounted g c = λ all.
-    let disks = disk_words g.D.Disk.contents g.D.Disk.images g.D.Disk.moment g.D.Disk.images_since g.D.Disk.faults in
+    let disks = disks_of g.D.Disk in
     let a = c.args.outside.now.a.now in
     let b = c.args.outside.now.b.now in
     still disks c.one_choice.ensures c.args.settings.now all.areas.rows a b c.open_registry.new.a c.open_registry.new.b (rows_given disks a b all.areas)
@@ -83,7 +83,7 @@ returns-in-Ok-clause-wires_kept_where_areas_are_refused g c = λ first second ar
 pub returns-in-Ok-clause-cause : goal.returns-in-Ok-clause-cause
 returns-in-Ok-clause-cause g c =
     let from : Areas g.row.D.Denot = record { a = c.args.outside.now.a.now; b = c.args.outside.now.b.now } in
-    let opened : IsOpenedFrom (disk_words g.D.Disk.contents g.D.Disk.images g.D.Disk.moment g.D.Disk.images_since g.D.Disk.faults) from c.in-Ok.store c.open_registry.new.a c.open_registry.new.b = opened_from (disk_words g.D.Disk.contents g.D.Disk.images g.D.Disk.moment g.D.Disk.images_since g.D.Disk.faults)
+    let opened : IsOpenedFrom (disks_of g.D.Disk) from c.in-Ok.store c.open_registry.new.a c.open_registry.new.b = opened_from (disks_of g.D.Disk)
     c.args.outside.now.a.now c.args.outside.now.b.now c.open_registry.new.a c.open_registry.new.b c.in-Ok.store (rw c.in-Ok.is at c.open_registry.ensures.gives)
     (λ first second rows rest a_is b_is gives. c.open_registry.ensures.held first second rows rest a_is b_is gives) (λ rest. rw c.in-Ok.is at c.open_registry.ensures.settled rest) in
     caused_earlier c.args.settings.now _ _ _ _ c.open_registry.ensures.a_faults_never_fall c.open_registry.ensures.b_only_read.faults_kept (ended c.run_store.result)
@@ -92,7 +92,7 @@ returns-in-Ok-clause-cause g c =
 pub returns-in-Ok-clause-accounted : goal.returns-in-Ok-clause-accounted
 returns-in-Ok-clause-accounted g c = λ all.
     let from : Areas g.row.D.Denot = record { a = c.args.outside.now.a.now; b = c.args.outside.now.b.now } in
-    let opened : IsOpenedFrom (disk_words g.D.Disk.contents g.D.Disk.images g.D.Disk.moment g.D.Disk.images_since g.D.Disk.faults) from c.in-Ok.store c.open_registry.new.a c.open_registry.new.b = opened_from (disk_words g.D.Disk.contents g.D.Disk.images g.D.Disk.moment g.D.Disk.images_since g.D.Disk.faults)
+    let opened : IsOpenedFrom (disks_of g.D.Disk) from c.in-Ok.store c.open_registry.new.a c.open_registry.new.b = opened_from (disks_of g.D.Disk)
     c.args.outside.now.a.now c.args.outside.now.b.now c.open_registry.new.a c.open_registry.new.b c.in-Ok.store (rw c.in-Ok.is at c.open_registry.ensures.gives)
     (λ first second rows rest a_is b_is gives. c.open_registry.ensures.held first second rows rest a_is b_is gives) (λ rest. rw c.in-Ok.is at c.open_registry.ensures.settled rest) in
     c.run_store.ensures.accounted from opened (record { folder = all.tell.folder; moments = all.tell.moments; wires = all.tell.wires })
@@ -100,7 +100,7 @@ returns-in-Ok-clause-accounted g c = λ all.
 pub returns-in-Ok-clause-at_rest : goal.returns-in-Ok-clause-at_rest
 returns-in-Ok-clause-at_rest g c = λ some rest followed.
     let from : Areas g.row.D.Denot = record { a = c.args.outside.now.a.now; b = c.args.outside.now.b.now } in
-    let opened : IsOpenedFrom (disk_words g.D.Disk.contents g.D.Disk.images g.D.Disk.moment g.D.Disk.images_since g.D.Disk.faults) from c.in-Ok.store c.open_registry.new.a c.open_registry.new.b = opened_from (disk_words g.D.Disk.contents g.D.Disk.images g.D.Disk.moment g.D.Disk.images_since g.D.Disk.faults)
+    let opened : IsOpenedFrom (disks_of g.D.Disk) from c.in-Ok.store c.open_registry.new.a c.open_registry.new.b = opened_from (disks_of g.D.Disk)
     c.args.outside.now.a.now c.args.outside.now.b.now c.open_registry.new.a c.open_registry.new.b c.in-Ok.store (rw c.in-Ok.is at c.open_registry.ensures.gives)
     (λ first second rows rest a_is b_is gives. c.open_registry.ensures.held first second rows rest a_is b_is gives) (λ rest. rw c.in-Ok.is at c.open_registry.ensures.settled rest) in
     c.run_store.ensures.at_rest from opened some rest followed
@@ -108,7 +108,7 @@ returns-in-Ok-clause-at_rest g c = λ some rest followed.
 pub returns-in-Ok-clause-reported : goal.returns-in-Ok-clause-reported
 returns-in-Ok-clause-reported g c = λ some rest.
     let from : Areas g.row.D.Denot = record { a = c.args.outside.now.a.now; b = c.args.outside.now.b.now } in
-    let opened : IsOpenedFrom (disk_words g.D.Disk.contents g.D.Disk.images g.D.Disk.moment g.D.Disk.images_since g.D.Disk.faults) from c.in-Ok.store c.open_registry.new.a c.open_registry.new.b = opened_from (disk_words g.D.Disk.contents g.D.Disk.images g.D.Disk.moment g.D.Disk.images_since g.D.Disk.faults)
+    let opened : IsOpenedFrom (disks_of g.D.Disk) from c.in-Ok.store c.open_registry.new.a c.open_registry.new.b = opened_from (disks_of g.D.Disk)
     c.args.outside.now.a.now c.args.outside.now.b.now c.open_registry.new.a c.open_registry.new.b c.in-Ok.store (rw c.in-Ok.is at c.open_registry.ensures.gives)
     (λ first second rows rest a_is b_is gives. c.open_registry.ensures.held first second rows rest a_is b_is gives) (λ rest. rw c.in-Ok.is at c.open_registry.ensures.settled rest) in
     c.run_store.ensures.reported from opened some rest

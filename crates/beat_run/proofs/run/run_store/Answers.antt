@@ -4,7 +4,7 @@ use Rattle.keeper.specs.Keeping.{Keeping}
 use Rattle.report.specs.declared.status.Status.TheVariants.{NoMemory}
 use Rattle.rounds.specs.Making.{all_seen}
 use Rattle.rounds.specs.declared.storing.Storing.{Storing}
-use Rattle.rounds.specs.Words.{disk_words, wire_words}
+use Rattle.rounds.specs.WordsOf.{disks_of, wires_of}
 use Rattle.run_steps.proofs.Clocks.{clock_by_two}
 use Rattle.run_steps.proofs.NamedInputs.{inputs_are_askable}
 use Rattle.run_steps.specs.Outset.{began_with}
@@ -43,7 +43,7 @@ returns-in_err-scanned-clause-accounted g c = λ from opened tells.
     let inputs : c.as_slice.result.now ≡ c.args.settings.now.inputs = c.as_slice.ensures in
     let rows : c.rows.result.now ≡ c.args.store.rows = c.rows.ensures.rows in
     let p = err_from_is_err_and c.from_residual.result c.from_residual.ensures.1 in
-    let disks = disk_words g.D.Disk.contents g.D.Disk.images g.D.Disk.moment g.D.Disk.images_since g.D.Disk.faults in
+    let disks = disks_of g.D.Disk in
     rw (p.1, p.2)
     (early disks c.one_choice.ensures c.args.settings.now c.args.store.rows from.a from.b c.args.outside.now.a.now c.args.outside.now.b.now opened.gave opened.held (map g.W.Wire.outcomes c.args.outside.now.wires.now.items)
     (g.F.Folder.told c.args.outside.now.folder.now) (g.F.Folder.told c.scan.new.folder) (g.K.Clock.moments c.args.outside.now.clock.now) (g.K.Clock.moments c.scan.new.clock)
@@ -58,7 +58,7 @@ pub returns-in_err-parts-clause-accounted : goal.returns-in_err-parts-clause-acc
 returns-in_err-parts-clause-accounted g c = λ from opened tells.
     let inputs : c.as_slice.result.now ≡ c.args.settings.now.inputs = c.as_slice.ensures in
     let p = err_from_is_err_and c.from_residual-in_err-parts.result c.from_residual-in_err-parts.ensures.1 in
-    let disks = disk_words g.D.Disk.contents g.D.Disk.images g.D.Disk.moment g.D.Disk.images_since g.D.Disk.faults in
+    let disks = disks_of g.D.Disk in
     rw (p.1, p.2)
     (early disks c.one_choice.ensures c.args.settings.now c.args.store.rows from.a from.b c.args.outside.now.a.now c.args.outside.now.b.now opened.gave opened.held (map g.W.Wire.outcomes c.args.outside.now.wires.now.items)
     (g.F.Folder.told c.args.outside.now.folder.now) (g.F.Folder.told c.scan.new.folder) (g.K.Clock.moments c.args.outside.now.clock.now) (g.K.Clock.moments c.scan.new.clock)
@@ -71,8 +71,8 @@ pub returns-in_err-worked-clause-accounted : goal.returns-in_err-worked-clause-a
 returns-in_err-worked-clause-accounted g c = λ from opened tells.
     let inputs : c.as_slice.result.now ≡ c.args.settings.now.inputs = c.as_slice.ensures in
     let p = err_from_is_err_and c.from_residual-in_err-worked.result c.from_residual-in_err-worked.ensures.1 in
-    let disks = disk_words g.D.Disk.contents g.D.Disk.images g.D.Disk.moment g.D.Disk.images_since g.D.Disk.faults in
-    let wires = wire_words g.W.Wire.outcomes g.W.Wire.open_links g.W.Wire.faults g.W.Wire.idles in
+    let disks = disks_of g.D.Disk in
+    let wires = wires_of g.W.Wire in
     let back = outcomes_seen wires c.run_over.new.around.wires.now.items c.args.outside.now.wires.now.items c.in_err-worked.ensures.back in
     let a_same : c.run_over.new.storing.a.now ≡ c.args.outside.now.a.now = ap (λ (s : Storing g.row.D.Denot). s.a.now) c.in_err-worked.ensures.untouched.0 in
     let b_same : c.run_over.new.storing.b.now ≡ c.args.outside.now.b.now = ap (λ (s : Storing g.row.D.Denot). s.b.now) c.in_err-worked.ensures.untouched.0 in
@@ -88,8 +88,8 @@ pub returns-clause-cause : goal.returns-clause-cause
 returns-clause-cause g c = λ from opened.
     let inputs : c.as_slice.result.now ≡ c.args.settings.now.inputs = c.as_slice.ensures in
     let fin = c.finish.ensures.finished in
-    let disks = disk_words g.D.Disk.contents g.D.Disk.images g.D.Disk.moment g.D.Disk.images_since g.D.Disk.faults in
-    let wires = wire_words g.W.Wire.outcomes g.W.Wire.open_links g.W.Wire.faults g.W.Wire.idles in
+    let disks = disks_of g.D.Disk in
+    let wires = wires_of g.W.Wire in
     let before : Signs = record {
       folder = g.F.Folder.told c.args.outside.now.folder.now;
       moments = g.K.Clock.moments c.args.outside.now.clock.now;
@@ -113,7 +113,7 @@ returns-clause-cause g c = λ from opened.
     (set_out disks wires c.args.settings.now c.requires.in_range
     c.in_ok-parts.parts.desk.id c.in_ok-parts.parts.keeper c.args.store c.in_ok-parts.ensures.keeper c.in_ok-parts.ensures.store c.args.outside.now.wires.now.items from
     c.args.outside.now.a.now c.args.outside.now.b.now opened c.in_ok-scanned.scanned.listed.items c.in_ok-scanned.scanned.doubled.items c.in_ok-scanned.scanned.now.0
-    (g.K.Clock.moments c.args.outside.now.clock.now) (g.K.Clock.moments c.scan.new.clock) c.in_ok-scanned.ensures.moment_given (g.F.Folder.told c.scan.new.folder) (rw inputs at c.in_ok-scanned.ensures.of_inputs))).1.ends.stands.shown)
+    (g.K.Clock.moments c.args.outside.now.clock.now) (g.K.Clock.moments c.scan.new.clock) c.in_ok-scanned.ensures.moment_given (g.F.Folder.told c.scan.new.folder) (rw inputs at c.in_ok-scanned.ensures.of_inputs))).1.ends.stands.files.shown)
     fin.0 c.finish.result
     (met_after_cleaning disks _ _ _ _ fin.2.cleans c.args.settings.now.output.workers (length c.in_ok-scanned.scanned.listed.items) _ _ _ c.run_over.ensures.a_faults_never_fall c.run_over.ensures.b_faults_never_fall
     c.in_ok-worked.ensures.cause)
@@ -128,8 +128,8 @@ returns-clause-accounted g c = λ from opened tells.
     let inputs : c.as_slice.result.now ≡ c.args.settings.now.inputs = c.as_slice.ensures in
     let fin = c.finish.ensures.finished in
     let cleans = fin.2.cleans in
-    let disks = disk_words g.D.Disk.contents g.D.Disk.images g.D.Disk.moment g.D.Disk.images_since g.D.Disk.faults in
-    let wires = wire_words g.W.Wire.outcomes g.W.Wire.open_links g.W.Wire.faults g.W.Wire.idles in
+    let disks = disks_of g.D.Disk in
+    let wires = wires_of g.W.Wire in
     let of = of_these_after_cleaning disks _ _ _ _ cleans (length c.in_ok-scanned.scanned.listed.items) (is_met_of c.args.settings.now.output.workers _ _ _ c.in_ok-worked.worked.met c.in_ok-worked.ensures.cause) in
     let before = earlier disks wires c.args.settings.now c.requires.in_range
     c.in_ok-parts.parts.desk.id c.in_ok-parts.parts.keeper c.args.store c.in_ok-parts.ensures.keeper c.in_ok-parts.ensures.store c.args.outside.now.wires.now.items from
@@ -149,11 +149,11 @@ returns-clause-accounted g c = λ from opened tells.
     (worked disks start c.requires.in_range (map g.W.Wire.outcomes c.args.outside.now.wires.now.items) _ fin.0 c.keeper-2-1.given.0.shipped c.keeper-2-1.given.0.dropped
     c.in_ok-scanned.scanned refl refl c.in_ok-worked.worked.passed.items
     (g.F.Folder.told c.args.outside.now.folder.now) (ended c.finish.result) tells.folder (rw inputs at c.in_ok-scanned.ensures.scanned)
-    (shown_goes_further (g.F.Folder.told c.scan.new.folder) _ _ ends.1.ends.stands.shown)
+    (shown_goes_further (g.F.Folder.told c.scan.new.folder) _ _ ends.1.ends.stands.files.shown)
     (met_for_ending c.in_ok-scanned.scanned.listed.items c.args.settings.now.output.attempts fin.0 c.finish.result of fin.2.stands fin.2.refused)
     (full_for_ending disks c.args.settings.now _ start.opening sets.gave c.in_ok-scanned.scanned.listed.items c.args.settings.now.output.attempts fin.0 c.finish.result of
     (none_after_cleaning disks _ _ _ _ cleans c.args.settings.now start.opening c.in_ok-scanned.scanned.listed.items (g.F.Folder.told c.args.outside.now.folder.now) (g.F.Folder.told c.run_over.new.around.folder.now)
-    (has_none _ start _ _ _ (shown_goes_further (g.F.Folder.told c.scan.new.folder) _ _ ends.1.ends.stands.shown) (g.F.Folder.told c.args.outside.now.folder.now)
+    (has_none _ start _ _ _ (shown_goes_further (g.F.Folder.told c.scan.new.folder) _ _ ends.1.ends.stands.files.shown) (g.F.Folder.told c.args.outside.now.folder.now)
     (parted_told c.args.settings.now.inputs (g.F.Folder.told c.args.outside.now.folder.now) (g.F.Folder.told c.scan.new.folder) c.in_ok-scanned.scanned (rw inputs at c.in_ok-scanned.ensures.scanned))
     c.in_ok-worked.worked.met ends.1))
     fin.2.stands fin.2.refused)
@@ -179,8 +179,8 @@ pub returns-clause-at_rest : goal.returns-clause-at_rest
 returns-clause-at_rest g c = λ from opened some rest followed.
     let inputs : c.as_slice.result.now ≡ c.args.settings.now.inputs = c.as_slice.ensures in
     let fin = c.finish.ensures.finished in
-    let disks = disk_words g.D.Disk.contents g.D.Disk.images g.D.Disk.moment g.D.Disk.images_since g.D.Disk.faults in
-    let wires = wire_words g.W.Wire.outcomes g.W.Wire.open_links g.W.Wire.faults g.W.Wire.idles in
+    let disks = disks_of g.D.Disk in
+    let wires = wires_of g.W.Wire in
     let ends = c.in_ok-worked.ensures.ends
     (earlier disks wires c.args.settings.now c.requires.in_range
     c.in_ok-parts.parts.desk.id c.in_ok-parts.parts.keeper c.args.store c.in_ok-parts.ensures.keeper c.in_ok-parts.ensures.store c.args.outside.now.wires.now.items from
@@ -199,8 +199,8 @@ pub returns-clause-reported : goal.returns-clause-reported
 returns-clause-reported g c = λ from opened some rest.
     let inputs : c.as_slice.result.now ≡ c.args.settings.now.inputs = c.as_slice.ensures in
     let fin = c.finish.ensures.finished in
-    let disks = disk_words g.D.Disk.contents g.D.Disk.images g.D.Disk.moment g.D.Disk.images_since g.D.Disk.faults in
-    let wires = wire_words g.W.Wire.outcomes g.W.Wire.open_links g.W.Wire.faults g.W.Wire.idles in
+    let disks = disks_of g.D.Disk in
+    let wires = wires_of g.W.Wire in
     let ends = c.in_ok-worked.ensures.ends
     (earlier disks wires c.args.settings.now c.requires.in_range
     c.in_ok-parts.parts.desk.id c.in_ok-parts.parts.keeper c.args.store c.in_ok-parts.ensures.keeper c.in_ok-parts.ensures.store c.args.outside.now.wires.now.items from
@@ -218,7 +218,7 @@ returns-clause-reported g c = λ from opened some rest.
 pub returns-clause-ends : goal.returns-clause-ends
 returns-clause-ends g c =
     let fin = c.finish.ensures.finished in
-    let disks = disk_words g.D.Disk.contents g.D.Disk.images g.D.Disk.moment g.D.Disk.images_since g.D.Disk.faults in
+    let disks = disks_of g.D.Disk in
     let of = is_met_of c.args.settings.now.output.workers _ _ _ c.in_ok-worked.worked.met c.in_ok-worked.ensures.cause in
     scanned_ending c.in_ok-scanned.scanned.listed.items c.args.settings.now.output.attempts fin.0 c.finish.result (of_these_after_cleaning disks _ _ _ _ fin.2.cleans (length c.in_ok-scanned.scanned.listed.items) of)
     fin.2.refused c.finish.ensures.without_report

@@ -1,8 +1,7 @@
 use Rattle.std.proofs.Common.{List, refl, subst}
-use Rattle.rounds.specs.Words.{tail_words}
 use Rattle.run_steps.specs.Beginning.{beginning}
-use Rattle.run_steps.specs.FolderSeen.{folder_words}
 use Rattle.run_steps.specs.Telling.{TellMoments, TellSomeMoments}
+use Rattle.rounds.specs.WordsOf.{tails_of}
 use Rattle.wire_base.specs.declared.row.Row.{Row}
 use Rattle.run_steps.proofs.BeginningLists.{all_keep, all_so, ends_told, files_end, files_keep, memory_ends, rows_kept, some_told_keep}
 use Rattle.run_steps.proofs.Unnumbered.{begun_unnumbered, memory_unnumbered}
@@ -10,74 +9,74 @@ use Rattle.run_steps.proofs.beginning.begin_all.Goals as goal
 
 pub returns-in_err-tell_moments-clause-ended : goal.returns-in_err-tell_moments-clause-ended
 returns-in_err-tell_moments-clause-ended g c =
-    ends_told (tail_words g.F.Tail.Tail.numbers g.F.Tail.Tail.told g.F.Tail.Tail.faults) c.args.context.settings.now c.args.keeper.now.store.rows c.args.scanned.now.now c.args.scanned.now.listed.items
-    (beginning (folder_words g.F.Folder.told g.F.Folder.states g.F.Folder.present g.F.Folder.open_tails g.F.Folder.faults) c.args.folder.now c.args.crew.now c.args.keeper.now)
-    (beginning (folder_words g.F.Folder.told g.F.Folder.states g.F.Folder.present g.F.Folder.open_tails g.F.Folder.faults) c.begin_files.new.folder c.begin_files.new.crew c.begin_files.new.keeper)
-    (beginning (folder_words g.F.Folder.told g.F.Folder.states g.F.Folder.present g.F.Folder.open_tails g.F.Folder.faults) c.begin_files.new.folder c.begin_files.new.crew c.tell_moments.new.keeper)
+    ends_told (tails_of g.F.Tail.Tail) c.args.context.settings.now c.args.keeper.now.store.rows c.args.scanned.now.now c.args.scanned.now.listed.items
+    (beginning g.F.Folder c.args.folder.now c.args.crew.now c.args.keeper.now)
+    (beginning g.F.Folder c.begin_files.new.folder c.begin_files.new.crew c.begin_files.new.keeper)
+    (beginning g.F.Folder c.begin_files.new.folder c.begin_files.new.crew c.tell_moments.new.keeper)
     c.from_residual-in_err-tell_moments.result c.in_ok-passed.passed.items c.as_slice.result.now c.from_residual-in_err-tell_moments.ensures.1 c.as_slice.ensures.value
-    c.in_ok-passed.ensures.begun (subst (λ (l : List Row). TellSomeMoments l c.as_slice.result.now c.begin_files.new.keeper c.tell_moments.new.keeper) (rows_kept (tail_words g.F.Tail.Tail.numbers g.F.Tail.Tail.told g.F.Tail.Tail.faults) c.args.context.settings.now c.args.keeper.now.store.rows c.args.scanned.now.now c.args.scanned.now.listed.items
-    c.in_ok-passed.passed.items (beginning (folder_words g.F.Folder.told g.F.Folder.states g.F.Folder.present g.F.Folder.open_tails g.F.Folder.faults) c.args.folder.now c.args.crew.now c.args.keeper.now)
-    (beginning (folder_words g.F.Folder.told g.F.Folder.states g.F.Folder.present g.F.Folder.open_tails g.F.Folder.faults) c.begin_files.new.folder c.begin_files.new.crew c.begin_files.new.keeper) c.in_ok-passed.ensures.begun) c.in_err-tell_moments.ensures.some_told) refl
+    c.in_ok-passed.ensures.begun (subst (λ (l : List Row). TellSomeMoments l c.as_slice.result.now c.begin_files.new.keeper c.tell_moments.new.keeper) (rows_kept (tails_of g.F.Tail.Tail) c.args.context.settings.now c.args.keeper.now.store.rows c.args.scanned.now.now c.args.scanned.now.listed.items
+    c.in_ok-passed.passed.items (beginning g.F.Folder c.args.folder.now c.args.crew.now c.args.keeper.now)
+    (beginning g.F.Folder c.begin_files.new.folder c.begin_files.new.crew c.begin_files.new.keeper) c.in_ok-passed.ensures.begun) c.in_err-tell_moments.ensures.some_told) refl
 
 pub returns-clause-begun : goal.returns-clause-begun
 returns-clause-begun g c =
-    all_so (tail_words g.F.Tail.Tail.numbers g.F.Tail.Tail.told g.F.Tail.Tail.faults) c.args.context.settings.now c.args.keeper.now.store.rows c.args.scanned.now.now c.args.scanned.now.listed.items
-    (beginning (folder_words g.F.Folder.told g.F.Folder.states g.F.Folder.present g.F.Folder.open_tails g.F.Folder.faults) c.args.folder.now c.args.crew.now c.args.keeper.now)
-    (beginning (folder_words g.F.Folder.told g.F.Folder.states g.F.Folder.present g.F.Folder.open_tails g.F.Folder.faults) c.begin_files.new.folder c.begin_files.new.crew c.begin_files.new.keeper)
-    (beginning (folder_words g.F.Folder.told g.F.Folder.states g.F.Folder.present g.F.Folder.open_tails g.F.Folder.faults) c.begin_files.new.folder c.begin_files.new.crew c.tell_moments.new.keeper)
-    c.in_ok-passed.passed.items c.as_slice.result.now c.as_slice.ensures.value c.in_ok-passed.ensures.begun (subst (λ (l : List Row). TellMoments l 0 c.as_slice.result.now c.begin_files.new.keeper c.tell_moments.new.keeper) (rows_kept (tail_words g.F.Tail.Tail.numbers g.F.Tail.Tail.told g.F.Tail.Tail.faults) c.args.context.settings.now c.args.keeper.now.store.rows c.args.scanned.now.now c.args.scanned.now.listed.items
-    c.in_ok-passed.passed.items (beginning (folder_words g.F.Folder.told g.F.Folder.states g.F.Folder.present g.F.Folder.open_tails g.F.Folder.faults) c.args.folder.now c.args.crew.now c.args.keeper.now)
-    (beginning (folder_words g.F.Folder.told g.F.Folder.states g.F.Folder.present g.F.Folder.open_tails g.F.Folder.faults) c.begin_files.new.folder c.begin_files.new.crew c.begin_files.new.keeper) c.in_ok-passed.ensures.begun) c.in_ok-tell_moments.ensures.told) refl
+    all_so (tails_of g.F.Tail.Tail) c.args.context.settings.now c.args.keeper.now.store.rows c.args.scanned.now.now c.args.scanned.now.listed.items
+    (beginning g.F.Folder c.args.folder.now c.args.crew.now c.args.keeper.now)
+    (beginning g.F.Folder c.begin_files.new.folder c.begin_files.new.crew c.begin_files.new.keeper)
+    (beginning g.F.Folder c.begin_files.new.folder c.begin_files.new.crew c.tell_moments.new.keeper)
+    c.in_ok-passed.passed.items c.as_slice.result.now c.as_slice.ensures.value c.in_ok-passed.ensures.begun (subst (λ (l : List Row). TellMoments l 0 c.as_slice.result.now c.begin_files.new.keeper c.tell_moments.new.keeper) (rows_kept (tails_of g.F.Tail.Tail) c.args.context.settings.now c.args.keeper.now.store.rows c.args.scanned.now.now c.args.scanned.now.listed.items
+    c.in_ok-passed.passed.items (beginning g.F.Folder c.args.folder.now c.args.crew.now c.args.keeper.now)
+    (beginning g.F.Folder c.begin_files.new.folder c.begin_files.new.crew c.begin_files.new.keeper) c.in_ok-passed.ensures.begun) c.in_ok-tell_moments.ensures.told) refl
 
 pub returns-in_err-passed-clause-kept : goal.returns-in_err-passed-clause-kept
 returns-in_err-passed-clause-kept g c =
-    files_keep (tail_words g.F.Tail.Tail.numbers g.F.Tail.Tail.told g.F.Tail.Tail.faults) c.args.context.settings.now c.args.keeper.now.store.rows c.args.scanned.now.now c.args.scanned.now.listed.items
-    (beginning (folder_words g.F.Folder.told g.F.Folder.states g.F.Folder.present g.F.Folder.open_tails g.F.Folder.faults) c.args.folder.now c.args.crew.now c.args.keeper.now)
-    (beginning (folder_words g.F.Folder.told g.F.Folder.states g.F.Folder.present g.F.Folder.open_tails g.F.Folder.faults) c.begin_files.new.folder c.begin_files.new.crew c.begin_files.new.keeper)
+    files_keep (tails_of g.F.Tail.Tail) c.args.context.settings.now c.args.keeper.now.store.rows c.args.scanned.now.now c.args.scanned.now.listed.items
+    (beginning g.F.Folder c.args.folder.now c.args.crew.now c.args.keeper.now)
+    (beginning g.F.Folder c.begin_files.new.folder c.begin_files.new.crew c.begin_files.new.keeper)
     c.in_err-passed.field-0.0 c.in_err-passed.ensures.ended
 
 pub returns-in_err-tell_moments-clause-kept : goal.returns-in_err-tell_moments-clause-kept
 returns-in_err-tell_moments-clause-kept g c =
-    some_told_keep (tail_words g.F.Tail.Tail.numbers g.F.Tail.Tail.told g.F.Tail.Tail.faults) c.args.context.settings.now c.args.keeper.now.store.rows c.args.scanned.now.now c.args.scanned.now.listed.items
-    (beginning (folder_words g.F.Folder.told g.F.Folder.states g.F.Folder.present g.F.Folder.open_tails g.F.Folder.faults) c.args.folder.now c.args.crew.now c.args.keeper.now)
-    (beginning (folder_words g.F.Folder.told g.F.Folder.states g.F.Folder.present g.F.Folder.open_tails g.F.Folder.faults) c.begin_files.new.folder c.begin_files.new.crew c.begin_files.new.keeper)
-    (beginning (folder_words g.F.Folder.told g.F.Folder.states g.F.Folder.present g.F.Folder.open_tails g.F.Folder.faults) c.begin_files.new.folder c.begin_files.new.crew c.tell_moments.new.keeper)
-    c.in_ok-passed.passed.items c.as_slice.result.now c.as_slice.ensures.value c.in_ok-passed.ensures.begun (subst (λ (l : List Row). TellSomeMoments l c.as_slice.result.now c.begin_files.new.keeper c.tell_moments.new.keeper) (rows_kept (tail_words g.F.Tail.Tail.numbers g.F.Tail.Tail.told g.F.Tail.Tail.faults) c.args.context.settings.now c.args.keeper.now.store.rows c.args.scanned.now.now c.args.scanned.now.listed.items
-    c.in_ok-passed.passed.items (beginning (folder_words g.F.Folder.told g.F.Folder.states g.F.Folder.present g.F.Folder.open_tails g.F.Folder.faults) c.args.folder.now c.args.crew.now c.args.keeper.now)
-    (beginning (folder_words g.F.Folder.told g.F.Folder.states g.F.Folder.present g.F.Folder.open_tails g.F.Folder.faults) c.begin_files.new.folder c.begin_files.new.crew c.begin_files.new.keeper) c.in_ok-passed.ensures.begun) c.in_err-tell_moments.ensures.some_told) refl
+    some_told_keep (tails_of g.F.Tail.Tail) c.args.context.settings.now c.args.keeper.now.store.rows c.args.scanned.now.now c.args.scanned.now.listed.items
+    (beginning g.F.Folder c.args.folder.now c.args.crew.now c.args.keeper.now)
+    (beginning g.F.Folder c.begin_files.new.folder c.begin_files.new.crew c.begin_files.new.keeper)
+    (beginning g.F.Folder c.begin_files.new.folder c.begin_files.new.crew c.tell_moments.new.keeper)
+    c.in_ok-passed.passed.items c.as_slice.result.now c.as_slice.ensures.value c.in_ok-passed.ensures.begun (subst (λ (l : List Row). TellSomeMoments l c.as_slice.result.now c.begin_files.new.keeper c.tell_moments.new.keeper) (rows_kept (tails_of g.F.Tail.Tail) c.args.context.settings.now c.args.keeper.now.store.rows c.args.scanned.now.now c.args.scanned.now.listed.items
+    c.in_ok-passed.passed.items (beginning g.F.Folder c.args.folder.now c.args.crew.now c.args.keeper.now)
+    (beginning g.F.Folder c.begin_files.new.folder c.begin_files.new.crew c.begin_files.new.keeper) c.in_ok-passed.ensures.begun) c.in_err-tell_moments.ensures.some_told) refl
 
 pub returns-clause-kept : goal.returns-clause-kept
 returns-clause-kept g c =
-    all_keep (tail_words g.F.Tail.Tail.numbers g.F.Tail.Tail.told g.F.Tail.Tail.faults) c.args.context.settings.now c.args.keeper.now.store.rows c.args.scanned.now.now c.args.scanned.now.listed.items
-    (beginning (folder_words g.F.Folder.told g.F.Folder.states g.F.Folder.present g.F.Folder.open_tails g.F.Folder.faults) c.args.folder.now c.args.crew.now c.args.keeper.now)
-    (beginning (folder_words g.F.Folder.told g.F.Folder.states g.F.Folder.present g.F.Folder.open_tails g.F.Folder.faults) c.begin_files.new.folder c.begin_files.new.crew c.tell_moments.new.keeper)
-    c.in_ok-passed.passed.items (all_so (tail_words g.F.Tail.Tail.numbers g.F.Tail.Tail.told g.F.Tail.Tail.faults) c.args.context.settings.now c.args.keeper.now.store.rows c.args.scanned.now.now c.args.scanned.now.listed.items
-    (beginning (folder_words g.F.Folder.told g.F.Folder.states g.F.Folder.present g.F.Folder.open_tails g.F.Folder.faults) c.args.folder.now c.args.crew.now c.args.keeper.now)
-    (beginning (folder_words g.F.Folder.told g.F.Folder.states g.F.Folder.present g.F.Folder.open_tails g.F.Folder.faults) c.begin_files.new.folder c.begin_files.new.crew c.begin_files.new.keeper)
-    (beginning (folder_words g.F.Folder.told g.F.Folder.states g.F.Folder.present g.F.Folder.open_tails g.F.Folder.faults) c.begin_files.new.folder c.begin_files.new.crew c.tell_moments.new.keeper)
-    c.in_ok-passed.passed.items c.as_slice.result.now c.as_slice.ensures.value c.in_ok-passed.ensures.begun (subst (λ (l : List Row). TellMoments l 0 c.as_slice.result.now c.begin_files.new.keeper c.tell_moments.new.keeper) (rows_kept (tail_words g.F.Tail.Tail.numbers g.F.Tail.Tail.told g.F.Tail.Tail.faults) c.args.context.settings.now c.args.keeper.now.store.rows c.args.scanned.now.now c.args.scanned.now.listed.items
-    c.in_ok-passed.passed.items (beginning (folder_words g.F.Folder.told g.F.Folder.states g.F.Folder.present g.F.Folder.open_tails g.F.Folder.faults) c.args.folder.now c.args.crew.now c.args.keeper.now)
-    (beginning (folder_words g.F.Folder.told g.F.Folder.states g.F.Folder.present g.F.Folder.open_tails g.F.Folder.faults) c.begin_files.new.folder c.begin_files.new.crew c.begin_files.new.keeper) c.in_ok-passed.ensures.begun) c.in_ok-tell_moments.ensures.told) refl)
+    all_keep (tails_of g.F.Tail.Tail) c.args.context.settings.now c.args.keeper.now.store.rows c.args.scanned.now.now c.args.scanned.now.listed.items
+    (beginning g.F.Folder c.args.folder.now c.args.crew.now c.args.keeper.now)
+    (beginning g.F.Folder c.begin_files.new.folder c.begin_files.new.crew c.tell_moments.new.keeper)
+    c.in_ok-passed.passed.items (all_so (tails_of g.F.Tail.Tail) c.args.context.settings.now c.args.keeper.now.store.rows c.args.scanned.now.now c.args.scanned.now.listed.items
+    (beginning g.F.Folder c.args.folder.now c.args.crew.now c.args.keeper.now)
+    (beginning g.F.Folder c.begin_files.new.folder c.begin_files.new.crew c.begin_files.new.keeper)
+    (beginning g.F.Folder c.begin_files.new.folder c.begin_files.new.crew c.tell_moments.new.keeper)
+    c.in_ok-passed.passed.items c.as_slice.result.now c.as_slice.ensures.value c.in_ok-passed.ensures.begun (subst (λ (l : List Row). TellMoments l 0 c.as_slice.result.now c.begin_files.new.keeper c.tell_moments.new.keeper) (rows_kept (tails_of g.F.Tail.Tail) c.args.context.settings.now c.args.keeper.now.store.rows c.args.scanned.now.now c.args.scanned.now.listed.items
+    c.in_ok-passed.passed.items (beginning g.F.Folder c.args.folder.now c.args.crew.now c.args.keeper.now)
+    (beginning g.F.Folder c.begin_files.new.folder c.begin_files.new.crew c.begin_files.new.keeper) c.in_ok-passed.ensures.begun) c.in_ok-tell_moments.ensures.told) refl)
 
 pub returns-in_err-passed-clause-ends : goal.returns-in_err-passed-clause-ends
 returns-in_err-passed-clause-ends g c =
-    files_end (tail_words g.F.Tail.Tail.numbers g.F.Tail.Tail.told g.F.Tail.Tail.faults) c.args.context.settings.now c.args.keeper.now.store.rows c.args.scanned.now.now c.args.scanned.now.listed.items
-    (beginning (folder_words g.F.Folder.told g.F.Folder.states g.F.Folder.present g.F.Folder.open_tails g.F.Folder.faults) c.args.folder.now c.args.crew.now c.args.keeper.now)
-    (beginning (folder_words g.F.Folder.told g.F.Folder.states g.F.Folder.present g.F.Folder.open_tails g.F.Folder.faults) c.begin_files.new.folder c.begin_files.new.crew c.begin_files.new.keeper)
+    files_end (tails_of g.F.Tail.Tail) c.args.context.settings.now c.args.keeper.now.store.rows c.args.scanned.now.now c.args.scanned.now.listed.items
+    (beginning g.F.Folder c.args.folder.now c.args.crew.now c.args.keeper.now)
+    (beginning g.F.Folder c.begin_files.new.folder c.begin_files.new.crew c.begin_files.new.keeper)
     c.from_residual.result c.in_err-passed.field-0.0 c.from_residual.ensures.1 c.in_err-passed.ensures.ended
 
 pub returns-in_err-tell_moments-clause-ends : goal.returns-in_err-tell_moments-clause-ends
 returns-in_err-tell_moments-clause-ends g c =
-    memory_ends (tail_words g.F.Tail.Tail.numbers g.F.Tail.Tail.told g.F.Tail.Tail.faults) c.args.context.settings.now c.args.keeper.now.store.rows c.args.scanned.now.now c.args.scanned.now.listed.items
-    (beginning (folder_words g.F.Folder.told g.F.Folder.states g.F.Folder.present g.F.Folder.open_tails g.F.Folder.faults) c.args.folder.now c.args.crew.now c.args.keeper.now)
-    (beginning (folder_words g.F.Folder.told g.F.Folder.states g.F.Folder.present g.F.Folder.open_tails g.F.Folder.faults) c.begin_files.new.folder c.begin_files.new.crew c.tell_moments.new.keeper)
+    memory_ends (tails_of g.F.Tail.Tail) c.args.context.settings.now c.args.keeper.now.store.rows c.args.scanned.now.now c.args.scanned.now.listed.items
+    (beginning g.F.Folder c.args.folder.now c.args.crew.now c.args.keeper.now)
+    (beginning g.F.Folder c.begin_files.new.folder c.begin_files.new.crew c.tell_moments.new.keeper)
     c.from_residual-in_err-tell_moments.result c.from_residual-in_err-tell_moments.ensures.1
 
 pub returns-in_err-passed-clause-unnumbered : goal.returns-in_err-passed-clause-unnumbered
 returns-in_err-passed-clause-unnumbered g c =
-    begun_unnumbered (tail_words g.F.Tail.Tail.numbers g.F.Tail.Tail.told g.F.Tail.Tail.faults) c.args.context.settings.now c.args.keeper.now.store.rows c.args.scanned.now.now c.args.scanned.now.listed.items
-    (beginning (folder_words g.F.Folder.told g.F.Folder.states g.F.Folder.present g.F.Folder.open_tails g.F.Folder.faults) c.args.folder.now c.args.crew.now c.args.keeper.now)
-    (beginning (folder_words g.F.Folder.told g.F.Folder.states g.F.Folder.present g.F.Folder.open_tails g.F.Folder.faults) c.begin_files.new.folder c.begin_files.new.crew c.begin_files.new.keeper)
+    begun_unnumbered (tails_of g.F.Tail.Tail) c.args.context.settings.now c.args.keeper.now.store.rows c.args.scanned.now.now c.args.scanned.now.listed.items
+    (beginning g.F.Folder c.args.folder.now c.args.crew.now c.args.keeper.now)
+    (beginning g.F.Folder c.begin_files.new.folder c.begin_files.new.crew c.begin_files.new.keeper)
     c.from_residual.result c.in_err-passed.field-0.0 c.from_residual.ensures.1 c.in_err-passed.ensures.ended
 
 pub returns-in_err-tell_moments-clause-unnumbered : goal.returns-in_err-tell_moments-clause-unnumbered

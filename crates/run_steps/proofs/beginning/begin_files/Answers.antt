@@ -1,9 +1,8 @@
 use Rattle.std.proofs.Common.{length, refl, arith, subst, ◌+◌}
 use Rattle.std.proofs.lemmas.Option.{slice_get_read}
-use Rattle.rounds.specs.Words.{tail_words}
 use Rattle.run_steps.specs.Beginning.{beginning, listed_file}
 use Rattle.run_steps.specs.BeginsAll.{BeginsOrPasses, EndsInOne}
-use Rattle.run_steps.specs.FolderSeen.{folder_words}
+use Rattle.rounds.specs.WordsOf.{tails_of}
 use Rattle.run_steps.proofs.BeginningLists.{after_next, ends_as, knows_still, lanes_still}
 use Rattle.accounts.proofs.Following.{got_each}
 use Rattle.restart_join.specs.declared.start.Start.{Start}
@@ -14,17 +13,17 @@ use Rattle.run_steps.proofs.beginning.begin_files.Goals as goal
 pub returns-in_err-begin_or_pass-clause-ended : goal.returns-in_err-begin_or_pass-clause-ended
 returns-in_err-begin_or_pass-clause-ended g c =
     let listed = c.args.scanned.now.listed.items in
-    ends_as (tail_words g.F.Tail.Tail.numbers g.F.Tail.Tail.told g.F.Tail.Tail.faults) c.args.context.settings.now c.args.keeper.now.store.rows c.args.scanned.now.now listed c.files.slot c.index.result.now
+    ends_as (tails_of g.F.Tail.Tail) c.args.context.settings.now c.args.keeper.now.store.rows c.args.scanned.now.now listed c.files.slot c.index.result.now
     (slice_get_read listed (length listed) c.files.slot c.index.result.now refl (omega (arith, c.files-test.true, c.len.ensures)) c.index.ensures) c.files.passed.items
-    (beginning (folder_words g.F.Folder.told g.F.Folder.states g.F.Folder.present g.F.Folder.open_tails g.F.Folder.faults) c.args.folder.now c.args.crew.now c.args.keeper.now)
-    (beginning (folder_words g.F.Folder.told g.F.Folder.states g.F.Folder.present g.F.Folder.open_tails g.F.Folder.faults) c.files.folder c.files.crew c.files.keeper)
+    (beginning g.F.Folder c.args.folder.now c.args.crew.now c.args.keeper.now)
+    (beginning g.F.Folder c.files.folder c.files.crew c.files.keeper)
     c.files.invariant.begins c.from_residual.result c.in_err-begin_or_pass.field-0.0
-    (beginning (folder_words g.F.Folder.told g.F.Folder.states g.F.Folder.present g.F.Folder.open_tails g.F.Folder.faults) c.begin_or_pass.new.folder c.begin_or_pass.new.crew c.begin_or_pass.new.keeper)
+    (beginning g.F.Folder c.begin_or_pass.new.folder c.begin_or_pass.new.crew c.begin_or_pass.new.keeper)
     c.from_residual.ensures.1
-    (subst (λ (s : Start). EndsInOne (tail_words g.F.Tail.Tail.numbers g.F.Tail.Tail.told g.F.Tail.Tail.faults) c.args.context.settings.now
+    (subst (λ (s : Start). EndsInOne (tails_of g.F.Tail.Tail) c.args.context.settings.now
     (listed_file (record { 0 = c.files.slot }) c.index.result.now s c.args.scanned.now.now) c.in_err-begin_or_pass.field-0.0
-    (beginning (folder_words g.F.Folder.told g.F.Folder.states g.F.Folder.present g.F.Folder.open_tails g.F.Folder.faults) c.files.folder c.files.crew c.files.keeper)
-    (beginning (folder_words g.F.Folder.told g.F.Folder.states g.F.Folder.present g.F.Folder.open_tails g.F.Folder.faults) c.begin_or_pass.new.folder c.begin_or_pass.new.crew c.begin_or_pass.new.keeper))
+    (beginning g.F.Folder c.files.folder c.files.crew c.files.keeper)
+    (beginning g.F.Folder c.begin_or_pass.new.folder c.begin_or_pass.new.crew c.begin_or_pass.new.keeper))
     (start_is c.args.keeper.now.store.rows c.args.scanned.now.listed.items c.args.scanned.now.starts.items c.files.slot c.index.result.now c.index-in-files.result.now c.requires.starts
     (slice_get_read c.args.scanned.now.listed.items (length c.args.scanned.now.listed.items) c.files.slot c.index.result.now refl (omega (arith, c.files-test.true, c.len.ensures)) c.index.ensures)
     (slice_get_read c.args.scanned.now.starts.items (length c.args.scanned.now.starts.items) c.files.slot c.index-in-files.result.now refl
@@ -33,12 +32,11 @@ returns-in_err-begin_or_pass-clause-ended g c =
 
 pub files-preserved : goal.files-preserved
 files-preserved g c =
-    let tails = tail_words g.F.Tail.Tail.numbers g.F.Tail.Tail.told g.F.Tail.Tail.faults in
-    let folder = folder_words g.F.Folder.told g.F.Folder.states g.F.Folder.present g.F.Folder.open_tails g.F.Folder.faults in
+    let tails = tails_of g.F.Tail.Tail in
     let listed = c.args.scanned.now.listed.items in
-    let old = beginning folder c.args.folder.now c.args.crew.now c.args.keeper.now in
-    let mid = beginning folder c.files.folder c.files.crew c.files.keeper in
-    let new = beginning folder c.begin_or_pass.new.folder c.begin_or_pass.new.crew c.begin_or_pass.new.keeper in
+    let old = beginning g.F.Folder c.args.folder.now c.args.crew.now c.args.keeper.now in
+    let mid = beginning g.F.Folder c.files.folder c.files.crew c.files.keeper in
+    let new = beginning g.F.Folder c.begin_or_pass.new.folder c.begin_or_pass.new.crew c.begin_or_pass.new.keeper in
     let begun = c.in_ok-begin_or_pass.ensures.begun in
     let begins = after_next tails c.args.context.settings.now c.args.keeper.now.store.rows c.args.scanned.now.now listed c.files.slot c.index.result.now
     (slice_get_read listed (length listed) c.files.slot c.index.result.now refl (omega (arith, c.files-test.true, c.len.ensures)) c.index.ensures) c.files.passed.items old mid c.files.invariant.begins

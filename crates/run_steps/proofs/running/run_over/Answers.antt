@@ -3,15 +3,14 @@ use Rattle.std.proofs.lemmas.List.Elements.{recursion_from_All}
 use Rattle.keeper.specs.Keeping.{Keeping}
 use Rattle.rounds.specs.Crewed.{lanings}
 use Rattle.rounds.specs.Making.{IsBegunLane}
-use Rattle.rounds.specs.Words.{disk_words, link_words, tail_words, wire_words, words}
 use Rattle.rounds.specs.declared.carrier.Carrier.{Carrier}
 use Rattle.run_steps.specs.Beginning.{beginning}
 use Rattle.run_steps.specs.CarriersFail.{counts_told}
 use Rattle.run_steps.specs.CarriersGoOn.{WiresReturn}
-use Rattle.run_steps.specs.FolderSeen.{folder_words}
 use Rattle.run_steps.specs.Outset.{began_with}
 use Rattle.run_steps.specs.RunEnds.{HasEnded}
 use Rattle.run_steps.specs.RunState.{Phase}
+use Rattle.rounds.specs.WordsOf.{links_of, tails_of, wires_of, words_of}
 use Rattle.run_steps.proofs.BegunReady.{ready_begun}
 use Rattle.run_steps.proofs.CarriersGoOn.{links_finished, open_links_seen, outcomes_go_on}
 use Rattle.run_steps.proofs.PassedOver.{passed_over}
@@ -26,10 +25,9 @@ pub work-requires-clause-ready : goal.work-requires-clause-ready
 work-requires-clause-ready g c κs within =
     let queue = c.args.context.outlets.queue.now.id in
     let desk = c.args.context.outlets.desk.now.id in
-    let tails = tail_words g.F.Tail.Tail.numbers g.F.Tail.Tail.told g.F.Tail.Tail.faults in
-    let names = folder_words g.F.Folder.told g.F.Folder.states g.F.Folder.present g.F.Folder.open_tails g.F.Folder.faults in
-    let old = beginning names c.args.around.now.folder.now c.in_ok-crew.crew c.args.storing.now.keeper.now in
-    let new = beginning names c.begin_all-begun.new.folder c.begin_all-begun.new.crew c.begin_all-begun.new.keeper in
+    let tails = tails_of g.F.Tail.Tail in
+    let old = beginning g.F.Folder c.args.around.now.folder.now c.in_ok-crew.crew c.args.storing.now.keeper.now in
+    let new = beginning g.F.Folder c.begin_all-begun.new.folder c.begin_all-begun.new.crew c.begin_all-begun.new.keeper in
     let first = first_ready g.L.Link.told queue desk c.args.context.settings.now c.args.around.now.wires.now.items c.crew_of.new.wires.items c.in_ok-crew.crew c.in_ok-crew.ensures.begun
     tails c.args.storing.now c.requires.settings c.requires.keeper in
     let ready = ready_begun tails c.args.context.settings.now c.args.storing.now.keeper.now.store.rows c.args.scanned.now.now queue desk c.args.storing.now.keeper c.args.storing.now.a c.args.storing.now.b c.args.scanned.now.listed.items c.begin_all-begun.result old new
@@ -51,12 +49,9 @@ pub returns-clause-ends : goal.returns-clause-ends
 returns-clause-ends g c earlier sets =
     let queue = c.args.context.outlets.queue.now.id in
     let desk = c.args.context.outlets.desk.now.id in
-    let all = words (tail_words g.F.Tail.Tail.numbers g.F.Tail.Tail.told g.F.Tail.Tail.faults) (link_words g.L.Link.told g.L.Link.faults g.L.Link.idles)
-    (wire_words g.W.Wire.outcomes g.W.Wire.open_links g.W.Wire.faults g.W.Wire.idles)
-    (disk_words g.D.Disk.contents g.D.Disk.images g.D.Disk.moment g.D.Disk.images_since g.D.Disk.faults) in
-    let names = folder_words g.F.Folder.told g.F.Folder.states g.F.Folder.present g.F.Folder.open_tails g.F.Folder.faults in
-    let old = beginning names c.args.around.now.folder.now c.in_ok-crew.crew c.args.storing.now.keeper.now in
-    let new = beginning names c.begin_all-begun.new.folder c.begin_all-begun.new.crew c.begin_all-begun.new.keeper in
+    let all = words_of g.F.Tail.Tail g.L.Link g.W.Wire g.D.Disk in
+    let old = beginning g.F.Folder c.args.around.now.folder.now c.in_ok-crew.crew c.args.storing.now.keeper.now in
+    let new = beginning g.F.Folder c.begin_all-begun.new.folder c.begin_all-begun.new.crew c.begin_all-begun.new.keeper in
     let stood = further all c.disk_images_are_counted.ensures.reads c.disk_images_are_counted.ensures.counts queue desk c.args.context.settings.now c.args.scanned.now.listed.items c.args.scanned.now.doubled.items c.args.scanned.now.now
     (g.K.Clock.moments c.args.around.now.clock.now) c.args.around.now.wires.now.items c.crew_of.new.wires.items c.args.storing.now.a.now c.args.storing.now.b.now old earlier
     c.in_ok-crew.ensures.begun c.requires.keeper sets c.begin_all-begun.result new c.begin_all-begun.ensures.begun c.begin_all-begun.ensures.ended in
@@ -93,12 +88,9 @@ pub returns-clause-accounted : goal.returns-clause-accounted
 returns-clause-accounted g c earlier folder sets has clock_tells wires_tell =
     let queue = c.args.context.outlets.queue.now.id in
     let desk = c.args.context.outlets.desk.now.id in
-    let all = words (tail_words g.F.Tail.Tail.numbers g.F.Tail.Tail.told g.F.Tail.Tail.faults) (link_words g.L.Link.told g.L.Link.faults g.L.Link.idles)
-    (wire_words g.W.Wire.outcomes g.W.Wire.open_links g.W.Wire.faults g.W.Wire.idles)
-    (disk_words g.D.Disk.contents g.D.Disk.images g.D.Disk.moment g.D.Disk.images_since g.D.Disk.faults) in
-    let names = folder_words g.F.Folder.told g.F.Folder.states g.F.Folder.present g.F.Folder.open_tails g.F.Folder.faults in
-    let old = beginning names c.args.around.now.folder.now c.in_ok-crew.crew c.args.storing.now.keeper.now in
-    let new = beginning names c.begin_all-begun.new.folder c.begin_all-begun.new.crew c.begin_all-begun.new.keeper in
+    let all = words_of g.F.Tail.Tail g.L.Link g.W.Wire g.D.Disk in
+    let old = beginning g.F.Folder c.args.around.now.folder.now c.in_ok-crew.crew c.args.storing.now.keeper.now in
+    let new = beginning g.F.Folder c.begin_all-begun.new.folder c.begin_all-begun.new.crew c.begin_all-begun.new.keeper in
     let stood = further all c.disk_images_are_counted.ensures.reads c.disk_images_are_counted.ensures.counts queue desk c.args.context.settings.now c.args.scanned.now.listed.items c.args.scanned.now.doubled.items c.args.scanned.now.now
     (g.K.Clock.moments c.args.around.now.clock.now) c.args.around.now.wires.now.items c.crew_of.new.wires.items c.args.storing.now.a.now c.args.storing.now.b.now old earlier
     c.in_ok-crew.ensures.begun c.requires.keeper sets c.begin_all-begun.result new c.begin_all-begun.ensures.begun c.begin_all-begun.ensures.ended in
@@ -139,9 +131,8 @@ returns-clause-accounted g c earlier folder sets has clock_tells wires_tell =
 
 pub returns-clause-cause : goal.returns-clause-cause
 returns-clause-cause g c =
-    let names = folder_words g.F.Folder.told g.F.Folder.states g.F.Folder.present g.F.Folder.open_tails g.F.Folder.faults in
-    let old = beginning names c.args.around.now.folder.now c.in_ok-crew.crew c.args.storing.now.keeper.now in
-    let new = beginning names c.begin_all-begun.new.folder c.begin_all-begun.new.crew c.begin_all-begun.new.keeper in
+    let old = beginning g.F.Folder c.args.around.now.folder.now c.in_ok-crew.crew c.args.storing.now.keeper.now in
+    let new = beginning g.F.Folder c.begin_all-begun.new.folder c.begin_all-begun.new.crew c.begin_all-begun.new.keeper in
     let kept = c.begin_all-begun.ensures.kept in
     let begun = c.in_ok-crew.ensures.begun in
     let carriers = ap (λ (v : Vec (Carrier g.row.W.Denot g.row.L.Denot) Global). length v.items) kept.carriers in
@@ -166,7 +157,7 @@ returns-clause-tails_closed g c few =
 
 pub returns-clause-links_finished : goal.returns-clause-links_finished
 returns-clause-links_finished g c few =
-    let wires = wire_words g.W.Wire.outcomes g.W.Wire.open_links g.W.Wire.faults g.W.Wire.idles in
+    let wires = wires_of g.W.Wire in
     let all = c.work.new.around.wires.now.items in
     links_finished g.L.Link.told c.args.context.outlets.queue.now.id c.args.context.outlets.desk.now.id c.args.context.settings.now c.args.around.now.wires.now.items c.crew_of.new.wires.items
     c.in_ok-crew.crew c.in_ok-crew.ensures.begun wires all
@@ -174,7 +165,7 @@ returns-clause-links_finished g c few =
 
 pub returns-in_err-crew-clause-links_finished : goal.returns-in_err-crew-clause-links_finished
 returns-in_err-crew-clause-links_finished g c few =
-    open_links_seen (wire_words g.W.Wire.outcomes g.W.Wire.open_links g.W.Wire.faults g.W.Wire.idles) c.crew_of.new.wires.items c.args.around.now.wires.now.items c.in_err-crew.ensures.back
+    open_links_seen (wires_of g.W.Wire) c.crew_of.new.wires.items c.args.around.now.wires.now.items c.in_err-crew.ensures.back
 
 pub returns-clause-still_tell : goal.returns-clause-still_tell
 returns-clause-still_tell g c = record { a = c.work.ensures.still_tell.a; b = c.work.ensures.still_tell.b }
@@ -193,21 +184,20 @@ returns-clause-failing g c earlier within =
     let desk = c.args.context.outlets.desk.now.id in
     let settings = c.args.context.settings.now in
     let old = c.args.around.now.wires.now.items in
-    let wires = wire_words g.W.Wire.outcomes g.W.Wire.open_links g.W.Wire.faults g.W.Wire.idles in
+    let wires = wires_of g.W.Wire in
     let tries = c.requires.settings.output.attempts in
     let some = c.requires.settings.output.timeout in
     c.work.ensures.failing settings.output.timeout earlier (counts_told wires settings.output.workers old) (omega (arith, some))
     (none_failed_begun queue desk settings old c.crew_of.new.wires.items c.in_ok-crew.crew g.L.Link.told c.in_ok-crew.ensures.begun c.begin_all-begun.new.crew.carriers
     c.begin_all-begun.ensures.kept.carriers (omega (arith, tries)))
-    (begun_fails queue desk settings old c.crew_of.new.wires.items c.in_ok-crew.crew (link_words g.L.Link.told g.L.Link.faults g.L.Link.idles) wires c.in_ok-crew.ensures.begun
+    (begun_fails queue desk settings old c.crew_of.new.wires.items c.in_ok-crew.crew (links_of g.L.Link) wires c.in_ok-crew.ensures.begun
     c.begin_all-begun.new.crew.carriers c.begin_all-begun.ensures.kept.carriers earlier (g.K.Clock.moments c.args.around.now.clock.now) (omega (arith, tries)) within)
 
 pub returns-clause-passed_over : goal.returns-clause-passed_over
 returns-clause-passed_over g c =
-    let names = folder_words g.F.Folder.told g.F.Folder.states g.F.Folder.present g.F.Folder.open_tails g.F.Folder.faults in
-    passed_over (tail_words g.F.Tail.Tail.numbers g.F.Tail.Tail.told g.F.Tail.Tail.faults) c.args.context.settings.now c.args.storing.now.keeper.now.store.rows c.args.scanned.now.now c.args.scanned.now.listed.items
-    (beginning names c.args.around.now.folder.now c.in_ok-crew.crew c.args.storing.now.keeper.now)
-    (beginning names c.begin_all-begun.new.folder c.begin_all-begun.new.crew c.begin_all-begun.new.keeper)
+    passed_over (tails_of g.F.Tail.Tail) c.args.context.settings.now c.args.storing.now.keeper.now.store.rows c.args.scanned.now.now c.args.scanned.now.listed.items
+    (beginning g.F.Folder c.args.around.now.folder.now c.in_ok-crew.crew c.args.storing.now.keeper.now)
+    (beginning g.F.Folder c.begin_all-begun.new.folder c.begin_all-begun.new.crew c.begin_all-begun.new.keeper)
     c.begin_all-begun.result c.work.result.passed.items c.begin_all-begun.ensures.begun c.work.ensures.passed
 
 pub returns-clause-same_keeper : goal.returns-clause-same_keeper
@@ -223,3 +213,16 @@ pub returns-clause-unnumbered : goal.returns-clause-unnumbered
 returns-clause-unnumbered g c =
     met_unnumbered c.args.context.settings.now c.args.scanned.now.listed.items (g.F.Folder.told c.args.around.now.folder.now) (g.F.Folder.told c.begin_all-begun.new.folder) (g.F.Folder.told c.work.new.around.folder.now)
     c.begin_all-begun.result c.work.result.met c.begin_all-begun.ensures.unnumbered c.work.ensures.told.0 c.work.ensures.told.1 c.begin_all-begun.new.crew _ _ c.work.ensures.cause
+
+pub begin_all-begun-requires : goal.begin_all-begun-requires
+begin_all-begun-requires g c = record {
+  settings_in_range = c.requires.settings;
+  in_range = c.requires.in_range;
+  of_inputs = c.requires.of_inputs;
+  few = c.requires.few;
+  few_listed = c.requires.few_listed;
+  starts = c.requires.starts;
+  moment = c.requires.moment;
+  some_lanes = let many = c.in_ok-crew.ensures.begun.many_lanes in let some = c.requires.settings.lanes in omega (arith, many, some);
+  nothing_told = ap (λ (k : Keeping). k.tracked.notes) c.requires.keeper.is;
+}

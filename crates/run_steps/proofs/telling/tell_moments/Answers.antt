@@ -3,8 +3,9 @@ use Rattle.std.proofs.lemmas.List.{take_all}
 use Rattle.keeper.specs.Keeping.{Keeping}
 use Rattle.prospect.specs.declared.listed.Listed.{Listed}
 use Rattle.run_steps.specs.Telling.{TellMoments, TellSomeMoments, TellsMoment, moment_noted}
-use Rattle.run_steps.proofs.Moments.{on_err, rows_told, tell_on, told_as}
+use Rattle.run_steps.proofs.Moments.{rows_told, tell_on, told_as}
 use Rattle.run_steps.proofs.telling.tell_moments.Goals as goal
+use Rattle.harvester.proofs.Standings.{on_err}
 
 pub returns-in_err-tell_moment-clause-some_told : goal.returns-in_err-tell_moment-clause-some_told
 returns-in_err-tell_moment-clause-some_told c =

@@ -3,7 +3,6 @@ use Rattle.keeper.proofs.InARow.{collects_more}
 use Rattle.lanes.specs.declared.lane.Lane.{Lane}
 use Rattle.rounds.specs.Crewed.{lanings}
 use Rattle.rounds.specs.Crewing.{crewing}
-use Rattle.rounds.specs.Words.{disk_words, link_words, tail_words, wire_words, words}
 use Rattle.std.specs.Vec.{with_items}
 use Rattle.run_steps.specs.CarriersFail.{sending}
 use Rattle.run_steps.specs.MetBy.{Since}
@@ -11,6 +10,7 @@ use Rattle.run_steps.specs.Releasing.{CountsFaults, HasNoHarvesters, all_closing
 use Rattle.run_steps.specs.RunState.{phase_left}
 use Rattle.run_steps.specs.Worked.{phase_worked}
 use Rattle.run_steps.specs.declared.met.Met.TheVariants.{Done}
+use Rattle.rounds.specs.WordsOf.{links_of, tails_of, wires_of, words_of}
 use Rattle.run_steps.proofs.CarriersGoOn.{wires_return}
 use Rattle.run_steps.proofs.FailingRounds.{fail_after}
 use Rattle.run_steps.proofs.Letting.{able_released, carriers_have_passes, lanes_have_passes, none_left, released_in}
@@ -23,9 +23,9 @@ pub settle_after-worked-requires-clause-ready : goal.settle_after-worked-require
 settle_after-worked-requires-clause-ready g c κs within left =
     let one = c.follow_begun-worked.new.crew in
     let same = released_in one.lanes c.release_all.new.lanes (subst (λ (l : List (Lane g.row.F-Tail.Denot)). lanings c.release_all.new.lanes ≡ map released (lanings l)) c.as_mut_slice.ensures.value c.release_all.ensures.released) in
-    let ready = c.follow_begun-worked.ensures.ready left in
+    let ready = c.follow_begun-worked.ensures.goes.keeps.ready left in
     record {
-      able = able_released (tail_words g.F.Tail.Tail.numbers g.F.Tail.Tail.told g.F.Tail.Tail.faults) c.args.context.outlets.queue.now.id c.args.context.outlets.desk.now.id
+      able = able_released (tails_of g.F.Tail.Tail) c.args.context.outlets.queue.now.id c.args.context.outlets.desk.now.id
           (crewing one c.follow_begun-worked.new.storing) (crewing (record one { lanes = with_items one.lanes c.release_all.new.lanes }) c.follow_begun-worked.new.storing)
           ready.able same refl refl;
       is_open = ready.is_open;
@@ -35,104 +35,98 @@ pub settle_after-worked-requires-clause-able : goal.settle_after-worked-requires
 settle_after-worked-requires-clause-able g c κs within =
     let one = c.follow_begun-worked.new.crew in
     let same = released_in one.lanes c.release_all.new.lanes (subst (λ (l : List (Lane g.row.F-Tail.Denot)). lanings c.release_all.new.lanes ≡ map released (lanings l)) c.as_mut_slice.ensures.value c.release_all.ensures.released) in
-    able_released (tail_words g.F.Tail.Tail.numbers g.F.Tail.Tail.told g.F.Tail.Tail.faults) c.args.context.outlets.queue.now.id c.args.context.outlets.desk.now.id
+    able_released (tails_of g.F.Tail.Tail) c.args.context.outlets.queue.now.id c.args.context.outlets.desk.now.id
     (crewing one c.follow_begun-worked.new.storing) (crewing (record one { lanes = with_items one.lanes c.release_all.new.lanes }) c.follow_begun-worked.new.storing)
-    c.follow_begun-worked.ensures.able same refl refl
+    c.follow_begun-worked.ensures.goes.keeps.able same refl refl
 
 pub end_crew-requires-clause-lanes : goal.end_crew-requires-clause-lanes
 end_crew-requires-clause-lanes g c =
-    lanes_have_passes c.args.context.outlets.queue.now.id c.args.context.outlets.desk.now.id (tail_words g.F.Tail.Tail.numbers g.F.Tail.Tail.told g.F.Tail.Tail.faults)
-    (crewing c.settle_after-worked.new.crew c.settle_after-worked.new.storing) c.settle_after-worked.ensures.able
+    lanes_have_passes c.args.context.outlets.queue.now.id c.args.context.outlets.desk.now.id (tails_of g.F.Tail.Tail)
+    (crewing c.settle_after-worked.new.crew c.settle_after-worked.new.storing) c.settle_after-worked.ensures.last.hands_on.able
 
 pub end_crew-requires-clause-no_harvesters : goal.end_crew-requires-clause-no_harvesters
 end_crew-requires-clause-no_harvesters g c =
     let one = c.follow_begun-worked.new.crew in
     let same = released_in one.lanes c.release_all.new.lanes (subst (λ (l : List (Lane g.row.F-Tail.Denot)). lanings c.release_all.new.lanes ≡ map released (lanings l)) c.as_mut_slice.ensures.value c.release_all.ensures.released) in
-    c.settle_after-worked.ensures.no_harvesters (subst (All HasNoHarvesters) (sym same) (none_left (lanings one.lanes.items)))
+    c.settle_after-worked.ensures.last.hands_on.no_harvesters (subst (All HasNoHarvesters) (sym same) (none_left (lanings one.lanes.items)))
 
 pub end_crew-requires-clause-carriers : goal.end_crew-requires-clause-carriers
 end_crew-requires-clause-carriers g c =
-    carriers_have_passes c.args.context.outlets.queue.now.id c.args.context.outlets.desk.now.id (tail_words g.F.Tail.Tail.numbers g.F.Tail.Tail.told g.F.Tail.Tail.faults)
-    (crewing c.settle_after-worked.new.crew c.settle_after-worked.new.storing) c.settle_after-worked.ensures.able
+    carriers_have_passes c.args.context.outlets.queue.now.id c.args.context.outlets.desk.now.id (tails_of g.F.Tail.Tail)
+    (crewing c.settle_after-worked.new.crew c.settle_after-worked.new.storing) c.settle_after-worked.ensures.last.hands_on.able
 
 pub returns-clause-ends : goal.returns-clause-ends
 returns-clause-ends g c start so_far stands began =
-    let all = words (tail_words g.F.Tail.Tail.numbers g.F.Tail.Tail.told g.F.Tail.Tail.faults) (link_words g.L.Link.told g.L.Link.faults g.L.Link.idles)
-    (wire_words g.W.Wire.outcomes g.W.Wire.open_links g.W.Wire.faults g.W.Wire.idles)
-    (disk_words g.D.Disk.contents g.D.Disk.images g.D.Disk.moment g.D.Disk.images_since g.D.Disk.faults) in
+    let all = words_of g.F.Tail.Tail g.L.Link g.W.Wire g.D.Disk in
     let one = c.follow_begun-worked.new.crew in
     let first = c.follow_begun-worked.new.storing in
     let met = c.follow_begun-worked.result.met in
     let now = c.settle_after-worked.result.met in
     let since : Since g.row.F-Tail.Denot g.row.W.Denot g.row.L.Denot g.row.D.Denot = record { a = c.args.storing.now.a.now; b = c.args.storing.now.b.now; now = crewing one first } in
     let is_done = λ (is : now ≡ Done). done_before all.disks (record { a = first.a.now; b = first.b.now; new_a = c.settle_after-worked.new.storing.a.now; new_b = c.settle_after-worked.new.storing.b.now }) met now
-    c.settle_after-worked.ensures.met is in (
+    c.settle_after-worked.ensures.last.by is in (
       phase_left (phase_worked c.args.begun met),
       has_ended all start c.args.begun (g.F.Folder.told c.args.around.now.folder.now) (g.F.Folder.told c.release_all.new.folder) (g.K.Clock.moments c.args.around.now.clock.now)
           (g.K.Clock.moments c.follow_begun-worked.new.signals.clock.now) c.args.crew one (record one { lanes = with_items one.lanes c.release_all.new.lanes }) c.settle_after-worked.new.crew
           c.args.storing.now first c.settle_after-worked.new.storing met now c.args.around.now.wires.now.items c.end_crew.new.wires.items
           (record {
-            followed = c.follow_begun-worked.ensures.onward;
-            at_rest = c.follow_begun-worked.ensures.at_rest;
+            followed = c.follow_begun-worked.ensures.goes.onward;
+            at_rest = c.follow_begun-worked.ensures.goes.keeps.at_rest;
             lanes_are = released_in one.lanes c.release_all.new.lanes (subst (λ (l : List (Lane g.row.F-Tail.Denot)). lanings c.release_all.new.lanes ≡ map released (lanings l)) c.as_mut_slice.ensures.value c.release_all.ensures.released);
             carriers_are = refl;
             shows = subst (λ (l : List (Lane g.row.F-Tail.Denot)). g.F.Folder.told c.release_all.new.folder ≡ with_events (all_closings g.F.Tail.Tail.told g.F.Tail.Tail.faults (lanings l)) (g.F.Folder.told c.args.around.now.folder.now))
                 c.as_mut_slice.ensures.value c.release_all.ensures.told;
-            settled = c.settle_after-worked.ensures.onward;
+            settled = c.settle_after-worked.ensures.last.hands_on.onward;
             still = c.settle_after-worked.ensures.still;
             left_before = left_still all.disks (record { a = first.a.now; b = first.b.now; new_a = c.settle_after-worked.new.storing.a.now; new_b = c.settle_after-worked.new.storing.b.now }) met now
-                c.settle_after-worked.ensures.met;
-            stored = c.settle_after-worked.ensures.settled;
-            counted = c.settle_after-worked.ensures.counted;
-            is_open = c.settle_after-worked.ensures.is_open;
-            then_at_rest = c.settle_after-worked.ensures.at_rest;
-            none_left = c.settle_after-worked.ensures.no_harvesters (subst (All HasNoHarvesters)
+                c.settle_after-worked.ensures.last.by;
+            stored = c.settle_after-worked.ensures.last.settled;
+            counted = c.settle_after-worked.ensures.last.counted;
+            is_open = λ left. (c.settle_after-worked.ensures.last.hands_on.ready left).is_open;
+            then_at_rest = c.settle_after-worked.ensures.last.hands_on.at_rest;
+            none_left = c.settle_after-worked.ensures.last.hands_on.no_harvesters (subst (All HasNoHarvesters)
                 (sym (released_in one.lanes c.release_all.new.lanes (subst (λ (l : List (Lane g.row.F-Tail.Denot)). lanings c.release_all.new.lanes ≡ map released (lanings l)) c.as_mut_slice.ensures.value c.release_all.ensures.released)))
                 (none_left (lanings one.lanes.items)));
-            all_settled = c.settle_after-worked.ensures.all_settled;
+            all_settled = c.settle_after-worked.ensures.last.hands_on.all_settled;
             ended = c.end_crew.ensures.ended;
-            done = λ is. done_in all c.args.context.settings.now.output.attempts since c.args.begun met c.requires.begins c.follow_begun-worked.ensures.met (is_done is);
-            finished = λ is. finished_by c.args.begun met c.requires.begins (first_met all c.args.context.settings.now.output.attempts since c.args.begun met c.follow_begun-worked.ensures.met) (is_done is);
-            out_of_epochs = λ slot is. out_by c.args.begun met slot c.requires.begins (first_met all c.args.context.settings.now.output.attempts since c.args.begun met c.follow_begun-worked.ensures.met)
-                (epochs_before all.disks (record { a = first.a.now; b = first.b.now; new_a = c.settle_after-worked.new.storing.a.now; new_b = c.settle_after-worked.new.storing.b.now }) met now slot c.settle_after-worked.ensures.met is);
+            done = λ is. done_in all c.args.context.settings.now.output.attempts since c.args.begun met c.follow_begun-worked.ensures.met (is_done is);
+            finished = λ is. finished_by c.args.begun met (first_met all c.args.context.settings.now.output.attempts since c.args.begun met c.follow_begun-worked.ensures.met) (is_done is);
+            out_of_epochs = λ slot is. out_by c.args.begun met slot (first_met all c.args.context.settings.now.output.attempts since c.args.begun met c.follow_begun-worked.ensures.met)
+                (epochs_before all.disks (record { a = first.a.now; b = first.b.now; new_a = c.settle_after-worked.new.storing.a.now; new_b = c.settle_after-worked.new.storing.b.now }) met now slot c.settle_after-worked.ensures.last.by is);
           })
           so_far stands began,
     )
 
 pub returns-clause-told_only_where_begun : goal.returns-clause-told_only_where_begun
 returns-clause-told_only_where_begun g c =
-    let all = words (tail_words g.F.Tail.Tail.numbers g.F.Tail.Tail.told g.F.Tail.Tail.faults) (link_words g.L.Link.told g.L.Link.faults g.L.Link.idles)
-    (wire_words g.W.Wire.outcomes g.W.Wire.open_links g.W.Wire.faults g.W.Wire.idles)
-    (disk_words g.D.Disk.contents g.D.Disk.images g.D.Disk.moment g.D.Disk.images_since g.D.Disk.faults) in
+    let all = words_of g.F.Tail.Tail g.L.Link g.W.Wire g.D.Disk in
     let one = c.follow_begun-worked.new.crew in
     let first = c.follow_begun-worked.new.storing in
     let met = c.follow_begun-worked.result.met in
     let now = c.settle_after-worked.result.met in
     let since : Since g.row.F-Tail.Denot g.row.W.Denot g.row.L.Denot g.row.D.Denot = record { a = c.args.storing.now.a.now; b = c.args.storing.now.b.now; now = crewing one first } in
     untold_by all.disks (record { a = first.a.now; b = first.b.now; new_a = c.settle_after-worked.new.storing.a.now; new_b = c.settle_after-worked.new.storing.b.now }) c.args.begun met now
-    c.requires.begins (first_met all c.args.context.settings.now.output.attempts since c.args.begun met c.follow_begun-worked.ensures.met) c.settle_after-worked.ensures.met
+    (first_met all c.args.context.settings.now.output.attempts since c.args.begun met c.follow_begun-worked.ensures.met) c.settle_after-worked.ensures.last.by
 
 pub returns-clause-open_tails : goal.returns-clause-open_tails
 returns-clause-open_tails g c =
     let one = c.follow_begun-worked.new.crew in
     let closed = subst (λ (l : List (Lane g.row.F-Tail.Denot)). g.F.Folder.open_tails c.release_all.new.folder ≡ g.F.Folder.open_tails c.args.around.now.folder.now - length (harvesters_of (lanings l)))
     c.as_mut_slice.ensures.value c.release_all.ensures.open_tails in
-    let same = as_many_harvesters (lanings c.args.crew.lanes.items) (lanings one.lanes.items) c.follow_begun-worked.ensures.slots in
+    let same = as_many_harvesters (lanings c.args.crew.lanes.items) (lanings one.lanes.items) c.follow_begun-worked.ensures.goes.slots in
     omega (arith, closed, same)
 
 pub returns-clause-as_many_wires : goal.returns-clause-as_many_wires
 returns-clause-as_many_wires g c =
-    let back = wires_back (link_words g.L.Link.told g.L.Link.faults g.L.Link.idles) (wire_words g.W.Wire.outcomes g.W.Wire.open_links g.W.Wire.faults g.W.Wire.idles)
+    let back = wires_back (links_of g.L.Link) (wires_of g.W.Wire)
     c.settle_after-worked.new.crew.carriers.items c.args.around.now.wires.now.items c.end_crew.new.wires.items c.end_crew.ensures.ended in
-    let first = c.follow_begun-worked.ensures.as_many.carriers in
-    let then = c.settle_after-worked.ensures.as_many.carriers in
+    let first = c.follow_begun-worked.ensures.goes.keeps.as_many.carriers in
+    let then = c.settle_after-worked.ensures.last.hands_on.as_many.carriers in
     omega (arith, back, first, then)
 
 pub returns-clause-cause : goal.returns-clause-cause
 returns-clause-cause g c =
-    let all = words (tail_words g.F.Tail.Tail.numbers g.F.Tail.Tail.told g.F.Tail.Tail.faults) (link_words g.L.Link.told g.L.Link.faults g.L.Link.idles)
-    (wire_words g.W.Wire.outcomes g.W.Wire.open_links g.W.Wire.faults g.W.Wire.idles)
-    (disk_words g.D.Disk.contents g.D.Disk.images g.D.Disk.moment g.D.Disk.images_since g.D.Disk.faults) in
+    let all = words_of g.F.Tail.Tail g.L.Link g.W.Wire g.D.Disk in
     let one = c.follow_begun-worked.new.crew in
     let first = c.follow_begun-worked.new.storing in
     let second = c.settle_after-worked.new.storing in
@@ -144,21 +138,21 @@ returns-clause-cause g c =
       b_before = refl;
       a_after = refl;
       b_after = refl;
-      a_first = c.follow_begun-worked.ensures.a_faults_never_fall;
-      b_first = c.follow_begun-worked.ensures.b_faults_never_fall;
-      a_then = c.settle_after-worked.ensures.a_faults_never_fall;
-      b_then = c.settle_after-worked.ensures.b_faults_never_fall;
+      a_first = c.follow_begun-worked.ensures.goes.keeps.a_faults_never_fall;
+      b_first = c.follow_begun-worked.ensures.goes.keeps.b_faults_never_fall;
+      a_then = c.settle_after-worked.ensures.last.hands_on.a_faults_never_fall;
+      b_then = c.settle_after-worked.ensures.last.hands_on.b_faults_never_fall;
       folder = subst (λ (l : List (Lane g.row.F-Tail.Denot)). CountsFaults g.F.Tail.Tail.faults (g.F.Folder.faults c.args.around.now.folder.now) (g.F.Folder.faults c.release_all.new.folder) (harvesters_of (lanings l)))
           c.as_mut_slice.ensures.value c.release_all.ensures.counts_faults;
-      as_many = c.follow_begun-worked.ensures.as_many;
-      slots = c.follow_begun-worked.ensures.slots;
+      as_many = c.follow_begun-worked.ensures.goes.keeps.as_many;
+      slots = c.follow_begun-worked.ensures.goes.slots;
     })
-    c.args.begun c.follow_begun-worked.result.met c.settle_after-worked.result.met c.follow_begun-worked.ensures.met c.follow_begun-worked.ensures.stopped c.settle_after-worked.ensures.met
+    c.args.begun c.follow_begun-worked.result.met c.settle_after-worked.result.met c.follow_begun-worked.ensures.met c.follow_begun-worked.ensures.stopped c.settle_after-worked.ensures.last.by
 
 pub returns-clause-collects : goal.returns-clause-collects
 returns-clause-collects g c =
-    collects_more c.args.storing.now.keeper.now c.follow_begun-worked.new.storing.keeper.now c.settle_after-worked.new.storing.keeper.now c.follow_begun-worked.ensures.collects
-    c.settle_after-worked.ensures.collects
+    collects_more c.args.storing.now.keeper.now c.follow_begun-worked.new.storing.keeper.now c.settle_after-worked.new.storing.keeper.now c.follow_begun-worked.ensures.goes.keeps.collects
+    c.settle_after-worked.ensures.last.hands_on.collects
 
 pub returns-clause-told : goal.returns-clause-told
 returns-clause-told g c =
@@ -170,9 +164,7 @@ returns-clause-told g c =
 
 pub returns-clause-failing : goal.returns-clause-failing
 returns-clause-failing g c timeout earlier starts some none failing =
-    let all = words (tail_words g.F.Tail.Tail.numbers g.F.Tail.Tail.told g.F.Tail.Tail.faults) (link_words g.L.Link.told g.L.Link.faults g.L.Link.idles)
-    (wire_words g.W.Wire.outcomes g.W.Wire.open_links g.W.Wire.faults g.W.Wire.idles)
-    (disk_words g.D.Disk.contents g.D.Disk.images g.D.Disk.moment g.D.Disk.images_since g.D.Disk.faults) in
+    let all = words_of g.F.Tail.Tail g.L.Link g.W.Wire g.D.Disk in
     let attempts = c.args.context.settings.now.output.attempts in
     let one = c.follow_begun-worked.new.crew in
     let first = c.follow_begun-worked.new.storing in
@@ -181,19 +173,19 @@ returns-clause-failing g c timeout earlier starts some none failing =
     failed_as_met all attempts timeout earlier starts moments c.args.begun since
     (record { a = first.a.now; b = first.b.now; new_a = c.settle_after-worked.new.storing.a.now; new_b = c.settle_after-worked.new.storing.b.now })
     c.settle_after-worked.new.crew.carriers.items c.args.around.now.wires.now.items c.end_crew.new.wires.items c.follow_begun-worked.result.met c.settle_after-worked.result.met
-    c.requires.begins c.follow_begun-worked.ensures.met c.settle_after-worked.ensures.met
-    (fail_after (link_words g.L.Link.told g.L.Link.faults g.L.Link.idles) (wire_words g.W.Wire.outcomes g.W.Wire.open_links g.W.Wire.faults g.W.Wire.idles) attempts
-    (sending (g.K.Clock.moments c.args.around.now.clock.now) c.args.crew.carriers.items) (sending moments one.carriers.items) timeout earlier starts some none c.follow_begun-worked.ensures.failing failing)
-    c.settle_after-worked.ensures.links_stay c.end_crew.ensures.ended
+    c.follow_begun-worked.ensures.met c.settle_after-worked.ensures.last.by
+    (fail_after (links_of g.L.Link) (wires_of g.W.Wire) attempts
+    (sending (g.K.Clock.moments c.args.around.now.clock.now) c.args.crew.carriers.items) (sending moments one.carriers.items) timeout earlier starts some none c.follow_begun-worked.ensures.goes.keeps.failing failing)
+    c.settle_after-worked.ensures.last.hands_on.links_stay c.end_crew.ensures.ended
 
 pub returns-clause-wires_return : goal.returns-clause-wires_return
 returns-clause-wires_return g c =
-    wires_return (link_words g.L.Link.told g.L.Link.faults g.L.Link.idles) (wire_words g.W.Wire.outcomes g.W.Wire.open_links g.W.Wire.faults g.W.Wire.idles)
+    wires_return (links_of g.L.Link) (wires_of g.W.Wire)
     c.args.crew.carriers.items c.follow_begun-worked.new.crew.carriers.items c.settle_after-worked.new.crew.carriers.items c.args.around.now.wires.now.items c.end_crew.new.wires.items
-    c.follow_begun-worked.ensures.carriers_go_on c.settle_after-worked.ensures.links_stay c.end_crew.ensures.ended
+    c.follow_begun-worked.ensures.goes.keeps.carriers_go_on c.settle_after-worked.ensures.last.hands_on.links_stay c.end_crew.ensures.ended
 
 pub returns-clause-still_tell : goal.returns-clause-still_tell
 returns-clause-still_tell g c = record {
-  a = λ told. c.settle_after-worked.ensures.still_tell.a (c.follow_begun-worked.ensures.still_tell.a told);
-  b = λ told. c.settle_after-worked.ensures.still_tell.b (c.follow_begun-worked.ensures.still_tell.b told);
+  a = λ told. c.settle_after-worked.ensures.last.hands_on.still_tell.a (c.follow_begun-worked.ensures.goes.keeps.still_tell.a told);
+  b = λ told. c.settle_after-worked.ensures.last.hands_on.still_tell.b (c.follow_begun-worked.ensures.goes.keeps.still_tell.b told);
 }
