@@ -17,8 +17,8 @@ CLAUSE_COLUMNS = 100
 PARAMETERS = 6
 BODY_LINES = 40
 FILE_LINES = 500
-# the one call that takes a whole run's objects
-MANY_PARAMETERS = {"ship"}
+# the calls that take all objects of a run
+MANY_PARAMETERS = {"ship", "spool_run"}
 
 LIMITS = {
     "clause lines above 100 columns": 549,

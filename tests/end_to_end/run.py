@@ -1,7 +1,7 @@
 #!/usr/bin/env python3
 """Runs the programs over real files, real sockets and a real registry area, and compares what they did.
 
-    python3 tests/end_to_end/run.py [--program PATH] [--receiver PATH] [--container PATH] [--seed N] [NAME..]
+    python3 tests/end_to_end/run.py [--program PATH] [--receiver PATH] [--container PATH] [--spool PATH] [--seed N] [NAME..]
 
 Names choose tests; without any, all are run.
 """
@@ -24,6 +24,7 @@ from receiver import Receiver
 from refusals import Refusals
 from restarts import Restarts
 from shipping import Shipping
+from spool import Spool
 from surroundings import Surroundings
 
 HERE = Path(__file__).resolve().parent
@@ -72,7 +73,8 @@ def name_of(test):
 def all_tests():
     """Each test, by its name."""
     tests = {}
-    kinds = (Generated, OneFile, ManyFiles, Refusals, Peers, Surroundings, Receiver, Containers, Killed, Restarts)
+    kinds = (Generated, OneFile, ManyFiles, Refusals, Peers, Surroundings)
+    kinds += (Receiver, Containers, Spool, Killed, Restarts)
     for kind in kinds:
         tests.update({it[len(PREFIX) :]: kind(it) for it in vars(kind) if it.startswith(PREFIX)})
     return tests
@@ -92,13 +94,22 @@ def give_programs(given, chosen):
         Receiver.sink = program_at(given.receiver, "beat_sink")
     if Containers in kinds:
         Containers.tested = program_at(given.container, "beat_container")
+    if Spool in kinds:
+        Spool.tested = program_at(given.spool, "beat_spool")
+        Spool.sink = program_at(given.receiver, "beat_sink")
 
 
 def main():
     program.allow_open_files()
     tests = all_tests()
     words = argparse.ArgumentParser(description="Tests the programs from outside.")
-    for option, name in (("--program", "beat_main"), ("--receiver", "beat_sink"), ("--container", "beat_container")):
+    programs = (
+        ("--program", "beat_main"),
+        ("--receiver", "beat_sink"),
+        ("--container", "beat_container"),
+        ("--spool", "beat_spool"),
+    )
+    for option, name in programs:
         words.add_argument(option, type=Path, help=f"the program {name} (default: the one that rt ci built)")
     words.add_argument("--seed", type=int, default=random.randrange(10**6), help="what random moments come from")
     words.add_argument("names", nargs="*", metavar="NAME", help="a test (default: all)")
@@ -113,7 +124,7 @@ def main():
         print(fault)
         print("end to end: 0 passed, 1 failed")
         return 1
-    Shipping.seed = Containers.seed = given.seed
+    Shipping.seed = Containers.seed = Spool.seed = given.seed
     result = Lines()
     for test in chosen:
         test.run(result)

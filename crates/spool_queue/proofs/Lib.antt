@@ -1,0 +1,14 @@
+mod Blocks
+mod Crashes
+mod Digits
+mod Heads
+mod Logs
+mod OneReading
+mod OnlyReads
+mod Sinks
+mod Standings
+mod Steps
+mod Texts
+mod Walks
+mod Worked
+mod Writes

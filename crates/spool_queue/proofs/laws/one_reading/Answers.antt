@@ -1,0 +1,8 @@
+use Rattle.spool_queue.proofs.OneReading.{never_both, one_list}
+use Rattle.spool_queue.proofs.laws.one_reading.Goals as goal
+
+pub returns-clause-one_list : goal.returns-clause-one_list
+returns-clause-one_list c = one_list
+
+pub returns-clause-never_both : goal.returns-clause-never_both
+returns-clause-never_both c = never_both

@@ -1,0 +1,42 @@
+use Rattle.std.proofs.Common.{◌≡◌, ◌+◌, ◌<◌, ◌≤◌, ◌∷◌, [], inr, ℕ, List, Option, Some, IfSome, length, drop, refl, ap, subst, ◌∙◌, arith, length-drop}
+use Rattle.std.proofs.lemmas.List.{nil_from_length}
+use Rattle.std.proofs.lemmas.Result.{err_from_is_err_and}
+use Rattle.outside.specs.DiskReads.{written}
+use Rattle.spool_queue.specs.Log.{Empty, outstanding}
+use Rattle.spool_queue.proofs.Standings.{empty_spool, holds_of, short_read}
+use Rattle.spool_queue.proofs.Walks.{at_front}
+use Rattle.spool_queue.proofs.Writes.{written_within}
+use Rattle.spool_queue.proofs.spool.Spool.open.Goals as goal
+
+alone : (bytes : List ℕ) → length bytes ≤ 1 → written bytes 0 (46 ∷ []) ≡ 46 ∷ []
+alone bytes short = written_within bytes 0 46 [] (omega arith) ∙ ap (λ (l : List ℕ). 46 ∷ l) (nil_from_length (drop (0 + 1) bytes) (omega (arith, short, length-drop (0 + 1) bytes)))
+
+pub returns-then-branch-le1-clause-opened : goal.returns-then-branch-le1-clause-opened
+returns-then-branch-le1-clause-opened g c = λ bytes told.
+    let L : Option (List ℕ) → Type 0 = λ o. IfSome o (λ b. c.in_ok-len.field-0 ≡ length b) in
+    let sized = subst L told c.in_ok-len.ensures.told in
+    let short : length bytes ≤ 1 = omega arith in
+    let W : Option (List ℕ) → Type 0 = λ o. IfSome o (λ b. g.D.Disk.contents c.write_synced.new.disk ≡ Some (written b 0 (46 ∷ []))) in
+    let there = subst W (c.in_ok-len.ensures.contents_kept ∙ told) c.in_ok-write_synced.ensures.written ∙ ap (λ (l : List ℕ). Some l) (alone bytes short) in
+    ([], short_read bytes short, holds_of _ _ (46 ∷ []) [] there (empty_spool _ refl refl refl))
+
+pub returns-in_err-pass_all-clause-bad : goal.returns-in_err-pass_all-clause-bad
+returns-in_err-pass_all-clause-bad g c = λ bytes at told same.
+    let L : Option (List ℕ) → Type 0 = λ o. IfSome o (λ b. c.in_ok-len.field-0 ≡ length b) in
+    let sized = subst L told c.in_ok-len.ensures.told in
+    let long : 1 < length bytes = omega arith in
+    let p = err_from_is_err_and c.from_residual-in_err-pass_all.result c.from_residual-in_err-pass_all.ensures.1 in
+    let bad = c.in_err-pass_all.ensures.told bytes Empty (c.in_ok-len.ensures.contents_kept ∙ told) (at_front bytes c.start-walk.result c.start-walk.ensures.place c.start-walk.ensures.events c.start-walk.ensures.settled) at in
+    (long, bad (cc (p.1, p.2, same)))
+
+pub returns-clause-opened : goal.returns-clause-opened
+returns-clause-opened g c = λ bytes told.
+    let L : Option (List ℕ) → Type 0 = λ o. IfSome o (λ b. c.in_ok-len.field-0 ≡ length b) in
+    let sized = subst L told c.in_ok-len.ensures.told in
+    let long : 1 < length bytes = omega arith in
+    let kept = c.in_ok-len.ensures.contents_kept ∙ told in
+    let whole = c.in_ok-pass_all.ensures.told bytes Empty kept (at_front bytes c.start-walk.result c.start-walk.ensures.place c.start-walk.ensures.events c.start-walk.ensures.settled) in (
+      outstanding whole.0,
+      inr (long, (whole.0, c.pass_all.new.self.place, whole.2, refl)),
+      holds_of _ _ bytes (outstanding whole.0) (c.in_ok-pass_all.ensures.only_read.contents_kept ∙ kept) (record { log = whole.0; ends = whole.2; events = whole.1.events; settlements = whole.1.settlements; list_is = refl }),
+    )

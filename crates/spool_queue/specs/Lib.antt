@@ -1,0 +1,10 @@
+pub mod Appending
+pub mod Codes
+pub mod Log
+pub mod OnlyRead
+pub mod Printing
+pub mod Records
+pub mod Sending
+pub mod Spool
+pub mod Standing
+pub mod Walking
