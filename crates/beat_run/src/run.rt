@@ -238,9 +238,9 @@ where
         let all = outside_words F.Folder W.Wire D.Disk K.Clock B.Bell in
         let before = objects_of all (handed_in outside.old) in
         let after = objects_of all (handed_in outside.new) in
-        let objects = record { before = record before { a = from.a; b = from.b }; after = after } in
         IsOpenedFrom (disks_of D.Disk) from store outside.old.a.now outside.old.b.now →
-        TellEnough before after → IsAccounted (disks_of D.Disk) settings.now objects
+        TellEnough before after → IsAccounted (disks_of D.Disk) settings.now
+        (record { before = record before { a = from.a; b = from.b }; after = after })
         (ended result) (IsToBePrinted result) }
     ensures at_rest { (from : Areas D) →
         IsOpenedFrom (disks_of D.Disk) from store outside.old.a.now outside.old.b.now →

@@ -39,6 +39,14 @@ returns-in-Err-clause-a_only_read_where_bad g c = λ area at some_a some_b is.
     c.open_registry.ensures.a_only_read first.0 second.0 area at first.1 second.1
     (bad_refused c.in-Err.error first.0 second.0 area at (bad_of c.in-Err.error c.status_of_registry.result area at c.status_of_registry.ensures met) (rw c.in-Err.is at c.open_registry.ensures.refused first.0 second.0 first.1 second.1))
 
+pub returns-in-Err-clause-untouched_where_areas_are_refused : goal.returns-in-Err-clause-untouched_where_areas_are_refused
+returns-in-Err-clause-untouched_where_areas_are_refused g c = λ first second area at of_a of_b refused. record {
+  a = c.open_registry.ensures.a_only_read first second area at of_a of_b refused;
+  b = c.open_registry.ensures.b_only_read;
+  folder = refl;
+  wires = refl;
+}
+
 pub returns-in-Err-clause-cause : goal.returns-in-Err-clause-cause
 returns-in-Err-clause-cause g c = registry_caused c.args.settings.now _ _ c.in-Err.error c.status_of_registry.result c.status_of_registry.ensures
     (λ is. c.open_registry.ensures.disk_fault_only_where_faults_rose (c.in-Err.is ∙ ap (λ (e : RegistryError). Err e) is))
@@ -64,20 +72,8 @@ pub returns-in-Ok-clause-areas_refused : goal.returns-in-Ok-clause-areas_refused
 returns-in-Ok-clause-areas_refused g c = λ first second area at of_a of_b refused.
     absurd (rw c.in-Ok.is at c.open_registry.ensures.refused_so first second area at of_a of_b refused)
 
-pub returns-in-Ok-clause-a_only_read_where_areas_are_refused : goal.returns-in-Ok-clause-a_only_read_where_areas_are_refused
-returns-in-Ok-clause-a_only_read_where_areas_are_refused g c = λ first second area at of_a of_b refused.
-    absurd (rw c.in-Ok.is at c.open_registry.ensures.refused_so first second area at of_a of_b refused)
-
-pub returns-in-Ok-clause-b_only_read_where_areas_are_refused : goal.returns-in-Ok-clause-b_only_read_where_areas_are_refused
-returns-in-Ok-clause-b_only_read_where_areas_are_refused g c = λ first second area at of_a of_b refused.
-    absurd (rw c.in-Ok.is at c.open_registry.ensures.refused_so first second area at of_a of_b refused)
-
-pub returns-in-Ok-clause-folder_kept_where_areas_are_refused : goal.returns-in-Ok-clause-folder_kept_where_areas_are_refused
-returns-in-Ok-clause-folder_kept_where_areas_are_refused g c = λ first second area at of_a of_b refused.
-    absurd (rw c.in-Ok.is at c.open_registry.ensures.refused_so first second area at of_a of_b refused)
-
-pub returns-in-Ok-clause-wires_kept_where_areas_are_refused : goal.returns-in-Ok-clause-wires_kept_where_areas_are_refused
-returns-in-Ok-clause-wires_kept_where_areas_are_refused g c = λ first second area at of_a of_b refused.
+pub returns-in-Ok-clause-untouched_where_areas_are_refused : goal.returns-in-Ok-clause-untouched_where_areas_are_refused
+returns-in-Ok-clause-untouched_where_areas_are_refused g c = λ first second area at of_a of_b refused.
     absurd (rw c.in-Ok.is at c.open_registry.ensures.refused_so first second area at of_a of_b refused)
 
 pub returns-in-Ok-clause-cause : goal.returns-in-Ok-clause-cause
