@@ -2,7 +2,8 @@
 use crate::frames::{show, window};
 use anyhow::{Result, bail};
 use lumber_server::{
-    Accept, MemPort, MemVisit, Port, Served, SinkPlaces, SinkStatus, receive, serve, sink_places,
+    Accept, MemPort, MemVisit, Port, Served, SinkPlaces, SinkStatus, is_command, receive, serve,
+    sink_places,
 };
 use outside_mem::{MemBell, MemSink};
 use script_words::{bytes, number};
@@ -53,12 +54,17 @@ fn texts(alloc: Global, words: &[&str]) -> Result<Vec<Text>> {
     Ok(texts)
 }
 
-/// What the arguments of a run name.
+/// Whether the arguments of a run are the command's, and what they name.
 fn show_places(rt: &HostRuntime, words: &[&str]) -> Result<()> {
     let words = texts(rt.alloc(), words)?;
+    let answer = if is_command(&words) {
+        "taken"
+    } else {
+        "refused"
+    };
     let SinkPlaces { host, file } = sink_places(rt.alloc(), &words)?;
     let (name, port) = (host.name.as_str(), host.port);
-    println!(rt; "    {name} {port} {}", file.as_str())?;
+    println!(rt; "    {answer} {name} {port} {}", file.as_str())?;
     Ok(())
 }
 
