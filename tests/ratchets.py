@@ -21,12 +21,12 @@ FILE_LINES = 500
 MANY_PARAMETERS = {"ship", "spool_run"}
 
 LIMITS = {
-    "clause lines above 100 columns": 549,
-    "functions with more than six parameters": 1,
-    "functions above 40 lines of body": 3,
+    "clause lines above 100 columns": 518,
+    "functions with more than six parameters": 3,
+    "functions above 40 lines of body": 0,
     "files above 500 lines": 5,
-    "ghost use lines": 2318,
-    "lemma signatures that are there before": 201,
+    "ghost use lines": 2340,
+    "lemma signatures that are there before": 192,
 }
 
 FUNCTION = re.compile(r"^(\s*)(?:pub(?:\([a-z]+\))?\s+)?(?:const\s+)?fn\s+(\w+)")

@@ -75,13 +75,6 @@ const ENDS: [(Status, u8, &str); 15] = [
         13,
         "status 13 unbuilt follow\n",
     ),
-    (
-        Status::Unbuilt {
-            what: Lack::Generate,
-        },
-        13,
-        "status 13 unbuilt generate\n",
-    ),
 ];
 
 #[test]
