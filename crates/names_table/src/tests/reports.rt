@@ -23,7 +23,7 @@ fn ends(alloc: Global, status: &Status, code: u8, line: &str) -> Result<bool, No
 }
 
 /// An end, its number and its last line.
-const ENDS: [(Status, u8, &str); 15] = [
+const ENDS: [(Status, u8, &str); 14] = [
     (Status::Done, 0, "status 0 done\n"),
     (Status::Stopped, 1, "status 1 stopped\n"),
     (
