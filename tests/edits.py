@@ -75,6 +75,22 @@ def check(found):
     return 1 if faults else 0
 
 
+def needed(names):
+    """These crates, and those that they stand on."""
+    below = {}
+    for line in (ROOT / "crates.txt").read_text().splitlines():
+        if line and not line.startswith("#"):
+            name, _, used = line.partition(":")
+            below[name.split()[0]] = used.split()
+    found, left = set(), list(names)
+    while left:
+        name = left.pop()
+        if name in below and name not in found:
+            found.add(name)
+            left += below[name]
+    return found
+
+
 def linked(source, target):
     """Gives a file a second name, which takes no room; copies it where the folders are on different disks."""
     try:
@@ -85,11 +101,14 @@ def linked(source, target):
 
 def copied(room, found):
     """Lays the repository out in the folder `room`, with the chosen edits, and with what earlier checks kept."""
+    (room / "crates").mkdir()
     for name in ("crates.txt", "HANDLES"):
         shutil.copy(ROOT / name, room)
     # no file of these is written again in place: rt makes a library anew in a new folder
-    ignored = shutil.ignore_patterns("must-fail", "incremental")
-    shutil.copytree(IN_GATE, room / "crates", ignore=ignored, copy_function=linked)
+    ignored, kept = shutil.ignore_patterns("must-fail", "incremental"), needed(found)
+    for crate in IN_GATE.iterdir():
+        omitted = ignored if crate.name in kept else shutil.ignore_patterns("must-fail", "out")
+        shutil.copytree(crate, room / "crates" / crate.name, ignore=omitted, copy_function=linked)
     for crate, files in found.items():
         folder = room / "crates" / crate / "must-fail"
         folder.mkdir()
