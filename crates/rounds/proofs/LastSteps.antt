@@ -5,7 +5,7 @@ use Rattle.std.proofs.Common.{◌≡◌, ◌⊎◌, ℕ, suc, ◌-◌, ◌^◌, 
 use Rattle.std.proofs.lemmas.List.{length-append}
 use Rattle.atomic_table.specs.Seated.{TableId}
 use Rattle.batch_worker.specs.Held.{owed_by}
-use Rattle.batch_worker.specs.Keeping.{Keeps, WorkerGoes, with_posted}
+use Rattle.batch_worker.specs.Keeping.{Keeps, SameMoments, WorkerGoes, with_posted}
 use Rattle.batch_worker.specs.Seen.{Seen}
 use Rattle.batch_worker.specs.Standing.{StandsFor}
 use Rattle.batch_worker.specs.Steps.{FoundFull, PostsOf}
@@ -172,10 +172,10 @@ module _ {T : Type 0} (tails : TailWords T) (box : ℕ) where
 -- ---- workers
 
 module _ {W L : Type 0} (links : LinkWords L) where
-  pub carrier_handed : (box : ℕ) (old new : Carrier W L) (through : Bool) → ((seen : Seen) → WorkerGoes links.told seen seen old.worker new.worker) → new ≡ record old { worker = new.worker }
+  pub carrier_handed : (box : ℕ) (old new : Carrier W L) (through : Bool) → ((seen : Seen) → WorkerGoes links.told seen seen old.worker new.worker) → SameMoments old.worker new.worker → new.worker.failures ≡ old.worker.failures → new ≡ record old { worker = new.worker }
       → (through ≡ true → owed_by new.worker ≡ []) → OnFalse through (FoundFull box new.worker.post) → CarrierHandedOn links box old new
-  carrier_handed box old new true goes others all full = record { goes = goes; others = others; left = inl (all refl) }
-  carrier_handed box old new false goes others all full = record { goes = goes; others = others; left = inr full }
+  carrier_handed box old new true goes moments failures others all full = record { goes = goes; moments = moments; failures = failures; others = others; left = inl (all refl) }
+  carrier_handed box old new false goes moments failures others all full = record { goes = goes; moments = moments; failures = failures; others = others; left = inr full }
 
   module _ (wires : WireWords W) (box : ℕ) where
     worker_keeps : (x y : Carrier W L) → CarrierHandedOn links box x y → CarrierKeeps links wires x y

@@ -3,7 +3,7 @@
 use Rattle.std.specs.Prelude.{◌≡◌, ◌⊎◌, ℕ, false, List, [], ◌++◌}
 use Rattle.atomic_table.specs.Seated.{TableId}
 use Rattle.batch_worker.specs.Held.{owed_by}
-use Rattle.batch_worker.specs.Keeping.{WorkerGoes, with_posted}
+use Rattle.batch_worker.specs.Keeping.{SameMoments, WorkerGoes, with_posted}
 use Rattle.batch_worker.specs.Seen.{Seen}
 use Rattle.batch_worker.specs.Steps.{FoundFull, PostsOf}
 use Rattle.mem_queue.specs.BoundedQueue.{BoundedQueue}
@@ -49,9 +49,12 @@ pub record LaneHandedOn {T : Type 0} (box : ℕ) (old new : Laning T) : Type 0 w
   pub in_range : IsInRange old.held → IsInRange new.held
   pub left : (notes_in new.held ≡ []) ⊎ FoundFull box new.post
 
--- the notes that a worker owed were posted; some are left only where the box was full. Its wire is not touched
+-- the notes that a worker owed were posted; some are left only if the box was full. Its wire is not touched, nor the moments of its windows, nor how often it
+-- failed
 pub record CarrierHandedOn {W L : Type 0} (links : LinkWords L) (box : ℕ) (old new : Carrier W L) : Type 0 where
   pub goes : (seen : Seen) → WorkerGoes links.told seen seen old.worker new.worker
+  pub moments : SameMoments old.worker new.worker
+  pub failures : new.worker.failures ≡ old.worker.failures
   pub others : new ≡ record old { worker = new.worker }
   pub left : (owed_by new.worker ≡ []) ⊎ FoundFull box new.worker.post
 

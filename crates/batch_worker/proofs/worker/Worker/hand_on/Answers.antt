@@ -1,4 +1,4 @@
-use Rattle.std.proofs.Common.{ap, sym, subst}
+use Rattle.std.proofs.Common.{ap, sym, subst, ◌∙◌}
 use Rattle.batch_worker.specs.Keeping.{SameMoments, WorkerGoes}
 use Rattle.batch_worker.specs.Working.{Working}
 use Rattle.batch_worker.proofs.Keeping.{goes_nowhere, goes_on, moments_on}
@@ -13,6 +13,9 @@ pub returns-then-not-post_refused-clause-moments : goal.returns-then-not-post_re
 returns-then-not-post_refused-clause-moments g c =
     let kept = c.if-not-post_refused.ensures.kept in
     record { outs = ap (λ (w : Working g.row.L.Denot). w.outs) kept; heard = ap (λ (w : Working g.row.L.Denot). w.heard) kept }
+
+pub returns-then-not-post_refused-clause-failures : goal.returns-then-not-post_refused-clause-failures
+returns-then-not-post_refused-clause-failures g c = ap (λ (w : Working g.row.L.Denot). w.failures) c.if-not-post_refused.ensures.kept
 
 pub loop-self-init : goal.loop-self-init
 loop-self-init g c = posting_begins g.L.Link.told c.args.desk.now.id c.args.self.now c.post_refused.new.self c.if-not-post_refused.ensures.posted c.requires.of_this_box
@@ -32,6 +35,11 @@ returns-then-not-post_refused-2-clause-moments g c =
     subst (λ (w : Working g.row.L.Denot). SameMoments c.args.self.now w) (sym c.if-not-post_refused-2.ensures.kept)
     (moments_on c.args.self.now mid owing c.loop-self.invariant.moments (settled_same mid owing c.loop-self-test.ensures.settled))
 
+pub returns-then-not-post_refused-2-clause-failures : goal.returns-then-not-post_refused-2-clause-failures
+returns-then-not-post_refused-2-clause-failures g c =
+    ap (λ (w : Working g.row.L.Denot). w.failures) c.if-not-post_refused-2.ensures.kept
+    ∙ ap (λ (w : Working g.row.L.Denot). w.failures) c.loop-self-test.ensures.settled.is ∙ c.loop-self.invariant.failures
+
 pub loop-self-preserved : goal.loop-self-preserved
 loop-self-preserved g c =
     posting_goes_on g.L.Link.told c.args.desk.now.id c.args.self.now c.loop-self.self c.settle_next.new.self c.post_refused-in-loop-self.new.self c.loop-self.invariant c.loop-self-test.ensures.settled c.if-not-post_refused-2.ensures.posted
@@ -39,6 +47,9 @@ loop-self-preserved g c =
 pub returns-clause-moments : goal.returns-clause-moments
 returns-clause-moments g c =
     subst (λ (w : Working g.row.L.Denot). SameMoments c.args.self.now w) (sym c.loop-self-test.ensures.same) c.loop-self.invariant.moments
+
+pub returns-clause-failures : goal.returns-clause-failures
+returns-clause-failures g c = ap (λ (w : Working g.row.L.Denot). w.failures) c.loop-self-test.ensures.same ∙ c.loop-self.invariant.failures
 
 pub returns-clause-goes : goal.returns-clause-goes
 returns-clause-goes g c = λ s.
