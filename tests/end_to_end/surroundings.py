@@ -1,4 +1,4 @@
-"""What a run finds around it: closed streams, a data folder or a registry that is none, and another run."""
+"""What a run finds around it: closed streams, a data folder or a registry that is none, a full disk, and another run."""
 
 import os
 
@@ -24,6 +24,11 @@ NO_REGISTRY = {
 
 # so often two first runs begin together
 TOGETHER = 10
+
+# so many files are followed over a full disk, by so many runs; a shell counts what a file may have in blocks of so many bytes
+FILES = 40
+RUNS = 10
+BLOCK_BYTES = 512
 
 
 class Surroundings(Shipping):
@@ -52,6 +57,36 @@ class Surroundings(Shipping):
                 self.assert_wrote(self.run_words(*ONCE), DISK_FAULT)
                 self.assertEqual(peer.connections, 0)
                 self.assertEqual(sorted((str(it), it.lstat().st_mode) for it in self.folder.rglob("*")), before)
+
+    def test_full_disk(self):
+        """Nothing is sent of which no row could be stored, however often it is tried; once there is room, each line is sent."""
+        logs = self.folder / "logs"
+        logs.mkdir()
+        paths = [logs / f"{number}.log" for number in range(FILES)]
+        for path in paths:
+            path.write_text("first\n")
+        with Peer() as peer:
+            self.write_settings(program.settings_text(logs / "*.log", peer.host))
+            self.assert_done(self.run_words(*ONCE), [row(str(path), 6) for path in paths], FILES)
+        stored = self.stored_rows()
+
+        for path in paths:
+            with path.open("a") as file:
+                file.write("second\n")
+        (logs / "new.log").write_text("first\n")
+        blocks = self.area.stat().st_size // BLOCK_BYTES
+        full = f'trap "" XFSZ && ulimit -f {blocks} && exec "$0" "$@"'
+        with Peer() as peer:
+            self.write_settings(program.settings_text(logs / "*.log", peer.host))
+            for _ in range(RUNS):
+                self.assert_wrote(program.run("sh", ("-c", full, os.fspath(self.tested), *ONCE), self.folder), DISK_FAULT)
+            self.assertEqual((peer.connections, peer.payloads), (0, []))
+        self.assertEqual(self.stored_rows(), stored)
+
+        with Peer() as peer:
+            self.write_settings(program.settings_text(logs / "*.log", peer.host))
+            rows = [row(str(path), 13) for path in paths] + [row(str(logs / "new.log"), 6)]
+            self.assert_done(self.run_words(*ONCE), rows, FILES + 1)
 
     def test_registry_of_another_run(self):
         """The other run goes on as if nobody else had come."""

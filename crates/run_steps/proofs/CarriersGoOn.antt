@@ -57,7 +57,7 @@ module _ {L : Type 0} where
   same_links others (Some link) None linked = absurd (let q : false ≡ true = linked in cc)
   same_links others (Some link) (Some other) linked = refl
 
-  goes_unseen : (before after : Seen) (old new : Option L) → after ≡ before → is_some new ≡ is_some old → WireGoesOn before after old new
+  pub goes_unseen : (before after : Seen) (old new : Option L) → after ≡ before → is_some new ≡ is_some old → WireGoesOn before after old new
   goes_unseen before after old new same linked = record {
     told = told_same before.outcomes after.outcomes (ap (λ (s : Seen). s.outcomes) same);
     open_links = λ others few is. ap (λ (s : Seen). s.open_links) same ∙ is ∙ same_links others old new linked;

@@ -185,7 +185,7 @@ module _ {W L : Type 0} (links : LinkWords L) (wires : WireWords W) (attempts ti
   from_bare (s ∷ starts) [] fail = absurd fail
   from_bare (s ∷ starts) (x ∷ xs) fail = (one_with s x fail.0, from_bare starts xs fail.1)
 
-  met_fail : (starts : List (Option ℕ)) (mids news : List (Carrier W L)) → bare_carriers news ≡ bare_carriers mids → Pairs Fails starts mids → Pairs Fails starts news
+  pub met_fail : (starts : List (Option ℕ)) (mids news : List (Carrier W L)) → bare_carriers news ≡ bare_carriers mids → Pairs Fails starts mids → Pairs Fails starts news
   met_fail starts mids news same fail = from_bare starts news (subst (λ (cs : List (Carrier W L)). Pairs Fails starts cs) (sym same) (to_bare starts mids fail))
 
 -- ---- with more moments

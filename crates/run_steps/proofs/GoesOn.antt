@@ -1,4 +1,4 @@
--- No step at all, a question of the bell, and two steps in a row.
+-- No step at all, a question of the bell, one that stores, and two steps in a row.
 use Rattle.std.proofs.Common.{◌≡◌, ◌≤◌, ℕ, List, IfNone, None, Some, Option, refl, ◌∙◌, arith}
 use Rattle.std.specs.Borrow.{MutBor}
 use Rattle.keeper.proofs.InARow.{collects_more, collects_none}

@@ -1,4 +1,4 @@
--- The last steps: none of them, one, and several in a row.
+-- The steps that store: none of them, one, and several in a row; and as the last of a run.
 use Rattle.std.proofs.Common.{◌≡◌, ◌⊎◌, inl, inr, ⊎_elim, ℕ, ◌≤◌, true, false, IfSome, List, None, Some, Option, refl, ◌∙◌, arith}
 use Rattle.keeper.proofs.InARow.{collects_more, collects_none}
 use Rattle.rounds.specs.Crewed.{lanings}
@@ -9,7 +9,8 @@ use Rattle.rounds.specs.Words.{DiskWords, Words}
 use Rattle.rounds.specs.declared.answer.Round.{Round}
 use Rattle.rounds.specs.declared.crew.Crew.{Crew}
 use Rattle.rounds.specs.declared.storing.Storing.{Storing}
-use Rattle.run_steps.specs.LastSteps.{HandsOn, LastSteps, state_in}
+use Rattle.run_steps.specs.CarriersFail.{sending}
+use Rattle.run_steps.specs.LastSteps.{HandsOn, LastSteps, StoresAll, state_in, written_by}
 use Rattle.run_steps.specs.Met.{AreLeft}
 use Rattle.run_steps.specs.MetBy.{GoesOn}
 use Rattle.run_steps.specs.Settling.{IsMetByStoring, IsStoredAs, Written}
@@ -17,6 +18,8 @@ use Rattle.run_steps.specs.Readiness.{IsAbleIn, IsReadyIn}
 use Rattle.run_steps.specs.declared.context.Context.{Context}
 use Rattle.run_steps.specs.declared.met.Met.{Met}
 use Rattle.run_steps.specs.declared.met.Met.TheVariants.{DiskFault, Done, Epochs, FolderFault, NoMemory, NoNative, Stopped, Unreachable}
+use Rattle.run_steps.proofs.FailingRounds.{fail_by_nothing, fail_by_two}
+use Rattle.run_steps.proofs.FailingStores.{fail_by_settling, none_failed_by_settling}
 use Rattle.run_steps.proofs.LinksStay.{links_by_settling, links_on, links_same}
 use Rattle.run_steps.proofs.MetBy.{rose_since}
 use Rattle.run_steps.proofs.Onward.{onward_by_nothing, onward_by_two, settle_onward}
@@ -31,7 +34,10 @@ module _ {T W L D : Type 0} {words : Words T W L D} {context : Context} where
     able = able;
     no_harvesters = λ none. none;
     all_settled = λ settled. settled;
+    slots = refl;
     links_stay = links_same now.carriers.items;
+    failing = λ moments. fail_by_nothing words.links words.wires context.settings.now.output.attempts (sending moments now.carriers.items);
+    none_failed = λ none. none;
     as_many = record { lanes = refl; carriers = refl };
     a_faults_never_fall = omega arith;
     b_faults_never_fall = omega arith;
@@ -50,7 +56,11 @@ module _ {T W L D : Type 0} {words : Words T W L D} {context : Context} where
     able = then.able;
     no_harvesters = λ none. then.no_harvesters (one.no_harvesters none);
     all_settled = λ settled. then.all_settled (one.all_settled settled);
+    slots = then.slots ∙ one.slots;
     links_stay = links_on first.carriers.items mid.carriers.items last.carriers.items one.links_stay then.links_stay;
+    failing = λ moments. fail_by_two words.links words.wires context.settings.now.output.attempts (sending moments first.carriers.items) (sending moments mid.carriers.items)
+        (sending moments last.carriers.items) (one.failing moments) one.none_failed (then.failing moments);
+    none_failed = λ none. then.none_failed (one.none_failed none);
     as_many = record { lanes = then.as_many.lanes ∙ one.as_many.lanes; carriers = then.as_many.carriers ∙ one.as_many.carriers };
     a_faults_never_fall = omega arith;
     b_faults_never_fall = omega arith;
@@ -68,7 +78,10 @@ module _ {T W L D : Type 0} {words : Words T W L D} {context : Context} where
     able = on.able;
     no_harvesters = on.no_harvesters;
     all_settled = on.all_settled;
+    slots = on.slots;
     links_stay = on.links_stay;
+    failing = on.failing;
+    none_failed = on.none_failed;
     as_many = on.as_many;
     a_faults_never_fall = on.a_faults_never_fall;
     b_faults_never_fall = on.b_faults_never_fall;
@@ -91,15 +104,15 @@ well_stored round (Some (Unreachable worker)) is goes = absurd is
 well_stored round (Some (Epochs slot)) is goes = absurd is
 well_stored round (Some (NoNative slot)) is goes = absurd is
 
-not_left : (round : Round) (met : Met) → IsStoredAs round (Some met) → ¬ (AreLeft met)
-not_left round NoMemory is = λ left. left
-not_left round DiskFault is = λ left. left
-not_left round Done is = absurd is
-not_left round Stopped is = absurd is
-not_left round FolderFault is = absurd is
-not_left round (Unreachable worker) is = absurd is
-not_left round (Epochs slot) is = absurd is
-not_left round (NoNative slot) is = absurd is
+not_left : {D : Type 0} (disks : DiskWords D) (written : Written D) (met : Met) → IsMetByStoring disks written met → ¬ (AreLeft met)
+not_left disks written NoMemory is = λ left. left
+not_left disks written DiskFault is = λ left. left
+not_left disks written Done is = absurd is
+not_left disks written Stopped is = absurd is
+not_left disks written FolderFault is = absurd is
+not_left disks written (Unreachable worker) is = absurd is
+not_left disks written (Epochs slot) is = absurd is
+not_left disks written (NoNative slot) is = absurd is
 
 met_by_storing : {D : Type 0} (disks : DiskWords D) (written : Written D) (round : Round) (met : Met) →
     (round.disk ≡ true → Rose (disks.faults written.a) (disks.faults written.new_a) ⊎ Rose (disks.faults written.b) (disks.faults written.new_b)) → IsStoredAs round (Some met) → IsMetByStoring disks written met
@@ -127,7 +140,12 @@ module _ {T W L D : Type 0} (words : Words T W L D) (context : Context) (reads :
     able = keeps.able;
     no_harvesters = λ none. none_still (lanings old.lanes.items) (lanings new.lanes.items) keeps.lanes none;
     all_settled = λ settled. settled_still (lanings old.lanes.items) (lanings new.lanes.items) before.keeper.now after.keeper.now keeps.lanes keeps.collects settled;
+    slots = keeps.slots;
     links_stay = links_by_settling words context.outlets.queue.now context.outlets.desk.now (crewing old before) (crewing new after) round settles;
+    failing = λ moments. fail_by_settling words context.outlets.queue.now context.outlets.desk.now (crewing old before) (crewing new after) round settles
+        context.settings.now.output.attempts moments;
+    none_failed = none_failed_by_settling words context.outlets.queue.now context.outlets.desk.now (crewing old before) (crewing new after) round settles
+        context.settings.now.output.attempts;
     as_many = keeps.as_many;
     a_faults_never_fall = keeps.causes.a_faults;
     b_faults_never_fall = keeps.causes.b_faults;
@@ -137,14 +155,36 @@ module _ {T W L D : Type 0} (words : Words T W L D) (context : Context) (reads :
   }
 
   -- one that ends them, after others
-  pub last_by_round : (met now : Met) (first : Crewing T W L D) → HandsOn words context None first (crewing old before) → IsStoredAs round (Some now) → LastSteps words context met now first (crewing new after)
-  last_by_round met now first on is = record {
+  pub stores_by_round : (now : Met) (first : Crewing T W L D) → HandsOn words context None first (crewing old before) → IsStoredAs round (Some now) →
+      StoresAll words context (Some now) first (crewing new after)
+  stores_by_round now first on is = record {
     hands_on = hands_on_by_two on (hands_on_by_round (Some now) is);
-    by = inr (met_by_storing words.disks (record { a = first.storing.a.now; b = first.storing.b.now; new_a = after.a.now; new_b = after.b.now }) round now
+    by = met_by_storing words.disks (record { a = first.storing.a.now; b = first.storing.b.now; new_a = after.a.now; new_b = after.b.now }) round now
         (λ failed. ⊎_elim
         (λ one. inl (rose_since (words.disks.faults first.storing.a.now) (words.disks.faults before.a.now) (words.disks.faults after.a.now) on.a_faults_never_fall one))
         (λ other. inr (rose_since (words.disks.faults first.storing.b.now) (words.disks.faults before.b.now) (words.disks.faults after.b.now) on.b_faults_never_fall other))
-        (keeps.causes.disk failed)) is);
-    settled = λ left. absurd (not_left round now is left);
-    counted = λ left. absurd (not_left round now is left);
+        (keeps.causes.disk failed)) is;
+    settled = tt;
+    counted = tt;
+  }
+
+-- ---- as the last of a run
+
+module _ {T W L D : Type 0} {words : Words T W L D} {context : Context} {before after : Crewing T W L D} where
+  -- what the run met stays
+  pub last_where_stored : (met : Met) → StoresAll words context None before after → LastSteps words context met met before after
+  last_where_stored met stores = record {
+    hands_on = hands_on_as (Some met) stores.hands_on;
+    by = inl refl;
+    settled = λ left. stores.settled;
+    counted = λ left. stores.counted;
+  }
+
+  -- what they met takes its place
+  pub last_where_met : (met now : Met) → StoresAll words context (Some now) before after → LastSteps words context met now before after
+  last_where_met met now stores = record {
+    hands_on = stores.hands_on;
+    by = inr stores.by;
+    settled = λ left. absurd (not_left words.disks (written_by before after) now stores.by left);
+    counted = λ left. absurd (not_left words.disks (written_by before after) now stores.by left);
   }

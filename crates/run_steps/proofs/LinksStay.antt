@@ -60,7 +60,7 @@ module _ {W L : Type 0} where
 
   -- ---- as notes are handed on
 
-  handed_stays : (links : LinkWords L) (box : ℕ) (x y : Carrier W L) → CarrierHandedOn links box x y → KeepsLink x y
+  pub handed_stays : (links : LinkWords L) (box : ℕ) (x y : Carrier W L) → CarrierHandedOn links box x y → KeepsLink x y
   handed_stays links box x y handed = record {
     wire = ap (λ (c : Carrier W L). c.wire) handed.others;
     linked = linked_by_count x.worker.link y.worker.link ((handed.goes (alone x.worker.link)).keeps.open_links 0 refl (λ end. omega (arith, end)));

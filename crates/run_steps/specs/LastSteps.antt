@@ -1,6 +1,6 @@
--- The last steps of a run (this project's profile): they hand on and store what was settled. None reads a file or sends, and what is
--- noted and stored goes on.
-use Rattle.std.specs.Prelude.{◌≡◌, ◌⊎◌, ◌≤◌, All, ℕ, List, Option, Some}
+-- The steps of a run that store (this project's profile): they hand on and store what was noted and settled. None reads a file or sends,
+-- and what is noted and stored goes on. A run makes them once its files have begun, and as its last steps.
+use Rattle.std.specs.Prelude.{◌≡◌, ◌⊎◌, ◌≤◌, All, ℕ, List, Option, Some, IfNone, IfSome}
 use Rattle.keeper.specs.Collecting.{Collects}
 use Rattle.outside.specs.Folders.{FolderHistory}
 use Rattle.rounds.specs.Crewed.{lanings}
@@ -8,13 +8,14 @@ use Rattle.rounds.specs.Crewing.{Crewing, crew_of}
 use Rattle.rounds.specs.KeeperTurns.{SameObjects, StillTell}
 use Rattle.rounds.specs.Settled.{AreSettledIn}
 use Rattle.rounds.specs.Settling.{ArePostsCounted}
-use Rattle.rounds.specs.Staying.{AreAsMany}
+use Rattle.rounds.specs.Staying.{AreAsMany, begins_of}
 use Rattle.rounds.specs.Words.{Words}
 use Rattle.run_steps.specs.Areas.{IsAtRest}
-use Rattle.run_steps.specs.CarriersFail.{LinksStay}
+use Rattle.run_steps.specs.CarriersFail.{FailOn, LinksStay, sending}
 use Rattle.run_steps.specs.Ends.{IsAllSettled}
 use Rattle.run_steps.specs.Met.{AreLeft}
 use Rattle.run_steps.specs.MetBy.{GoesOn}
+use Rattle.run_steps.specs.MetIn.{NoneFailed}
 use Rattle.run_steps.specs.Onward.{Onward}
 use Rattle.run_steps.specs.Releasing.{HasNoHarvesters}
 use Rattle.run_steps.specs.RunState.{Phase, RunState, within}
@@ -43,7 +44,12 @@ module _ {T W L D : Type 0} (words : Words T W L D) (context : Context) where
     pub able : IsAbleIn words.tails context after
     pub no_harvesters : All HasNoHarvesters (lanings before.lanes.items) → All HasNoHarvesters (lanings after.lanes.items)
     pub all_settled : IsAllSettled (lanings before.lanes.items) before.storing.keeper.now → IsAllSettled (lanings after.lanes.items) after.storing.keeper.now
+    pub slots : begins_of (lanings after.lanes.items) ≡ begins_of (lanings before.lanes.items)
     pub links_stay : LinksStay before.carriers.items after.carriers.items
+    -- each worker's failures in a row are those of its wire, if they were before it
+    pub failing : (moments : Option (List ℕ)) → FailOn words.links words.wires context.settings.now.output.attempts
+        (sending moments before.carriers.items) (sending moments after.carriers.items)
+    pub none_failed : NoneFailed context.settings.now.output.attempts before.carriers.items → NoneFailed context.settings.now.output.attempts after.carriers.items
     pub as_many : AreAsMany before after
     pub a_faults_never_fall : words.disks.faults before.storing.a.now ≤ words.disks.faults after.storing.a.now
     pub b_faults_never_fall : words.disks.faults before.storing.b.now ≤ words.disks.faults after.storing.b.now
@@ -51,7 +57,14 @@ module _ {T W L D : Type 0} (words : Words T W L D) (context : Context) where
     pub same_objects : SameObjects before.storing after.storing
     pub still_tell : StillTell words.disks.contents before.storing after.storing
 
-  -- all of them, after a run that met the first; in the end it has met the second
+  -- all of them: nothing is left to store, or what they met ended them
+  pub record StoresAll (met : Option Met) (before after : Crewing T W L D) : Type 0 where
+    pub hands_on : HandsOn met before after
+    pub by : IfSome met (IsMetByStoring words.disks (written_by before after))
+    pub settled : IfNone met (AreSettledIn (crew_of after) after.storing.keeper.now)
+    pub counted : IfNone met (ArePostsCounted (crew_of after))
+
+  -- the last of a run, which met the first; in the end it has met the second
   pub record LastSteps (met now : Met) (before after : Crewing T W L D) : Type 0 where
     pub hands_on : HandsOn (Some now) before after
     pub by : (now ≡ met) ⊎ IsMetByStoring words.disks (written_by before after) now

@@ -13,6 +13,7 @@ use crate::context::Context;
 use crate::follow::{met_in, pause_where_still};
 use crate::laws::disk_images_are_counted;
 use crate::met::Met;
+use crate::settle::store_all;
 use lanes::When;
 use outside::{Bell, Clock, Disk, Link, Tail, Wire};
 use rounds::{Crew, Storing};
@@ -62,6 +63,40 @@ pub fn make_round<
     let met = met_in(attempts, crew, storing.keeper, round);
     pause_where_still(met, round, signals.clock);
     met
+}
+
+/// Stores what was noted as the files began, before a byte of them is sent; then makes the rounds. If it cannot be stored, there is
+/// no round: an event is sent only if its row could be kept. Takes as long as the files, the peers and the disk do.
+pub fn store_and_follow<
+    T: Tail + Send,
+    L: Link + Send,
+    W: Wire<Link = L> + Send,
+    D: Disk + Send,
+    K: Clock,
+    B: Bell,
+    R: Threads + Wait + Sync,
+>(
+    rt: &R,
+    context: Context<'_, '_>,
+    crew: &mut Crew<T, W, L>,
+    storing: &mut Storing<'_, D>,
+    signals: &mut Signals<'_, K, B>,
+) -> Met
+    requires ready { IsReadyIn (tails_of T.Tail) context (crewing crew.old storing.old) }
+    requires few { length crew.old.carriers.items ≤ 2 ^ 32 - 1 }
+    ensures goes { Goes (step_words T.Tail L.Link W.Wire D.Disk K.Clock B.Bell) context.entry
+        (Some result) (stop_at Reading crew.old storing.old signals.old)
+        (stop_at (phase_met result) crew.new storing.new signals.new) }
+    ensures met { result ≢ Stopped → IsMetBy (tails_of T.Tail) (disks_of D.Disk)
+        context.entry.settings.now.output.attempts
+        (since_of storing.old (crewing crew.new storing.new)) result }
+    ensures stopped { result ≡ Stopped →
+        Rose (B.rings signals.old.bell.now) (B.rings signals.new.bell.now) }
+{
+    match store_all(rt, context, crew, storing) {
+        Some(met) => met,
+        None => follow_all(rt, context, crew, storing, signals),
+    }
 }
 
 /// Rounds until one ends the run, or the bell rings, which is asked before each. Takes as long as the files, the peers and the

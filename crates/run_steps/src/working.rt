@@ -30,7 +30,7 @@ use crate::begin_error::BeginError;
 use crate::context::{Context, Surroundings};
 use crate::leave::{end_crew, release_all};
 use crate::met::Met;
-use crate::reading::{Signals, follow_all};
+use crate::reading::{Signals, store_and_follow};
 use crate::settle::settle_all;
 use outside::{Bell, Clock, Disk, Folder, Link, Tail, Wire};
 use report::Passing;
@@ -130,7 +130,7 @@ where
     worked
 }
 
-/// Rounds where all files were begun.
+/// Rounds, if all files were begun and what was noted of them is stored.
 pub fn follow_begun<
     T: Tail + Send,
     L: Link + Send,
@@ -162,7 +162,7 @@ pub fn follow_begun<
     match begun {
         Ok(passed) => Worked {
             passed,
-            met: follow_all(rt, context, crew, storing, signals),
+            met: store_and_follow(rt, context, crew, storing, signals),
         },
         Err(error) => Worked {
             passed: Vec::new(context.alloc),

@@ -1,33 +1,8 @@
-use Rattle.std.proofs.Common.{None, Some, inl, refl}
-use Rattle.rounds.specs.Crewing.{crewing}
-use Rattle.rounds.specs.WordsOf.{words_of}
-use Rattle.run_steps.proofs.LastOnes.{hands_on_as, hands_on_by_round, hands_on_by_two, hands_on_nothing, last_by_round}
+use Rattle.run_steps.proofs.LastOnes.{last_where_met, last_where_stored}
 use Rattle.run_steps.proofs.settle.settle_all.Goals as goal
 
-pub loop-init : goal.loop-init
-loop-init g c = record { goes_on = tt; ends = tt; hands_on = hands_on_nothing None (crewing c.args.crew.now c.args.storing.now) c.requires.ready.able (λ goes. c.requires.ready) }
+pub returns-in-Some : goal.returns-in-Some
+returns-in-Some g c = last_where_met c.args.met c.in-Some.now c.in-Some.ensures
 
-pub loop-preserved : goal.loop-preserved
-loop-preserved g c = record {
-  goes_on = tt;
-  ends = tt;
-  hands_on = hands_on_by_two c.loop.invariant.hands_on
-      (hands_on_by_round (words_of g.T.Tail g.L.Link g.W.Wire g.D.Disk) c.args.context c.disk_images_are_counted.ensures.reads c.disk_images_are_counted.ensures.counts
-      c.loop.crew c.settle-round.new.self c.loop.storing c.settle-round.new.storing c.settle-round.result c.settle-round.ensures.settles c.settle-round.ensures.keeps None c.in_default.ensures);
-}
-
-pub returns-in-Some-stored_by : goal.returns-in-Some-stored_by
-returns-in-Some-stored_by g c =
-    last_by_round (words_of g.T.Tail g.L.Link g.W.Wire g.D.Disk) c.args.context c.disk_images_are_counted.ensures.reads c.disk_images_are_counted.ensures.counts
-    c.loop.crew c.settle-round.new.self c.loop.storing c.settle-round.new.storing c.settle-round.result c.settle-round.ensures.settles c.settle-round.ensures.keeps
-    c.args.met c.in-Some-stored_by.met (crewing c.args.crew.now c.args.storing.now) c.loop.invariant.hands_on c.in-Some-stored_by.ensures
-
-pub returns-then-is_settled : goal.returns-then-is_settled
-returns-then-is_settled g c = record {
-  hands_on = hands_on_as (Some c.args.met) (hands_on_by_two c.loop.invariant.hands_on
-      (hands_on_by_round (words_of g.T.Tail g.L.Link g.W.Wire g.D.Disk) c.args.context c.disk_images_are_counted.ensures.reads c.disk_images_are_counted.ensures.counts
-      c.loop.crew c.settle-round.new.self c.loop.storing c.settle-round.new.storing c.settle-round.result c.settle-round.ensures.settles c.settle-round.ensures.keeps None c.in_default.ensures));
-  by = inl refl;
-  settled = λ left. c.if-is_settled.ensures.settled;
-  counted = λ left. c.settle-round.ensures.keeps.counted;
-}
+pub returns-in-None : goal.returns-in-None
+returns-in-None g c = last_where_stored c.args.met c.in-None.ensures

@@ -2,7 +2,7 @@ use Rattle.std.proofs.Common.{None}
 use Rattle.rounds.specs.Crewing.{crewing}
 use Rattle.run_steps.specs.LastSteps.{HandsOn}
 use Rattle.rounds.specs.WordsOf.{words_of}
-use Rattle.run_steps.proofs.settle.settle_all.Given as goal
+use Rattle.run_steps.proofs.settle.store_all.Given as goal
 
 abbrev pub invariant-loop : goal.invariant-loop
 invariant-loop g l = record {
