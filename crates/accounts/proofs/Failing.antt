@@ -8,7 +8,7 @@ use Rattle.batch_worker.specs.Acknowledged.{AcknowledgeInAll}
 use Rattle.batch_worker.specs.Answers.{FailsFor, FaultIsTold, Finishes, IsFaultAt, IsFaulty, IsPeersFault, IsRefused, IsRest, IsTimedOut, IsTurn, TalkIdles}
 use Rattle.batch_worker.specs.Ending.{CanFinish, HasTalks}
 use Rattle.batch_worker.specs.Held.{carried_in}
-use Rattle.batch_worker.specs.Keeping.{FailsAt, KeepsMoments, WorkerGoes, failures_since, one_failure_more}
+use Rattle.batch_worker.specs.Keeping.{FailsAt, KeepsMoments, SameMoments, WorkerGoes, failures_since, one_failure_more}
 use Rattle.batch_worker.specs.Rests.{IsResting, rest_end}
 use Rattle.batch_worker.specs.Seen.{Seen}
 use Rattle.batch_worker.specs.Standing.{HasTalk, Speaks, StandsFor}
@@ -529,3 +529,34 @@ begins_so told timeout moments all w stands timeout_is none no_outs unheard some
   rests = λ is. absurd (some is);
   timeout_is = timeout_is;
 }
+
+-- ---- what is handed on
+
+module _ {L : Type 0} (told : L → Option Talk) (timeout start : ℕ) (moments : List ℕ) (all : List Outcome) (seen : Seen) (tells : seen.outcomes ≡ Some all) (old new : Working L) where
+  pub handed_so : WorkerGoes told seen seen old new → SameMoments old new → new.failures ≡ old.failures → IsFailingSo told timeout start moments all old → IsFailingSo told timeout start moments all new
+  handed_so goes same failures f = record {
+    acknowledged = f.acknowledged ++ goes.keeps.acknowledged;
+    stands = subst (λ (o : Option (List Outcome)). StandsFor told start new o (f.acknowledged ++ goes.keeps.acknowledged)) tells
+        (goes.keeps.stands start f.acknowledged (subst (λ (o : Option (List Outcome)). StandsFor told start old o f.acknowledged) (sym tells) f.stands));
+    used = f.used;
+    left = f.left;
+    moments_are = f.moments_are;
+    failures = f.failures;
+    earlier = f.earlier;
+    last = f.last;
+    are = f.are;
+    number = omega (arith, failures, f.number);
+    nothing_new = f.nothing_new;
+    nothing_since = since goes.keeps.acknowledged goes.failures f.nothing_since;
+    outs = subst (All (λ (out : Moment). Contains f.left out.0)) (sym same.outs) f.outs;
+    heard = subst (λ (m : Moment). (m.0 ≡ 0) ⊎ Contains f.left m.0) (sym same.heard) f.heard;
+    rests = λ none. let rest = f.rests none in
+        (omega (arith, failures, rest.0), subst (λ (m : Moment). EndsAt moments m.0) (sym goes.failed) rest.1);
+    timeout_is = goes.keeps.timeout ∙ f.timeout_is;
+  }
+    where
+      since : (acks : List Parcel) → new.failures ≡ failures_since acks old.failures → (old.failures ≡ 0) ⊎ AcknowledgeInAll (drop start all) (payloads_of f.acknowledged) →
+          (new.failures ≡ 0) ⊎ AcknowledgeInAll (drop start all) (payloads_of (f.acknowledged ++ acks))
+      since [] is (inl none) = inl (failures ∙ none)
+      since [] is (inr settled) = inr (subst (λ (l : List Parcel). AcknowledgeInAll (drop start all) (payloads_of l)) (sym (append-nil f.acknowledged)) settled)
+      since (p ∷ acks) none settled = inl none

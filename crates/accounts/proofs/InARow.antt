@@ -5,7 +5,7 @@ use Rattle.std.proofs.lemmas.Bool.{eqb-true}
 use Rattle.event_tree.specs.declared.input_rule.InputRule.{InputRule}
 use Rattle.event_tree.specs.declared.settings.Settings.{Settings}
 use Rattle.file_identity.specs.Key.{named_key}
-use Rattle.kept_rows.proofs.Backing.{epoch_in, slot_in}
+use Rattle.kept_rows.proofs.Backing.{epoch_found, epoch_in, slot_in}
 use Rattle.kept_rows.proofs.Joining.{adjoined}
 use Rattle.kept_rows.proofs.Keys.{HasNoColon}
 use Rattle.kept_rows.specs.Account.{AccountedEvent, EpochAccount, Following, SlotAccount, epoch_at, events_of, key_of, slot_of}
@@ -78,18 +78,6 @@ none_earlier before epoch (first ∷ epochs) found numbered is = by_case (eqb fi
     by_case : (b : Bool) → eqb first.epoch epoch ≡ b → cond b (Some first) (epoch_at epoch epochs) ≡ Some found → (epoch_at epoch epochs ≡ Some found → before + 1 < epoch) → before < epoch
     by_case true test e later = let number = eqb-true first.epoch epoch test in omega (arith, numbered.0, number)
     by_case false test e later = let more = later e in omega (arith, more)
-
--- an epoch that is found has the number
-epoch_found : (epoch : ℕ) (epochs : List EpochAccount) (found : EpochAccount) → epoch_at epoch epochs ≡ Some found → found.epoch ≡ epoch
-epoch_found epoch [] found is = absurd (let q : None ≡ Some found = is in cc)
-epoch_found epoch (first ∷ epochs) found is = by_case (eqb first.epoch epoch) refl is (epoch_found epoch epochs found)
-  where
-    by_case : (b : Bool) → eqb first.epoch epoch ≡ b → cond b (Some first) (epoch_at epoch epochs) ≡ Some found → (epoch_at epoch epochs ≡ Some found → found.epoch ≡ epoch) → found.epoch ≡ epoch
-    by_case true test e later =
-        let q : Some first ≡ Some found = e in
-        let same : first ≡ found = cc in
-        ap (λ (x : EpochAccount). x.epoch) (sym same) ∙ eqb-true first.epoch epoch test
-    by_case false test e later = later e
 
 -- an epoch of a slot is that with which it was begun, told from its base, or a later one
 begun_or_later : (one : SlotAccount) (epoch : ℕ) (found : EpochAccount) → AreNumbered one → epoch_at epoch one.epochs ≡ Some found →

@@ -15,7 +15,7 @@ use Rattle.wire_base.specs.declared.note.Note.{Note}
 use Rattle.wire_base.specs.declared.row.Row.{Row}
 use Rattle.accounts.proofs.Grounded.{each_member}
 
-closes_by : (told spans : List Extent) (base : ℕ) → Adjoin base told → All (Contains told) spans → ClosesPrefix told spans base
+pub closes_by : (told spans : List Extent) (base : ℕ) → Adjoin base told → All (Contains told) spans → ClosesPrefix told spans base
 closes_by told spans base adjoin known = closes told spans base adjoin (λ span there from some. All-contains (Contains told) spans span known there)
 
 module _ (account : List SlotAccount) (opening : List Row) (wires : List WireTold) (notes : List Note) (in_rows : AreInRows account) (backed : AreBacked account wires notes) where

@@ -47,6 +47,7 @@ pub mod Settling
 pub mod Singles
 pub mod Slots
 pub mod SoFar
+pub mod Storing
 pub mod Telling
 pub mod Turning
 pub mod Unscanned

@@ -16,6 +16,7 @@ use Rattle.kept_rows.specs.Premises.{Premises}
 use Rattle.kept_rows.specs.Run.{Run, Scan}
 use Rattle.kept_rows.proofs.Showing.{both}
 use Rattle.kept_rows.specs.Scans.{ShowsKey}
+use Rattle.kept_rows.specs.Stored.{IsStored}
 use Rattle.outside.specs.Counts.{Rose}
 use Rattle.outside.specs.Folders.{FolderHistory}
 use Rattle.prospect.proofs.Doubled.{each_file}
@@ -28,7 +29,7 @@ use Rattle.registry_store.specs.Standing.{chosen_by}
 use Rattle.removed_rows.proofs.GoneAccounts.{account_with_gone}
 use Rattle.removed_rows.proofs.GoneDrained.{drained_with_gone}
 use Rattle.removed_rows.proofs.GoneFollowed.{apart_from_gone, followed_with_gone, premises_before}
-use Rattle.removed_rows.proofs.GoneKept.{kept_in_image_with_gone, kept_with_gone, sent_with_gone}
+use Rattle.removed_rows.proofs.GoneKept.{kept_in_image_with_gone, kept_with_gone, sent_with_gone, stored_with_gone}
 use Rattle.removed_rows.proofs.GoneLost.{lost}
 use Rattle.removed_rows.proofs.GoneRows.{each_is_gone_of, each_there, gones, may_all_go, removed_is_gone}
 use Rattle.removed_rows.proofs.GoneSlots.{has_with_gone}
@@ -288,14 +289,18 @@ module _ {D : Type 0} (disks : DiskWords D) (reads : (disk : D) → IfSome (disk
     none_left : (row : Row) → Contains left row → ¬ (IsRemoved inputs listed row.key)
     none_left row there = member_is (λ (r : Row). ¬ (IsRemoved inputs listed r.key)) left row (recursion_from_All (λ (r : Row). ¬ (IsRemoved inputs listed r.key)) left removes.none_is_left) there
 
+    -- none of them has the key of a row that went
+    apart_left : (row : Row) → Contains left row → AllByRecursion (λ (gone : Gone). gone_key gone ≢ row.key) went
+    apart_left row there =
+        each_there (λ (gone : Gone). gone_key gone ≢ row.key) went
+        (λ gone among same. none_left row there (subst (IsRemoved inputs listed) same (each_is_gone_of inputs listed run.opening gone among).removed))
+
     kept_left : AllByRecursion (IsKept account run.opening run.trace.wires) rows → AllByRecursion (IsKept behind run.opening run.trace.wires) left
     kept_left kept = each_there (IsKept behind run.opening run.trace.wires) left each
       where
         each : (row : Row) → Contains left row → IsKept behind run.opening run.trace.wires row
         each row there =
-            kept_with_gone account went run.opening run.trace.wires row
-            (each_there (λ (gone : Gone). gone_key gone ≢ row.key) went
-            (λ gone among same. none_left row there (subst (IsRemoved inputs listed) same (each_is_gone_of inputs listed run.opening gone among).removed)))
+            kept_with_gone account went run.opening run.trace.wires row (apart_left row there)
             (member_is (IsKept account run.opening run.trace.wires) rows row kept (leaves_of removes.leaves row there))
 
     begun_left : AllByRecursion (λ (slot : SlotAccount). HasItsRow rows slot ⊎ ⊥) account → AllByRecursion (λ (slot : SlotAccount). HasItsRow left slot ⊎ LostKey run behind (key_of slot)) behind
@@ -313,11 +318,20 @@ module _ {D : Type 0} (disks : DiskWords D) (reads : (disk : D) → IfSome (disk
                 (λ removed. absurd (hidden (key_of slot) (subst (IsRemoved inputs listed) has.key_is removed) (member_is (λ (s : SlotAccount). ShowsKey run over.scan (key_of s)) account slot over.shown there)))
                 (leaves_others removes.leaves has.row has.of_rows)
 
+    stored_left : AllByRecursion (IsStored account run.trace.wires) rows → AllByRecursion (IsStored behind run.trace.wires) left
+    stored_left stored = each_there (IsStored behind run.trace.wires) left each
+      where
+        each : (row : Row) → Contains left row → IsStored behind run.trace.wires row
+        each row there =
+            stored_with_gone account went run.opening run.trace.wires row (apart_left row there)
+            (member_is (IsStored account run.trace.wires) rows row stored (leaves_of removes.leaves row there))
+
     rows_left : (met : Met) → AreLeft met → RowsBy NoKey run account met rows → (then : Met) → RowsBy LostKey run behind then left
     rows_left met are_left by then = record {
       in_image = image_leaves rows left by.in_image removes.leaves;
       kept = λ so. kept_left (by.kept are_left);
       begun = λ so. begun_left (by.begun are_left);
+      stored = λ so. stored_left (by.stored are_left);
     }
 
     drained_left : IsDrained run account rows → IsDrained run behind left
@@ -365,6 +379,7 @@ module _ {D : Type 0} (disks : DiskWords D) (reads : (disk : D) → IfSome (disk
             in_image = subst (AreImageRows LostKey run behind) (same_rows one first second of.left rows of.given gives) (image_leaves old.store.rows of.left (rows_before were rest).in_image of.leaves);
             kept = λ so. absurd (no_more so);
             begun = λ so. absurd (no_more so);
+            stored = λ so. absurd (no_more so);
           }
       by_left (inr not) now =
           let same = same_state not in
@@ -373,6 +388,7 @@ module _ {D : Type 0} (disks : DiskWords D) (reads : (disk : D) → IfSome (disk
                 (over.accounted.rows were first second rows (ap (λ (s : Cleaning D). disks.contents s.a) (sym same) ∙ a_is) (ap (λ (s : Cleaning D). disks.contents s.b) (sym same) ∙ b_is) gives).in_image;
             kept = λ so. absurd (not (left_before so));
             begun = λ so. absurd (not (left_before so));
+            stored = λ so. absurd (not (left_before so));
           }
 
   -- ---- what a crash leaves

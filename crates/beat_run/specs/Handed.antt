@@ -14,6 +14,7 @@ use Rattle.rounds.specs.Words.{DiskWords, WireWords}
 use Rattle.rounds.specs.WordsOf.{disks_of, wires_of}
 use Rattle.run_steps.specs.AccountedFor.{Objects, RunObjects}
 use Rattle.run_steps.specs.ClockOn.{MomentsGoOn}
+use Rattle.run_steps.specs.Questions.{AsksOn, Questions, questions_of}
 use Rattle.beat_run.specs.Accounted.{Lent, RunLent}
 use Rattle.beat_run.specs.Cause.{CauseBy, Signs}
 use Rattle.beat_run.specs.declared.objects.Outside.{Outside}
@@ -27,6 +28,7 @@ pub record OutsideWords (F W D K B : Type 0) : Type 1 where
   pub disks : DiskWords D
   pub moments : K → Option (List ℕ)
   pub rings : B → ℕ
+  pub questions : K → B → Questions
 
 abbrev pub outside_words : {F T W L D K B : Type 0} → FolderGhosts F T → WireGhosts W L → DiskGhosts D → ClockGhosts K → BellGhosts B → OutsideWords F W D K B
 outside_words folder wire disk clock bell = record {
@@ -37,6 +39,7 @@ outside_words folder wire disk clock bell = record {
   disks = disks_of disk;
   moments = clock.moments;
   rings = bell.rings;
+  questions = questions_of clock bell;
 }
 
 -- the objects at one moment
@@ -94,10 +97,11 @@ module _ {F W D K B : Type 0} (words : OutsideWords F W D K B) where
   abbrev pub CausedIn : Settings → Outside F W D K B → Outside F W D K B → Status → Type 0
   CausedIn settings old new status = CauseBy settings (signs_of (handed_in old)) (signs_of (handed_in new)) status
 
-  -- the clock's list stays in front, the wires are as many, each tail is closed and each link finished where folder and wires can count
+  -- the clock's list stays in front, it is asked as often as the bell, the wires are as many, each tail is closed and each link finished where folder and wires can count
   -- them, and an area that told what it holds still tells it
   pub record GoesOn (old new : Outside F W D K B) : Type 0 where
     pub clock : MomentsGoOn (words.moments old.clock.now) (words.moments new.clock.now)
+    pub asks : AsksOn 0 (words.questions old.clock.now old.bell.now) (words.questions new.clock.now new.bell.now)
     pub wires : length new.wires.now.items ≡ length old.wires.now.items
     pub tails : words.open_tails old.folder.now + 65_536 < 2 ^ 64 - 1 → words.open_tails new.folder.now ≡ words.open_tails old.folder.now
     pub links : All (λ (w : W). words.wires.open_links w < 2 ^ 64 - 1) old.wires.now.items → map words.wires.open_links new.wires.now.items ≡ map words.wires.open_links old.wires.now.items

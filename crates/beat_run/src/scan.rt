@@ -1,4 +1,5 @@
 ghost use Rattle.std.specs.Prelude.{◌<◌, ◌≡◌, ◌≤◌, ◌-◌, ◌^◌, ℕ, length, All, IfErr, IfOk, IfSome, OnErr};
+ghost use Rattle.outside.specs.Counts.{next_count};
 ghost use Rattle.outside.specs.Times.{GivesMoment};
 ghost use Rattle.prospect.specs.AskedFiles.{AreAskable};
 ghost use Rattle.prospect.specs.Doubled.{PartsDoubled};
@@ -49,6 +50,7 @@ pub fn scan<F: Folder, K: Clock>(
     ensures moment_given_first { OnErr result ((moment : ℕ) ×
         GivesMoment (K.moments clock.old) moment (K.moments clock.new)) }
     ensures clock_goes_on { MomentsGoOn (K.moments clock.old) (K.moments clock.new) }
+    ensures asked { K.questions clock.new ≡ next_count (K.questions clock.old) }
     ensures shows_end { IfErr result (λ status. IfSome (F.told folder.old) (λ told.
         ShowsScanEnd inputs.now told rows.now (F.told folder.new) status)) }
     ensures ends { IfErr result (IsScanEnd (F.faults folder.old) (F.faults folder.new)) }

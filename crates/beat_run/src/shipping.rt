@@ -10,6 +10,7 @@ ghost use Rattle.report.specs.Writing.{WritesAll};
 ghost use Rattle.rounds.specs.WordsOf.{disks_of, wires_of};
 ghost use Rattle.run_steps.specs.ClockOn.{MomentsGoOn};
 ghost use Rattle.run_steps.specs.Registry.{AreRefusedAt};
+ghost use Rattle.run_steps.specs.Questions.{AsksOn, questions_of};
 ghost use Rattle.beat_run.specs.Accounted.{IsAccountedWhereTold};
 ghost use Rattle.beat_run.specs.Asked.{AskFor, AskForOnce, IsAsked};
 ghost use Rattle.beat_run.specs.Cause.{Cause, all_signs};
@@ -164,6 +165,9 @@ where
 
     // What is closed, and what goes on.
     ensures clock_goes_on { MomentsGoOn (K.moments clock.old) (K.moments clock.new) }
+    ensures the_clock_is_asked_as_often_as_the_bell { AsksOn 0
+        (questions_of K.Clock B.Bell clock.old bell.old)
+        (questions_of K.Clock B.Bell clock.new bell.new) }
     ensures as_many_wires { vec_len wires.new ≡ vec_len wires.old }
     ensures tails_closed { F.open_tails folder.old + 65_536 < 2 ^ 64 - 1 →
         F.open_tails folder.new ≡ F.open_tails folder.old }

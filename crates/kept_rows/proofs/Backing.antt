@@ -280,6 +280,18 @@ epoch_in epoch (first ∷ epochs) found is = go (eqb first.epoch epoch) is (λ e
         subst (Contains (first ∷ epochs)) same (first_there first epochs)
     go false e again = later_there first found epochs (again e)
 
+-- an epoch that is found has the number
+pub epoch_found : (epoch : ℕ) (epochs : List EpochAccount) (found : EpochAccount) → epoch_at epoch epochs ≡ Some found → found.epoch ≡ epoch
+epoch_found epoch [] found is = absurd (let q : None ≡ Some found = is in cc)
+epoch_found epoch (first ∷ epochs) found is = by_case (eqb first.epoch epoch) refl is (epoch_found epoch epochs found)
+  where
+    by_case : (b : Bool) → eqb first.epoch epoch ≡ b → cond b (Some first) (epoch_at epoch epochs) ≡ Some found → (epoch_at epoch epochs ≡ Some found → found.epoch ≡ epoch) → found.epoch ≡ epoch
+    by_case true test e later =
+        let q : Some first ≡ Some found = e in
+        let same : first ≡ found = cc in
+        ap (λ (x : EpochAccount). x.epoch) (sym same) ∙ eqb-true first.epoch epoch test
+    by_case false test e later = later e
+
 some_of : {A : Type 0} (o : Option A) → IsSome o → (a : A) × (o ≡ Some a)
 some_of None is = absurd cc
 some_of (Some a) is = (a, refl)
@@ -342,17 +354,22 @@ all_settled account wires notes slot epoch told_in all is adjoin (one ∷ front)
 abbrev pub ClosesBy : Type 0
 ClosesBy = (told spans : List Extent) (base : ℕ) → Adjoin base told → All (Contains told) spans → ClosesPrefix told spans base
 
-closes_settled : ClosesBy → (account : List SlotAccount) (wires : List WireTold) (notes : List Note) (slot epoch base : ℕ) (told_in : EpochAccount) → AreBacked account wires notes →
+-- what notes settle of the epoch was told
+pub settled_is_told : (account : List SlotAccount) (wires : List WireTold) (notes : List Note) (slot epoch : ℕ) (told_in : EpochAccount) →
+    AreBacked account wires notes → epoch_of account slot epoch ≡ Some told_in → (span : Extent) → Contains (spans_in epoch (notes_of slot notes)) span → Contains (spans_of told_in.told) span
+settled_is_told account wires notes slot epoch told_in all is span there =
+    let settle = settled_span account wires notes slot epoch span all there in
+    let same_epoch = same_some (epoch_of account slot epoch) settle.backs.told_in told_in settle.backs.epoch_is is in
+    let among = subst (λ (x : EpochAccount). Contains x.told settle.backs.one) same_epoch settle.backs.told in
+    subst (Contains (spans_of told_in.told)) settle.backs.span_is (map_there (λ (x : AccountedEvent). x.event.span) told_in.told settle.backs.one among)
+
+pub closes_settled : ClosesBy → (account : List SlotAccount) (wires : List WireTold) (notes : List Note) (slot epoch base : ℕ) (told_in : EpochAccount) → AreBacked account wires notes →
     epoch_of account slot epoch ≡ Some told_in → Adjoin told_in.start (spans_of told_in.told) → told_in.start ≡ base →
     ClosesSettled wires told_in (covered_end (spans_in epoch (notes_of slot notes)) base)
 closes_settled closes account wires notes slot epoch base told_in all is adjoin starts =
     let spans = spans_in epoch (notes_of slot notes) in
     let from_base = subst (λ (n : ℕ). Adjoin n (spans_of told_in.told)) starts adjoin in
-    let prefix = closes (spans_of told_in.told) spans base from_base (All-by_member (spans_of told_in.told) spans (λ span there.
-    let settle = settled_span account wires notes slot epoch span all there in
-    let same_epoch = same_some (epoch_of account slot epoch) settle.backs.told_in told_in settle.backs.epoch_is is in
-    let among = subst (λ (x : EpochAccount). Contains x.told settle.backs.one) same_epoch settle.backs.told in
-    subst (Contains (spans_of told_in.told)) settle.backs.span_is (map_there (λ (x : AccountedEvent). x.event.span) told_in.told settle.backs.one among))) in
+    let prefix = closes (spans_of told_in.told) spans base from_base (All-by_member (spans_of told_in.told) spans (settled_is_told account wires notes slot epoch told_in all is)) in
     let split = split_at told_in.told prefix.front prefix.rest prefix.parts in
     let within : (one : AccountedEvent) → Contains split.front one → Contains told_in.told one =
     λ one there. subst (λ (l : List AccountedEvent). Contains l one) (sym split.told_is) (Contains-append_left split.front split.rest one there) in
@@ -368,40 +385,75 @@ adjoin_in : (one : SlotAccount) (epoch : ℕ) (found : EpochAccount) → IsInOne
 adjoin_in one epoch found row is = All-contains (λ (x : EpochAccount). Adjoin x.start (spans_of x.told)) one.epochs found
     (All-from_recursion (λ (x : EpochAccount). Adjoin x.start (spans_of x.told)) one.epochs row.adjoin) (epoch_in epoch one.epochs found is)
 
--- the row that stands over the notes
-standing_kept : ClosesBy → (account : List SlotAccount) (wires : List WireTold) (notes : List Note) (slot : ℕ) (start : Start) (row : Row) → AreInRows account → AreBacked account wires notes →
-    start_over (notes_of slot notes) ≡ Some start → standing_row (notes_of slot notes) start ≡ row → IsToldRow account wires row
-standing_kept closes account wires notes slot start row rows all is standing =
+-- the slot, and the epoch that its notes name last
+pub record Standing (account : List SlotAccount) (notes : List Note) (slot : ℕ) (start : Start) : Type 0 where
+  pub one : SlotAccount
+  pub slot_is : slot_at slot account ≡ Some one
+  pub key_is : one.following.key ≡ start.key
+  pub epoch : EpochAccount
+  pub found : epoch_of account slot (greatest_epoch (notes_of slot notes)) ≡ Some epoch
+  pub epoch_is : epoch_at (greatest_epoch (notes_of slot notes)) one.epochs ≡ Some epoch
+  pub starts : epoch.start ≡ base_in start (greatest_epoch (notes_of slot notes))
+  pub adjoin : Adjoin epoch.start (spans_of epoch.told)
+
+pub standing_of : (account : List SlotAccount) (wires : List WireTold) (notes : List Note) (slot : ℕ) (start : Start) →
+    AreInRows account → AreBacked account wires notes → start_over (notes_of slot notes) ≡ Some start → Standing account notes slot start
+standing_of account wires notes slot start rows all is =
     let begin = begun account wires notes slot start all is in
     let had = greatest_had account wires notes slot start rows all is in
     let found = some_of (epoch_of account slot (greatest_epoch (notes_of slot notes))) had in
     let in_slot : epoch_at (greatest_epoch (notes_of slot notes)) begin.one.epochs ≡ Some found.0 =
     sym (epoch_in_slot account slot (greatest_epoch (notes_of slot notes)) begin.one begin.slot_is) ∙ found.1 in
     let row_of_slot = in_one_row account slot begin.one rows begin.slot_is in
-    let starts = start_is_base begin.one start (greatest_epoch (notes_of slot notes)) found.0 row_of_slot.numbered begin.epoch_is begin.base_is in_slot in
-    subst (IsToldRow account wires) standing (record {
-      slot = slot;
+    record {
       one = begin.one;
       slot_is = begin.slot_is;
       key_is = begin.key_is;
       epoch = found.0;
+      found = found.1;
       epoch_is = in_slot;
-      closes = closes_settled closes account wires notes slot (greatest_epoch (notes_of slot notes)) (base_in start (greatest_epoch (notes_of slot notes))) found.0 all found.1
-          (adjoin_in begin.one (greatest_epoch (notes_of slot notes)) found.0 row_of_slot in_slot) starts;
-    })
+      starts = start_is_base begin.one start (greatest_epoch (notes_of slot notes)) found.0 row_of_slot.numbered begin.epoch_is begin.base_is in_slot;
+      adjoin = adjoin_in begin.one (greatest_epoch (notes_of slot notes)) found.0 row_of_slot in_slot;
+    }
 
-pub row_is_kept : ClosesBy → (account : List SlotAccount) (wires : List WireTold) (notes : List Note) (slot : ℕ) (row : Row) → AreInRows account → AreBacked account wires notes →
-    row_over slot notes ≡ Some row → IsToldRow account wires row
-row_is_kept closes account wires notes slot row rows all is = by_start (start_over (notes_of slot notes)) refl is
+-- the row that stands over the notes
+abbrev pub standing_told : ClosesBy → (account : List SlotAccount) (wires : List WireTold) (notes : List Note) (slot : ℕ) (start : Start) → AreBacked account wires notes →
+    Standing account notes slot start → IsToldRow account wires (standing_row (notes_of slot notes) start)
+standing_told closes account wires notes slot start all stands = record {
+  slot = slot;
+  one = stands.one;
+  slot_is = stands.slot_is;
+  key_is = stands.key_is;
+  epoch = stands.epoch;
+  epoch_is = stands.epoch_is;
+  closes = closes_settled closes account wires notes slot (greatest_epoch (notes_of slot notes)) (base_in start (greatest_epoch (notes_of slot notes))) stands.epoch all stands.found
+      stands.adjoin stands.starts;
+}
+
+-- a row over the notes of a slot is that which stands over them
+pub record IsStandingRow (notes : List Note) (slot : ℕ) (row : Row) : Type 0 where
+  pub start : Start
+  pub begins : start_over (notes_of slot notes) ≡ Some start
+  pub is : standing_row (notes_of slot notes) start ≡ row
+
+pub row_stands : (notes : List Note) (slot : ℕ) (row : Row) → row_over slot notes ≡ Some row → IsStandingRow notes slot row
+row_stands notes slot row is = by_start (start_over (notes_of slot notes)) refl is
   where
     by_gone : (start : Start) → start_over (notes_of slot notes) ≡ Some start → (b : Bool) → is_gone start (notes_of slot notes) ≡ b →
-        cond b None (Some (standing_row (notes_of slot notes) start)) ≡ Some row → IsToldRow account wires row
+        cond b None (Some (standing_row (notes_of slot notes) start)) ≡ Some row → IsStandingRow notes slot row
     by_gone start begins true gone e = absurd (let q : None ≡ Some row = e in cc)
     by_gone start begins false there e =
         let q : Some (standing_row (notes_of slot notes) start) ≡ Some row = e in
         let same : standing_row (notes_of slot notes) start ≡ row = cc in
-        standing_kept closes account wires notes slot start row rows all begins same
+        record { start = start; begins = begins; is = same }
 
-    by_start : (o : Option Start) → start_over (notes_of slot notes) ≡ o → option_and_then (row_of (notes_of slot notes)) o ≡ Some row → IsToldRow account wires row
+    by_start : (o : Option Start) → start_over (notes_of slot notes) ≡ o → option_and_then (row_of (notes_of slot notes)) o ≡ Some row → IsStandingRow notes slot row
     by_start None none e = absurd (let q : None ≡ Some row = e in cc)
     by_start (Some start) begins e = by_gone start begins (is_gone start (notes_of slot notes)) refl e
+
+pub row_is_kept : ClosesBy → (account : List SlotAccount) (wires : List WireTold) (notes : List Note) (slot : ℕ) (row : Row) → AreInRows account → AreBacked account wires notes →
+    row_over slot notes ≡ Some row → IsToldRow account wires row
+row_is_kept closes account wires notes slot row rows all is =
+    let row_is = row_stands notes slot row is in
+    subst (IsToldRow account wires) row_is.is
+    (standing_told closes account wires notes slot row_is.start all (standing_of account wires notes slot row_is.start rows all row_is.begins))

@@ -21,7 +21,7 @@ use Rattle.kept_rows.specs.Trace.{WireTold}
 use Rattle.kept_rows.proofs.Backing.{ClosesBy, row_is_kept}
 
 -- a row that is found has the key
-found_key : (key : List ℕ) (rows : List Row) (row : Row) → find key rows ≡ Some row → key ≡ row.key
+pub found_key : (key : List ℕ) (rows : List Row) (row : Row) → find key rows ≡ Some row → key ≡ row.key
 found_key key [] row is = absurd (let q : None ≡ Some row = is in cc)
 found_key key (first ∷ rows) row is = go (compare key first.key) refl is (λ e. found_key key rows row e)
   where
@@ -42,7 +42,7 @@ as_opened key opening row is = record {
 }
 
 -- a row over notes is that of a slot, or the opening one of a key to which no Begin gave a slot
-row_for_cases : (opening : List Row) (notes : List Note) (key : List ℕ) (row : Row) → row_for opening notes key ≡ Some row →
+pub row_for_cases : (opening : List Row) (notes : List Note) (key : List ℕ) (row : Row) → row_for opening notes key ≡ Some row →
     ((slot : ℕ) × (row_over slot notes ≡ Some row)) ⊎ ((slots_for key notes ≡ []) × (find key opening ≡ Some row))
 row_for_cases opening notes key row is = go (slots_for key notes) refl is
   where
@@ -66,7 +66,7 @@ kept_in_image closes account opening wires notes rows in_rows backed over key ro
     ]
 
 -- a key to which no Begin gave a slot was not begun, where each slot of the account has its Begin among the notes
-unbegun : (account : List SlotAccount) (notes : List Note) (key : List ℕ) → AreBegun account notes → slots_for key notes ≡ [] → IsUnbegun account key
+pub unbegun : (account : List SlotAccount) (notes : List Note) (key : List ℕ) → AreBegun account notes → slots_for key notes ≡ [] → IsUnbegun account key
 unbegun [] notes key begun none = tt
 unbegun (one ∷ account) notes key begun none =
     (λ same. none_there (slot_of one) (subst (λ (l : List ℕ). Contains l (slot_of one)) (ap (λ (k : List ℕ). slots_for k notes) same ∙ none) begun.0), unbegun account notes key begun.1 none)

@@ -9,6 +9,7 @@ pub mod Joining
 pub mod Keys
 pub mod Links
 pub mod Showing
+pub mod Storing
 pub mod Worked
 mod Lives
 mod Older

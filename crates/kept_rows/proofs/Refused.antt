@@ -1,5 +1,5 @@
--- What is refused, and what is kept beside it: a row behind an event that is not acknowledged, one place for two payloads,
--- an image that is further than what was collected, and a folder that is not drained.
+-- What is refused, and what is kept beside it: a row behind an event that is not acknowledged, a row before one that is, one place for two
+-- payloads, an image that is further than what was collected, and a folder that is not drained.
 use Rattle.std.proofs.Common.{◌≡◌, ℕ, zero, suc, false, List, [], ◌∷◌, ◌++◌, length, Option, Some, None, refl, sym, ap, ◌∙◌, subst, arith, append-nil, codes, get_or, length-append}
 use Rattle.std.specs.List.{AllByRecursion, slice_get}
 use Rattle.lumber_frame.specs.declared.frame.Frame.TheVariants.{Ack}
@@ -27,6 +27,7 @@ use Rattle.kept_rows.specs.Acknowledged.{IsAcknowledgedAt, talks_of}
 use Rattle.kept_rows.specs.Backed.{AreRowsOverFronts}
 use Rattle.kept_rows.specs.Kept.{ClosesSettled, IsSettled}
 use Rattle.kept_rows.specs.Scans.{AreDistinct}
+use Rattle.kept_rows.specs.Stored.{WaitsAt}
 use Rattle.kept_rows.specs.Trace.{WireTold}
 use Rattle.kept_rows.proofs.Worked.{epoch_account, key, payloads, row, window}
 
@@ -120,6 +121,17 @@ behind_both_is_refused first second closes = go closes.front closes.rest closes.
     go (x ∷ y ∷ front) rest is each ends =
         let same : record { event = event_of second_line second_payload; reading = 0; place = second } ≡ y = cc in
         second_settles_not second (subst (IsSettled half_wires) (sym same) each.1.0)
+
+-- ---- the row is stored as far as events are settled
+
+-- at the end of the first, since the second is not
+stored_behind_the_first : AllByRecursion (WaitsAt half_wires 2) epoch_account.told
+stored_behind_the_first = ((λ begins settled. omega (arith, begins)), ((λ begins settled. second_settles_not (Some (record { wire = 0; connection = 0; number = 1 })) settled), tt))
+
+-- but not where both begin: the first is settled
+left_out_is_refused : AllByRecursion (WaitsAt half_wires 0) epoch_account.told → ⊥
+unfolding first_is_kept
+left_out_is_refused waits = waits.0 refl first_is_kept.each.0
 
 -- ---- one acknowledged place for two payloads
 

@@ -13,5 +13,6 @@ pub mod Premises
 pub mod Run
 pub mod Scans
 pub mod Sent
+pub mod Stored
 pub mod Telling
 pub mod Trace

@@ -5,8 +5,9 @@ use Rattle.kept_rows.proofs.Growing.{each_on, stays_told}
 use Rattle.kept_rows.specs.Account.{AccountedEvent, EpochAccount, Place, SlotAccount, key_of}
 use Rattle.kept_rows.specs.Acknowledged.{talks_of}
 use Rattle.kept_rows.specs.Going.{AccountGoesOn, EpochGoesOn, EpochsGoOn, PlaceGoesOn, ToldGoesOn}
-use Rattle.kept_rows.specs.Kept.{IsKept, IsKeptInImage, IsToldRow}
+use Rattle.kept_rows.specs.Kept.{IsKept, IsKeptInImage, IsToldRow, IsUnbegun}
 use Rattle.kept_rows.specs.Sent.{IsSentOnly, SendOnlyTold}
+use Rattle.kept_rows.specs.Stored.{IsStored}
 use Rattle.kept_rows.specs.Trace.{WireTold}
 use Rattle.wire_base.specs.declared.talk.Piece.{Piece}
 use Rattle.wire_base.specs.declared.row.Row.{Row}
@@ -48,7 +49,7 @@ sent_with_gone account gones wires sent =
 -- ---- rows are kept
 
 module _ (account : List SlotAccount) (gones : List Gone) (opening : List Row) (wires : List WireTold) (row : Row) where
-  told_with_gone : IsToldRow account wires row → IsToldRow (with_gone account gones) wires row
+  abbrev told_with_gone : IsToldRow account wires row → IsToldRow (with_gone account gones) wires row
   told_with_gone told = record {
     slot = told.slot;
     one = told.one;
@@ -63,10 +64,15 @@ module _ (account : List SlotAccount) (gones : List Gone) (opening : List Row) (
   kept_in_image_with_gone (inl told) = inl (told_with_gone told)
   kept_in_image_with_gone (inr stands) = inr stands
 
+  module _ (stays : AllByRecursion (λ gone. gone_key gone ≢ row.key) gones) where
+    unbegun_with_gone : IsUnbegun account row.key → IsUnbegun (with_gone account gones) row.key
+    unbegun_with_gone unbegun = has_with_gone (λ one. key_of one ≢ row.key) account gones unbegun (λ slot gone there. each_is (λ gone. gone_key gone ≢ row.key) gones gone stays there)
+
+    pub stored_with_gone : IsStored account wires row → IsStored (with_gone account gones) wires row
+    stored_with_gone (inl stored) = inl (record { told = told_with_gone stored.told; next = stored.next })
+    stored_with_gone (inr unbegun) = inr (unbegun_with_gone unbegun)
+
   -- a row that did not go
   pub kept_with_gone : AllByRecursion (λ gone. gone_key gone ≢ row.key) gones → IsKept account opening wires row → IsKept (with_gone account gones) opening wires row
   kept_with_gone stays (inl told) = inl (told_with_gone told)
-  kept_with_gone stays (inr unbegun) = inr (
-    has_with_gone (λ one. key_of one ≢ row.key) account gones unbegun.0 (λ slot gone there. each_is (λ gone. gone_key gone ≢ row.key) gones gone stays there),
-    unbegun.1,
-  )
+  kept_with_gone stays (inr unbegun) = inr (unbegun_with_gone stays unbegun.0, unbegun.1)

@@ -1,18 +1,10 @@
 -- The steps that store leave the workers' failures in a row as they were.
-use Rattle.std.proofs.Common.{◌≡◌, ◌⊎◌, ⊎_elim, inl, inr, ℕ, ◌<◌, List, [], ◌∷◌, ◌++◌, All, Contains, length, drop, Option, Some, None, is_some, true, false, refl, sym, ap, subst, ◌∙◌, append-nil, arith}
+use Rattle.std.proofs.Common.{◌≡◌, ◌⊎◌, ⊎_elim, inl, inr, ℕ, ◌<◌, List, [], ◌∷◌, drop, Option, Some, None, is_some, true, false, refl, sym, subst, arith}
 use Rattle.std.specs.List.{AllByRecursion}
 use Rattle.std.proofs.lemmas.List.Elements.{All-from_recursion, recursion_from_All}
-use Rattle.accounts.specs.Failing.{IsFailing, IsFailingSo}
-use Rattle.batch_worker.specs.Acknowledged.{AcknowledgeInAll}
-use Rattle.batch_worker.specs.Keeping.{SameMoments, WorkerGoes, failures_since}
-use Rattle.batch_worker.specs.Seen.{Seen}
-use Rattle.batch_worker.specs.Standing.{StandsFor}
-use Rattle.batch_worker.specs.Working.{Working}
-use Rattle.harvester.specs.Standing.{EndsAt}
-use Rattle.lumber_client.specs.Exchange.{payloads_of}
+use Rattle.accounts.proofs.Failing.{handed_so}
+use Rattle.accounts.specs.Failing.{IsFailing}
 use Rattle.mem_queue.specs.BoundedQueue.{BoundedQueue}
-use Rattle.outside.specs.Talks.{Talk}
-use Rattle.outside.specs.Wires.{Outcome}
 use Rattle.rounds.specs.CarrierTurns.{seen_of}
 use Rattle.rounds.specs.Crewed.{bare_carriers}
 use Rattle.rounds.specs.Crewing.{Crewing}
@@ -22,43 +14,10 @@ use Rattle.rounds.specs.Words.{LinkWords, WireWords, Words}
 use Rattle.rounds.specs.declared.answer.Round.{Round}
 use Rattle.rounds.specs.declared.carrier.Carrier.{Carrier}
 use Rattle.settle_box.specs.BoundedBox.{BoundedBox}
-use Rattle.wire_base.specs.declared.numbers.Moment.{Moment}
-use Rattle.wire_base.specs.declared.parcel.Parcel.{Parcel}
 use Rattle.run_steps.specs.CarriersFail.{AreFailing, CarrierFails, FailOn, sending}
 use Rattle.run_steps.specs.MetIn.{HasTriesLeft, NoneFailed}
 use Rattle.run_steps.proofs.FailingRounds.{met_fail}
 use Rattle.run_steps.proofs.LinksStay.{handed_stays}
-
--- ---- a worker
-
-module _ {L : Type 0} (told : L → Option Talk) (timeout start : ℕ) (moments : List ℕ) (all : List Outcome) (seen : Seen) (tells : seen.outcomes ≡ Some all) (old new : Working L) where
-  handed_so : WorkerGoes told seen seen old new → SameMoments old new → new.failures ≡ old.failures → IsFailingSo told timeout start moments all old → IsFailingSo told timeout start moments all new
-  handed_so goes same failures f = record {
-    acknowledged = f.acknowledged ++ goes.keeps.acknowledged;
-    stands = subst (λ (o : Option (List Outcome)). StandsFor told start new o (f.acknowledged ++ goes.keeps.acknowledged)) tells
-        (goes.keeps.stands start f.acknowledged (subst (λ (o : Option (List Outcome)). StandsFor told start old o f.acknowledged) (sym tells) f.stands));
-    used = f.used;
-    left = f.left;
-    moments_are = f.moments_are;
-    failures = f.failures;
-    earlier = f.earlier;
-    last = f.last;
-    are = f.are;
-    number = omega (arith, failures, f.number);
-    nothing_new = f.nothing_new;
-    nothing_since = since goes.keeps.acknowledged goes.failures f.nothing_since;
-    outs = subst (All (λ (out : Moment). Contains f.left out.0)) (sym same.outs) f.outs;
-    heard = subst (λ (m : Moment). (m.0 ≡ 0) ⊎ Contains f.left m.0) (sym same.heard) f.heard;
-    rests = λ none. let rest = f.rests none in
-        (omega (arith, failures, rest.0), subst (λ (m : Moment). EndsAt moments m.0) (sym goes.failed) rest.1);
-    timeout_is = goes.keeps.timeout ∙ f.timeout_is;
-  }
-    where
-      since : (acks : List Parcel) → new.failures ≡ failures_since acks old.failures → (old.failures ≡ 0) ⊎ AcknowledgeInAll (drop start all) (payloads_of f.acknowledged) →
-          (new.failures ≡ 0) ⊎ AcknowledgeInAll (drop start all) (payloads_of (f.acknowledged ++ acks))
-      since [] is (inl none) = inl (failures ∙ none)
-      since [] is (inr settled) = inr (subst (λ (l : List Parcel). AcknowledgeInAll (drop start all) (payloads_of l)) (sym (append-nil f.acknowledged)) settled)
-      since (p ∷ acks) none settled = inl none
 
 -- ---- all of them
 

@@ -24,6 +24,7 @@ use Rattle.kept_rows.specs.Backed.{AreRowsOverFronts}
 use Rattle.kept_rows.specs.Followed.{OnlyReads}
 use Rattle.kept_rows.specs.Run.{Run, Scan}
 use Rattle.kept_rows.specs.Scans.{ListGlobs, globs_in, listings_from, listings_of}
+use Rattle.kept_rows.specs.Stored.{IsStored}
 use Rattle.kept_rows.specs.Trace.{Closing, Trace, WireTold, first_of_two, open_looks_in}
 use Rattle.outside.specs.Folders.{Event, FolderHistory, Opened}
 use Rattle.outside.specs.Wires.{Outcome}
@@ -66,6 +67,11 @@ use Rattle.run_steps.proofs.RunWires.{acknowledged_none, of_no_worker, took_none
 use Rattle.run_steps.proofs.Scanning.{AreAt, are_at, no_more_listings}
 use Rattle.run_steps.proofs.Unbegun.{unbegun_stand}
 use Rattle.run_steps.proofs.WireOn.{all_told_stay}
+
+-- no key was begun
+none_begun : (wires : List WireTold) (rows : List Row) → AllByRecursion (IsStored [] wires) rows
+none_begun wires [] = tt
+none_begun wires (row ∷ rows) = (inr tt, none_begun wires rows)
 
 -- ---- its listings
 
@@ -293,6 +299,7 @@ module _ {D : Type 0} (disks : DiskWords D) (start : Began D) (folder : FolderTo
       in_image = image_rows ordered rows over;
       kept = λ left. early_accounts.ends rows (over_no_notes start.opening rows over);
       begun = λ left. tt;
+      stored = λ left. none_begun early_run.trace.wires rows;
     }
 
     pub early_is_accounted_for : (met : Met) → met ≢ Done → AccountedFor disks start.settings early_objects met
@@ -377,6 +384,7 @@ module _ {D : Type 0} (disks : DiskWords D) (settings : Settings) (opening : Lis
       in_image = still_image_rows ordered rows over;
       kept = λ left. still_accounts.ends rows (over_no_notes opening rows over);
       begun = λ left. tt;
+      stored = λ left. none_begun still_run.trace.wires rows;
     }
 
     pub still_is_accounted_for : (met : Met) → met ≢ Done → AccountedFor disks settings still_objects met

@@ -10,6 +10,7 @@ use Rattle.beat_config.specs.InRange.{AreInRange}
 use Rattle.event_tree.specs.declared.settings.Settings.{Settings}
 use Rattle.keeper.specs.Collecting.{Collects}
 use Rattle.keeper.specs.Keeping.{Keeping}
+use Rattle.kept_rows.proofs.Storing.{Covers}
 use Rattle.lanes.specs.Giving.{IsInRange}
 use Rattle.lanes.specs.Laning.{Laning}
 use Rattle.lanes.specs.Turned.{IsKnown}
@@ -187,10 +188,10 @@ module _ {T W L D : Type 0} (words : Words T W L D) (reads : (disk : D) → IfSo
                 ending.keeper collects none_held events ending.shown then)
             by_result (Err what) all are not = absurd (not telling)
 
-        pub accounted : OneChoice → (passed : List Passing) → HasPassed result passed → IfErr result (λ _. ¬ (IsTelling met)) → Collects new.keeper ending.keeper → new.keeper.held ≡ None →
+        pub accounted : OneChoice → Covers → (passed : List Passing) → HasPassed result passed → IfErr result (λ _. ¬ (IsTelling met)) → Collects new.keeper ending.keeper → new.keeper.held ≡ None →
             (events : List Event) → ending.shown ≡ with_events events new.folder.told → Pairs OutcomesGoOn (map words.wires.outcomes wires) (map words.wires.outcomes after) →
             AccountedOver words.disks settings old.keeper.store.rows listed (length folder.scanned.events)
             (ended_objects words start ending met left after has_ended folder has clock_tells wires_tell (map words.wires.outcomes wires) starts) met passed ending.keeper.shipped ending.keeper.dropped
-        accounted one passed has_passed untold collects none_held events then go_on =
-            ended_is_accounted_for words start ending met left after has_ended folder has clock_tells wires_tell (map words.wires.outcomes wires) starts one sets.gave passed
+        accounted one covers passed has_passed untold collects none_held events then go_on =
+            ended_is_accounted_for words start ending met left after has_ended folder has clock_tells wires_tell (map words.wires.outcomes wires) starts one covers sets.gave passed
             (λ telling. served passed has_passed telling untold collects none_held events then) go_on

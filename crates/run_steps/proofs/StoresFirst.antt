@@ -37,7 +37,7 @@ links_go_on wires (x ∷ xs) (y ∷ ys) stay = (
 )
 
 pub carriers_by_links : {W L : Type 0} (wires : WireWords W) (xs ys : List (Carrier W L)) → LinksStay xs ys → CarriersGoOn wires xs ys
-unfolding LinksStay, CarriersGoOn
+unfolding LinksStay CarriersGoOn
 carriers_by_links wires xs ys stay = links_go_on wires xs ys stay
 
 module _ {T W L D : Type 0} (words : Words T W L D) where
@@ -52,7 +52,7 @@ module _ {T W L D : Type 0} (words : Words T W L D) where
   }
 
 module _ {T W L D K B : Type 0} (words : StepWords T W L D K B) (context : Context) (signals : Signals K B) (old new : Crew T W L) (before after : Storing D) where
-  moments : Option (List ℕ)
+  abbrev moments : Option (List ℕ)
   moments = words.moments signals.clock.now
 
   module _ (met : Option Met) (stores : StoresAll words.all context met (crewing old before) (crewing new after)) where

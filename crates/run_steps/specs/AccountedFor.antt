@@ -17,6 +17,7 @@ use Rattle.kept_rows.specs.Lost.{IsRightlyLost}
 use Rattle.kept_rows.specs.Premises.{Premises}
 use Rattle.kept_rows.specs.Run.{Run}
 use Rattle.kept_rows.specs.Sent.{SendOnlyTold}
+use Rattle.kept_rows.specs.Stored.{IsStored}
 use Rattle.kept_rows.specs.Telling.{IsAccount}
 use Rattle.kept_rows.specs.Trace.{Trace}
 use Rattle.outside.specs.Folders.{FolderHistory}
@@ -119,11 +120,12 @@ module _ (Absent : Absences) (run : Run) (account : List SlotAccount) where
     pub are : AreImageRows rows
 
   -- the rows that the bytes of both areas give: as those of an image, whatever was met; where the last steps were made, kept as a run
-  -- ends with them, and one for each key that was begun, or may be without
+  -- ends with them, one for each key that was begun, or may be without, and stored as far as events are settled
   pub record RowsBy (met : Met) (rows : List Row) : Type 0 where
     pub in_image : AreImageRows rows
     pub kept : AreLeft met → AllByRecursion (IsKept account run.opening run.trace.wires) rows
     pub begun : AreLeft met → AllByRecursion (λ one. HasItsRow rows one ⊎ Absent run account (key_of one)) account
+    pub stored : AreLeft met → AllByRecursion (IsStored account run.trace.wires) rows
 
 -- what both areas hold now gives rows
 abbrev pub GiveRows : {D : Type 0} → DiskWords D → Objects D → Type 0

@@ -28,6 +28,7 @@ pub mod MetIn
 pub mod Onward
 pub mod Outset
 pub mod PassedOver
+pub mod Questions
 pub mod Readiness
 pub mod Registry
 pub mod RegistryErrors

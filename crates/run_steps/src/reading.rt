@@ -1,10 +1,11 @@
 ghost use Rattle.std.specs.Prelude.{◌≡◌, ◌≢◌, ◌^◌, ◌-◌, ◌≤◌, IfNone, IfSome, Some, length};
-ghost use Rattle.outside.specs.Counts.{Rose};
+ghost use Rattle.outside.specs.Counts.{Rose, next_count};
 ghost use Rattle.rounds.specs.Crewing.{crewing};
 ghost use Rattle.rounds.specs.WordsOf.{disks_of, tails_of};
 ghost use Rattle.run_steps.specs.Goes.{Goes, step_words, stop_at};
 ghost use Rattle.run_steps.specs.MetBy.{IsMetBy, phase_met, phase_of, since_of};
 ghost use Rattle.run_steps.specs.MetIn.{NoneFailed};
+ghost use Rattle.run_steps.specs.Questions.{AsksOn, questions_of};
 ghost use Rattle.run_steps.specs.Readiness.{IsReadyIn};
 ghost use Rattle.run_steps.specs.RunState.{Reading};
 ghost use Rattle.run_steps.specs.declared.met.Met.TheVariants.{Stopped};
@@ -54,6 +55,9 @@ pub fn make_round<
         (since_of storing.old (crewing crew.new storing.new))) }
     ensures none_failed { IfNone result
         (NoneFailed context.entry.settings.now.output.attempts crew.new.carriers.items) }
+    ensures asks_the_clock { K.questions signals.new.clock.now
+        ≡ next_count (K.questions signals.old.clock.now) }
+    ensures bell_kept { signals.new.bell.now ≡ signals.old.bell.now }
 {
     disk_images_are_counted::<D>();
     let now = signals.clock.now();
@@ -92,6 +96,9 @@ pub fn store_and_follow<
         (since_of storing.old (crewing crew.new storing.new)) result }
     ensures stopped { result ≡ Stopped →
         Rose (B.rings signals.old.bell.now) (B.rings signals.new.bell.now) }
+    ensures asks { AsksOn 1
+        (questions_of K.Clock B.Bell signals.old.clock.now signals.old.bell.now)
+        (questions_of K.Clock B.Bell signals.new.clock.now signals.new.bell.now) }
 {
     match store_all(rt, context, crew, storing) {
         Some(met) => met,
@@ -126,6 +133,9 @@ pub fn follow_all<
         (since_of storing.old (crewing crew.new storing.new)) result }
     ensures stopped { result ≡ Stopped →
         Rose (B.rings signals.old.bell.now) (B.rings signals.new.bell.now) }
+    ensures asks { AsksOn 1
+        (questions_of K.Clock B.Bell signals.old.clock.now signals.old.bell.now)
+        (questions_of K.Clock B.Bell signals.new.clock.now signals.new.bell.now) }
 {
     for _ in rt.forever() {
         if signals.bell.asked() {

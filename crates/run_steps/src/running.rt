@@ -14,6 +14,7 @@ ghost use Rattle.run_steps.specs.Lent.{ending_of, objects_of, outset_of, tolls_o
 ghost use Rattle.run_steps.specs.Met.{AreLeft};
 ghost use Rattle.run_steps.specs.Outset.{Earlier, IsFirstKeeper, SetsOut, began_with};
 ghost use Rattle.run_steps.specs.PassedOver.{ArePassedOver};
+ghost use Rattle.run_steps.specs.Questions.{AsksOn, questions_of};
 ghost use Rattle.run_steps.specs.RunEnds.{HasEnded};
 ghost use Rattle.run_steps.specs.RunOf.{FolderTold};
 ghost use Rattle.run_steps.specs.RunState.{Phase};
@@ -31,6 +32,7 @@ use crate::working::{Worked, work};
 use outside::{Bell, Clock, Disk, Folder, Link, Wire};
 use registry_store::one_choice;
 use rounds::Storing;
+use ship_core::covered_end_by_steps;
 use std::sync::Wait;
 use std::thread::Threads;
 use wire_base::NoMemory;
@@ -116,6 +118,9 @@ where
         ArePassedOver scanned.entry.now.listed.items worked.passed.items) }
     ensures clock_goes_on { MomentsGoOn (K.moments around.old.clock.now)
         (K.moments around.new.clock.now) }
+    ensures asks { AsksOn 1
+        (questions_of K.Clock B.Bell around.old.clock.now around.old.bell.now)
+        (questions_of K.Clock B.Bell around.new.clock.now around.new.bell.now) }
     ensures as_many_wires { length around.new.wires.now.items
         ≡ length around.old.wires.now.items }
     ensures tails_closed { F.open_tails around.old.folder.now
@@ -141,6 +146,7 @@ where
 {
     disk_images_are_counted::<D>();
     one_choice();
+    covered_end_by_steps();
     let mut crew = crew_of(context, passes, around.wires)?;
     let begun = begin_all(context, scanned, around.folder, &mut crew, storing.keeper);
     Ok(work(rt, context, begun, crew, storing, around))

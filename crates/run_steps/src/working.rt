@@ -16,6 +16,7 @@ ghost use Rattle.run_steps.specs.Lent.{ending_of, tolls_of};
 ghost use Rattle.run_steps.specs.Met.{AreLeft, IsTelling};
 ghost use Rattle.run_steps.specs.MetBy.{since_of};
 ghost use Rattle.run_steps.specs.MetIn.{NoneFailed};
+ghost use Rattle.run_steps.specs.Questions.{AsksOn, questions_of};
 ghost use Rattle.run_steps.specs.Readiness.{IsAbleIn, IsReadyIn};
 ghost use Rattle.run_steps.specs.Releasing.{harvesters_of, with_events};
 ghost use Rattle.run_steps.specs.RunEnds.{HasEnded};
@@ -111,6 +112,9 @@ where
     ensures never_fall { NeverFall
         (tolls_of F.Folder D.Disk B.Bell storing.old around.old)
         (tolls_of F.Folder D.Disk B.Bell storing.new around.new) }
+    ensures asks { AsksOn 1
+        (questions_of K.Clock B.Bell around.old.clock.now around.old.bell.now)
+        (questions_of K.Clock B.Bell around.new.clock.now around.new.bell.now) }
     ensures collects { Collects storing.old.keeper.now storing.new.keeper.now }
     ensures same_objects { SameObjects storing.old storing.new }
     ensures still_tell { StillTell D.contents storing.old storing.new }
@@ -158,6 +162,9 @@ pub fn follow_begun<
         (since_of storing.old (crewing crew.new storing.new)) begun result.met }
     ensures stopped { IfOk begun (λ _. result.met ≡ Stopped →
         Rose (B.rings signals.old.bell.now) (B.rings signals.new.bell.now)) }
+    ensures asks { AsksOn 1
+        (questions_of K.Clock B.Bell signals.old.clock.now signals.old.bell.now)
+        (questions_of K.Clock B.Bell signals.new.clock.now signals.new.bell.now) }
 {
     match begun {
         Ok(passed) => Worked {

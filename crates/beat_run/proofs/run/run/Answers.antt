@@ -5,6 +5,8 @@ use Rattle.report.specs.declared.status.Status.{Status}
 use Rattle.report.specs.declared.status.Status.TheVariants.{Usage}
 use Rattle.rounds.specs.WordsOf.{disks_of}
 use Rattle.run_steps.proofs.Clocks.{clock_stays}
+use Rattle.run_steps.proofs.Questions.{asks_nothing}
+use Rattle.run_steps.specs.Questions.{questions_of}
 use Rattle.run_steps.proofs.HeldRows.{rows_held_as_read}
 use Rattle.beat_run.specs.Ended.{ended}
 use Rattle.beat_run.specs.declared.settings.TheConstants.{LIMIT}
@@ -46,7 +48,15 @@ pub returns-in-Err-clause-at_rest : goal.returns-in-Err-clause-at_rest
 returns-in-Err-clause-at_rest g c = λ some rest followed. absurd (prepare_not_followed _ _ c.in-Err.status c.in-Err.ensures.ends followed)
 
 pub returns-in-Err-clause-goes_on : goal.returns-in-Err-clause-goes_on
-returns-in-Err-clause-goes_on g c = record { clock = clock_stays (g.K.Clock.moments c.args.outside.now.clock.now); wires = refl; tails = λ few. refl; links = λ few. refl; a_told = λ told. told; b_told = λ told. told }
+returns-in-Err-clause-goes_on g c = record {
+  clock = clock_stays (g.K.Clock.moments c.args.outside.now.clock.now);
+  asks = asks_nothing 0 (questions_of g.K.Clock g.B.Bell c.args.outside.now.clock.now c.args.outside.now.bell.now);
+  wires = refl;
+  tails = λ few. refl;
+  links = λ few. refl;
+  a_told = λ told. told;
+  b_told = λ told. told;
+}
 
 -- ---- arguments and settings are good
 

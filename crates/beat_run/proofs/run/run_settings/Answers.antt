@@ -4,6 +4,8 @@ use Rattle.report.specs.declared.status.Status.TheVariants.{DiskFault, NoMemory,
 use Rattle.rounds.specs.WordsOf.{disks_of}
 use Rattle.run_steps.specs.declared.registry_error.RegistryError.{RegistryError}
 use Rattle.run_steps.proofs.Clocks.{clock_stays}
+use Rattle.run_steps.proofs.Questions.{asks_nothing}
+use Rattle.run_steps.specs.Questions.{questions_of}
 use Rattle.run_steps.proofs.HeldRows.{some_of}
 use Rattle.wire_base.specs.declared.limits.Which.{Which}
 use Rattle.run_steps.specs.Together.{Areas}
@@ -114,6 +116,7 @@ returns-in-Ok-clause-reported g c = λ some rest.
 pub returns-in-Err-clause-goes_on : goal.returns-in-Err-clause-goes_on
 returns-in-Err-clause-goes_on g c = record {
   clock = clock_stays (g.K.Clock.moments c.args.outside.now.clock.now);
+  asks = asks_nothing 0 (questions_of g.K.Clock g.B.Bell c.args.outside.now.clock.now c.args.outside.now.bell.now);
   wires = refl;
   tails = λ few. refl;
   links = λ few. refl;
@@ -124,6 +127,7 @@ returns-in-Err-clause-goes_on g c = record {
 pub returns-in-Ok-clause-goes_on : goal.returns-in-Ok-clause-goes_on
 returns-in-Ok-clause-goes_on g c = record {
   clock = c.run_store.ensures.goes_on.clock;
+  asks = c.run_store.ensures.goes_on.asks;
   wires = c.run_store.ensures.goes_on.wires;
   tails = c.run_store.ensures.goes_on.tails;
   links = c.run_store.ensures.goes_on.links;

@@ -21,6 +21,8 @@ use Rattle.beat_run.proofs.ReportEnds.{caused_ending, full_for_ending, left_by_e
 use Rattle.beat_run.proofs.ScanShown.{each_some, parted_told, scanned_some, scanned_whole}
 use Rattle.beat_run.proofs.SettingOut.{earlier, outset, set_out}
 use Rattle.beat_run.proofs.WiresFailed.{failed_by}
+use Rattle.run_steps.specs.Questions.{questions_of}
+use Rattle.run_steps.proofs.Questions.{asks_behind_the_clock, asks_nothing}
 use Rattle.beat_run.proofs.run.run_store.Goals as goal
 
 -- ---- its scan
@@ -236,6 +238,7 @@ tails_by_two before mid after files kept few closed room =
 pub returns-in_err-scanned-clause-goes_on : goal.returns-in_err-scanned-clause-goes_on
 returns-in_err-scanned-clause-goes_on g c = record {
   clock = c.scan.ensures.clock_goes_on;
+  asks = asks_behind_the_clock (questions_of g.K.Clock g.B.Bell c.args.outside.now.clock.now c.args.outside.now.bell.now) (questions_of g.K.Clock g.B.Bell c.scan.new.clock c.args.outside.now.bell.now) (questions_of g.K.Clock g.B.Bell c.scan.new.clock c.args.outside.now.bell.now) c.scan.ensures.asked refl (asks_nothing 1 (questions_of g.K.Clock g.B.Bell c.scan.new.clock c.args.outside.now.bell.now));
   wires = refl;
   tails = tails_by_one (g.F.Folder.open_tails c.args.outside.now.folder.now) (g.F.Folder.open_tails c.scan.new.folder) c.scan.ensures.open_tails_kept;
   links = λ few. refl;
@@ -246,6 +249,7 @@ returns-in_err-scanned-clause-goes_on g c = record {
 pub returns-in_err-parts-clause-goes_on : goal.returns-in_err-parts-clause-goes_on
 returns-in_err-parts-clause-goes_on g c = record {
   clock = c.scan.ensures.clock_goes_on;
+  asks = asks_behind_the_clock (questions_of g.K.Clock g.B.Bell c.args.outside.now.clock.now c.args.outside.now.bell.now) (questions_of g.K.Clock g.B.Bell c.scan.new.clock c.args.outside.now.bell.now) (questions_of g.K.Clock g.B.Bell c.scan.new.clock c.args.outside.now.bell.now) c.scan.ensures.asked refl (asks_nothing 1 (questions_of g.K.Clock g.B.Bell c.scan.new.clock c.args.outside.now.bell.now));
   wires = refl;
   tails = tails_by_one (g.F.Folder.open_tails c.args.outside.now.folder.now) (g.F.Folder.open_tails c.scan.new.folder) c.scan.ensures.open_tails_kept;
   links = λ few. refl;
@@ -257,6 +261,7 @@ pub returns-in_err-worked-clause-goes_on : goal.returns-in_err-worked-clause-goe
 returns-in_err-worked-clause-goes_on g c =
     record {
       clock = clock_by_two (g.K.Clock.moments c.args.outside.now.clock.now) (g.K.Clock.moments c.scan.new.clock) (g.K.Clock.moments c.run_over.new.around.clock.now) c.scan.ensures.clock_goes_on c.run_over.ensures.clock_goes_on;
+      asks = asks_behind_the_clock (questions_of g.K.Clock g.B.Bell c.args.outside.now.clock.now c.args.outside.now.bell.now) (questions_of g.K.Clock g.B.Bell c.scan.new.clock c.args.outside.now.bell.now) (questions_of g.K.Clock g.B.Bell c.run_over.new.around.clock.now c.run_over.new.around.bell.now) c.scan.ensures.asked refl c.run_over.ensures.asks;
       wires = c.run_over.ensures.as_many_wires;
       tails = λ few. tails_by_two (g.F.Folder.open_tails c.args.outside.now.folder.now) (g.F.Folder.open_tails c.scan.new.folder) (g.F.Folder.open_tails c.run_over.new.around.folder.now) (length c.in_ok-scanned.scanned.listed.items)
           c.scan.ensures.open_tails_kept c.in_ok-scanned.ensures.few_listed c.run_over.ensures.tails_closed few;
@@ -269,6 +274,7 @@ pub returns-clause-goes_on : goal.returns-clause-goes_on
 returns-clause-goes_on g c =
     record {
       clock = clock_by_two (g.K.Clock.moments c.args.outside.now.clock.now) (g.K.Clock.moments c.scan.new.clock) (g.K.Clock.moments c.run_over.new.around.clock.now) c.scan.ensures.clock_goes_on c.run_over.ensures.clock_goes_on;
+      asks = asks_behind_the_clock (questions_of g.K.Clock g.B.Bell c.args.outside.now.clock.now c.args.outside.now.bell.now) (questions_of g.K.Clock g.B.Bell c.scan.new.clock c.args.outside.now.bell.now) (questions_of g.K.Clock g.B.Bell c.run_over.new.around.clock.now c.run_over.new.around.bell.now) c.scan.ensures.asked refl c.run_over.ensures.asks;
       wires = c.run_over.ensures.as_many_wires;
       tails = λ few. tails_by_two (g.F.Folder.open_tails c.args.outside.now.folder.now) (g.F.Folder.open_tails c.scan.new.folder) (g.F.Folder.open_tails c.run_over.new.around.folder.now) (length c.in_ok-scanned.scanned.listed.items)
           c.scan.ensures.open_tails_kept c.in_ok-scanned.ensures.few_listed c.run_over.ensures.tails_closed few;

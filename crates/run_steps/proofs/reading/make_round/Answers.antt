@@ -1,4 +1,4 @@
-use Rattle.std.proofs.Common.{ℕ, true, List, Option, refl, sym, subst, arith}
+use Rattle.std.proofs.Common.{ℕ, true, List, Option, refl, sym, subst, ◌∙◌, arith}
 use Rattle.lanes.specs.declared.run.When.{When}
 use Rattle.outside.specs.Times.{GivesMoment}
 use Rattle.rounds.specs.Crewing.{crewing}
@@ -73,3 +73,6 @@ returns-clause-goes g c =
 pub returns-clause-none_failed : goal.returns-clause-none_failed
 returns-clause-none_failed g c =
     none_failed_in c.args.context.settings.now.output.attempts c.round-round.new.self c.round-round.new.storing.keeper.now c.round-round.result c.met_in-met.result c.met_in-met.ensures
+
+pub returns-clause-asks_the_clock : goal.returns-clause-asks_the_clock
+returns-clause-asks_the_clock g c = c.pause_where_still.ensures.not_asked ∙ c.now-now.ensures.asked

@@ -3,8 +3,10 @@ use Rattle.rounds.specs.Crewing.{crewing}
 use Rattle.rounds.specs.WordsOf.{words_of}
 use Rattle.run_steps.specs.Goes.{step_words}
 use Rattle.run_steps.specs.MetBy.{since_of}
+use Rattle.run_steps.specs.Questions.{questions_of}
 use Rattle.run_steps.proofs.GoesOn.{goes_by_two}
 use Rattle.run_steps.proofs.MetBy.{met_since}
+use Rattle.run_steps.proofs.Questions.{asks_nothing}
 use Rattle.run_steps.proofs.StoresFirst.{goes_by_storing, met_by_storing, not_stopped}
 use Rattle.run_steps.proofs.reading.store_and_follow.Goals as goal
 
@@ -33,3 +35,6 @@ returns-in-None-clause-met g c other =
     met_since (words_of g.T.Tail g.L.Link g.W.Wire g.D.Disk) c.args.context.settings.now.output.attempts c.args.storing.now.a.now c.args.storing.now.b.now
     (since_of c.store_all.new.storing (crewing c.follow_all.new.crew c.follow_all.new.storing)) c.in-None.ensures.hands_on.a_faults_never_fall c.in-None.ensures.hands_on.b_faults_never_fall
     c.follow_all.result (c.follow_all.ensures.met other)
+
+pub returns-in-Some-clause-asks : goal.returns-in-Some-clause-asks
+returns-in-Some-clause-asks g c = asks_nothing 1 (questions_of g.K.Clock g.B.Bell c.args.signals.now.clock.now c.args.signals.now.bell.now)

@@ -10,10 +10,12 @@ use Rattle.run_steps.specs.CarriersGoOn.{WiresReturn}
 use Rattle.run_steps.specs.Outset.{began_with}
 use Rattle.run_steps.specs.RunEnds.{HasEnded}
 use Rattle.run_steps.specs.RunState.{Phase}
+use Rattle.run_steps.specs.Questions.{questions_of}
 use Rattle.rounds.specs.WordsOf.{links_of, tails_of, wires_of, words_of}
 use Rattle.run_steps.proofs.BegunReady.{ready_begun}
 use Rattle.run_steps.proofs.CarriersGoOn.{links_finished, open_links_seen, outcomes_go_on}
 use Rattle.run_steps.proofs.PassedOver.{passed_over}
+use Rattle.run_steps.proofs.Questions.{asks_nothing}
 use Rattle.run_steps.proofs.RunCauses.{met_by_run, no_slots}
 use Rattle.run_steps.proofs.RunTails.{none_begun}
 use Rattle.run_steps.proofs.SettingOut.{accounted, first_ready, further, rests, wires_fit, wires_left}
@@ -121,7 +123,8 @@ returns-clause-accounted g c earlier folder sets has clock_tells wires_tell =
       b = c.work.new.storing.b.now;
       phase = is.0;
     })
-    c.work.result.met c.work.new.around.wires.now.items is.1 folder has clock_tells wires_tell c.one_choice.ensures c.work.result.passed.items c.work.ensures.passed c.work.ensures.told_only_where_begun
+    c.work.result.met c.work.new.around.wires.now.items is.1 folder has clock_tells wires_tell c.one_choice.ensures
+    (record { none = c.covered_end_by_steps.ensures.none; some = c.covered_end_by_steps.ensures.some }) c.work.result.passed.items c.work.ensures.passed c.work.ensures.told_only_where_begun
     c.work.ensures.collects
     (ap (λ (k : Keeping). k.held) c.begin_all-begun.ensures.kept.keeper ∙ ap (λ (k : Keeping). k.held) c.requires.keeper.is) c.work.ensures.told.0 c.work.ensures.told.1
     (outcomes_go_on g.L.Link.told queue desk c.args.context.settings.now c.args.around.now.wires.now.items c.crew_of.new.wires.items c.in_ok-crew.crew c.in_ok-crew.ensures.begun all.wires
@@ -226,3 +229,6 @@ begin_all-begun-requires g c = record {
   some_lanes = let many = c.in_ok-crew.ensures.begun.many_lanes in let some = c.requires.settings.lanes in omega (arith, many, some);
   nothing_told = ap (λ (k : Keeping). k.tracked.notes) c.requires.keeper.is;
 }
+
+pub returns-in_err-crew-clause-asks : goal.returns-in_err-crew-clause-asks
+returns-in_err-crew-clause-asks g c = asks_nothing 1 (questions_of g.K.Clock g.B.Bell c.args.around.now.clock.now c.args.around.now.bell.now)

@@ -2,10 +2,12 @@ use Rattle.std.proofs.Common.{Result, Some, Vec, subst, sym}
 use Rattle.std.specs.declared.alloc.Global.{Global}
 use Rattle.report.specs.declared.passing.Passing.{Passing}
 use Rattle.run_steps.specs.Goes.{Goes, step_words, stop_at}
+use Rattle.run_steps.specs.Questions.{questions_of}
 use Rattle.run_steps.specs.RunState.{Leaving, Phase}
 use Rattle.run_steps.specs.Worked.{phase_begun, phase_worked}
 use Rattle.run_steps.specs.declared.begin_error.BeginError.{BeginError}
 use Rattle.run_steps.proofs.GoesOn.{goes_by_nothing}
+use Rattle.run_steps.proofs.Questions.{asks_nothing}
 use Rattle.run_steps.proofs.working.follow_begun.Goals as goal
 
 pub returns-in-Err-clause-goes : goal.returns-in-Err-clause-goes
@@ -13,3 +15,6 @@ returns-in-Err-clause-goes g c =
     let at = λ (phase : Phase). stop_at phase c.args.crew.now c.args.storing.now c.args.signals.now in
     subst (λ (b : Result (Vec Passing Global) BeginError). Goes (step_words g.T.Tail g.L.Link g.W.Wire g.D.Disk g.K.Clock g.B.Bell) c.args.context (Some c.from.result) (at (phase_begun b)) (at (phase_worked b c.from.result)))
     (sym c.in-Err.is) (goes_by_nothing (Some c.from.result) (at Leaving) c.requires.ready)
+
+pub returns-in-Err-clause-asks : goal.returns-in-Err-clause-asks
+returns-in-Err-clause-asks g c = asks_nothing 1 (questions_of g.K.Clock g.B.Bell c.args.signals.now.clock.now c.args.signals.now.bell.now)
