@@ -17,6 +17,7 @@ from harvester import harvester_table
 from memory import settled_table, stored_table
 from rounds import rounds_tables
 from sink import sink_table
+from syncs import syncs_table
 from transport import transport_table
 from unchanged import unchanged_table
 from worker import worker_table
@@ -28,6 +29,7 @@ RESULTS = ROOT / "bench" / "RESULTS.md"
 PARTS = {
     "files": transport_table,
     "unchanged": unchanged_table,
+    "syncs": syncs_table,
     "worker": worker_table,
     "sink": sink_table,
     "harvester": harvester_table,
