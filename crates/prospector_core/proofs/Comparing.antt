@@ -17,13 +17,13 @@ use Rattle.prospector_core.specs.KeyIndex.{IsIndex}
 use Rattle.prospector_core.specs.KnownFiles.{AreBegun, AreKnown, KnownFiles, file_key, known_of}
 use Rattle.prospector_core.specs.Marks.{file_of, files_of, keys_of, known_in, settled_one}
 use Rattle.prospector_core.specs.Told.{HasAdded}
-use Rattle.prospector_core.specs.Watching.{IsWatching, known_by}
+use Rattle.prospector_core.specs.Watching.{IsWatching, Stays, all_by, here, known_by}
 use Rattle.wire_base.specs.declared.note.Begin.{Begin}
 
 abbrev pub record_of : List Known → ℕ → ℕ → KnownFiles
 record_of files next others = record { files = files; next = next; others = others }
 
-known_view : (watched : List Watched) (next count others : ℕ) → count ≡ length watched + others → known_in watched next count ≡ known_by watched next others
+pub known_view : (watched : List Watched) (next count others : ℕ) → count ≡ length watched + others → known_in watched next count ≡ all_by watched next others
 known_view watched next count others is = ap (record_of (files_of watched) next) (let q : count - length watched ≡ others = omega (arith, is) in q)
 
 module _ (scan : Scan) (before files settled : List Watched) (next others count : ℕ) (told : Told) (is : count ≡ length before + others)
@@ -33,16 +33,16 @@ module _ (scan : Scan) (before files settled : List Watched) (next others count 
       ap files_of (marked ∙ ap (map (settled_one scan.whole)) added.marks)
       ∙ files-settled scan.clean.now scan.whole scan.seen.now (files_of before) (created_files next (new_members (files_of before) scan.seen.now))
 
-  view_after : known_by settled told.next others ≡ known_after scan.clean.now scan.whole (known_by before next others) scan.seen.now
+  view_after : all_by settled told.next others ≡ known_after scan.clean.now scan.whole (all_by before next others) scan.seen.now
   view_after = ap (λ (l : List Known). record_of l told.next others) files_after
       ∙ ap (λ (n : ℕ). record_of (map (file_after scan.clean.now scan.whole scan.seen.now) (files_of before) ++ created_files next (new_members (files_of before) scan.seen.now)) n others) added.next
 
-  pub remembered : (view : KnownFiles) → known_by before next others ≡ view → known_by settled told.next others ≡ known_after scan.clean.now scan.whole view scan.seen.now
+  pub remembered : (view : KnownFiles) → all_by before next others ≡ view → all_by settled told.next others ≡ known_after scan.clean.now scan.whole view scan.seen.now
   remembered view shown = view_after ∙ ap (λ (k : KnownFiles). known_after scan.clean.now scan.whole k scan.seen.now) shown
 
-  pub still_known : AreKnown (known_by before next others) → AreKnown (known_by settled told.next others)
+  pub still_known : AreKnown (all_by before next others) → AreKnown (all_by settled told.next others)
   still_known are = subst (λ (k : KnownFiles). AreKnown k) (sym view_after)
-      (known_later scan.clean.now scan.whole (known_by before next others) scan.seen.now are
+      (known_later scan.clean.now scan.whole (all_by before next others) scan.seen.now are
       (subst (λ (k : KnownFiles). length k.files + k.others + length (new_members k.files scan.seen.now) ≤ MAX_FILES) (known_view before next count others is) added.few))
 
   -- where no file began, the keys stand where they stood
@@ -61,17 +61,6 @@ module _ (scan : Scan) (before files settled : List Watched) (next others count 
           ∙ map_map file_key (file_after scan.clean.now scan.whole scan.seen.now) (files_of before)
           ∙ map_agree (λ file. file_key (file_after scan.clean.now scan.whole scan.seen.now file)) file_key (file-key scan.clean.now scan.whole scan.seen.now) (files_of before))
 
--- a scan that was refused
-pub watching_kept : (before watched : List Watched) (order : List ℕ) (next others : ℕ) → files_of watched ≡ files_of before → AreKnown (known_by before next others) → IsIndex (keys_of before) order →
-    IsWatching watched order true (known_by watched next others)
-watching_kept before watched order next others same are index = record {
-  apart = subst (λ (l : List Known). AreKnown (record_of l next others)) (sym same) are;
-  index = λ indexed. index_kept before watched order same index;
-}
-
-pub view_kept : (before watched : List Watched) (next others : ℕ) (view : KnownFiles) → files_of watched ≡ files_of before → known_by before next others ≡ view → known_by watched next others ≡ view
-view_kept before watched next others view same shown = ap (λ (l : List Known). record_of l next others) same ∙ shown
-
 -- ---- one forgotten
 
 pub files-filter : (p : Known → Bool) (watched : List Watched) → files_of (filter (λ one. p one.file) watched) ≡ filter p (files_of watched)
@@ -86,7 +75,7 @@ files-filter p (one ∷ watched) = by_case (p one.file) (files-filter p watched)
 -- ---- the beginning
 
 pub begun_view : (begins : List Begin) (others : ℕ) (watched : List Watched) (i next : ℕ) → files_of watched ≡ map known_of (take i begins) → length begins ≤ i → next ≡ length watched →
-    known_by watched next others ≡ record_of (map known_of begins) (length begins) others
+    all_by watched next others ≡ record_of (map known_of begins) (length begins) others
 begun_view begins others watched i next made all is =
     ap (λ (l : List Known). record_of l next others) whole
     ∙ ap (λ (n : ℕ). record_of (map known_of begins) n others) (is ∙ sym (length-map watched file_of) ∙ ap (λ (l : List Known). length l) whole ∙ length-map begins known_of)
@@ -95,7 +84,7 @@ begun_view begins others watched i next made all is =
     whole = made ∙ ap (map known_of) (take_all i begins all)
 
 pub begun_known : (begins : List Begin) (others : ℕ) (watched : List Watched) (i next : ℕ) → files_of watched ≡ map known_of (take i begins) → length begins ≤ i → next ≡ length watched →
-    AreBegun begins → length begins + others ≤ MAX_FILES → AreKnown (known_by watched next others)
+    AreBegun begins → length begins + others ≤ MAX_FILES → AreKnown (all_by watched next others)
 begun_known begins others watched i next made all is are few =
     subst (λ (k : KnownFiles). AreKnown k) (sym (begun_view begins others watched i next made all is)) (known_begun begins others are few)
 
@@ -106,6 +95,12 @@ pub settled_all : (whole : Bool) (files settled lent : List Watched) (n : ℕ) �
 settled_all whole files settled lent n marked same all =
     let is : settled ≡ map (settled_one whole) files = marked ∙ ap (map (settled_one whole)) same in
     written files settled n all (ap (λ (l : List Watched). length l) is ∙ length-map files (settled_one whole)) ∙ is
+
+-- as the body has what was written into all of them
+pub all_written : (f : Watched → Watched) (files made lent : List Watched) (n : ℕ) → made ≡ map f lent → lent ≡ files → n ≡ length files → take n (made ++ drop (length made) files) ≡ map f files
+all_written f files made lent n marked same all =
+    let is : made ≡ map f files = marked ∙ ap (map f) same in
+    written files made n all (ap (λ (l : List Watched). length l) is ∙ length-map files f) ∙ is
 
 pub not_grown : (a b : ℕ) → not (eqb a b) ≡ false → a ≡ b
 not_grown a b same = by_case (eqb a b) refl same

@@ -1,6 +1,7 @@
 pub mod Along
 pub mod Finding
 mod Comparing
+mod Gone
 mod Indexing
 mod Looping
 mod Remembering

@@ -43,15 +43,16 @@ module _ (clean : List Bool) (known : KnownFiles) (seen : List Seen) (i : ℕ) (
 
   -- at a file's place
   pub known_step : AllPairs StandsBefore known.files → (place : ℕ) (old one : Watched) (more : List Change) → place < length files → key_at (keys_of files) place ≡ member.key →
-      old ≡ get_or files place old → one.file ≡ old.file → one.mark ≡ next_mark clean old.file member old.mark → more ≡ marked_changes clean old.file member old.mark →
+      old ≡ get_or files place old → one.file ≡ old.file → one.gone ≡ old.gone → one.mark ≡ next_mark clean old.file member old.mark → more ≡ marked_changes clean old.file member old.mark →
       ToldMore told more later → IsToldBy clean known (take (i + 1) seen) (set files place one) later
-  known_step apart place old one more within key here kept marked changed more_told =
+  known_step apart place old one more within key here kept stays marked changed more_told =
       next_told (set files place one)
       (of_known clean known (take i seen) member apart place within_known old.file files told later one more is
       (ap file_of old_is)
       (ap (λ (w : Watched). w.file.key) here ∙ sym (key_of_place files place old within) ∙ key)
       (record {
         file_kept = kept;
+        stays = stays ∙ ap (λ (w : Watched). w.gone) old_is;
         marked = marked ∙ ap (next_mark clean old.file member) mark_is;
         told = changed ∙ ap (marked_changes clean old.file member) mark_is;
       })
@@ -90,7 +91,7 @@ module _ (clean : List Bool) (known : KnownFiles) (seen : List Seen) (i : ℕ) (
   pub member_step : AllPairs StandsBefore known.files → (others : List Watched) → TellsMember clean files others member told later → IsToldBy clean known (take (i + 1) seen) others later
   member_step apart others (inl tells) =
       subst (λ (l : List Watched). IsToldBy clean known (take (i + 1) seen) l later) (sym tells.changed)
-      (known_step apart tells.place tells.old tells.one (marked_changes clean tells.old.file member tells.old.mark) tells.within tells.key tells.here tells.kept tells.marked refl tells.told_more)
+      (known_step apart tells.place tells.old tells.one (marked_changes clean tells.old.file member tells.old.mark) tells.within tells.key tells.here tells.kept tells.stays tells.marked refl tells.told_more)
   member_step apart others (inr tells) =
       subst (λ (l : List Watched). IsToldBy clean known (take (i + 1) seen) l later) (sym tells.same) (strange_step tells.absent tells.strange)
 

@@ -103,7 +103,7 @@ module _ (known : KnownFiles) (front : List Seen) (member : Seen) where
 -- ---- the marks
 
 abbrev watched_with : List Bool → Known → Option Seen → Watched
-watched_with clean file first = record { file = file; mark = mark_by clean file first }
+watched_with clean file first = record { file = file; mark = mark_by clean file first; gone = false }
 
 watched_same : (clean : List Bool) (front : List Seen) (member : Seen) (file : Known) → first_with file.key (front ++ member ∷ []) ≡ first_with file.key front →
     watched_by clean front file ≡ watched_by clean (front ++ member ∷ []) file
@@ -144,8 +144,8 @@ marks_set clean front member files place one inside others here =
       | inr other ↦ elsewhere k d within other
     ]
 
-watched_is : (clean : List Bool) (file : Known) (first : Option Seen) (one : Watched) → one.file ≡ file → one.mark ≡ mark_by clean file first → one ≡ watched_with clean file first
-watched_is clean file first one kept marked = λ k. record { file = kept k; mark = marked k }
+watched_is : (clean : List Bool) (file : Known) (first : Option Seen) (one : Watched) → one.file ≡ file → one.mark ≡ mark_by clean file first → one.gone ≡ false → one ≡ watched_with clean file first
+watched_is clean file first one kept marked stays = λ k. record { file = kept k; mark = marked k; gone = stays k }
 
 -- ---- what was told and made
 
@@ -198,6 +198,7 @@ marked_doubles clean file member earlier = by_case (is_held clean file)
 -- the watched file at the place, after the member was looked at
 pub record TellsOf (clean : List Bool) (file : Known) (first : Option Seen) (member : Seen) (one : Watched) (more : List Change) : Type 0 where
   pub file_kept : one.file ≡ file
+  pub stays : one.gone ≡ false
   pub marked : one.mark ≡ next_mark clean file member (mark_by clean file first)
   pub told : more ≡ marked_changes clean file member (mark_by clean file first)
 
@@ -234,7 +235,7 @@ module _ (clean : List Bool) (known : KnownFiles) (front : List Seen) (member : 
       set_is first is_first mark =
           ap (λ (l : List Watched). set l place one) is.marks
           ∙ marks_set clean front member known.files place one inside (others_kept file here)
-          (λ d. watched_is clean file first one tells.file_kept mark ∙ ap (watched_with clean file) (sym is_first)
+          (λ d. watched_is clean file first one tells.file_kept mark tells.stays ∙ ap (watched_with clean file) (sym is_first)
           ∙ ap (watched_by clean (front ++ member ∷ [])) (at ∙ get_or_default known.files place file d inside))
 
       first_here : (first : Option Seen) → first_with member.key front ≡ first → first_with file.key front ≡ first

@@ -34,7 +34,7 @@ mark_by clean file (Some member) = first_mark clean file member
 
 -- a file with what these members show of it
 abbrev pub watched_by : List Bool → List Seen → Known → Watched
-watched_by clean seen file = record { file = file; mark = mark_by clean file (first_with file.key seen) }
+watched_by clean seen file = record { file = file; mark = mark_by clean file (first_with file.key seen); gone = false }
 
 -- ---- one member more of the file's key
 
@@ -59,10 +59,10 @@ abbrev pub settled : Bool → Watched → Known
 settled whole watched = settled_file whole watched.file watched.mark
 
 abbrev pub settled_one : Bool → Watched → Watched
-settled_one whole watched = record { file = settled whole watched; mark = Unseen }
+settled_one whole watched = record watched { file = settled whole watched; mark = Unseen }
 
 abbrev pub cleared : Watched → Watched
-cleared watched = record { file = watched.file; mark = Unseen }
+cleared watched = record { file = watched.file; mark = Unseen; gone = false }
 
 -- ---- what is known of them
 

@@ -23,7 +23,7 @@ use Rattle.wire_base.specs.KeyOrder.{compare}
 
 -- a file that this scan began stays as it is
 abbrev pub begun : Known → Watched
-begun file = record { file = file; mark = Held }
+begun file = record { file = file; mark = Held; gone = false }
 
 -- all that was told and made by these members
 pub record IsToldBy (clean : List Bool) (known : KnownFiles) (seen : List Seen) (files : List Watched) (told : Told) : Type 0 where
@@ -84,6 +84,7 @@ pub record TellsKnown (clean : List Bool) (files others : List Watched) (member 
   pub here : old ≡ slice_index_or files place old
   pub changed : others ≡ slice_set files place one
   pub kept : one.file ≡ old.file
+  pub stays : one.gone ≡ old.gone
   pub marked : one.mark ≡ next_mark clean old.file member old.mark
   pub told_more : ToldMore told (marked_changes clean old.file member old.mark) later
 

@@ -1,12 +1,14 @@
-ghost use Rattle.std.specs.Prelude.{◌≡◌, ◌≢◌, ◌<◌, All, IfNone, IfSome, OnErr, OnOk, length, false, true};
+ghost use Rattle.std.specs.Prelude.{◌≡◌, ◌≢◌, ◌<◌, All, AllPairs, IfNone, IfSome, OnErr, OnOk, length, slice_index, false, true};
 ghost use Rattle.std.specs.List.Sorted.{IsPermutation, IsSortedBy};
 ghost use Rattle.std.specs.Ordering.{is_lt};
 ghost use Rattle.prospector_core.specs.KeyIndex.{IsIndex, key_at};
-ghost use Rattle.prospector_core.specs.Marks.{keys_of};
+ghost use Rattle.prospector_core.specs.KnownFiles.{StandsBefore};
+ghost use Rattle.prospector_core.specs.Marks.{files_of, keys_of};
+ghost use Rattle.prospector_core.specs.Watching.{slots_of};
 ghost use Rattle.wire_base.specs.KeyOrder.{compare};
 
 use crate::marks::Watched;
-use wire_base::NoMemory;
+use wire_base::{NoMemory, Slot};
 
 /// Where the file of this key stands.
 pub fn place_of(watched: &[Watched], order: &[usize], key: &[u8]) -> Option<usize>
@@ -17,6 +19,51 @@ pub fn place_of(watched: &[Watched], order: &[usize], key: &[u8]) -> Option<usiz
 {
     match order.binary_search_by(|place| key_at(watched, *place).cmp(key)) {
         Ok(i) => Some(order[i]),
+        Err(_) => None,
+    }
+}
+
+/// Where the file of this key stands, by the index where there is one for the files as they are, else by a look at each.
+pub fn place_by_key(
+    watched: &[Watched],
+    order: &[usize],
+    indexed: bool,
+    key: &[u8],
+) -> Option<usize>
+    requires { indexed ≡ true → IsIndex (keys_of watched.now) order.now }
+    ensures within { IfSome result (λ place. place < length watched.now) }
+    ensures found { IfSome result (λ place. key_at (keys_of watched.now) place ≡ key.now) }
+    ensures absent { IfNone result (All (λ one. one.file.key ≢ key.now) watched.now) }
+{
+    if indexed {
+        return place_of(watched, order, key);
+    }
+    place_of_key(watched, key)
+}
+
+/// The same by a look at each.
+fn place_of_key(watched: &[Watched], key: &[u8]) -> Option<usize>
+    ensures within { IfSome result (λ place. place < length watched.now) }
+    ensures found { IfSome result (λ place. key_at (keys_of watched.now) place ≡ key.now) }
+    ensures absent { IfNone result (All (λ one. one.file.key ≢ key.now) watched.now) }
+{
+    for (place, one) in watched.iter().enumerate() {
+        if one.file.key.bytes() == key {
+            return Some(place);
+        }
+    }
+    None
+}
+
+/// Where the file of this slot stands.
+pub fn place_of_slot(watched: &[Watched], slot: Slot) -> Option<usize>
+    requires { AllPairs StandsBefore (files_of watched.now) }
+    ensures within { IfSome result (λ place. place < length watched.now) }
+    ensures found { IfSome result (λ place. slice_index (slots_of watched.now) place ≡ slot.0) }
+    ensures absent { IfNone result (All (λ one. one.file.slot.0 ≢ slot.0) watched.now) }
+{
+    match watched.binary_search_by(|one| one.file.slot.0.cmp(&slot.0)) {
+        Ok(place) => Some(place),
         Err(_) => None,
     }
 }

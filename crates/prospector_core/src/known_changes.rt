@@ -16,6 +16,7 @@ pub fn tell_known(
     changes: &mut Vec<Change>,
 ) -> Result<(), NoMemory>
     ensures file_kept { watched.new.file ≡ watched.old.file }
+    ensures stays { watched.new.gone ≡ watched.old.gone }
     ensures marked { OnOk result (watched.new.mark ≡ next_mark clean.now watched.old.file member.now watched.old.mark) }
     ensures told { OnOk result (changes.new.items ≡ changes.old.items ++ marked_changes clean.now watched.old.file member.now watched.old.mark) }
 {

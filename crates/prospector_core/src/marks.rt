@@ -20,14 +20,17 @@ pub enum Mark {
 pub struct Watched {
     pub file: Known,
     pub mark: Mark,
+    /// It was forgotten, and leaves with the next scan.
+    pub gone: bool,
 }
 
-/// No member was looked at yet.
+/// No member was looked at yet, and none of the files is gone.
 pub fn clear_marks(watched: &mut [Watched])
     ensures { watched.new ≡ map cleared watched.old }
 {
     for one in watched.iter_mut() {
         one.mark = Mark::Unseen;
+        one.gone = false;
     }
 }
 

@@ -191,6 +191,7 @@ fn create(alloc: Global, member: &Seen, told: &mut Told) -> Result<(), NoMemory>
     told.created.push(Watched {
         file,
         mark: Mark::Held,
+        gone: false,
     })?;
     told.keys.insert(member.key.copy(alloc)?)?;
     told.next += 1;

@@ -12,6 +12,7 @@ returns-clause-told c = inl (record {
   here = c.index-watched-place.is;
   changed = refl;
   kept = rw (← c.index-watched-place.is) at c.tell_known.ensures.file_kept;
+  stays = rw (← c.index-watched-place.is) at c.tell_known.ensures.stays;
   marked = rw (← c.index-watched-place.is) at c.in_ok-tell_known.ensures.marked;
   told_more = record {
     changes = rw (← c.index-watched-place.is) at c.in_ok-tell_known.ensures.told;

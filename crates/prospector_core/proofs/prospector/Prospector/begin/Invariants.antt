@@ -1,7 +1,11 @@
-use Rattle.std.proofs.Common.{◌≡◌, map, take}
+use Rattle.std.proofs.Common.{◌≡◌, All, map, take}
 use Rattle.prospector_core.specs.KnownFiles.{known_of}
 use Rattle.prospector_core.specs.Marks.{files_of}
+use Rattle.prospector_core.specs.Watching.{Stays}
 use Rattle.prospector_core.proofs.prospector.Prospector.begin.Given as goal
 
 abbrev pub invariant-loop-begin : goal.invariant-loop-begin
-invariant-loop-begin l = files_of l.watched.items ≡ map known_of (take l.begin-index l.begins)
+invariant-loop-begin l = record {
+  files : files_of l.watched.items ≡ map known_of (take l.begin-index l.begins);
+  stay : All Stays l.watched.items;
+}
