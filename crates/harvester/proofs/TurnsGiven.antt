@@ -31,7 +31,7 @@ use Rattle.harvester.specs.History.{Asks, Changed, Ended, History, IsPast, Over,
 use Rattle.harvester.specs.Looked.{AreLookedAt}
 use Rattle.harvester.specs.Standing.{EndsAt, EndsLines, StandsFor, WasClosed, stage_behind_end, stage_of}
 use Rattle.harvester.specs.Turned.{HasOneEvent, IsAskedIn, IsByKey, IsAnswerFor, IsOfFile, events_told, with_turn}
-use Rattle.harvester.specs.Turns.{Did, EndsHere, EndsNow, Goes, IsCaused, IsSettled, MayBeEnded, MayTurn, IsLast, NoneCloses, NoneDue, MayFlush, Settled, after_did, answer_of, did_with, events_of, last_line_of, with_told}
+use Rattle.harvester.specs.Turns.{AsksNothing, Did, EndsHere, EndsNow, Goes, IsCaused, IsSettled, MayBeEnded, MayTurn, IsLast, NoneCloses, NoneDue, MayFlush, Settled, after_did, answer_of, did_with, events_of, last_line_of, with_told}
 use Rattle.harvester.proofs.Did.{did_both, did_bytes, did_events, did_licences, did_nothing, did_stage}
 use Rattle.harvester.proofs.Lasting.{same_read, turns_on}
 use Rattle.harvester.proofs.Looking.{apart_stays}
@@ -48,6 +48,17 @@ behind_ended false is = absurd (let no : Reads ≡ Ended = is in cc)
 behind_goes_on : (ended : Bool) → MayTurn (behind_end ended)
 behind_goes_on true = tt
 behind_goes_on false = tt
+
+behind_asks_nothing : (ended : Bool) → AsksNothing (behind_end ended)
+behind_asks_nothing true = tt
+behind_asks_nothing false = tt
+
+may_turn_then : (stage : Stage) → AsksNothing stage → MayTurn stage
+may_turn_then Reads nothing = tt
+may_turn_then Asks nothing = absurd nothing
+may_turn_then Ended nothing = tt
+may_turn_then Changed nothing = absurd nothing
+may_turn_then Over nothing = absurd nothing
 
 pub reads_of : (h : History) (held : Held) → StandsFor h held → held.stage ≡ Reading → h.stage ≡ Reads
 reads_of h held t reading = sym t.holds.follows.stage ∙ ap stage_of reading
@@ -245,7 +256,7 @@ module _ {T : Type 0} (numbers : T → Option (ℕ × ℕ)) (told : T → Option
         flushed = inl refl;
         caused = record {
           none_read = refl;
-          goes_on = tt;
+          none_asked = tt;
           all_told = λ is. subst (λ (g : History). left_to_tell g ≡ []) (sym same) none;
           none_waits = λ is. subst (λ (g : History). left_to_tell g ≡ []) (sym same) none;
           last_line = last ∙ ap (λ (g : History). g.last_line) (sym same);
@@ -388,7 +399,7 @@ module _ {T : Type 0} (numbers : T → Option (ℕ × ℕ)) (told : T → Option
           flushed = flushed_then s.licences s.stage s.flushed;
           caused = record {
             none_read = no_byte;
-            goes_on = s.goes_on;
+            none_asked = subst AsksNothing (sym (s.at_none refl)) (behind_asks_nothing ended);
             all_told = λ is. left_then s.licences s.stage ∙ rest.all_told (s.ends is);
             none_waits = λ is. left_then s.licences s.stage ∙ rest.none_waits (λ waits. is (subst (λ (e : Events). IsSome e.grouper.gathered) (sym same) waits));
             last_line = ap (λ (e : Events). e.last_line.0) same ∙ rest.last_line;
@@ -563,7 +574,7 @@ module _ {T : Type 0} (numbers : T → Option (ℕ × ℕ)) (told : T → Option
       as_caused (turn.Passed span rule) did after is = is
       as_caused turn.More did after is = is
       as_caused turn.AtEnd did after is =
-          record { none_read = is.none_read; goes_on = is.goes_on; all_told = is.all_told; none_waits = is.none_waits; last_line = is.last_line; which = which is.which }
+          record { none_read = is.none_read; none_asked = is.none_asked; all_told = is.all_told; none_waits = is.none_waits; last_line = is.last_line; which = which is.which }
         where
           which : (h.stage ≡ Ended) ⊎ EndsNow told now may_end h did after old new → (h.stage ≡ Ended) ⊎ EndsNow told now may_end h did after old (record new { rests = rests })
           which (inl ended) = inl ended
@@ -578,7 +589,7 @@ module _ {T : Type 0} (numbers : T → Option (ℕ × ℕ)) (told : T → Option
   changed_with (turn.Issued parcel) goes = ((λ is. not_changed new.reader.stage goes.did.stage goes.has_told.held.holds.follows.stage goes.caused is), (λ no_last. absurd no_last))
   changed_with (turn.Passed span rule) goes = ((λ is. not_changed new.reader.stage goes.did.stage goes.has_told.held.holds.follows.stage goes.caused is), (λ no_last. absurd no_last))
   changed_with turn.More goes = ((λ is. not_changed new.reader.stage goes.did.stage goes.has_told.held.holds.follows.stage goes.caused.1 is), (λ no_last. absurd no_last))
-  changed_with turn.AtEnd goes = ((λ is. not_changed new.reader.stage goes.did.stage goes.has_told.held.holds.follows.stage goes.caused.goes_on is), (λ no_last. absurd no_last))
+  changed_with turn.AtEnd goes = ((λ is. not_changed new.reader.stage goes.did.stage goes.has_told.held.holds.follows.stage (may_turn_then goes.did.stage goes.caused.none_asked) is), (λ no_last. absurd no_last))
   changed_with (turn.NewLife epoch) goes = ((λ is. not_changed new.reader.stage Reads goes.has_told.held.holds.follows.stage tt is), (λ no_last. absurd no_last))
   changed_with turn.Changed goes = ((λ is. tt), (λ last. changed_by new.reader.stage (goes.has_told.held.holds.follows.stage ∙ goes.caused)))
   changed_with turn.EpochsOut goes = ((λ is. tt), (λ last. over_by new.reader.stage (goes.has_told.held.holds.follows.stage ∙ goes.caused.0)))

@@ -57,6 +57,14 @@ MayTurn Ended = Unit {0}
 MayTurn Changed = ⊥
 MayTurn Over = ⊥
 
+-- the file is read on or ended: no asking for its key is open
+abbrev pub AsksNothing : Stage → Type 0
+AsksNothing Reads = Unit {0}
+AsksNothing Asks = ⊥
+AsksNothing Ended = Unit {0}
+AsksNothing Changed = ⊥
+AsksNothing Over = ⊥
+
 -- the looks of this turn found the end
 abbrev pub FoundHere : {T : Type 0} → (T → Option TailHistory) → History → Harvester T → Harvester T → Type 0
 FoundHere told before old new = IfSome (told old.tail) (λ earlier. LooksAtEnd (read_to before.present) earlier (told new.tail))
@@ -83,7 +91,7 @@ IsWaiting harvester = IsSome harvester.reader.events.grouper.gathered
 -- the end was found by an earlier turn, or is now; where the file is ended, all complete lines are told
 pub record IsEnd {T : Type 0} (told : T → Option TailHistory) (now : ℕ) (may_end : Bool) (before : History) (did : Did) (after : History) (old new : Harvester T) : Type 0 where
   pub none_read : did.bytes ≡ []
-  pub goes_on : MayTurn did.stage
+  pub none_asked : AsksNothing did.stage
   pub all_told : did.stage ≡ Ended → left_to_tell after ≡ []
   pub none_waits : ¬ (IsWaiting new) → left_to_tell after ≡ []
   pub last_line : last_line_of new ≡ after.last_line

@@ -5,7 +5,7 @@ ghost use Rattle.told_events.specs.Rules.{rules_of};
 ghost use Rattle.wire_base.specs.Ranges.{IsBegin, IsMoment, IsPlace};
 ghost use Rattle.harvester.specs.Deciding.{Decides};
 ghost use Rattle.harvester.specs.HasTold.{HasTold, IsChanged, begin_of, looks_so_far};
-ghost use Rattle.harvester.specs.History.{History, opened, told_to, with_ending, with_path};
+ghost use Rattle.harvester.specs.History.{History, opened, read_to, told_to, with_ending, with_path};
 ghost use Rattle.harvester.specs.InRange.{IsReadable};
 ghost use Rattle.harvester.specs.Standing.{StandsFor};
 ghost use Rattle.harvester.specs.Turns.{IsWaiting, last_line_of};
@@ -95,6 +95,14 @@ impl<T: Tail> Harvester<T> {
             result.1 ≡ told_to history.present }
     {
         (self.reader.epoch, self.reader.told_to)
+    }
+
+    /// The place up to which the present epoch was read, in bytes: that of the next byte to read.
+    pub fn read_to(&self) -> u64
+        ensures { (history : History) → HasTold T.numbers T.told history self.now →
+            result ≡ read_to history.present }
+    {
+        self.reader.position()
     }
 
     /// Events that are told later have this path. Takes no memory.
