@@ -1,4 +1,5 @@
 mod Begins
 mod Hands
+mod Swapping
 mod Keeping
 mod Passing

@@ -1,5 +1,6 @@
 -- What contracts see of a lane (this project's profile): its passes, its harvesters, and what the queue and the box refused.
 use Rattle.std.specs.Prelude.{◌≡◌, ◌≢◌, ℕ, List, [], ◌∷◌, ◌++◌, Option, Some, None, map, false, slice_get}
+use Rattle.std.specs.List.{swap_remove}
 use Rattle.mem_queue.specs.Known.{Known}
 use Rattle.settle_box.specs.Poster.{Poster}
 use Rattle.harvester.specs.declared.harvester.Harvester.{Harvester}
@@ -57,13 +58,16 @@ pub record StandsAt {T : Type 0} (slot : Slot) (harvesters : List (Harvester T))
   pub is : slice_get harvesters index ≡ Some one
   pub of_slot : IsOfSlot slot one
 
--- it was let go, and the others stay in order
+-- the one of this seat was let go, and the last one takes the seat
+pub record ReleasesAt {T : Type 0} (seat : ℕ) (old new : Laning T) (harvester : Harvester T) : Type 0 where
+  pub was : slice_get old.harvesters seat ≡ Some harvester
+  pub is : new ≡ record old { harvesters = swap_remove old.harvesters seat harvester }
+
+-- one of this slot was let go
 pub record Releases {T : Type 0} (slot : Slot) (old new : Laning T) (harvester : Harvester T) : Type 0 where
   pub of_slot : IsOfSlot slot harvester
-  pub front : List (Harvester T)
-  pub back : List (Harvester T)
-  pub were : old.harvesters ≡ front ++ harvester ∷ back
-  pub is : new ≡ record old { harvesters = front ++ back }
+  pub seat : ℕ
+  pub released : ReleasesAt seat old new harvester
 
 -- the last one was let go
 pub record Pops {T : Type 0} (old new : Laning T) (harvester : Harvester T) : Type 0 where

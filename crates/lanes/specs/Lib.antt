@@ -1,3 +1,4 @@
+pub mod Changing
 pub mod Done
 pub mod Finding
 pub mod Giving

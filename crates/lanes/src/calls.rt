@@ -15,6 +15,7 @@ use mem_queue::PutPass;
 use outside::Tail;
 use settle_box::PostPass;
 use std::alloc::Global;
+use std::collections::BTreeMap;
 use std::mem;
 use wire_base::Slot;
 
@@ -31,6 +32,7 @@ impl<T: Tail> Lane<T> {
             spans: 0,
             tally: Tally::begun(false),
             next: 0,
+            places: BTreeMap::new(alloc),
         }
     }
 
@@ -45,12 +47,15 @@ impl<T: Tail> Lane<T> {
         if self.seats.reserve(1).is_err() {
             return Err(harvester);
         }
+        let slot = harvester.slot();
+        let place = self.seats.len();
         self.seats.push_reserved(Seat::new(harvester));
+        self.keep_place(slot, place);
         Ok(())
     }
 
     /// Lends the harvester of this slot; what is left in it stands at its place then. `None` exactly where there is none.
-    /// Takes no memory, and little time for one that was admitted late.
+    /// Takes no memory, and little time if there is one.
     pub fn find(&mut self, slot: Slot) -> Option<&mut Harvester<T>>
         ensures* lends { sem 𝓛 (LendsFound T.row slot self.entry result) }
         ensures found { IfSome result (λ lent.
@@ -62,15 +67,15 @@ impl<T: Tail> Lane<T> {
         Some(&mut seat.harvester)
     }
 
-    /// Lets the harvester of this slot go. `None` exactly where there is none. Takes no memory, and little time for one that
-    /// was admitted late.
+    /// Lets the harvester of this slot go; the last one takes its seat. `None` exactly where there is none. Takes no memory,
+    /// and little time if there is one.
     pub fn release(&mut self, slot: Slot) -> Option<Harvester<T>>
         ensures released { IfSome result (Releases slot (laning self.old) (laning self.new)) }
         ensures none { IfNone result (All (IsOfAnother slot) (laning self.old).harvesters) }
         ensures kept { IfNone result (laning self.new ≡ laning self.old) }
     {
         let index = self.place_of(slot)?;
-        Some(self.seats.remove(index).harvester)
+        Some(self.release_at(index))
     }
 
     /// Lets the harvester that was admitted last go. `None` exactly where there is none. Takes no memory, and little time.
@@ -80,14 +85,18 @@ impl<T: Tail> Lane<T> {
         ensures kept { IfNone result (laning self.new ≡ laning self.old) }
     {
         let seat = self.seats.pop()?;
+        self.places.remove(&seat.harvester.slot().0);
         Some(seat.harvester)
     }
 
-    /// At which place a harvester of this slot stands.
-    fn place_of(&self, slot: Slot) -> Option<usize>
+    /// At which place a harvester of this slot stands: where it stood last, or else by a look at each.
+    pub(crate) fn place_of(&self, slot: Slot) -> Option<usize>
         ensures stands { IfSome result (StandsAt slot (laning self.now).harvesters) }
         ensures none { IfNone result (All (IsOfAnother slot) (laning self.now).harvesters) }
     {
+        if let Some(place) = self.kept_place(slot) {
+            return Some(place);
+        }
         let mut index = self.seats.len();
         'seats: while index > 0 {
             index -= 1;
@@ -191,6 +200,7 @@ impl<T: Tail> Lane<T> {
             spans: _,
             tally: _,
             next: _,
+            places: _places,
         } = self;
         seats.destroy_empty();
         match (put, post) {

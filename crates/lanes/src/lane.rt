@@ -3,6 +3,7 @@ use crate::seat::Seat;
 use crate::tally::Tally;
 use mem_queue::PutPass;
 use settle_box::PostPass;
+use std::collections::BTreeMap;
 
 /// Harvesters that are turned in one thread, and what one of them gave that was refused.
 #[derive(Drop)]
@@ -15,4 +16,6 @@ pub struct Lane<T> {
     pub(crate) tally: Tally,
     /// With which harvester the next round begins, so that where each round is refused all have their turns.
     pub(crate) next: usize,
+    /// At which place the harvester of a slot stood last: where to look first.
+    pub(crate) places: BTreeMap<u32, usize>,
 }

@@ -9,6 +9,7 @@
 //! given is put, posted or held, in order.
 #![tactic(auto)]
 
+mod by_slot;
 mod calls;
 mod given;
 mod handing;
@@ -18,6 +19,7 @@ mod seat;
 mod tally;
 mod turning;
 
+pub use by_slot::SeatLook;
 pub use given::Given;
 pub use handing::Outlets;
 pub use lane::Lane;
