@@ -15,9 +15,9 @@ use Rattle.prospector_core.specs.declared.told.Told.{Told}
 use Rattle.prospector_core.specs.Changes.{created_files, file_after, known_after, new_members}
 use Rattle.prospector_core.specs.KeyIndex.{IsIndex}
 use Rattle.prospector_core.specs.KnownFiles.{AreBegun, AreKnown, KnownFiles, file_key, known_of}
-use Rattle.prospector_core.specs.Marks.{file_of, files_of, keys_of, known_in, settled_one}
+use Rattle.prospector_core.specs.Marks.{Stays, file_of, files_of, here, keys_of, known_in, settled_one}
 use Rattle.prospector_core.specs.Told.{HasAdded}
-use Rattle.prospector_core.specs.Watching.{IsWatching, Stays, all_by, here, known_by}
+use Rattle.prospector_core.specs.Watching.{IsWatching, all_by, known_by}
 use Rattle.wire_base.specs.declared.note.Begin.{Begin}
 
 abbrev pub record_of : List Known → ℕ → ℕ → KnownFiles

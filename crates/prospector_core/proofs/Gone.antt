@@ -24,12 +24,12 @@ use Rattle.prospector_core.specs.declared.marks.Mark.TheVariants.{Held}
 use Rattle.prospector_core.specs.declared.marks.Watched.{Watched}
 use Rattle.wire_base.specs.declared.numbers.Slot.{Slot}
 use Rattle.prospector_core.specs.KnownFiles.{AreKnown, KnownFiles, StandsBefore, file_key, known_with}
-use Rattle.prospector_core.specs.Marks.{cleared, file_of, files_of, settled_one, watched_by}
+use Rattle.prospector_core.specs.Marks.{Stays, cleared, file_of, files_of, forgotten, here, is_here, settled_one, slots_of, watched_by}
 use Rattle.prospector_core.specs.Changes.{created_files, new_members}
 use Rattle.prospector_core.specs.Told.{HasAdded, begun}
 use Rattle.prospector_core.specs.declared.told.Scan.{Scan}
 use Rattle.prospector_core.specs.declared.told.Told.{Told}
-use Rattle.prospector_core.specs.Watching.{Stays, all_by, forgotten, here, is_here, known_by, slots_of}
+use Rattle.prospector_core.specs.Watching.{all_by, known_by}
 
 -- ---- where none is gone
 
@@ -56,16 +56,16 @@ settled_stay whole watched all = All-map Stays (settled_one whole) watched all
 
 -- ---- those that are known
 
-abbrev AreApart : Watched → Watched → Type 0
-AreApart one later = StandsBefore one.file later.file
+abbrev AreApartFrom : Watched → Watched → Type 0
+AreApartFrom one later = StandsBefore one.file later.file
 
-pairs_kept : (watched : List Watched) → AllPairs StandsBefore (files_of watched) → AllPairs AreApart watched
+pairs_kept : (watched : List Watched) → AllPairs StandsBefore (files_of watched) → AllPairs AreApartFrom watched
 pairs_kept watched apart = λ i j d before inside.
     let within : j < length (files_of watched) = omega (arith, inside, length-map watched file_of) in
     subst (λ (f : Known). StandsBefore f (get_or watched j d).file) (get_or-map file_of watched i d d.file (omega (arith, before, inside)))
     (subst (λ (f : Known). StandsBefore (get_or (files_of watched) i d.file) f) (get_or-map file_of watched j d d.file inside) (apart i j d.file before within))
 
-pairs_seen : (watched : List Watched) → AllPairs AreApart watched → AllPairs StandsBefore (files_of watched)
+pairs_seen : (watched : List Watched) → AllPairs AreApartFrom watched → AllPairs StandsBefore (files_of watched)
 pairs_seen watched apart = λ i j d before inside.
     let within : j < length watched = omega (arith, inside, length-map watched file_of) in
     let e : Watched = record { file = d; mark = Held; gone = false } in
@@ -74,7 +74,7 @@ pairs_seen watched apart = λ i j d before inside.
 
 pub known_here : (watched : List Watched) (next others : ℕ) → AreKnown (all_by watched next others) → AreKnown (all_by (here watched) next others)
 known_here watched next others are = record {
-  apart = pairs_seen (here watched) (AllPairs-filter AreApart is_here watched (pairs_kept watched are.apart));
+  apart = pairs_seen (here watched) (AllPairs-filter AreApartFrom is_here watched (pairs_kept watched are.apart));
   slots = All-map (λ file. file.slot.0 < next) file_of (here watched)
       (All-filter is_here (λ one. one.file.slot.0 < next) watched
       (λ k d inside. subst (λ (f : Known). f.slot.0 < next) (get_or-map file_of watched k d d.file inside)
@@ -185,20 +185,20 @@ slot_found watched slot place inside equal =
 pub key_absent : (watched : List Watched) (key : List ℕ) → All (λ one. one.file.key ≢ key) watched → known_with key (files_of (here watched)) ≡ None
 key_absent watched key none = find_none file_key key (files_of (here watched)) (All-map (λ file. file.key ≢ key) file_of (here watched) (All-filter is_here (λ one. one.file.key ≢ key) watched none))
 
-behind : (slot : ℕ) (one : Watched) (watched : List Watched) → AllPairs AreApart (one ∷ watched) → one.file.slot.0 ≡ slot → All (λ later. later.file.slot.0 ≢ slot) watched
+behind : (slot : ℕ) (one : Watched) (watched : List Watched) → AllPairs AreApartFrom (one ∷ watched) → one.file.slot.0 ≡ slot → All (λ later. later.file.slot.0 ≢ slot) watched
 behind slot one watched pairs at = λ k e within same. let lt = (pairs 0 (suc k) e (omega arith) (omega (arith, within))).slot in omega (arith, lt, at, same)
 
-before_at : (slot : ℕ) (one : Watched) (watched : List Watched) (place : ℕ) (d : Watched) → AllPairs AreApart (one ∷ watched) → suc place < length (one ∷ watched) → (get_or watched place d).file.slot.0 ≡ slot → one.file.slot.0 ≢ slot
+before_at : (slot : ℕ) (one : Watched) (watched : List Watched) (place : ℕ) (d : Watched) → AllPairs AreApartFrom (one ∷ watched) → suc place < length (one ∷ watched) → (get_or watched place d).file.slot.0 ≡ slot → one.file.slot.0 ≢ slot
 before_at slot one watched place d pairs inside is same = let lt = (pairs 0 (suc place) d (omega arith) inside).slot in omega (arith, lt, same, is)
 
-keys_behind : (key : List ℕ) (one : Watched) (watched : List Watched) → AllPairs AreApart (one ∷ watched) → one.file.key ≡ key → All (λ later. later.file.key ≢ key) watched
+keys_behind : (key : List ℕ) (one : Watched) (watched : List Watched) → AllPairs AreApartFrom (one ∷ watched) → one.file.key ≡ key → All (λ later. later.file.key ≢ key) watched
 keys_behind key one watched pairs is = λ k e within same. (pairs 0 (suc k) e (omega arith) (omega (arith, within))).key (is ∙ sym same)
 
-key_before : (key : List ℕ) (one : Watched) (watched : List Watched) (place : ℕ) (d : Watched) → AllPairs AreApart (one ∷ watched) → suc place < length (one ∷ watched) → (get_or watched place d).file.key ≡ key → one.file.key ≢ key
+key_before : (key : List ℕ) (one : Watched) (watched : List Watched) (place : ℕ) (d : Watched) → AllPairs AreApartFrom (one ∷ watched) → suc place < length (one ∷ watched) → (get_or watched place d).file.key ≡ key → one.file.key ≢ key
 key_before key one watched place d pairs inside is same = (pairs 0 (suc place) d (omega arith) inside).key (same ∙ sym is)
 
 -- the one with the key, if it is not gone
-key_found_at : (watched : List Watched) (key : List ℕ) (place : ℕ) (d : Watched) → AllPairs AreApart watched → place < length watched → (get_or watched place d).file.key ≡ key →
+key_found_at : (watched : List Watched) (key : List ℕ) (place : ℕ) (d : Watched) → AllPairs AreApartFrom watched → place < length watched → (get_or watched place d).file.key ≡ key →
     known_with key (files_of (here watched)) ≡ (if (get_or watched place d).gone then None else Some (get_or watched place d).file)
 key_found_at [] key place d apart inside is = absurd (omega (arith, inside))
 key_found_at (one ∷ watched) key zero d apart inside is = by_case one.gone refl
@@ -236,7 +236,7 @@ among_here (one ∷ watched) (suc place) d inside stays = by_case one.gone refl 
     by_case true e rest = rest
     by_case false e rest = Contains-append_right (one.file ∷ []) (files_of (here watched)) (get_or watched place d).file rest
 
-others_here : (slot : ℕ) (watched : List Watched) (place : ℕ) (d : Watched) → AllPairs AreApart watched → place < length watched → (get_or watched place d).file.slot.0 ≡ slot → (get_or watched place d).gone ≡ true →
+others_here : (slot : ℕ) (watched : List Watched) (place : ℕ) (d : Watched) → AllPairs AreApartFrom watched → place < length watched → (get_or watched place d).file.slot.0 ≡ slot → (get_or watched place d).gone ≡ true →
     All (λ one. one.file.slot.0 ≢ slot) (here watched)
 others_here slot [] place d apart inside is gone = absurd (omega (arith, inside))
 others_here slot (one ∷ watched) zero d apart inside is gone =

@@ -4,7 +4,9 @@ use Rattle.std.specs.Prelude.{◌≡◌, ◌≢◌, ℕ, ◌+◌, ◌<◌, ◌�
 use Rattle.prospector_core.specs.declared.known.Known.{Known}
 use Rattle.prospector_core.specs.declared.limits.TheConstants.{MAX_FILES}
 use Rattle.prospector_core.specs.declared.seen.Seen.{Seen}
+use Rattle.std.specs.Option.{option_map}
 use Rattle.wire_base.specs.declared.note.Begin.{Begin}
+use Rattle.wire_base.specs.declared.numbers.Slot.{Slot}
 use Rattle.wire_base.specs.KeyOrder.{find}
 use Rattle.wire_base.specs.Ranges.{IsKey, IsPath, IsPlace}
 
@@ -33,6 +35,10 @@ first_with key members = find member_key key members
 -- the known file with the key
 abbrev pub known_with : List ℕ → List Known → Option Known
 known_with key files = find file_key key files
+
+-- its slot
+abbrev pub slot_with : List ℕ → List Known → Option Slot
+slot_with key files = option_map (λ file. file.slot) (known_with key files)
 
 -- a lower slot and another key
 pub record StandsBefore (file later : Known) : Type 0 where

@@ -1,5 +1,5 @@
 -- What the members of a scan so far show of each known file, kept beside it while the scan is compared.
-use Rattle.std.specs.Prelude.{ℕ, ◌-◌, Bool, true, false, List, [], ◌∷◌, length, map, Option, Some, None, unwrap_or, if◌then◌else◌}
+use Rattle.std.specs.Prelude.{◌≡◌, ℕ, ◌-◌, ◌==◌, Bool, true, false, not, List, [], ◌∷◌, length, map, filter, AllPairs, Option, Some, None, unwrap_or, if◌then◌else◌}
 use Rattle.std.specs.Str.{bytes_eq}
 use Rattle.prospector_core.specs.declared.change.Change.{Change}
 use Rattle.prospector_core.specs.declared.change.Change.TheVariants.{Doubled, Removed}
@@ -9,7 +9,7 @@ use Rattle.prospector_core.specs.declared.marks.Mark.TheVariants.{Unseen, Held, 
 use Rattle.prospector_core.specs.declared.marks.Watched.{Watched}
 use Rattle.prospector_core.specs.declared.seen.Seen.{Seen}
 use Rattle.prospector_core.specs.Changes.{is_held, known_changes}
-use Rattle.prospector_core.specs.KnownFiles.{KnownFiles, first_with}
+use Rattle.prospector_core.specs.KnownFiles.{KnownFiles, StandsBefore, first_with}
 
 abbrev pub file_of : Watched → Known
 file_of watched = watched.file
@@ -78,3 +78,26 @@ removal_by file (Shown size path) = []
 -- of a file that no member showed
 abbrev pub unseen_removal : Watched → List Change
 unseen_removal watched = removal_by watched.file watched.mark
+
+-- ---- those that are gone
+
+abbrev pub is_here : Watched → Bool
+is_here one = not one.gone
+
+abbrev pub Stays : Watched → Type 0
+Stays one = one.gone ≡ false
+
+-- those that are not gone
+abbrev pub here : List Watched → List Watched
+here watched = filter is_here watched
+
+-- one of this slot is gone
+abbrev pub forgotten : ℕ → Watched → Watched
+forgotten slot one = if one.file.slot.0 == slot then record one { gone = true } else one
+
+abbrev pub slots_of : List Watched → List ℕ
+slots_of watched = map (λ one. one.file.slot.0) watched
+
+-- the slots of all of them rise, and no two keys are the same
+abbrev pub AreApart : List Watched → Type 0
+AreApart watched = AllPairs StandsBefore (files_of watched)

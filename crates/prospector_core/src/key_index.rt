@@ -1,10 +1,8 @@
-ghost use Rattle.std.specs.Prelude.{◌≡◌, ◌≢◌, ◌<◌, All, AllPairs, IfNone, IfSome, OnErr, OnOk, length, slice_index, false, true};
+ghost use Rattle.std.specs.Prelude.{◌≡◌, ◌≢◌, ◌<◌, All, IfNone, IfSome, OnErr, OnOk, length, slice_index, false, true};
 ghost use Rattle.std.specs.List.Sorted.{IsPermutation, IsSortedBy};
 ghost use Rattle.std.specs.Ordering.{is_lt};
 ghost use Rattle.prospector_core.specs.KeyIndex.{IsIndex, key_at};
-ghost use Rattle.prospector_core.specs.KnownFiles.{StandsBefore};
-ghost use Rattle.prospector_core.specs.Marks.{files_of, keys_of};
-ghost use Rattle.prospector_core.specs.Watching.{slots_of};
+ghost use Rattle.prospector_core.specs.Marks.{AreApart, keys_of, slots_of};
 ghost use Rattle.wire_base.specs.KeyOrder.{compare};
 
 use crate::marks::Watched;
@@ -57,7 +55,7 @@ fn place_of_key(watched: &[Watched], key: &[u8]) -> Option<usize>
 
 /// Where the file of this slot stands.
 pub fn place_of_slot(watched: &[Watched], slot: Slot) -> Option<usize>
-    requires { AllPairs StandsBefore (files_of watched.now) }
+    requires { AreApart watched.now }
     ensures within { IfSome result (λ place. place < length watched.now) }
     ensures found { IfSome result (λ place. slice_index (slots_of watched.now) place ≡ slot.0) }
     ensures absent { IfNone result (All (λ one. one.file.slot.0 ≢ slot.0) watched.now) }

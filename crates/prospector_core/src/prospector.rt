@@ -1,11 +1,8 @@
-ghost use Rattle.std.specs.Prelude.{◌≡◌, ◌≢◌, ◌≤◌, ◌+◌, ◌==◌, [], All, AllPairs, Contains, IfErr, IfNone, IfOk, IfSome, OnErr, OnOk, false, filter, length, map, not, true};
-ghost use Rattle.std.specs.Bool.{OnTrue};
-ghost use Rattle.std.specs.Option.{option_map};
+ghost use Rattle.std.specs.Prelude.{◌≡◌, ◌≢◌, ◌≤◌, ◌+◌, ◌==◌, [], All, Contains, IfErr, IfNone, IfOk, IfSome, OnErr, OnOk, false, filter, length, map, not, true};
 ghost use Rattle.prospector_core.specs.Changes.{changes_between, known_after};
-ghost use Rattle.prospector_core.specs.KnownFiles.{AreBegun, AreKnown, StandsBefore, known_of, known_with};
+ghost use Rattle.prospector_core.specs.KnownFiles.{AreBegun, AreKnown, known_of, slot_with};
 ghost use Rattle.prospector_core.specs.Limits.{IsFirstRefusal, refusals};
-ghost use Rattle.prospector_core.specs.Marks.{files_of};
-ghost use Rattle.prospector_core.specs.Watching.{Stays, forgotten, here};
+ghost use Rattle.prospector_core.specs.Marks.{AreApart, Stays, forgotten, here};
 
 use crate::key_index::{grow_index, index_keys, need_index, place_by_key, place_of_slot};
 use crate::marks::{Mark, Watched, clear_marks, settle};
@@ -145,7 +142,7 @@ impl Prospector {
     /// The slot of the known file with this key. `None` exactly where there is none. Takes little time; only after a scan that
     /// was told without memory for its keys it looks at each file, until the next scan.
     pub fn slot_of(&self, key: &[u8]) -> Option<Slot>
-        ensures { result ≡ option_map (λ file. file.slot) (known_with key.now self.now.files) }
+        ensures { result ≡ slot_with key.now self.now.files }
     {
         let place = place_by_key(&self.watched, &self.order, self.indexed, key)?;
         let one = &self.watched[place];
@@ -160,7 +157,8 @@ impl Prospector {
 fn sweep(watched: &mut Vec<Watched>, some_gone: bool, indexed: bool) -> bool
     requires { some_gone ≡ false → All Stays watched.old.items }
     ensures swept { watched.new.items ≡ here watched.old.items }
-    ensures index_kept { OnTrue result ((indexed ≡ true) × (watched.new.items ≡ watched.old.items)) }
+    ensures indexed { result ≡ true → indexed ≡ true }
+    ensures all_kept { result ≡ true → watched.new.items ≡ watched.old.items }
 {
     if !some_gone {
         return indexed;
@@ -171,7 +169,7 @@ fn sweep(watched: &mut Vec<Watched>, some_gone: bool, indexed: bool) -> bool
 
 /// The file of this slot is gone.
 fn forget(watched: &mut [Watched], slot: Slot)
-    requires { AllPairs StandsBefore (files_of watched.old) }
+    requires { AreApart watched.old }
     ensures { watched.new ≡ map (forgotten slot.0) watched.old }
 {
     match place_of_slot(watched, slot) {

@@ -1,7 +1,6 @@
 use Rattle.std.proofs.Common.{◌≡◌, All, map, take}
 use Rattle.prospector_core.specs.KnownFiles.{known_of}
-use Rattle.prospector_core.specs.Marks.{files_of}
-use Rattle.prospector_core.specs.Watching.{Stays}
+use Rattle.prospector_core.specs.Marks.{Stays, files_of}
 use Rattle.prospector_core.proofs.prospector.Prospector.begin.Given as goal
 
 abbrev pub invariant-loop-begin : goal.invariant-loop-begin

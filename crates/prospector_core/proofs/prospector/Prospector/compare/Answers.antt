@@ -6,8 +6,8 @@ use Rattle.prospector_core.proofs.Settling.{files-cleared}
 use Rattle.prospector_core.specs.declared.known.Known.{Known}
 use Rattle.prospector_core.specs.declared.marks.Watched.{Watched}
 use Rattle.prospector_core.specs.KnownFiles.{AreKnown, KnownFiles}
-use Rattle.prospector_core.specs.Marks.{cleared, files_of, settled_one}
-use Rattle.prospector_core.specs.Watching.{Stays, all_by, known_by}
+use Rattle.prospector_core.specs.Marks.{Stays, cleared, files_of, settled_one}
+use Rattle.prospector_core.specs.Watching.{all_by, known_by}
 use Rattle.prospector_core.proofs.prospector.Prospector.compare.Goals as goal
 
 -- ---- after those that are gone were taken out

@@ -3,8 +3,7 @@ use Rattle.std.proofs.lemmas.List.{get_or-map}
 use Rattle.prospector_core.specs.declared.known.Known.{Known}
 use Rattle.prospector_core.specs.declared.marks.Watched.{Watched}
 use Rattle.prospector_core.specs.KnownFiles.{KnownFiles}
-use Rattle.prospector_core.specs.Marks.{files_of}
-use Rattle.prospector_core.specs.Watching.{here}
+use Rattle.prospector_core.specs.Marks.{files_of, here}
 use Rattle.prospector_core.proofs.Gone.{among_here, if_none, slot_gone, slot_none}
 use Rattle.prospector_core.proofs.prospector.Prospector.file_of.Goals as goal
 

@@ -5,8 +5,8 @@ use Rattle.prospector_core.proofs.Looping.{index_kept}
 use Rattle.prospector_core.specs.declared.known.Known.{Known}
 use Rattle.prospector_core.specs.declared.marks.Watched.{Watched}
 use Rattle.prospector_core.specs.KnownFiles.{AreKnown}
-use Rattle.prospector_core.specs.Marks.{files_of}
-use Rattle.prospector_core.specs.Watching.{all_by, forgotten, here}
+use Rattle.prospector_core.specs.Marks.{files_of, forgotten, here}
+use Rattle.prospector_core.specs.Watching.{all_by}
 use Rattle.prospector_core.proofs.prospector.Prospector.gone.Goals as goal
 
 pub invariant_of-self : goal.invariant_of-self
