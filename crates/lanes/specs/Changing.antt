@@ -8,7 +8,7 @@ use Rattle.harvester.specs.History.{History, read_to, told_to, with_ending, with
 use Rattle.harvester.specs.Turns.{IsWaiting, last_line_of}
 use Rattle.wire_base.specs.declared.numbers.Slot.{Slot}
 use Rattle.lanes.specs.Laning.{IsOfSlot, Laning}
-use Rattle.lanes.specs.declared.by_slot.SeatLook.{SeatLook}
+use Rattle.lanes.specs.declared.seat_look.SeatLook.{SeatLook}
 
 -- only what it reads by changed, and neither its begin nor the events that it gathers
 pub record KeepsOthers {T : Type 0} (old new : Harvester T) : Type 0 where

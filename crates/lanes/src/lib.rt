@@ -9,19 +9,19 @@
 //! given is put, posted or held, in order.
 #![tactic(auto)]
 
-mod by_slot;
 mod calls;
 mod given;
 mod handing;
 mod lane;
 mod run;
 mod seat;
+mod seat_look;
 mod tally;
 mod turning;
 
-pub use by_slot::SeatLook;
 pub use given::Given;
 pub use handing::Outlets;
 pub use lane::Lane;
 pub use run::{MAX_TURNS, When};
+pub use seat_look::SeatLook;
 pub use tally::Tally;
