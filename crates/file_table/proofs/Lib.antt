@@ -1,0 +1,5 @@
+mod Deeds
+mod Puts
+mod Standings
+mod Steps
+mod Worked

@@ -1,0 +1,5 @@
+pub mod Closings
+pub mod Entries
+pub mod Events
+pub mod Standing
+pub mod Tables
