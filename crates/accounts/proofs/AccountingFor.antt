@@ -1,41 +1,47 @@
 -- A run is accounted for by what is known of it as it ends.
-use Rattle.std.proofs.Common.{List, [], ◌∷◌, ◌++◌, Option, Some}
+use Rattle.std.proofs.Common.{List, [], ◌∷◌, ◌++◌, Option}
 use Rattle.std.specs.List.{AllByRecursion}
 use Rattle.kept_rows.specs.Account.{Place}
 use Rattle.kept_rows.specs.Backed.{AreBacked, AreBegun, AreInRows}
+use Rattle.kept_rows.specs.Epochs.{AreNumbered}
 use Rattle.kept_rows.specs.Run.{Run, Scan}
 use Rattle.wire_base.specs.declared.note.Note.{Note}
 use Rattle.wire_base.specs.declared.parcel.Parcel.{Parcel}
+use Rattle.slot_parts.specs.Tellings.{tellings_in}
 use Rattle.accounts.specs.AccountedFor.{AccountsFor}
-use Rattle.accounts.specs.Filed.{Filed, accounts_of, turned_of}
-use Rattle.accounts.specs.FollowedFile.{IsFollowedFile, tail_of}
+use Rattle.accounts.specs.Filed.{Filed, accounts_of, turned_in, turned_of}
+use Rattle.accounts.specs.FollowedFile.{IsFollowedFile}
 use Rattle.accounts.specs.Places.{ArePlaces}
 use Rattle.accounts.specs.RunTold.{RunTold}
 use Rattle.accounts.specs.Taken.{Taken, acknowledged_in}
-use Rattle.accounts.specs.Turned.{tellings_in}
 use Rattle.accounts.proofs.Accounts.{are_filed, are_in_epochs, have_slots, is_account, told_once}
 use Rattle.accounts.proofs.Acknowledged.{acknowledged_once}
 use Rattle.accounts.proofs.Apart.{EachAdjoins}
 use Rattle.accounts.proofs.Backed.{are_backed, are_noted}
 use Rattle.accounts.proofs.BegunRows.{begun_keys_have_rows, have_ground, notes_are_orderly}
 use Rattle.accounts.proofs.Beginning.{are_begun}
-use Rattle.accounts.proofs.Ends.{is_in_epochs}
 use Rattle.accounts.proofs.Following.{are_followed}
 use Rattle.accounts.proofs.Keeping.{images_hold_kept_rows, rows_are_kept}
+use Rattle.accounts.proofs.OneSlot.{slot_is_numbered}
+use Rattle.accounts.proofs.Openings.{file_in_epochs}
 use Rattle.accounts.proofs.Ordered.{slots_apart, turned_apart}
 use Rattle.accounts.proofs.Orderly.{are_in_rows}
 use Rattle.accounts.proofs.Places.{have_places}
 use Rattle.accounts.proofs.Sending.{sent_only}
 
 module _ (run : Run) (scan : Scan) (files : List Filed) (workers : List Taken) (first collected : List Note) (told : RunTold run scan files workers first collected) where
-  each_adjoins : (some : List Filed) → AllByRecursion (IsFollowedFile run scan) some → AllByRecursion (λ (file : Filed). EachAdjoins (tellings_in file.turned.history)) some
+  each_adjoins : (some : List Filed) → AllByRecursion (IsFollowedFile run scan) some → AllByRecursion (λ (file : Filed). EachAdjoins (tellings_in (turned_in file).history)) some
   each_adjoins [] each = tt
-  each_adjoins (file ∷ some) each =
-      ((is_in_epochs run.settings.processors file.opened run.trace.moments file.turned each.0.in_range (Some (tail_of file)) each.0.told).adjoin, each_adjoins some each.1)
+  each_adjoins (file ∷ some) each = ((file_in_epochs run scan file each.0).adjoin, each_adjoins some each.1)
+
+  each_is_numbered : (placed : Parcel → Option Place) (some : List Filed) → AllByRecursion (IsFollowedFile run scan) some → AllByRecursion AreNumbered (accounts_of placed some)
+  each_is_numbered placed [] each = tt
+  each_is_numbered placed (file ∷ some) each = (slot_is_numbered run scan told.by placed file each.0, each_is_numbered placed some each.1)
 
   module _ (placed : Parcel → Option Place) (places : ArePlaces placed workers run.trace.wires) where
     pub in_rows : AreInRows (accounts_of placed files)
     in_rows = are_in_rows placed files (are_filed run scan files told.followed.each) (each_adjoins files told.followed.each)
+        (each_is_numbered placed files told.followed.each)
 
     pub backed : AreBacked (accounts_of placed files) run.trace.wires (first ++ collected)
     backed =

@@ -1,34 +1,24 @@
 -- No parcel is given twice: files have slots of their own, epochs numbers of their own, and the spans of an epoch adjoin.
-use Rattle.std.proofs.Common.{◌≡◌, ◌≢◌, ◌⊎◌, inl, inr, ℕ, ◌+◌, ◌<◌, ◌≤◌, Bool, List, [], ◌∷◌, ◌++◌, Contains, drop, map, refl, sym, ap, subst, arith}
+use Rattle.std.proofs.Common.{◌≡◌, ◌⊎◌, inl, inr, ℕ, ◌+◌, ◌<◌, ◌≤◌, Bool, List, [], ◌∷◌, Contains, map, sym, ap, subst, arith}
 use Rattle.std.specs.List.{AllByRecursion, flat_map}
 use Rattle.std.proofs.lemmas.List.Elements.{Contains-append_cases}
-use Rattle.event_tree.specs.declared.group_rule.GroupRule.{GroupRule}
-use Rattle.event_tree.specs.declared.line_rule.LineRule.{LineRule}
-use Rattle.harvester.specs.History.{IsTelling, Telling}
+use Rattle.harvester.specs.History.{Telling}
 use Rattle.kept_rows.specs.Scans.{AreDistinct}
-use Rattle.line_cutter.specs.declared.line.Line.{Line}
-use Rattle.multiline_core.specs.Event.{IsEvent}
-use Rattle.multiline_core.specs.Message.{row_end}
-use Rattle.multiline_core.specs.Partition.{IsFlushedEvent, IsNaturalEvent, IsPartition, lines_from}
-use Rattle.multiline_core.specs.Rule.{IsGroupRule}
 use Rattle.ship_core.proofs.Members.{first_there, later_there, none_there, there_cases}
 use Rattle.ship_core.specs.CoveredEnd.{Adjoin}
 use Rattle.told_events.specs.Fate.{DroppedBy, Fate, ShippedAs}
-use Rattle.told_events.specs.Rules.{Rules}
 use Rattle.told_events.specs.Told.{ToldEvent, spans_of}
 use Rattle.wire_base.specs.Extent.{Extent}
 use Rattle.wire_base.specs.declared.numbers.Slot.{Slot}
 use Rattle.wire_base.specs.declared.parcel.Parcel.{Parcel}
 use Rattle.accounts.specs.Once.{AreOnce}
 use Rattle.accounts.specs.Same.{TellsSame, same_parcel}
-use Rattle.accounts.specs.ToldFile.{AreEpochsFrom, AreNumberedFrom}
-use Rattle.accounts.specs.Turned.{Turned, parcels_by, parcels_in, parcels_told, tellings_in}
-use Rattle.accounts.proofs.Cuts.{row_has_bytes}
+use Rattle.slot_parts.specs.Tellings.{AreNumberedFrom, tellings_in}
+use Rattle.accounts.specs.ToldFile.{AreEpochsFrom}
+use Rattle.accounts.specs.Turned.{Turned, parcels_by, parcels_in, parcels_told}
 use Rattle.accounts.proofs.Ground.{item_of, parcel_by}
 use Rattle.accounts.proofs.Often.{once_both, once_more, once_none}
 use Rattle.accounts.proofs.Same.{tells_parcels}
-use Rattle.accounts.proofs.Singles.{no_event_of_none}
-use Rattle.accounts.proofs.Within.{shortest, shortest_has}
 
 -- ---- lists of lists
 
@@ -52,34 +42,6 @@ module _ {A B : Type 0} (same : B → B → Bool) (is : TellsSame same) (f : A �
       (λ y here there. apart.0 (subst (λ (n : ℕ). Contains (map rank xs) n) (keys.0 y here) (key_among xs y keys.1 there)))
 
 -- ---- the events of an epoch
-
--- the row is some lines, and the event ends behind its start
-ends_later : (lines : LineRule) (life : List ℕ) (start end : ℕ) (row behind : List Line) → row ≢ [] → lines_from lines life start ≡ row ++ behind → row_end start row ≡ end → start < end
-ends_later lines life start end [] behind some are ends = absurd (some refl)
-ends_later lines life start end (first ∷ row) behind some are ends =
-    let later = row_has_bytes lines start (drop start life) first row behind are in omega (arith, later, ends)
-
-natural_some : (rule : GroupRule) (row behind : List Line) → IsGroupRule rule → IsEvent rule row behind → row ≢ []
-natural_some rule row behind in_range event none = no_event_of_none rule behind in_range (subst (λ (l : List Line). IsEvent rule l behind) none event)
-
-event_ends_later : (lines : LineRule) (rule : GroupRule) (licensed : ℕ → Type 0) (life : List ℕ) (start end : ℕ) → IsGroupRule rule →
-    IsNaturalEvent lines rule life start end ⊎ (IsFlushedEvent lines rule life start end × licensed end) → start < end
-event_ends_later lines rule licensed life start end in_range (inl event) =
-    ends_later lines life start end event.row event.natural.behind (natural_some rule event.row event.natural.behind in_range event.natural.event) event.natural.lines_are event.ends
-event_ends_later lines rule licensed life start end in_range (inr flushed) =
-    ends_later lines life start end flushed.0.row flushed.0.open_row.behind flushed.0.open_row.some flushed.0.open_row.lines_are flushed.0.ends
-
-spans_adjoin : (lines : LineRule) (rule : GroupRule) (licensed : ℕ → Type 0) (life : List ℕ) (start : ℕ) (spans : List Extent) → IsGroupRule rule →
-    IsPartition lines rule licensed life start spans → Adjoin start spans
-spans_adjoin lines rule licensed life start [] in_range are = tt
-spans_adjoin lines rule licensed life start (span ∷ spans) in_range are =
-    (are.0, event_ends_later lines rule licensed life start span.end in_range are.1, spans_adjoin lines rule licensed life span.end spans in_range are.2)
-
--- the spans that are told of an epoch adjoin
-pub told_spans_adjoin : (rules : Rules) (telling : Telling) → IsGroupRule rules.events → IsTelling rules telling → Adjoin telling.start (spans_of telling.told)
-told_spans_adjoin rules telling in_range tells =
-    spans_adjoin rules.lines rules.events (λ place. Contains telling.licences place) (shortest telling) telling.start (spans_of telling.told) in_range
-    (tells (shortest telling) (shortest_has telling)).partition
 
 abbrev pub starts_of : List ToldEvent → List ℕ
 starts_of told = map (λ (one : ToldEvent). one.span.start) told

@@ -18,11 +18,12 @@ use Rattle.wire_base.specs.declared.numbers.Epoch.{Epoch}
 use Rattle.wire_base.specs.declared.numbers.Moment.{Moment}
 use Rattle.wire_base.specs.declared.numbers.Slot.{Slot}
 use Rattle.wire_base.specs.declared.parcel.Parcel.{Parcel}
+use Rattle.slot_parts.specs.Tellings.{tellings_in}
 use Rattle.accounts.specs.FirstNotes.{AreFirstNotes, IsBeginOf, IsMomentOfOne}
-use Rattle.accounts.specs.Filed.{Filed, IsFiled, IsNoted, accounts_of, slot_in, turned_of}
+use Rattle.accounts.specs.Filed.{Filed, IsFiled, IsNoted, accounts_of, slot_in, turned_in, turned_of}
 use Rattle.accounts.specs.Places.{IsPlacedWell}
 use Rattle.accounts.specs.Ground.{HasGround, IsAcknowledgement, IsNoteBy, IsNoteOf}
-use Rattle.accounts.specs.Turned.{Turned, tellings_in}
+use Rattle.accounts.specs.Turned.{Turned}
 use Rattle.accounts.specs.Turning.{Pairs}
 use Rattle.accounts.proofs.Backing.{acknowledged_is_backed, announcement_is_backed, begin_is_backed, dropped_is_backed, moment_is_backed}
 use Rattle.accounts.proofs.Grounded.{of_map}
@@ -56,17 +57,17 @@ module _ (placed : Parcel → Option Place) (wires : List WireTold) (files : Lis
   module _ (acknowledged : List Parcel) (well : (parcel : Parcel) → Contains acknowledged parcel → IsPlacedWell placed wires parcel) where
     note_is_backed : (note : Note) → IsNoteOf (turned_of files) note → Backs (accounts_of placed files) wires note
     note_is_backed note of =
-        let file = of_map (λ (f : Filed). f.turned) files of.turned of.epoch.of_files in
+        let file = of_map turned_in files of.turned of.epoch.of_files in
         let is_filed = member_is IsFiled files file.item filed file.among in
         by_turned file.item file.among is_filed of.turned file.is of.telling of.epoch.of_file of.is
       where
-        by_kind : (file : Filed) → Contains files file → IsFiled file → (telling : Telling) → Contains (tellings_in file.turned.history) telling → IsNoteBy file.turned telling note →
+        by_kind : (file : Filed) → Contains files file → IsFiled file → (telling : Telling) → Contains (tellings_in (turned_in file).history) telling → IsNoteBy (turned_in file) telling note →
             Backs (accounts_of placed files) wires note
         by_kind file among is_filed telling there (inl announced) =
             subst (Backs (accounts_of placed files) wires) (sym announced) (announcement_is_backed placed wires files apart file among is_filed telling there)
         by_kind file among is_filed telling there (inr settled) = dropped_is_backed placed wires files apart file among is_filed telling there note settled
 
-        by_turned : (file : Filed) → Contains files file → IsFiled file → (turned : Turned) → file.turned ≡ turned → (telling : Telling) →
+        by_turned : (file : Filed) → Contains files file → IsFiled file → (turned : Turned) → (turned_in file) ≡ turned → (telling : Telling) →
             Contains (tellings_in turned.history) telling → IsNoteBy turned telling note → Backs (accounts_of placed files) wires note
         by_turned file among is_filed turned same telling there is =
             by_kind file among is_filed telling (subst (λ (t : Turned). Contains (tellings_in t.history) telling) (sym same) there)
@@ -74,7 +75,7 @@ module _ (placed : Parcel → Option Place) (wires : List WireTold) (files : Lis
 
     acknowledgement_is_backed : (note : Note) → IsAcknowledgement (turned_of files) acknowledged note → Backs (accounts_of placed files) wires note
     acknowledgement_is_backed note of =
-        let file = of_map (λ (f : Filed). f.turned) files of.of.turned of.of.epoch.of_files in
+        let file = of_map turned_in files of.of.turned of.of.epoch.of_files in
         let is_filed = member_is IsFiled files file.item filed file.among in
         let there = subst (λ (t : Turned). Contains (tellings_in t.history) of.of.telling) (sym file.is) of.of.epoch.of_file in
         let at = well of.parcel of.among in

@@ -1,10 +1,10 @@
 -- What files gave is backed by their accounts: the Begin of each, its announcements, and settlements of its events.
-use Rattle.std.proofs.Common.{◌≡◌, ◌⊎◌, inl, inr, ℕ, ◌≤◌, ◌==◌, List, [], ◌∷◌, Contains, IsSome, length, map, Option, Some, refl, sym, ap, subst, ◌∙◌, arith, if◌then◌else◌}
+use Rattle.std.proofs.Common.{◌≡◌, ◌⊎◌, inl, inr, ℕ, suc, ◌≤◌, ◌==◌, List, [], ◌∷◌, ◌++◌, Contains, IsSome, map, Option, Some, refl, sym, ap, subst, ◌∙◌, if◌then◌else◌}
 use Rattle.std.specs.Option.{option_and_then}
 use Rattle.std.proofs.lemmas.Bool.{cond-false, cond-true, eq-eqb, ne_eqb}
-use Rattle.file_looks.specs.Segment.{Segment, segments_of}
+use Rattle.std.proofs.lemmas.List.Elements.{Contains-append_cases, Contains-append_left, Contains-append_right}
 use Rattle.harvester.specs.History.{Telling}
-use Rattle.kept_rows.specs.Account.{EpochAccount, Place, SlotAccount, epoch_at, epoch_of, slot_at}
+use Rattle.kept_rows.specs.Account.{AccountedEvent, EpochAccount, Place, SlotAccount, epoch_at, epoch_of, slot_at}
 use Rattle.kept_rows.specs.Acknowledged.{IsAcknowledgedAt}
 use Rattle.kept_rows.specs.Backed.{Backs, BacksMoment, BacksSettle}
 use Rattle.kept_rows.specs.Kept.{SettlesAs}
@@ -21,12 +21,12 @@ use Rattle.wire_base.specs.declared.note.Note.TheVariants.{Announce, Begin, Sett
 use Rattle.wire_base.specs.declared.numbers.Moment.{Moment}
 use Rattle.wire_base.specs.declared.numbers.Slot.{Slot}
 use Rattle.wire_base.specs.declared.parcel.Parcel.{Parcel}
-use Rattle.accounts.specs.Accounted.{accounted, epoch_account, epoch_accounts, place_by}
-use Rattle.accounts.specs.Filed.{Filed, IsFiled, account_of, accounts_of, slot_in}
+use Rattle.slot_parts.specs.Account.{epoch_account, events_from}
+use Rattle.slot_parts.specs.Parts.{EpochParts, Part, epochs_of, told_in}
+use Rattle.slot_parts.specs.Tellings.{tellings_in}
+use Rattle.accounts.specs.Accounted.{place_by, place_in}
+use Rattle.accounts.specs.Filed.{Filed, IsFiled, TellEpoch, TellEpochs, account_of, accounts_of, parts_told, slot_in, turned_in}
 use Rattle.accounts.specs.Ground.{IsSettlementOf}
-use Rattle.accounts.specs.Opened.{Opened}
-use Rattle.accounts.specs.Parted.{kept_looks}
-use Rattle.accounts.specs.Turned.{tellings_in}
 use Rattle.accounts.proofs.Apart.{epochs_apart, numbers_of}
 
 pub mapped_there : {A B : Type 0} (f : A → B) (xs : List A) (x : A) → Contains xs x → Contains (map f xs) (f x)
@@ -56,33 +56,72 @@ module _ (placed : Parcel → Option Place) where
           (ne_eqb (slot_in first) (slot_in file) (λ same. apart.0 (subst (λ (n : ℕ). Contains (map slot_in files) n) (sym same) (mapped_there slot_in files file later))))
           ∙ further later
 
-  pub record HasEpoch (opened : Opened) (telling : Telling) (found : Option EpochAccount) : Type 0 where
-    pub segment : Segment
-    pub is : found ≡ Some (epoch_account opened placed telling segment)
+  -- an event of the epoch stands in it, with the place of its parcel
+  pub record HasEvent (slot : Slot) (number : ℕ) (event : ToldEvent) (told : List AccountedEvent) : Type 0 where
+    pub one : AccountedEvent
+    pub there : Contains told one
+    pub event_is : one.event ≡ event
+    pub place_is : one.place ≡ place_in placed slot number event
 
-  epoch_found : (opened : Opened) (number : ℕ) (tellings : List Telling) (segments : List Segment) (telling : Telling) → Contains tellings telling → AreDistinct (numbers_of tellings) →
-      length tellings ≤ length segments → HasEpoch opened telling (epoch_at telling.epoch (epoch_accounts opened placed number tellings segments))
-  epoch_found opened number [] segments telling there apart few = absurd (none_there telling there)
-  epoch_found opened number (first ∷ tellings) [] telling there apart few = absurd (omega (arith, few))
-  epoch_found opened number (first ∷ tellings) (segment ∷ segments) telling there apart few =
-      by_case (there_cases first telling tellings there) (λ later. epoch_found opened first.epoch tellings segments telling later apart.1 (omega (arith, few)))
+  one_later : (slot : Slot) (number : ℕ) (event : ToldEvent) (front told : List AccountedEvent) → HasEvent slot number event told → HasEvent slot number event (front ++ told)
+  one_later slot number event front told has =
+      record { one = has.one; there = Contains-append_right front told has.one has.there; event_is = has.event_is; place_is = has.place_is }
+
+  event_there : (slot : Slot) (number : ℕ) (event : ToldEvent) (reading : ℕ) (parts : List Part) → Contains (told_in parts) event →
+      HasEvent slot number event (events_from (place_in placed slot number) reading parts)
+  event_there slot number event reading [] there = absurd (none_there event there)
+  event_there slot number event reading (part ∷ parts) there =
+      by_case (Contains-append_cases part.told (told_in parts) event there) (event_there slot number event (suc reading) parts)
+    where
+      by_case : Contains part.told event ⊎ Contains (told_in parts) event →
+          (Contains (told_in parts) event → HasEvent slot number event (events_from (place_in placed slot number) (suc reading) parts)) →
+          HasEvent slot number event (events_from (place_in placed slot number) reading (part ∷ parts))
+      by_case (inl here) later = record {
+        one = record { event = event; reading = reading; place = place_in placed slot number event };
+        there = Contains-append_left _ (events_from (place_in placed slot number) (suc reading) parts) _
+            (mapped_there (λ (one : ToldEvent). record { event = one; reading = reading; place = place_in placed slot number one }) part.told event here);
+        event_is = refl;
+        place_is = refl;
+      }
+      by_case (inr behind) later = one_later slot number event _ (events_from (place_in placed slot number) (suc reading) parts) (later behind)
+
+  pub record HasEpoch (slot : Slot) (telling : Telling) (found : Option EpochAccount) : Type 0 where
+    pub epoch : EpochAccount
+    pub is : found ≡ Some epoch
+    pub has : (event : ToldEvent) → Contains telling.told event → HasEvent slot telling.epoch event epoch.told
+
+  epoch_has : (slot : Slot) (parts : EpochParts) (telling : Telling) → TellEpoch parts telling → (event : ToldEvent) → Contains telling.told event →
+      HasEvent slot telling.epoch event (epoch_account (place_in placed slot) parts).told
+  epoch_has slot parts telling is event there =
+      subst (λ (n : ℕ). HasEvent slot telling.epoch event (events_from (place_in placed slot n) 0 parts.parts)) (sym is.epoch)
+      (event_there slot telling.epoch event 0 parts.parts (subst (λ (l : List ToldEvent). Contains l event) (sym is.told) there))
+
+  epoch_found : (slot : Slot) (epochs : List EpochParts) (tellings : List Telling) (telling : Telling) → TellEpochs epochs tellings → Contains tellings telling →
+      AreDistinct (numbers_of tellings) → HasEpoch slot telling (epoch_at telling.epoch (map (epoch_account (place_in placed slot)) epochs))
+  epoch_found slot [] [] telling tell there apart = absurd (none_there telling there)
+  epoch_found slot [] (first ∷ tellings) telling tell there apart = absurd tell
+  epoch_found slot (one ∷ epochs) [] telling tell there apart = absurd (none_there telling there)
+  epoch_found slot (one ∷ epochs) (first ∷ tellings) telling tell there apart =
+      by_case (there_cases first telling tellings there) (λ later. epoch_found slot epochs tellings telling tell.1 later apart.1)
     where
       by_case : (first ≡ telling) ⊎ Contains tellings telling →
-          (Contains tellings telling → HasEpoch opened telling (epoch_at telling.epoch (epoch_accounts opened placed first.epoch tellings segments))) →
-          HasEpoch opened telling (if first.epoch == telling.epoch then Some (epoch_account opened placed first segment) else epoch_at telling.epoch (epoch_accounts opened placed first.epoch tellings segments))
+          (Contains tellings telling → HasEpoch slot telling (epoch_at telling.epoch (map (epoch_account (place_in placed slot)) epochs))) →
+          HasEpoch slot telling (if one.epoch == telling.epoch then Some (epoch_account (place_in placed slot) one) else epoch_at telling.epoch (map (epoch_account (place_in placed slot)) epochs))
       by_case (inl same) further = record {
-        segment = segment;
-        is = cond-true (first.epoch == telling.epoch) (Some (epoch_account opened placed first segment)) (epoch_at telling.epoch (epoch_accounts opened placed first.epoch tellings segments))
-            (eq-eqb first.epoch telling.epoch (ap (λ (t : Telling). t.epoch) same))
-            ∙ ap (λ (t : Telling). Some (epoch_account opened placed t segment)) same;
+        epoch = epoch_account (place_in placed slot) one;
+        is = cond-true (one.epoch == telling.epoch) (Some (epoch_account (place_in placed slot) one)) (epoch_at telling.epoch (map (epoch_account (place_in placed slot)) epochs))
+            (eq-eqb one.epoch telling.epoch (tell.0.epoch ∙ ap (λ (t : Telling). t.epoch) same));
+        has = epoch_has slot one telling (subst (TellEpoch one) same tell.0);
       }
       by_case (inr later) further =
           let found = further later in
           record {
-            segment = found.segment;
-            is = cond-false (first.epoch == telling.epoch) (Some (epoch_account opened placed first segment)) (epoch_at telling.epoch (epoch_accounts opened placed first.epoch tellings segments))
-                (ne_eqb first.epoch telling.epoch (λ same. apart.0 (subst (λ (n : ℕ). Contains (numbers_of tellings) n) (sym same) (mapped_there (λ (t : Telling). t.epoch) tellings telling later))))
+            epoch = found.epoch;
+            is = cond-false (one.epoch == telling.epoch) (Some (epoch_account (place_in placed slot) one)) (epoch_at telling.epoch (map (epoch_account (place_in placed slot)) epochs))
+                (ne_eqb one.epoch telling.epoch
+                (λ same. apart.0 (subst (λ (n : ℕ). Contains (numbers_of tellings) n) (sym (sym tell.0.epoch ∙ same)) (mapped_there (λ (t : Telling). t.epoch) tellings telling later))))
                 ∙ found.is;
+            has = found.has;
           }
 
   -- ---- notes
@@ -91,18 +130,21 @@ module _ (placed : Parcel → Option Place) where
     abbrev account : List SlotAccount
     account = accounts_of placed files
 
-    slot_is : file.turned.slot.0 ≡ slot_in file
+    slot_is : (turned_in file).slot.0 ≡ slot_in file
     slot_is = ap (λ (s : Slot). s.0) filed.slot
 
-    pub epoch_in : (telling : Telling) → Contains (tellings_in file.turned.history) telling → HasEpoch file.opened telling (epoch_of account file.turned.slot.0 telling.epoch)
+    pub epoch_in : (telling : Telling) → Contains (tellings_in (turned_in file).history) telling →
+        HasEpoch file.opened.begin.slot telling (epoch_of account (turned_in file).slot.0 telling.epoch)
     epoch_in telling there =
-        let numbers = epochs_apart file.opened.begin.epoch.0 file.opened.begin.base (tellings_in file.turned.history) filed.epochs in
-        let found = epoch_found file.opened file.opened.begin.epoch.0 (tellings_in file.turned.history) (segments_of file.opened.begin.base (kept_looks file.turned.history file.looks)) telling there numbers filed.few in
+        let numbers = epochs_apart file.opened.begin.epoch.0 file.opened.begin.base (tellings_in (turned_in file).history) filed.epochs in
+        let found = epoch_found file.opened.begin.slot (epochs_of file.opened.begin.epoch.0 file.opened.begin.base (parts_told file)) (tellings_in (turned_in file).history) telling
+        filed.tell there numbers in
         record {
-          segment = found.segment;
+          epoch = found.epoch;
           is = ap (λ (n : ℕ). epoch_of account n telling.epoch) slot_is
               ∙ ap (λ (o : Option SlotAccount). option_and_then (λ one. epoch_at telling.epoch one.epochs) o) (slot_found files file among apart)
               ∙ found.is;
+          has = found.has;
         }
 
     pub begin_is_backed : (key path : List ℕ) (changed : Moment) → key ≡ file.opened.begin.key → changed.0 ≤ file.changed →
@@ -121,31 +163,34 @@ module _ (placed : Parcel → Option Place) where
     pub moment_is_backed : (changed : ℕ) → changed ≤ file.changed → BacksMoment account (slot_in file) changed
     moment_is_backed changed within = record { one = account_of placed file; slot_is = slot_found files file among apart; moment_within = within }
 
-    module _ (telling : Telling) (there : Contains (tellings_in file.turned.history) telling) where
-      pub announcement_is_backed : Backs account wires (Announce file.turned.slot (record { 0 = telling.epoch }))
+    module _ (telling : Telling) (there : Contains (tellings_in (turned_in file).history) telling) where
+      pub announcement_is_backed : Backs account wires (Announce (turned_in file).slot (record { 0 = telling.epoch }))
       announcement_is_backed = subst (λ (o : Option EpochAccount). IsSome o) (sym (epoch_in telling there).is) refl
 
       event_is_settled : (event : ToldEvent) (cause : Cause) → Contains telling.told event → cause_of_fate event.fate ≡ cause →
           SettlesAs wires event.fate (place_by placed file.opened.begin.slot telling.epoch event.span event.fate) →
-          BacksSettle account wires file.turned.slot.0 telling.epoch event.span cause
-      event_is_settled event cause told cause_is settled = record {
-        told_in = epoch_account file.opened placed telling (epoch_in telling there).segment;
-        epoch_is = (epoch_in telling there).is;
-        one = accounted placed file.opened.begin.slot telling.epoch event;
-        told = mapped_there (accounted placed file.opened.begin.slot telling.epoch) telling.told event told;
-        span_is = refl;
-        cause_is = cause_is;
-        settled = settled;
-      }
+          BacksSettle account wires (turned_in file).slot.0 telling.epoch event.span cause
+      event_is_settled event cause told cause_is settled =
+          let has = (epoch_in telling there).has event told in
+          record {
+            told_in = (epoch_in telling there).epoch;
+            epoch_is = (epoch_in telling there).is;
+            one = has.one;
+            told = has.there;
+            span_is = ap (λ (e : ToldEvent). e.span) has.event_is;
+            cause_is = ap (λ (e : ToldEvent). cause_of_fate e.fate) has.event_is ∙ cause_is;
+            settled = subst (λ (e : ToldEvent). SettlesAs wires e.fate has.one.place) (sym has.event_is)
+                (subst (λ (o : Option Place). SettlesAs wires event.fate o) (sym has.place_is) settled);
+          }
 
-      pub dropped_is_backed : (note : Note) → IsSettlementOf file.turned telling note → Backs account wires note
+      pub dropped_is_backed : (note : Note) → IsSettlementOf (turned_in file) telling note → Backs account wires note
       dropped_is_backed note of =
           subst (Backs account wires) (sym of.is)
           (event_is_settled of.event (cause_of_fate (DroppedBy of.rule)) of.told (ap cause_of_fate of.fate_is)
           (subst (λ (fate : Fate). SettlesAs wires fate (place_by placed file.opened.begin.slot telling.epoch of.event.span fate)) (sym of.fate_is) tt))
 
       -- of a parcel that was acknowledged where it is placed
-      pub acknowledged_is_backed : (event : ToldEvent) (parcel : Parcel) (place : Place) → Contains telling.told event → parcel.slot ≡ file.turned.slot → parcel.epoch.0 ≡ telling.epoch →
+      pub acknowledged_is_backed : (event : ToldEvent) (parcel : Parcel) (place : Place) → Contains telling.told event → parcel.slot ≡ (turned_in file).slot → parcel.epoch.0 ≡ telling.epoch →
           parcel.span ≡ event.span → event.fate ≡ ShippedAs parcel.payload → placed parcel ≡ Some place → IsAcknowledgedAt wires parcel.payload place →
           Backs account wires (Settle parcel.slot parcel.epoch parcel.span Acked)
       acknowledged_is_backed event parcel place told slot epoch span fate at acknowledged =

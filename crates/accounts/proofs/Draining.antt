@@ -1,15 +1,15 @@
 -- A run that is done drained its folder: each entry that an input covers was skipped, or its file was found with another key, or it has a
 -- row that stands at the end of its last complete line.
-use Rattle.std.proofs.Common.{◌≡◌, ◌⊎◌, inl, inr, ℕ, List, [], ◌∷◌, ◌++◌, Contains, Option, Some, refl, sym, ap, subst, ◌∙◌, append-nil}
+use Rattle.std.proofs.Common.{◌≡◌, ◌⊎◌, inl, inr, ℕ, List, [], ◌∷◌, ◌++◌, Contains, map, Option, Some, refl, sym, ap, subst, ◌∙◌, append-nil}
 use Rattle.std.specs.Prelude.{slice_get}
 use Rattle.event_tree.specs.declared.input_rule.InputRule.{InputRule}
 use Rattle.file_identity.specs.AskedAgain.{HasOtherKey}
 use Rattle.file_looks.specs.Segment.{segments_of}
 use Rattle.file_looks.specs.Truncation.{SeesTruncations}
-use Rattle.harvester.specs.History.{Changed, Telling, told_to}
+use Rattle.harvester.specs.History.{Changed, History, Telling, told_to}
 use Rattle.kept_rows.specs.Account.{Place, SlotAccount}
 use Rattle.kept_rows.specs.Drained.{HasRow, IsChanged, IsDoneWith, IsDrained, IsPassedOver, IsReadToItsEnd}
-use Rattle.kept_rows.specs.Premises.{Premises, SeesTruncationsOf}
+use Rattle.kept_rows.specs.Premises.{Premises, SeesTruncationsOf, segments_in}
 use Rattle.kept_rows.specs.Run.{Run, Scan}
 use Rattle.kept_rows.specs.Scans.{IsCovered, IsWhole, ShowsEntry, ShowsFileTo}
 use Rattle.kept_rows.specs.Trace.{IsTail}
@@ -19,13 +19,14 @@ use Rattle.ship_core.proofs.Members.{first_there}
 use Rattle.ship_core.specs.CoveredEnd.{Adjoin}
 use Rattle.ship_core.specs.RowOver.{notes_of, standing_row}
 use Rattle.ship_core.specs.RowsOver.{AreRowsOver}
+use Rattle.slot_parts.specs.Tails.{tails_of}
 use Rattle.told_events.specs.Told.{spans_of}
 use Rattle.wire_base.specs.declared.note.Note.{Note}
 use Rattle.wire_base.specs.declared.parcel.Parcel.{Parcel}
 use Rattle.wire_base.specs.declared.row.Row.{Row}
 use Rattle.accounts.specs.RunDone.{IsAmongFiles, IsFullScan, RunDone, IsToldWhole}
 use Rattle.accounts.specs.Accounted.{followed_tail}
-use Rattle.accounts.specs.Filed.{Filed, IsNoted, account_of, accounts_of, slot_in}
+use Rattle.accounts.specs.Filed.{Filed, IsNoted, Opening, account_of, accounts_of, following_of, slot_in, tail_by, told_over, turned_in}
 use Rattle.accounts.specs.FollowedFile.{IsFollowedFile, key_in, tail_of}
 use Rattle.accounts.specs.OneScan.{IsByOneScan}
 use Rattle.accounts.specs.Parted.{kept_looks}
@@ -36,11 +37,12 @@ use Rattle.accounts.proofs.Accounts.{are_in_epochs, have_slots}
 use Rattle.accounts.proofs.Backed.{are_noted}
 use Rattle.accounts.proofs.BegunRows.{begun_row, have_ground}
 use Rattle.accounts.proofs.Backing.{mapped_there, slot_found}
-use Rattle.accounts.proofs.Ends.{is_in_epochs, is_read_to_its_end}
+use Rattle.accounts.proofs.Ends.{is_read_to_its_end}
 use Rattle.accounts.proofs.Following.{followings_of}
 use Rattle.accounts.proofs.LastEpoch.{epoch_is, offset_is}
 use Rattle.accounts.proofs.LastNotes.{moment_is}
 use Rattle.accounts.proofs.Lists.{last_of_each}
+use Rattle.accounts.proofs.Openings.{file_epochs, file_in_epochs}
 use Rattle.accounts.proofs.Ordered.{first_notes_settle_nothing, slots_apart, turned_apart}
 use Rattle.accounts.proofs.Orderly.{member_is}
 use Rattle.accounts.proofs.Segmented.{is_lost}
@@ -91,7 +93,7 @@ module _ (run : Run) (scan : Scan) (files : List Filed) (workers : List Taken) (
         (mapped_there (λ (one : SlotAccount). one.following) (accounts_of placed files) (account_of placed file) (mapped_there (account_of placed) files file among))
 
     abbrev present : Telling
-    present = file.turned.history.present
+    present = (turned_in file).history.present
 
     -- ---- its row
 
@@ -104,18 +106,19 @@ module _ (run : Run) (scan : Scan) (files : List Filed) (workers : List Taken) (
 
     has_its_row : (row : Row) × IsItsRow row
     has_its_row =
+        let numbered = file_epochs run scan file followed in
         let apart = slots_apart 0 files told.followed.slots in
         let ground = have_ground run scan files workers first collected told in
         let slots = have_slots run scan files told.followed.each in
         let begun = begun_row run scan files workers first collected told file among rows over in
         let epochs = are_in_epochs run scan files told.followed.each in
         let epoch = epoch_is files workers first collected apart (turned_apart files told.followed.slots slots) epochs slots told.noted ground done.settled file among
-        followed.told.history.epochs noted in
-        let in_epochs = is_in_epochs run.settings.processors file.opened run.trace.moments file.turned followed.in_range (Some (tail_of file)) followed.told in
+        numbered noted in
+        let in_epochs = file_in_epochs run scan file followed in
         let adjoin : Adjoin present.start (spans_of present.told) =
-        last_of_each (λ (t : Telling). Adjoin t.start (spans_of t.told)) file.turned.history.past present in_epochs.adjoin in
+        last_of_each (λ (t : Telling). Adjoin t.start (spans_of t.told)) (turned_in file).history.past present in_epochs.adjoin in
         let offset = offset_is files workers first collected apart (turned_apart files told.followed.slots slots) epochs slots told.noted ground done.settled file among
-        begun.start begun.epoch_is begun.base_is followed.told.history.epochs epoch (first_notes_settle_nothing files first told.noted) adjoin in (
+        begun.start begun.epoch_is begun.base_is numbered epoch (first_notes_settle_nothing files first told.noted) adjoin in (
           standing_row (notes_of (slot_in file) notes) begun.start,
           record {
             of_rows = begun.of_rows;
@@ -129,10 +132,18 @@ module _ (run : Run) (scan : Scan) (files : List Filed) (workers : List Taken) (
 
     row_is_read : IsToldToItsEnd file.turned.history → (row : Row) → IsItsRow row → IsReadToItsEnd run file.opened.rule (accounts_of placed files) row
     row_is_read ended row is =
-        is_read_to_its_end run placed files file.opened file.turned (tail_of file) file.changed sees.last_read (slots_apart 0 files told.followed.slots) among followed.told followed.gave
+        is_read_to_its_end run placed files file.opened file.turned (tail_of file) file.changed sees.last_read (slots_apart 0 files told.followed.slots) once_there followed.told followed.gave
         followed.in_range followed.file_is
-        (subst (SeesTruncations sees.last_read) (append-nil (segments_of file.opened.begin.base (kept_looks file.turned.history file.looks))) sees.seen)
-        ended row (sym is.key_is) is.epoch_so is.offset_so
+        (subst (SeesTruncations sees.last_read) (append-nil (segments_of file.opened.begin.base (kept_looks file.turned.history file.looks)))
+        (subst (λ (later : List Opening). SeesTruncations sees.last_read (segments_in (following_of (record file { later = later })))) whole.alone sees.seen))
+        ended row (sym is.key_is) (is.epoch_so ∙ ap (λ (h : History). h.present.epoch) told_once) (is.offset_so ∙ ap (λ (h : History). told_to h.present) told_once)
+      where
+        -- it was opened once
+        once_there : Contains files (record { opened = file.opened; turned = file.turned; looks = file.looks; changed = file.changed; later = [] })
+        once_there = subst (λ (later : List Opening). Contains files (record { opened = file.opened; turned = file.turned; looks = file.looks; changed = file.changed; later = later })) whole.alone among
+
+        told_once : (turned_in file).history ≡ file.turned.history
+        told_once = ap (told_over file.turned.history) whole.alone
 
     -- the entry that an input covers shows it
     module _ (shown : Shown) (input : ℕ) (rule : InputRule) (rule_is : slice_get run.settings.inputs input ≡ Some rule) (input_is : file.opened.begin.input ≡ input)
@@ -170,7 +181,7 @@ module _ (run : Run) (scan : Scan) (files : List Filed) (workers : List Taken) (
             slot_is = slot_found placed files file among (slots_apart 0 files told.followed.slots);
             key_is = refl;
             tail = followed_tail file.opened file.looks file.turned.history;
-            of_slot = first_there (followed_tail file.opened file.looks file.turned.history) [];
+            of_slot = first_there (followed_tail file.opened file.looks file.turned.history) (tails_of (map tail_by file.later));
             lost = λ none. no_look lost.fall lost.later (sym lost.lost_are ∙ none);
             path = file.opened.begin.path;
             file = file.opened.file;

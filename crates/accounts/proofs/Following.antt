@@ -1,21 +1,21 @@
 -- How the files of a run are followed that made one scan.
 use Rattle.std.proofs.Common.{◌≡◌, ◌⊎◌, inl, ℕ, zero, suc, ◌+◌, ◌<◌, List, [], ◌∷◌, ◌++◌, Contains, map, Option, Some, None, refl, sym, ap, subst, arith}
 use Rattle.std.specs.Prelude.{slice_get}
-use Rattle.std.specs.List.{AllByRecursion}
-use Rattle.file_identity.specs.AskedAgain.{StillHasKey}
-use Rattle.kept_rows.specs.Account.{Following, Place, SlotAccount}
-use Rattle.kept_rows.specs.Followed.{AreFollowed, AreInTurn, AreRising, IsFollowing, IsGoneBefore, IsNewlyKnown, OnlyReads, asked_openings, followed_openings}
+use Rattle.std.specs.List.{AllByRecursion, flat_map}
+use Rattle.harvester.specs.History.{History}
+use Rattle.kept_rows.specs.Account.{FollowedTail, Following, Place, SlotAccount}
+use Rattle.kept_rows.specs.Followed.{AreFollowed, AreInTurn, AreRising, IsFollowedTail, IsFollowing, IsGoneBefore, IsNewlyKnown, OnlyReads, asked_openings, followed_openings}
 use Rattle.kept_rows.specs.Run.{Run, Scan}
 use Rattle.kept_rows.specs.Scans.{AllButTheLast, AreAsked, AreDistinct, IsFirstPath}
 use Rattle.ship_core.proofs.Members.{first_there, later_there}
 use Rattle.wire_base.specs.declared.parcel.Parcel.{Parcel}
-use Rattle.accounts.specs.Filed.{Filed, account_of, accounts_of}
-use Rattle.accounts.specs.FollowedFile.{AreFollowedFiles, AreInSlots, IsFollowedFile, key_in, opening_in, tail_of}
+use Rattle.slot_parts.specs.Tails.{tails_of}
+use Rattle.accounts.specs.Filed.{Filed, Opening, account_of, accounts_of, first_opening, tail_by, told_both}
+use Rattle.accounts.specs.FollowedFile.{AreFollowedFiles, AreInSlots, AreReopened, IsFollowedFile, key_in, openings_in}
 use Rattle.accounts.specs.OneScan.{IsByOneScan}
-use Rattle.accounts.specs.Parted.{kept_looks}
+use Rattle.accounts.specs.Opened.{Opened}
 use Rattle.accounts.proofs.NamedKeys.{given_key_of_input}
-use Rattle.accounts.proofs.Segmented.{opened_with_key}
-use Rattle.accounts.proofs.Slots.{file_is_read, tells_both}
+use Rattle.accounts.proofs.Openings.{are_one_by_one, first_is_opening, tail_follows}
 
 -- ---- lists
 
@@ -38,12 +38,11 @@ all_of P (x ∷ xs) each = (each x, all_of P xs each)
 abbrev pub followings_of : (Parcel → Option Place) → List Filed → List Following
 followings_of placed files = map (λ (one : SlotAccount). one.following) (accounts_of placed files)
 
--- as its tail was opened, the file gave its key
-pub opens_with_key : (run : Run) (scan : Scan) (file : Filed) → IsFollowedFile run scan file →
-    StillHasKey file.opened.rule file.opened.begin.key file.opened.begin.path file.opened.file (kept_looks file.turned.history file.looks)
-opens_with_key run scan file is =
-    opened_with_key file.turned.history file.opened (tail_of file) is.told.tail.file is.told.history.begin is.told.history.rule is.told.looked
-    file.opened.asked is.told.history.asked_before is.gave
+-- each tail that was opened again follows the file
+later_follow : (run : Run) (first : Opened) (last : Opening) (so_far : History) (later : List Opening) → AreReopened run first last so_far later →
+    AllByRecursion (IsFollowedTail run first.rule first.begin.key) (tails_of (map tail_by later))
+later_follow run first last so_far [] are = tt
+later_follow run first last so_far (next ∷ later) are = (tail_follows run first next are.0.is, later_follow run first next (told_both so_far next.history) later are.1)
 
 module _ (run : Run) (scan : Scan) (by : IsByOneScan run scan) where
   -- ---- a file
@@ -54,7 +53,7 @@ module _ (run : Run) (scan : Scan) (by : IsByOneScan run scan) where
 
     module _ (placed : Parcel → Option Place) where
       pub is_following : IsFollowing run (account_of placed file).following
-      is_following = let read = file_is_read run.settings.processors file.opened run.trace.moments file.turned (tail_of file) is.gave is.told in record {
+      is_following = record {
         rule = file.opened.rule;
         rule_is = is.rule_is;
         key_of_input = given_key_of_input file.opened.rule.id file.opened.rule.file_identity file.opened.begin.path file.opened.file file.opened.asked file.opened.begin.key is.gave.gave;
@@ -70,20 +69,10 @@ module _ (run : Run) (scan : Scan) (by : IsByOneScan run scan) where
           });
         };
         tails = (
-          record {
-            path = file.opened.begin.path;
-            number = file.opened.number;
-            file = file.opened.file;
-            file_is = is.file_is;
-            told = tells_both run file.opened file.turned.history file.looks is.tail;
-            opened_with_key = opens_with_key run scan file is;
-            kept_key = read.kept;
-            reads_on = read.on;
-            end = read.end;
-          },
-          tt,
+          tail_follows run file.opened (first_opening file) (first_is_opening run scan file is),
+          later_follow run file.opened (first_opening file) file.turned.history file.later is.reopened,
         );
-        one_by_one = tt;
+        one_by_one = are_one_by_one run file.opened is.in_range (first_opening file) file.turned.history file.later is.reopened;
       }
 
   -- ---- all files
@@ -112,9 +101,13 @@ module _ (run : Run) (scan : Scan) (by : IsByOneScan run scan) where
     are_known_at_once all [] = tt
     are_known_at_once all (file ∷ files) = (λ later. absurd (let some : 0 < 0 = later in omega (arith, some)), are_known_at_once all files)
 
-    openings_are : (files : List Filed) → followed_openings (followings_of placed files) ≡ map opening_in files
+    later_are : (later : List Opening) → map (λ (tail : FollowedTail). tail.opening) (tails_of (map tail_by later)) ≡ map (λ (one : Opening). one.opened.opening) later
+    later_are [] = refl
+    later_are (one ∷ later) = ap (λ (l : List ℕ). one.opened.opening ∷ l) (later_are later)
+
+    openings_are : (files : List Filed) → followed_openings (followings_of placed files) ≡ flat_map openings_in files
     openings_are [] = refl
-    openings_are (file ∷ files) = ap (λ (l : List ℕ). file.opened.opening ∷ l) (openings_are files)
+    openings_are (file ∷ files) = λ k. (file.opened.opening ∷ later_are file.later k) ++ openings_are files k
 
   -- the files of a run are followed so
   pub are_followed : (placed : Parcel → Option Place) (files : List Filed) → AreFollowedFiles run scan files → AreFollowed run (followings_of placed files)

@@ -11,8 +11,9 @@ use Rattle.wire_base.specs.declared.note.Note.{Note}
 use Rattle.wire_base.specs.declared.note.Note.TheVariants.{Announce}
 use Rattle.wire_base.specs.declared.numbers.Slot.{Slot}
 use Rattle.wire_base.specs.declared.parcel.Parcel.{Parcel}
-use Rattle.accounts.specs.ToldFile.{AreEpochsFrom, AreNumberedFrom}
-use Rattle.accounts.specs.Turned.{Turned, announced_in, events_in, notes_in, notes_told, parcels_by, parcels_in, parcels_of, parcels_told, settlements_by, settlements_in, settlements_of, spans_told, tellings_in}
+use Rattle.slot_parts.specs.Tellings.{AreNumberedFrom, tellings_in}
+use Rattle.accounts.specs.ToldFile.{AreEpochsFrom}
+use Rattle.accounts.specs.Turned.{Turned, announced_in, events_in, notes_in, notes_told, parcels_by, parcels_in, parcels_of, parcels_told, settlements_by, settlements_in, settlements_of, spans_told}
 use Rattle.accounts.proofs.Lists.{flat_map_both, flat_map_last}
 
 -- ---- of tellings

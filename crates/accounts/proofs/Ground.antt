@@ -11,8 +11,9 @@ use Rattle.wire_base.specs.declared.note.Note.{Note}
 use Rattle.wire_base.specs.declared.note.Note.TheVariants.{Announce, Settle}
 use Rattle.wire_base.specs.declared.numbers.Slot.{Slot}
 use Rattle.wire_base.specs.declared.parcel.Parcel.{Parcel}
+use Rattle.slot_parts.specs.Tellings.{tellings_in}
 use Rattle.accounts.specs.Ground.{IsNoteBy, IsNoteOf, IsParcelOf, IsSettlementOf}
-use Rattle.accounts.specs.Turned.{Turned, announced_in, notes_in, notes_told, parcels_by, parcels_in, parcels_told, settlements_by, settlements_in, tellings_in}
+use Rattle.accounts.specs.Turned.{Turned, announced_in, notes_in, notes_told, parcels_by, parcels_in, parcels_told, settlements_by, settlements_in}
 
 -- of which item
 pub record IsOfItem {A B : Type 0} (f : A → List B) (xs : List A) (y : B) : Type 0 where

@@ -19,8 +19,9 @@ use Rattle.outside.specs.declared.history.Look.{Look}
 use Rattle.outside.specs.declared.history.Sight.{Sight}
 use Rattle.told_events.proofs.Going.{all_behind}
 use Rattle.accounts.specs.Opened.{IsTailOf, Opened}
-use Rattle.accounts.specs.ToldFile.{AreToldBy, IsHistoryOf, IsToldBy, IsToldFile, IsToldToItsEnd}
-use Rattle.accounts.specs.Turned.{Turned, tellings_in}
+use Rattle.slot_parts.specs.Tellings.{AreToldBy, IsToldBy, tellings_in}
+use Rattle.accounts.specs.ToldFile.{IsHistoryOf, IsToldFile, IsToldToItsEnd}
+use Rattle.accounts.specs.Turned.{Turned}
 use Rattle.accounts.proofs.Given.{epochs_more, epochs_next}
 use Rattle.accounts.proofs.Lists.{each_front, each_last, ends_there, in_order_then, last_of_each}
 

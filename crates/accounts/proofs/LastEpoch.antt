@@ -21,14 +21,15 @@ use Rattle.wire_base.specs.declared.note.Note.TheVariants.{Announce, Begin, Sett
 use Rattle.wire_base.specs.declared.numbers.Epoch.{Epoch}
 use Rattle.wire_base.specs.declared.numbers.Slot.{Slot}
 use Rattle.wire_base.specs.declared.parcel.Parcel.{Parcel}
+use Rattle.slot_parts.specs.Tellings.{tellings_in}
 use Rattle.accounts.specs.RunDone.{AreAllCollected}
-use Rattle.accounts.specs.Filed.{Filed, HasItsSlot, IsNoted, slot_in, turned_of}
+use Rattle.accounts.specs.Filed.{Filed, HasItsSlot, IsNoted, slot_in, turned_in, turned_of}
 use Rattle.accounts.specs.FirstNotes.{AreFirstNotes}
 use Rattle.accounts.specs.Ground.{HasGround, IsEpochOf, IsNoteBy}
 use Rattle.accounts.specs.Same.{same_note, same_parcel}
 use Rattle.accounts.specs.Taken.{Taken, acknowledged_in}
 use Rattle.accounts.specs.ToldFile.{AreEpochsFrom}
-use Rattle.accounts.specs.Turned.{Turned, notes_told, parcels_by, parcels_in, parcels_told, settlements_by, tellings_in}
+use Rattle.accounts.specs.Turned.{Turned, notes_told, parcels_by, parcels_in, parcels_told, settlements_by}
 use Rattle.accounts.proofs.Apart.{IsInEpochs}
 use Rattle.accounts.proofs.Backing.{mapped_there}
 use Rattle.accounts.proofs.LastNotes.{epochs_within, first_note, first_within, flat_there, last_there, numbered_to_last, present_is_named, settlement_there, starts_at_none}
@@ -143,20 +144,20 @@ module _ (files : List Filed) (workers : List Taken) (first collected : List Not
 
   module _ (file : Filed) (among : Contains files file) where
     abbrev present : Telling
-    present = file.turned.history.present
+    present = (turned_in file).history.present
 
     abbrev own_notes : List Note
     own_notes = notes_of (slot_in file) notes
 
-    turned_there : Contains (turned_of files) file.turned
-    turned_there = mapped_there (λ (f : Filed). f.turned) files file among
+    turned_there : Contains (turned_of files) (turned_in file)
+    turned_there = mapped_there turned_in files file among
 
-    slot_is : file.turned.slot.0 ≡ slot_in file
+    slot_is : (turned_in file).slot.0 ≡ slot_in file
     slot_is = ap (λ (s : Slot). s.0) (member_is HasItsSlot files file own among)
 
-    of_its_slot : (turned : Turned) → Contains (turned_of files) turned → turned.slot.0 ≡ slot_in file → turned ≡ file.turned
+    of_its_slot : (turned : Turned) → Contains (turned_of files) turned → turned.slot.0 ≡ slot_in file → turned ≡ (turned_in file)
     of_its_slot turned there same =
-        same_item (λ (t : Turned). t.slot.0) (turned_of files) turned file.turned turned_apart there turned_there (same ∙ sym slot_is)
+        same_item (λ (t : Turned). t.slot.0) (turned_of files) turned (turned_in file) turned_apart there turned_there (same ∙ sym slot_is)
 
     collected_own : (note : Note) → Contains collected note → slot_of note ≡ slot_in file → Contains own_notes note
     collected_own note there same =
@@ -164,7 +165,7 @@ module _ (files : List Filed) (workers : List Taken) (first collected : List Not
 
     -- ---- the greatest epoch
 
-    module _ (numbered : AreEpochsFrom file.opened.begin.epoch.0 file.opened.begin.base (tellings_in file.turned.history)) where
+    module _ (numbered : AreEpochsFrom file.opened.begin.epoch.0 file.opened.begin.base (tellings_in (turned_in file).history)) where
       some_is : (given epoch : ℕ) → Some given ≡ Some epoch → given ≡ epoch
       some_is given epoch e = cc
 
@@ -176,7 +177,7 @@ module _ (files : List Filed) (workers : List Taken) (first collected : List Not
               first_note files (acknowledged_in workers) first collected apart are ground file among (λ (n : Note). epoch_of n ≡ Some epoch → epoch ≤ present.epoch)
               (λ n begin e.
               let is = some_is file.opened.begin.epoch.0 epoch (sym (ap epoch_of begin.is) ∙ e) in
-              let least = first_within file.opened.begin.epoch.0 file.opened.begin.base file.turned.history.past present numbered in
+              let least = first_within file.opened.begin.epoch.0 file.opened.begin.base (turned_in file).history.past present numbered in
               omega (arith, is, least))
               (λ n seen same e. absurd (let q : None ≡ Some epoch = sym (ap epoch_of seen.is) ∙ e in cc))
               note here slot names
@@ -184,22 +185,22 @@ module _ (files : List Filed) (workers : List Taken) (first collected : List Not
               let of = of_epoch (turned_of files) (acknowledged_in workers) note (member_is (HasGround (turned_of files) (acknowledged_in workers)) collected note ground here) in
               let same = of_its_slot of.turned of.of.of_files (sym of.slot_is ∙ slot) in
               let is = some_is of.telling.epoch epoch (sym of.epoch_is ∙ names) in
-              let most = epochs_within file.opened.begin.epoch.0 file.opened.begin.base file.turned.history.past present of.telling numbered
+              let most = epochs_within file.opened.begin.epoch.0 file.opened.begin.base (turned_in file).history.past present of.telling numbered
               (subst (λ (t : Turned). Contains (tellings_in t.history) of.telling) same of.of.of_file) in
               omega (arith, is, most)
 
       present_named : (noted : IsNoted notes file) → Contains (filter_map epoch_of own_notes) present.epoch
-      present_named noted = by_case (present_is_named file.turned.slot file.opened.begin.epoch.0 file.opened.begin.base file.turned.history.past present numbered)
+      present_named noted = by_case (present_is_named (turned_in file).slot file.opened.begin.epoch.0 file.opened.begin.base (turned_in file).history.past present numbered)
         where
-          by_case : (present.epoch ≡ file.opened.begin.epoch.0) ⊎ Contains (notes_told file.turned) (Announce file.turned.slot (record { 0 = present.epoch })) →
+          by_case : (present.epoch ≡ file.opened.begin.epoch.0) ⊎ Contains (notes_told (turned_in file)) (Announce (turned_in file).slot (record { 0 = present.epoch })) →
               Contains (filter_map epoch_of own_notes) present.epoch
           by_case (inl is) =
               let begin = Begin file.opened.begin.slot file.opened.begin.key noted.path file.opened.begin.epoch file.opened.begin.base noted.changed in
               let there = passed_there (λ (n : Note). slot_of n == slot_in file) notes begin noted.there (eq-eqb (slot_in file) (slot_in file) refl) in
               subst (λ (n : ℕ). Contains (filter_map epoch_of own_notes) n) (sym is) (given_there epoch_of own_notes begin file.opened.begin.epoch.0 there refl)
           by_case (inr announced) =
-              let note = Announce file.turned.slot (record { 0 = present.epoch }) in
-              given_there epoch_of own_notes note present.epoch (collected_own note (told_is_collected file.turned note turned_there announced) slot_is) refl
+              let note = Announce (turned_in file).slot (record { 0 = present.epoch }) in
+              given_there epoch_of own_notes note present.epoch (collected_own note (told_is_collected (turned_in file) note turned_there announced) slot_is) refl
 
       pub epoch_is : IsNoted notes file → greatest_epoch own_notes ≡ present.epoch
       epoch_is noted =
@@ -212,12 +213,12 @@ module _ (files : List Filed) (workers : List Taken) (first collected : List Not
 
     -- ---- its offset
 
-    present_there : Contains (tellings_in file.turned.history) present
-    present_there = last_there file.turned.history.past present
+    present_there : Contains (tellings_in (turned_in file).history) present
+    present_there = last_there (turned_in file).history.past present
 
     event_known : (event : ToldEvent) → Contains present.told event → Contains (spans_in present.epoch own_notes) event.span
     event_known event told =
-        let is = event_is_settled file.turned present event turned_there present_there told in
+        let is = event_is_settled (turned_in file) present event turned_there present_there told in
         let note = Settle is.of_slot is.of_epoch event.span is.cause in
         given_there (span_in present.epoch) own_notes note event.span (collected_own note is.there (is.slot_is ∙ slot_is))
         (ap (λ (b : Bool). if b then Some event.span else None) (eq-eqb is.of_epoch.0 present.epoch is.epoch_is))
@@ -234,7 +235,7 @@ module _ (files : List Filed) (workers : List Taken) (first collected : List Not
             let of = settled_span files turned_apart epochs own (acknowledged_in workers) (slot_in file) present.epoch span note
             (member_is (HasGround (turned_of files) (acknowledged_in workers)) collected note ground here) slot is in
             let telling : of.telling ≡ present =
-            one_epoch (turned_of files) turned_apart epochs of.turned file.turned of.telling present of.of (record { of_files = turned_there; of_file = present_there })
+            one_epoch (turned_of files) turned_apart epochs of.turned (turned_in file) of.telling present of.of (record { of_files = turned_there; of_file = present_there })
             (of.slot_is ∙ sym slot_is) of.epoch_is in
             subst (λ (e : Extent). Contains (spans_of present.told) e) of.span_is
             (mapped_there (λ (one : ToldEvent). one.span) present.told of.event (subst (λ (t : Telling). Contains t.told of.event) telling of.told))
@@ -252,11 +253,11 @@ module _ (files : List Filed) (workers : List Taken) (first collected : List Not
 
     -- it begins at the base of its Begin, or at the first byte
     pub offset_is : (start : Start) → start.epoch ≡ file.opened.begin.epoch.0 → start.base ≡ file.opened.begin.base →
-        AreEpochsFrom file.opened.begin.epoch.0 file.opened.begin.base (tellings_in file.turned.history) → greatest_epoch own_notes ≡ present.epoch →
+        AreEpochsFrom file.opened.begin.epoch.0 file.opened.begin.base (tellings_in (turned_in file).history) → greatest_epoch own_notes ≡ present.epoch →
         AllByRecursion SettlesNothing first → Adjoin present.start (spans_of present.told) → offset_over start own_notes ≡ told_to present
     offset_is start number base numbered epoch none adjoin =
         let base_is : base_in start (greatest_epoch own_notes) ≡ present.start =
-        ap (base_in start) epoch ∙ present_begins start file.opened.begin.epoch.0 file.opened.begin.base file.turned.history.past present number base numbered in
+        ap (base_in start) epoch ∙ present_begins start file.opened.begin.epoch.0 file.opened.begin.base (turned_in file).history.past present number base numbered in
         ap (covered_end (spans_in (greatest_epoch own_notes) own_notes)) base_is
         ∙ ap (λ (n : ℕ). covered_end (spans_in n own_notes) present.start) epoch
         ∙ covers_all none adjoin

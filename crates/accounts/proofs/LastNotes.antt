@@ -25,7 +25,8 @@ use Rattle.accounts.specs.Filed.{Filed, IsNoted, slot_in, turned_of}
 use Rattle.accounts.specs.FirstNotes.{AreFirstNotes, IsBeginOf, IsMomentOfOne}
 use Rattle.accounts.specs.FollowedFile.{key_in}
 use Rattle.accounts.specs.Ground.{HasGround}
-use Rattle.accounts.specs.ToldFile.{AreEpochsFrom, AreNumberedFrom}
+use Rattle.slot_parts.specs.Tellings.{AreNumberedFrom}
+use Rattle.accounts.specs.ToldFile.{AreEpochsFrom}
 use Rattle.accounts.specs.Turned.{announced_in, notes_in, settlements_in}
 use Rattle.accounts.specs.Turning.{Pairs}
 use Rattle.accounts.proofs.Backing.{mapped_there}

@@ -1,11 +1,10 @@
 -- Where no note is elsewhere than collected, as many events of the account are acknowledged as collected notes say so, and as many
 -- are dropped.
-use Rattle.std.proofs.Common.{◌≡◌, ◌⊎◌, inl, inr, ℕ, ◌+◌, ◌-◌, ◌^◌, ◌≤◌, min, Bool, true, false, cond, List, [], ◌∷◌, ◌++◌, Contains, length, map, Option, Some, None, refl, sym, ap, subst, ◌∙◌, append-nil, arith}
+use Rattle.std.proofs.Common.{◌≡◌, ◌⊎◌, inl, inr, ℕ, suc, ◌+◌, ◌-◌, ◌^◌, min, Bool, true, false, cond, List, [], ◌∷◌, ◌++◌, Contains, length, map, Option, Some, None, refl, sym, ap, subst, ◌∙◌, append-nil, arith}
 use Rattle.std.specs.Prelude.{IsTrue, count_by, is_some}
 use Rattle.std.specs.List.{AllByRecursion, flat_map}
 use Rattle.std.proofs.lemmas.List.Sums.{sum_by-cons}
 use Rattle.batch_worker.specs.Held.{notes_of}
-use Rattle.file_looks.specs.Segment.{Segment, segments_of}
 use Rattle.harvester.specs.History.{Telling}
 use Rattle.kept_rows.specs.Account.{AccountedEvent, Place, SlotAccount}
 use Rattle.kept_rows.specs.Trace.{WireTold}
@@ -22,16 +21,17 @@ use Rattle.wire_base.specs.declared.note.Note.TheVariants.{Announce, Begin, Forg
 use Rattle.wire_base.specs.declared.numbers.Epoch.{Epoch}
 use Rattle.wire_base.specs.declared.numbers.Slot.{Slot}
 use Rattle.wire_base.specs.declared.parcel.Parcel.{Parcel}
-use Rattle.accounts.specs.Accounted.{accounted, epoch_accounts, place_by, untold_epochs}
-use Rattle.accounts.specs.Filed.{Filed, IsFiled, account_of, accounts_of, turned_of}
+use Rattle.slot_parts.specs.Account.{epoch_account, events_from}
+use Rattle.slot_parts.specs.Parts.{EpochParts, Part, epochs_of, told_in}
+use Rattle.slot_parts.specs.Tellings.{tellings_in}
+use Rattle.accounts.specs.Accounted.{place_by, place_in}
+use Rattle.accounts.specs.Filed.{Filed, IsFiled, TellEpochs, account_of, accounts_of, parts_told, turned_in, turned_of}
 use Rattle.accounts.specs.Numbers.{AreAllCounted, AreNumbersOf, IsAcknowledgedOrDropped, acknowledged_count, all_events, dropped_count, is_acknowledged, is_by_rule, is_dropped, told_in_epoch, told_in_slot}
 use Rattle.accounts.specs.Once.{AreOnce, one_where}
-use Rattle.accounts.specs.Opened.{Opened}
-use Rattle.accounts.specs.Parted.{kept_looks}
 use Rattle.accounts.specs.Places.{ArePlaces}
 use Rattle.accounts.specs.Same.{same_parcel}
 use Rattle.accounts.specs.Taken.{FitBooks, Taken, acknowledged_in, settles}
-use Rattle.accounts.specs.Turned.{Turned, announced_in, notes_in, notes_told, parcels_by, parcels_in, parcels_of, parcels_told, settlements_by, settlements_in, settlements_of, tellings_in}
+use Rattle.accounts.specs.Turned.{Turned, announced_in, notes_in, notes_told, parcels_by, parcels_in, parcels_of, parcels_told, settlements_by, settlements_in, settlements_of}
 use Rattle.accounts.proofs.Acknowledged.{elsewhere_in, often_told}
 use Rattle.accounts.proofs.Lists.{flat_map_both}
 use Rattle.accounts.proofs.Often.{once_often, often_both, often_same, often_then, there_counts}
@@ -101,32 +101,55 @@ count_weighs {A} p h same (x ∷ xs) =
 -- ---- the events of an account weigh what its files gave
 
 module _ (placed : Parcel → Option Place) (h : AccountedEvent → ℕ) (g : Parcel → ℕ) (k : Note → ℕ)
-    (each : (slot : Slot) (epoch : ℕ) (one : ToldEvent) → h (accounted placed slot epoch one) ≡ weigh g (parcels_by slot epoch one.span one.fate) + weigh k (settlements_by slot epoch one.span one.fate))
+    (each : (slot : Slot) (epoch reading : ℕ) (one : ToldEvent) → h (record { event = one; reading = reading; place = place_in placed slot epoch one }) ≡ weigh g (parcels_by slot epoch one.span one.fate) + weigh k (settlements_by slot epoch one.span one.fate))
     (announced : (slot : Slot) (epoch : Epoch) → k (Announce slot epoch) ≡ 0) where
-  events_weigh : (slot : Slot) (epoch : ℕ) (told : List ToldEvent) → weigh h (map (accounted placed slot epoch) told) ≡ weigh g (parcels_of slot epoch told) + weigh k (settlements_of slot epoch told)
-  events_weigh slot epoch [] = refl
-  events_weigh slot epoch (one ∷ told) =
-      let first = each slot epoch one in
-      let later = events_weigh slot epoch told in
+  events_weigh : (slot : Slot) (epoch reading : ℕ) (told : List ToldEvent) →
+      weigh h (map (λ (event : ToldEvent). record { event = event; reading = reading; place = place_in placed slot epoch event }) told)
+      ≡ weigh g (parcels_of slot epoch told) + weigh k (settlements_of slot epoch told)
+  events_weigh slot epoch reading [] = refl
+  events_weigh slot epoch reading (one ∷ told) =
+      let first = each slot epoch reading one in
+      let later = events_weigh slot epoch reading told in
       let parcels = weigh-append g (parcels_by slot epoch one.span one.fate) (parcels_of slot epoch told) in
       let notes = weigh-append k (settlements_by slot epoch one.span one.fate) (settlements_of slot epoch told) in
       omega (arith, first, later, parcels, notes)
 
-  untold_weigh : (opened : Opened) (number : ℕ) (segments : List Segment) → weigh h (flat_map told_in_epoch (untold_epochs opened number segments)) ≡ 0
-  untold_weigh opened number [] = refl
-  untold_weigh opened number (segment ∷ segments) = untold_weigh opened (number + 1) segments
+  parts_weigh : (slot : Slot) (epoch reading : ℕ) (parts : List Part) →
+      weigh h (events_from (place_in placed slot epoch) reading parts) ≡ weigh g (parcels_of slot epoch (told_in parts)) + weigh k (settlements_of slot epoch (told_in parts))
+  parts_weigh slot epoch reading [] = refl
+  parts_weigh slot epoch reading (part ∷ parts) =
+      let own = events_weigh slot epoch reading part.told in
+      let later = parts_weigh slot epoch (suc reading) parts in
+      let all = weigh-append h (map (λ (event : ToldEvent). record { event = event; reading = reading; place = place_in placed slot epoch event }) part.told)
+      (events_from (place_in placed slot epoch) (suc reading) parts) in
+      let parcels : weigh g (parcels_of slot epoch (part.told ++ told_in parts)) ≡ weigh g (parcels_of slot epoch part.told) + weigh g (parcels_of slot epoch (told_in parts)) =
+      ap (weigh g) (flat_map_both (λ (one : ToldEvent). parcels_by slot epoch one.span one.fate) part.told (told_in parts))
+      ∙ weigh-append g (parcels_of slot epoch part.told) (parcels_of slot epoch (told_in parts)) in
+      let notes : weigh k (settlements_of slot epoch (part.told ++ told_in parts)) ≡ weigh k (settlements_of slot epoch part.told) + weigh k (settlements_of slot epoch (told_in parts)) =
+      ap (weigh k) (flat_map_both (λ (one : ToldEvent). settlements_by slot epoch one.span one.fate) part.told (told_in parts))
+      ∙ weigh-append k (settlements_of slot epoch part.told) (settlements_of slot epoch (told_in parts)) in
+      omega (arith, own, later, all, parcels, notes)
 
-  epochs_weigh : (opened : Opened) (number : ℕ) (tellings : List Telling) (segments : List Segment) → length tellings ≤ length segments →
-      weigh h (flat_map told_in_epoch (epoch_accounts opened placed number tellings segments))
-      ≡ weigh g (flat_map (parcels_in opened.begin.slot) tellings) + weigh k (flat_map (announced_in opened.begin.slot) tellings)
-  epochs_weigh opened number [] segments few = untold_weigh opened number segments
-  epochs_weigh opened number (telling ∷ tellings) [] few = absurd (omega (arith, few))
-  epochs_weigh opened number (telling ∷ tellings) (segment ∷ segments) few =
-      let slot = opened.begin.slot in
-      let own = events_weigh slot telling.epoch telling.told in
-      let later = epochs_weigh opened telling.epoch tellings segments (omega (arith, few)) in
+  epoch_weighs : (slot : Slot) (one : EpochParts) (epoch : ℕ) (told : List ToldEvent) → one.epoch ≡ epoch → told_in one.parts ≡ told →
+      weigh h (events_from (place_in placed slot one.epoch) 0 one.parts) ≡ weigh g (parcels_of slot epoch told) + weigh k (settlements_of slot epoch told)
+  epoch_weighs slot one epoch told number is =
+      parts_weigh slot one.epoch 0 one.parts ∙ (λ i. weigh g (parcels_of slot (number i) (is i)) + weigh k (settlements_of slot (number i) (is i)))
+
+  epochs_weigh : (slot : Slot) (epochs : List EpochParts) (tellings : List Telling) → TellEpochs epochs tellings →
+      weigh h (flat_map told_in_epoch (map (epoch_account (place_in placed slot)) epochs))
+      ≡ weigh g (flat_map (parcels_in slot) tellings) + weigh k (flat_map (announced_in slot) tellings)
+  epochs_weigh slot [] [] tell = refl
+  epochs_weigh slot [] (telling ∷ tellings) tell = absurd tell
+  epochs_weigh slot (one ∷ epochs) [] tell =
+      let own = epoch_weighs slot one one.epoch [] refl tell.0 in
+      let later = epochs_weigh slot epochs [] tell.1 in
+      let all = weigh-append h (events_from (place_in placed slot one.epoch) 0 one.parts) (flat_map told_in_epoch (map (epoch_account (place_in placed slot)) epochs)) in
+      omega (arith, own, later, all)
+  epochs_weigh slot (one ∷ epochs) (telling ∷ tellings) tell =
+      let own = epoch_weighs slot one telling.epoch telling.told tell.0.epoch tell.0.told in
+      let later = epochs_weigh slot epochs tellings tell.1 in
       let none = announced slot (record { 0 = telling.epoch }) in
-      let events = weigh-append h (map (accounted placed slot telling.epoch) telling.told) (flat_map told_in_epoch (epoch_accounts opened placed telling.epoch tellings segments)) in
+      let events = weigh-append h (events_from (place_in placed slot one.epoch) 0 one.parts) (flat_map told_in_epoch (map (epoch_account (place_in placed slot)) epochs)) in
       let parcels = weigh-append g (parcels_in slot telling) (flat_map (parcels_in slot) tellings) in
       let notes = weigh-append k (announced_in slot telling) (flat_map (announced_in slot) tellings) in
       omega (arith, own, later, none, events, parcels, notes)
@@ -140,14 +163,14 @@ module _ (placed : Parcel → Option Place) (h : AccountedEvent → ℕ) (g : Pa
       let all = weigh-append k (announced_in slot first) (flat_map (announced_in slot) later) in
       omega (arith, none, own, all)
 
-  file_weighs : (file : Filed) → IsFiled file → weigh h (told_in_slot (account_of placed file)) ≡ weigh g (parcels_told file.turned) + weigh k (notes_told file.turned)
+  file_weighs : (file : Filed) → IsFiled file → weigh h (told_in_slot (account_of placed file)) ≡ weigh g (parcels_told (turned_in file)) + weigh k (notes_told (turned_in file))
   file_weighs file filed =
       let slot = file.opened.begin.slot in
-      let tellings = tellings_in file.turned.history in
-      let all = epochs_weigh file.opened file.opened.begin.epoch.0 tellings (segments_of file.opened.begin.base (kept_looks file.turned.history file.looks)) filed.few in
+      let tellings = tellings_in (turned_in file).history in
+      let all = epochs_weigh slot (epochs_of file.opened.begin.epoch.0 file.opened.begin.base (parts_told file)) tellings filed.tell in
       let first = first_weighs slot tellings in
-      let parcels : weigh g (parcels_told file.turned) ≡ weigh g (flat_map (parcels_in slot) tellings) = ap (λ (s : Slot). weigh g (flat_map (parcels_in s) tellings)) filed.slot in
-      let notes : weigh k (notes_told file.turned) ≡ weigh k (notes_in slot tellings) = ap (λ (s : Slot). weigh k (notes_in s tellings)) filed.slot in
+      let parcels : weigh g (parcels_told (turned_in file)) ≡ weigh g (flat_map (parcels_in slot) tellings) = ap (λ (s : Slot). weigh g (flat_map (parcels_in s) tellings)) filed.slot in
+      let notes : weigh k (notes_told (turned_in file)) ≡ weigh k (notes_in slot tellings) = ap (λ (s : Slot). weigh k (notes_in s tellings)) filed.slot in
       omega (arith, all, first, parcels, notes)
 
   account_weighs : (files : List Filed) → AllByRecursion IsFiled files →
@@ -157,8 +180,8 @@ module _ (placed : Parcel → Option Place) (h : AccountedEvent → ℕ) (g : Pa
       let own = file_weighs file filed.0 in
       let others = account_weighs files filed.1 in
       let events = weigh-append h (told_in_slot (account_of placed file)) (all_events (accounts_of placed files)) in
-      let parcels = weigh-append g (parcels_told file.turned) (flat_map parcels_told (turned_of files)) in
-      let notes = weigh-append k (notes_told file.turned) (flat_map notes_told (turned_of files)) in
+      let parcels = weigh-append g (parcels_told (turned_in file)) (flat_map parcels_told (turned_of files)) in
+      let notes = weigh-append k (notes_told (turned_in file)) (flat_map notes_told (turned_of files)) in
       omega (arith, own, others, events, parcels, notes)
 
 -- ---- what was acknowledged, among all that was told
@@ -309,7 +332,7 @@ module _ (placed : Parcel → Option Place) (workers : List Taken) (wires : List
       let h = λ (one : AccountedEvent). one_where (is_acknowledged one) in
       let g = λ (parcel : Parcel). one_where (is_some (placed parcel)) in
       let counted = count_weighs is_acknowledged h (λ one. refl) (all_events account) in
-      let all = account_weighs placed h g acknowledges (λ slot epoch one. acknowledged_by placed slot epoch one.span one.fate) (λ slot epoch. refl) files filed in
+      let all = account_weighs placed h g acknowledges (λ slot epoch reading one. acknowledged_by placed slot epoch one.span one.fate) (λ slot epoch. refl) files filed in
       let here = placed_weigh placed workers wires places told noted.elsewhere noted.parcels_are once in
       let sums = collected_weigh acknowledges in
       let own = acknowledgements_weigh (acknowledged_in workers) in
@@ -319,7 +342,7 @@ module _ (placed : Parcel → Option Place) (workers : List Taken) (wires : List
   dropped_are =
       let h = λ (one : AccountedEvent). one_where (is_dropped one) in
       let counted = count_weighs is_dropped h (λ one. refl) (all_events account) in
-      let all = account_weighs placed h none_for drops (λ slot epoch one. dropped_by placed slot epoch one.span one.fate) (λ slot epoch. refl) files filed in
+      let all = account_weighs placed h none_for drops (λ slot epoch reading one. dropped_by placed slot epoch one.span one.fate) (λ slot epoch. refl) files filed in
       let none = weightless_all told in
       let sums = collected_weigh drops in
       let own = no_drops (acknowledged_in workers) in
@@ -330,7 +353,7 @@ module _ (placed : Parcel → Option Place) (workers : List Taken) (wires : List
     none_left : weigh left_over (all_events account) ≡ 0
     none_left =
         let g = λ (parcel : Parcel). uncounted (is_some (placed parcel)) false in
-        let weighs = account_weighs placed left_over g none_for (λ slot epoch one. left_by placed slot epoch one.span one.fate) (λ slot epoch. refl) files filed in
+        let weighs = account_weighs placed left_over g none_for (λ slot epoch reading one. left_by placed slot epoch one.span one.fate) (λ slot epoch. refl) files filed in
         let notes_none = weightless_all notes in
         let parcels = all g in
         let each = weigh_same g none_for (acknowledged_in workers) (λ parcel there. ap (λ (o : Option Place). uncounted (is_some o) false) (places.well parcel there).is) in
@@ -340,7 +363,7 @@ module _ (placed : Parcel → Option Place) (workers : List Taken) (wires : List
     together : acknowledged_count account + dropped_count account ≡ length (all_events account)
     together =
         let many = weigh_length (all_events account) in
-        let weighs = account_weighs placed one_for one_for settles (λ slot epoch one. told_by placed slot epoch one.span one.fate) (λ slot epoch. refl) files filed in
+        let weighs = account_weighs placed one_for one_for settles (λ slot epoch reading one. told_by placed slot epoch one.span one.fate) (λ slot epoch. refl) files filed in
         let parcels = all one_for in
         let sums = collected_weigh settles in
         let own = acknowledged_weigh (acknowledged_in workers) in

@@ -10,8 +10,9 @@ use Rattle.harvester.specs.Standing.{EndsAt}
 use Rattle.harvester.specs.declared.harvester.Harvester.{Harvester}
 use Rattle.outside.specs.Tails.{TailHistory}
 use Rattle.accounts.specs.Opened.{IsTailOf, Opened}
-use Rattle.accounts.specs.ToldFile.{AreToldBy, IsHistoryOf, IsToldBy, IsToldFile}
-use Rattle.accounts.specs.Turned.{Turned, tellings_in}
+use Rattle.slot_parts.specs.Tellings.{AreToldBy, IsToldBy, tellings_in}
+use Rattle.accounts.specs.ToldFile.{IsHistoryOf, IsToldFile}
+use Rattle.accounts.specs.Turned.{Turned}
 use Rattle.accounts.specs.Turning.{IsTurnedSo, Pairs}
 use Rattle.accounts.proofs.Lists.{each_then, in_order_on, in_order_then}
 use Rattle.accounts.proofs.Histories.{told_file}

@@ -23,7 +23,7 @@ use Rattle.wire_base.specs.declared.numbers.Epoch.{Epoch}
 use Rattle.wire_base.specs.declared.numbers.Slot.{Slot}
 use Rattle.wire_base.specs.declared.parcel.Parcel.{Parcel}
 use Rattle.accounts.specs.FirstNotes.{AreFirstNotes, IsBeginOf, IsMomentOfOne}
-use Rattle.accounts.specs.Filed.{Filed, HasItsSlot, IsNoted, slot_in, turned_of}
+use Rattle.accounts.specs.Filed.{Filed, HasItsSlot, IsNoted, slot_in, turned_in, turned_of}
 use Rattle.accounts.specs.FollowedFile.{AreInSlots}
 use Rattle.accounts.specs.Ground.{HasGround, IsEpochOf, IsNoteBy}
 use Rattle.accounts.specs.Turned.{Turned}
@@ -230,7 +230,7 @@ module _ (files : List Filed) (apart : AreDistinct (map (λ (turned : Turned). t
 
   slot_is_begun : (notes : List Note) (turned : Turned) (slot : ℕ) → AllByRecursion (IsNoted notes) files → Contains (turned_of files) turned → turned.slot.0 ≡ slot → IsBegun slot notes
   slot_is_begun notes turned slot noted there is =
-      let file = of_map (λ (f : Filed). f.turned) files turned there in
+      let file = of_map turned_in files turned there in
       let slots : slot_in file.item ≡ slot =
       ap (λ (s : Slot). s.0) (sym (member_is HasItsSlot files file.item own file.among)) ∙ ap (λ (t : Turned). t.slot.0) file.is ∙ is in
       subst (λ (n : ℕ). IsBegun n notes) slots (file_is_begun notes file.item (member_is (IsNoted notes) files file.item noted file.among))

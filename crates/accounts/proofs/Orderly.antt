@@ -1,25 +1,25 @@
 -- Events of one slot and one epoch are the same or lie apart, and in each account they stand in one row.
-use Rattle.std.proofs.Common.{◌≡◌, ◌⊎◌, inl, inr, ℕ, ◌+◌, ◌≤◌, List, [], ◌∷◌, Contains, map, Option, refl, sym, ap, subst, ◌∙◌, arith}
+use Rattle.std.proofs.Common.{◌≡◌, ◌⊎◌, inl, inr, ℕ, ◌≤◌, List, [], ◌∷◌, Contains, map, Option, refl, sym, ap, subst, ◌∙◌, arith}
 use Rattle.std.specs.List.{AllByRecursion}
-use Rattle.file_looks.specs.Segment.{Segment, segments_of}
 use Rattle.harvester.specs.History.{Telling}
-use Rattle.kept_rows.specs.Account.{EpochAccount, Place}
+use Rattle.kept_rows.specs.Account.{AccountedEvent, EpochAccount, Place, events_of}
 use Rattle.kept_rows.specs.Account as account
-use Rattle.kept_rows.specs.Backed.{AreInRows, IsInOneRow}
+use Rattle.kept_rows.specs.Backed.{AreInRows}
+use Rattle.kept_rows.specs.Epochs.{AreNumbered}
 use Rattle.kept_rows.specs.Scans.{AreDistinct}
 use Rattle.ship_core.proofs.Members.{none_there, there_cases}
 use Rattle.ship_core.specs.CoveredEnd.{Adjoin, AreEqualOrApart}
 use Rattle.told_events.specs.Told.{ToldEvent, spans_of}
 use Rattle.wire_base.specs.Extent.{Extent}
-use Rattle.wire_base.specs.declared.numbers.Slot.{Slot}
 use Rattle.wire_base.specs.declared.parcel.Parcel.{Parcel}
-use Rattle.accounts.specs.Accounted.{accounted, epoch_accounts, untold_epochs}
-use Rattle.accounts.specs.Filed.{Filed, IsFiled, account_of, accounts_of}
+use Rattle.slot_parts.proofs.Accounted.{events_back}
+use Rattle.slot_parts.specs.Account.{epoch_account}
+use Rattle.slot_parts.specs.Parts.{EpochParts, epochs_of, told_in}
+use Rattle.slot_parts.specs.Tellings.{tellings_in}
+use Rattle.accounts.specs.Accounted.{place_in}
+use Rattle.accounts.specs.Filed.{Filed, IsFiled, TellEpochs, accounts_of, parts_told, turned_in}
 use Rattle.accounts.specs.Ground.{IsEpochOf}
-use Rattle.accounts.specs.Opened.{Opened}
-use Rattle.accounts.specs.Parted.{kept_looks}
-use Rattle.accounts.specs.Turned.{Turned, tellings_in}
-use Rattle.accounts.proofs.Accounting.{are_numbered}
+use Rattle.accounts.specs.Turned.{Turned}
 use Rattle.accounts.proofs.Apart.{EachAdjoins, IsInEpochs, epochs_apart}
 use Rattle.accounts.proofs.Backing.{mapped_there}
 
@@ -89,31 +89,33 @@ module _ (files : List Turned) (apart : AreDistinct (map (λ (turned : Turned). 
 
 -- ---- in one row
 
-module _ (opened : Opened) (placed : Parcel → Option Place) where
-  same_spans : (slot : Slot) (epoch : ℕ) (told : List ToldEvent) → account.spans_of (map (accounted placed slot epoch) told) ≡ spans_of told
-  same_spans slot epoch [] = refl
-  same_spans slot epoch (one ∷ told) = ap (λ (l : List Extent). one.span ∷ l) (same_spans slot epoch told)
+spans_back : (told : List AccountedEvent) → account.spans_of told ≡ spans_of (events_of told)
+spans_back [] = refl
+spans_back (one ∷ told) = ap (λ (l : List Extent). one.event.span ∷ l) (spans_back told)
 
-  untold_adjoin : (before : ℕ) (segments : List Segment) → AllByRecursion (λ (e : EpochAccount). Adjoin e.start (account.spans_of e.told)) (untold_epochs opened before segments)
-  untold_adjoin before [] = tt
-  untold_adjoin before (segment ∷ segments) = (tt, untold_adjoin (before + 1) segments)
+module _ (place_of : ℕ → ToldEvent → Option Place) where
+  epoch_adjoins : (one : EpochParts) (start : ℕ) (told : List ToldEvent) → one.start ≡ start → told_in one.parts ≡ told → Adjoin start (spans_of told) →
+      Adjoin one.start (account.spans_of (epoch_account place_of one).told)
+  epoch_adjoins one start told from is adjoin =
+      subst (Adjoin one.start) (sym (spans_back (epoch_account place_of one).told ∙ ap spans_of (events_back place_of 0 (place_of one.epoch) one.parts ∙ is)))
+      (subst (λ (n : ℕ). Adjoin n (spans_of told)) (sym from) adjoin)
 
-  epochs_adjoin : (before : ℕ) (tellings : List Telling) (segments : List Segment) → EachAdjoins tellings →
-      AllByRecursion (λ (e : EpochAccount). Adjoin e.start (account.spans_of e.told)) (epoch_accounts opened placed before tellings segments)
-  epochs_adjoin before [] segments adjoin = untold_adjoin before segments
-  epochs_adjoin before (telling ∷ tellings) [] adjoin = tt
-  epochs_adjoin before (telling ∷ tellings) (segment ∷ segments) adjoin = (
-    subst (Adjoin telling.start) (sym (same_spans opened.begin.slot telling.epoch telling.told)) adjoin.0,
-    epochs_adjoin telling.epoch tellings segments adjoin.1,
-  )
-
-in_one_row : (placed : Parcel → Option Place) (file : Filed) → IsFiled file → EachAdjoins (tellings_in file.turned.history) → IsInOneRow (account_of placed file)
-in_one_row placed file filed adjoin = record {
-  numbered = are_numbered file.opened placed file.changed file.looks file.turned.history filed.epochs;
-  adjoin = epochs_adjoin file.opened placed file.opened.begin.epoch.0 (tellings_in file.turned.history) (segments_of file.opened.begin.base (kept_looks file.turned.history file.looks)) adjoin;
-}
+  epochs_adjoin : (epochs : List EpochParts) (tellings : List Telling) → TellEpochs epochs tellings → EachAdjoins tellings →
+      AllByRecursion (λ (e : EpochAccount). Adjoin e.start (account.spans_of e.told)) (map (epoch_account place_of) epochs)
+  epochs_adjoin [] [] tell adjoin = tt
+  epochs_adjoin [] (telling ∷ tellings) tell adjoin = absurd tell
+  epochs_adjoin (one ∷ epochs) [] tell adjoin = (epoch_adjoins one one.start [] refl tell.0 tt, epochs_adjoin epochs [] tell.1 tt)
+  epochs_adjoin (one ∷ epochs) (telling ∷ tellings) tell adjoin =
+      (epoch_adjoins one telling.start telling.told tell.0.start tell.0.told adjoin.0, epochs_adjoin epochs tellings tell.1 adjoin.1)
 
 pub are_in_rows : (placed : Parcel → Option Place) (files : List Filed) → AllByRecursion IsFiled files →
-    AllByRecursion (λ (file : Filed). EachAdjoins (tellings_in file.turned.history)) files → AreInRows (accounts_of placed files)
-are_in_rows placed [] filed adjoin = tt
-are_in_rows placed (file ∷ files) filed adjoin = (in_one_row placed file filed.0 adjoin.0, are_in_rows placed files filed.1 adjoin.1)
+    AllByRecursion (λ (file : Filed). EachAdjoins (tellings_in (turned_in file).history)) files → AllByRecursion AreNumbered (accounts_of placed files) → AreInRows (accounts_of placed files)
+are_in_rows placed [] filed adjoin numbered = tt
+are_in_rows placed (file ∷ files) filed adjoin numbered = (
+  record {
+    numbered = numbered.0;
+    adjoin = epochs_adjoin (place_in placed file.opened.begin.slot) (epochs_of file.opened.begin.epoch.0 file.opened.begin.base (parts_told file)) (tellings_in (turned_in file).history)
+        filed.0.tell adjoin.0;
+  },
+  are_in_rows placed files filed.1 adjoin.1 numbered.1,
+)

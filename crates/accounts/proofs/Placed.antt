@@ -1,9 +1,7 @@
 -- Each event of an account is placed where its payload is acknowledged, no two at one place, and each acknowledged payload is that of
 -- an event.
-use Rattle.std.proofs.Common.{◌≡◌, ℕ, ◌+◌, List, [], ◌∷◌, Contains, map, Option, Some, None, refl, sym, subst, ◌∙◌}
+use Rattle.std.proofs.Common.{◌≡◌, ℕ, suc, List, [], ◌∷◌, Contains, map, Option, Some, None, refl, sym, subst, ◌∙◌}
 use Rattle.std.specs.List.{AllByRecursion, flat_map}
-use Rattle.file_looks.specs.Segment.{Segment, segments_of}
-use Rattle.harvester.specs.History.{Telling}
 use Rattle.kept_rows.proofs.Showing.{both}
 use Rattle.kept_rows.specs.Account.{AccountedEvent, Place, places_in}
 use Rattle.kept_rows.specs.Acknowledged.{IsAcknowledgedAt}
@@ -15,16 +13,16 @@ use Rattle.wire_base.specs.Extent.{Extent}
 use Rattle.wire_base.specs.declared.note.Note.{Note}
 use Rattle.wire_base.specs.declared.numbers.Slot.{Slot}
 use Rattle.wire_base.specs.declared.parcel.Parcel.{Parcel}
-use Rattle.accounts.specs.Accounted.{accounted, epoch_accounts, place_by, untold_epochs}
-use Rattle.accounts.specs.Filed.{Filed, IsFiled, account_of, accounts_of, turned_of}
+use Rattle.slot_parts.specs.Account.{epoch_account, events_from}
+use Rattle.slot_parts.specs.Parts.{EpochParts, Part, epochs_of}
+use Rattle.accounts.specs.Accounted.{place_by, place_in}
+use Rattle.accounts.specs.Filed.{Filed, IsFiled, account_of, accounts_of, parts_told, turned_of}
 use Rattle.accounts.specs.Numbers.{ArePlacedIn, IsPlacedAs, all_events, told_in_epoch, told_in_slot}
 use Rattle.accounts.specs.Once.{AreOnce}
-use Rattle.accounts.specs.Opened.{Opened}
-use Rattle.accounts.specs.Parted.{kept_looks}
 use Rattle.accounts.specs.Places.{ArePlaces}
 use Rattle.accounts.specs.Same.{same_parcel}
 use Rattle.accounts.specs.Taken.{FitBooks, Taken, acknowledged_in}
-use Rattle.accounts.specs.Turned.{parcels_told, tellings_in}
+use Rattle.accounts.specs.Turned.{parcels_told}
 use Rattle.accounts.proofs.Acknowledged.{told_there}
 use Rattle.accounts.proofs.Placing.{places_apart, places_are}
 
@@ -45,26 +43,28 @@ module _ (placed : Parcel → Option Place) (workers : List Taken) (wires : List
   fate_is_placed slot epoch span (ShippedAs payload) =
       parcel_is_placed (record { slot = slot; epoch = record { 0 = epoch }; span = span; payload = payload }) (placed (record { slot = slot; epoch = record { 0 = epoch }; span = span; payload = payload })) refl
 
-  events_are_placed : (slot : Slot) (epoch : ℕ) (told : List ToldEvent) → AllByRecursion IsPlaced (map (accounted placed slot epoch) told)
-  events_are_placed slot epoch [] = tt
-  events_are_placed slot epoch (one ∷ told) = (fate_is_placed slot epoch one.span one.fate, events_are_placed slot epoch told)
+  events_are_placed : (slot : Slot) (epoch reading : ℕ) (told : List ToldEvent) →
+      AllByRecursion IsPlaced (map (λ (event : ToldEvent). record { event = event; reading = reading; place = place_in placed slot epoch event }) told)
+  events_are_placed slot epoch reading [] = tt
+  events_are_placed slot epoch reading (one ∷ told) = (fate_is_placed slot epoch one.span one.fate, events_are_placed slot epoch reading told)
 
-  untold_are_placed : (opened : Opened) (number : ℕ) (segments : List Segment) → AllByRecursion IsPlaced (flat_map told_in_epoch (untold_epochs opened number segments))
-  untold_are_placed opened number [] = tt
-  untold_are_placed opened number (segment ∷ segments) = untold_are_placed opened (number + 1) segments
+  parts_are_placed : (slot : Slot) (epoch reading : ℕ) (parts : List Part) → AllByRecursion IsPlaced (events_from (place_in placed slot epoch) reading parts)
+  parts_are_placed slot epoch reading [] = tt
+  parts_are_placed slot epoch reading (part ∷ parts) =
+      both IsPlaced (map (λ (event : ToldEvent). record { event = event; reading = reading; place = place_in placed slot epoch event }) part.told)
+      (events_from (place_in placed slot epoch) (suc reading) parts) (events_are_placed slot epoch reading part.told) (parts_are_placed slot epoch (suc reading) parts)
 
-  epochs_are_placed : (opened : Opened) (number : ℕ) (tellings : List Telling) (segments : List Segment) → AllByRecursion IsPlaced (flat_map told_in_epoch (epoch_accounts opened placed number tellings segments))
-  epochs_are_placed opened number [] segments = untold_are_placed opened number segments
-  epochs_are_placed opened number (telling ∷ tellings) [] = tt
-  epochs_are_placed opened number (telling ∷ tellings) (segment ∷ segments) =
-      both IsPlaced (map (accounted placed opened.begin.slot telling.epoch) telling.told) (flat_map told_in_epoch (epoch_accounts opened placed telling.epoch tellings segments))
-      (events_are_placed opened.begin.slot telling.epoch telling.told) (epochs_are_placed opened telling.epoch tellings segments)
+  epochs_are_placed : (slot : Slot) (epochs : List EpochParts) → AllByRecursion IsPlaced (flat_map told_in_epoch (map (epoch_account (place_in placed slot)) epochs))
+  epochs_are_placed slot [] = tt
+  epochs_are_placed slot (one ∷ epochs) =
+      both IsPlaced (events_from (place_in placed slot one.epoch) 0 one.parts) (flat_map told_in_epoch (map (epoch_account (place_in placed slot)) epochs))
+      (parts_are_placed slot one.epoch 0 one.parts) (epochs_are_placed slot epochs)
 
   each_placed : (files : List Filed) → AllByRecursion IsPlaced (all_events (accounts_of placed files))
   each_placed [] = tt
   each_placed (file ∷ files) =
       both IsPlaced (told_in_slot (account_of placed file)) (all_events (accounts_of placed files))
-      (epochs_are_placed file.opened file.opened.begin.epoch.0 (tellings_in file.turned.history) (segments_of file.opened.begin.base (kept_looks file.turned.history file.looks))) (each_placed files)
+      (epochs_are_placed file.opened.begin.slot (epochs_of file.opened.begin.epoch.0 file.opened.begin.base (parts_told file))) (each_placed files)
 
   -- each acknowledged parcel was told, so its place is that of its event
   all_placed : (files : List Filed) → AllByRecursion IsFiled files → ((parcel : Parcel) → Contains (acknowledged_in workers) parcel → Contains (flat_map parcels_told (turned_of files)) parcel) →

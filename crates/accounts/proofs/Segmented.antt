@@ -1,6 +1,6 @@
 -- The segments of the looks of a file's tail, as far as the file kept its key: each epoch was read through one of them, each reads on, and
 -- where one begins with a fall the file still had its key. From where the key was lost its tail lost it rightly.
-use Rattle.std.proofs.Common.{◌≡◌, ◌⊎◌, inl, inr, ℕ, ◌≤◌, Bool, true, false, List, [], ◌∷◌, ◌++◌, length, refl, sym, ap, subst, ◌∙◌, append-nil, append_assoc, length-append, arith}
+use Rattle.std.proofs.Common.{◌≡◌, ◌⊎◌, inl, inr, ℕ, suc, ◌≤◌, Bool, true, false, List, [], ◌∷◌, ◌++◌, length, refl, sym, ap, subst, ◌∙◌, append-nil, append_assoc, length-append, arith}
 use Rattle.std.specs.List.{AllByRecursion}
 use Rattle.std.proofs.lemmas.List.{length_push}
 use Rattle.event_tree.specs.declared.input_rule.IdentityRule.{IdentityRule}
@@ -8,9 +8,11 @@ use Rattle.event_tree.specs.declared.input_rule.IdentityRule.TheVariants.{Finger
 use Rattle.event_tree.specs.declared.input_rule.InputRule.{InputRule}
 use Rattle.file_identity.specs.Answers.{IsFingerprint, with_numbers}
 use Rattle.file_identity.specs.AskedAgain.{GivesKey, HasOtherKey, KeepsKey, StillHasKey}
+use Rattle.file_looks.specs.EndLook.{HasEndLook}
 use Rattle.file_looks.specs.Reading.{ReadOn}
 use Rattle.file_looks.specs.Segment.{Segment, segments_of, steps_in}
 use Rattle.harvester.specs.History.{Asks, Changed, Ended, History, Over, Reads, Stage, Telling}
+use Rattle.harvester.specs.History as history
 use Rattle.harvester.specs.Looked.{AreReadBy, HasFallen, IsLookedAt, IsReadBy, StandBehind}
 use Rattle.kept_rows.specs.Followed.{LostItsKey}
 use Rattle.kept_rows.specs.Scans.{IsNoFingerprint}
@@ -18,19 +20,25 @@ use Rattle.outside.specs.Files.{File}
 use Rattle.outside.specs.Tails.{TailHistory}
 use Rattle.outside.specs.declared.history.Look.{Look}
 use Rattle.wire_base.specs.declared.note.Begin.{Begin}
+use Rattle.slot_parts.specs.Tellings.{AreReadFirst, tellings_in}
 use Rattle.accounts.specs.Accounted.{followed_tail}
+use Rattle.accounts.specs.FollowedFile.{MayReopenAt}
 use Rattle.accounts.specs.Opened.{Opened}
 use Rattle.accounts.specs.Parted.{has_lost_key, kept_looks, loses_key_at, lost_looks}
-use Rattle.accounts.specs.Turned.{tellings_in}
-use Rattle.accounts.proofs.Accounting.{as_many}
 use Rattle.accounts.proofs.Askings.{still_has_key, still_has_name}
 use Rattle.accounts.proofs.Falls.{fallen, fallen_are, fallen_reads_on, segments_with_fall}
 use Rattle.accounts.proofs.Parting.{all_kept, kept_before_fall, lost_from_fall, none_lost}
-use Rattle.accounts.proofs.Telling.{AreReadFirst}
 
 -- ---- the segments that read its epochs
 
 module _ (h : History) (file : File) where
+  -- as many epochs as segments that read them
+  pub as_many : (tellings : List Telling) (segments : List Segment) → AreReadBy h file tellings segments → length tellings ≡ length segments
+  as_many [] [] are = refl
+  as_many [] (segment ∷ segments) are = absurd are
+  as_many (telling ∷ tellings) [] are = absurd are
+  as_many (telling ∷ tellings) (segment ∷ segments) are = ap suc (as_many tellings segments are.1)
+
   read_first : (past : List Telling) (present : Telling) (front : List Segment) (last : Segment) (more : List Segment) → AreReadBy h file past front → IsReadBy h file present last →
       AreReadFirst h file (past ++ present ∷ []) (front ++ last ∷ more)
   read_first [] present [] last more are is = (is, tt)
@@ -55,6 +63,15 @@ pub record IsReadSo (h : History) (opened : Opened) (looks : List Look) : Type 0
   pub on : AllByRecursion (λ (segment : Segment). ReadOn (steps_in segment)) (segments_of opened.begin.base (kept_looks h looks))
   pub kept : AllByRecursion (KeepsKey opened.rule opened.begin.key opened.begin.path opened.file) (segments_of opened.begin.base (kept_looks h looks))
   pub end : (lost_looks h looks ≡ []) ⊎ LostItsKey opened.rule opened.begin.key opened.begin.path opened.file (followed_tail opened looks h)
+
+-- each segment of its kept looks read an epoch
+pub record IsReadExactly (h : History) (opened : Opened) (looks : List Look) : Type 0 where
+  pub front : List Segment
+  pub last : Segment
+  pub segments : segments_of opened.begin.base (kept_looks h looks) ≡ front ++ last ∷ []
+  pub past : AreReadBy h opened.file h.past front
+  pub present : IsReadBy h opened.file h.present last
+  pub end_look : h.stage ≡ Ended → HasEndLook last (history.read_to h.present)
 
 -- its key is another one, from this fall on
 pub record IsLost (h : History) (opened : Opened) (looks : List Look) : Type 0 where
@@ -230,6 +247,33 @@ module _ (h : History) (opened : Opened) (told : TailHistory) (file_is : told.fi
             below = omega (arith, to, below);
             other_key = other;
           }))
+
+    -- where its tail may be opened again
+    pub read_exactly : MayReopenAt h.stage → IsReadExactly h opened told.looks
+    read_exactly may = by_stage h.stage refl may looked.stand_behind
+      where
+        exactly : kept_looks h told.looks ≡ looked.since → IsReadExactly h opened told.looks
+        exactly is = record {
+          front = looked.front;
+          last = looked.last;
+          segments = ap (segments_of opened.begin.base) is ∙ since_segments;
+          past = past;
+          present = present;
+          end_look = looked.end_look;
+        }
+
+        whole : has_lost_key h ≡ false → looked.beyond ≡ [] → IsReadExactly h opened told.looks
+        whole keeps nothing =
+            exactly (all_kept h told.looks keeps ∙ looks_are ∙ ap (λ (l : List Look). looked.since ++ l) nothing ∙ append-nil looked.since)
+
+        by_stage : (stage : Stage) → h.stage ≡ stage → MayReopenAt stage → StandBehind h told_file stage looked.beyond → IsReadExactly h opened told.looks
+        by_stage Reads is may behind = whole (loses_by Reads h.rule.file_identity false is refl refl) behind
+        by_stage Asks is may behind = absurd may
+        by_stage Ended is may behind = whole (loses_by Ended h.rule.file_identity false is refl refl) behind
+        by_stage Changed is may behind =
+            exactly (kept_before_fall h told.looks looked.since behind.fallen.fall behind.fallen.later (loses_by Changed h.rule.file_identity true is refl refl)
+            (all_looks behind.fallen) behind.fallen.asks behind.fallen.only_reads)
+        by_stage Over is may behind = absurd may
 
     -- wherever the file stands
     pub read_so : IsReadSo h opened told.looks

@@ -25,16 +25,16 @@ use Rattle.wire_base.specs.declared.note.Note.{Note}
 use Rattle.wire_base.specs.declared.numbers.Slot.{Slot}
 use Rattle.wire_base.specs.declared.parcel.Parcel.{Parcel}
 use Rattle.wire_base.specs.declared.talk.Piece.{Piece}
-use Rattle.accounts.specs.Accounted.{accounted, epoch_account}
-use Rattle.accounts.specs.Filed.{Filed, IsFiled, accounts_of, slot_in, turned_of}
+use Rattle.slot_parts.specs.Tellings.{tellings_in}
+use Rattle.accounts.specs.Filed.{Filed, IsFiled, accounts_of, slot_in, turned_in, turned_of}
 use Rattle.accounts.specs.Ground.{IsParcelOf}
 use Rattle.accounts.specs.Once.{AreOnce}
 use Rattle.accounts.specs.Places.{AreOfWorkers}
 use Rattle.accounts.specs.Same.{same_parcel}
 use Rattle.accounts.specs.Taken.{FitBooks, Taken, taken_by, taken_in}
-use Rattle.accounts.specs.Turned.{Turned, parcels_told, tellings_in}
+use Rattle.accounts.specs.Turned.{Turned, parcels_told}
 use Rattle.accounts.proofs.Apart.{IsInEpochs, starts_apart}
-use Rattle.accounts.proofs.Backing.{epoch_in, mapped_there}
+use Rattle.accounts.proofs.Backing.{epoch_in}
 use Rattle.accounts.proofs.Grounded.{each_member, of_map, taken_has_ground}
 use Rattle.accounts.proofs.Located.{flat}
 use Rattle.accounts.proofs.Often.{often_back, once_apart, once_behind, once_front, once_often, once_others}
@@ -121,24 +121,24 @@ module _ (files : List Turned) (apart : AreDistinct (map (λ (turned : Turned). 
 module _ (placed : Parcel → Option Place) (wires : List WireTold) (files : List Filed) (apart : AreDistinct (map slot_in files)) (filed : AllByRecursion IsFiled files) where
   is_shipped : (parcel : Parcel) → IsParcelOf (turned_of files) parcel → IsShipped (accounts_of placed files) (sending_of parcel)
   is_shipped parcel of =
-      let file = of_map (λ (f : Filed). f.turned) files of.turned of.epoch.of_files in
+      let file = of_map turned_in files of.turned of.epoch.of_files in
       by_file file.item file.among (member_is IsFiled files file.item filed file.among) file.is
     where
-      by_file : (file : Filed) → Contains files file → IsFiled file → file.turned ≡ of.turned → IsShipped (accounts_of placed files) (sending_of parcel)
+      by_file : (file : Filed) → Contains files file → IsFiled file → (turned_in file) ≡ of.turned → IsShipped (accounts_of placed files) (sending_of parcel)
       by_file file among is_filed same =
           let there = subst (λ (t : Turned). Contains (tellings_in t.history) of.telling) (sym same) of.epoch.of_file in
           let found = epoch_in placed wires files apart file among is_filed of.telling there in
-          let slot : file.turned.slot.0 ≡ parcel.slot.0 = ap (λ (t : Turned). t.slot.0) same ∙ ap (λ (s : Slot). s.0) (sym of.slot_is) in
+          let slot : (turned_in file).slot.0 ≡ parcel.slot.0 = ap (λ (t : Turned). t.slot.0) same ∙ ap (λ (s : Slot). s.0) (sym of.slot_is) in
+          let has = found.has of.event of.told in
           record {
-            epoch = epoch_account file.opened placed of.telling found.segment;
+            epoch = found.epoch;
             epoch_is =
-                subst (λ (n : ℕ). epoch_of (accounts_of placed files) n parcel.epoch.0 ≡ Some (epoch_account file.opened placed of.telling found.segment)) slot
-                (subst (λ (n : ℕ). epoch_of (accounts_of placed files) file.turned.slot.0 n ≡ Some (epoch_account file.opened placed of.telling found.segment))
-                (sym of.epoch_is) found.is);
-            one = accounted placed file.opened.begin.slot of.telling.epoch of.event;
-            told = mapped_there (accounted placed file.opened.begin.slot of.telling.epoch) of.telling.told of.event of.told;
-            starts = ap (λ (e : Extent). e.start) (sym of.span_is);
-            shipped = of.fate_is;
+                subst (λ (n : ℕ). epoch_of (accounts_of placed files) n parcel.epoch.0 ≡ Some found.epoch) slot
+                (subst (λ (n : ℕ). epoch_of (accounts_of placed files) (turned_in file).slot.0 n ≡ Some found.epoch) (sym of.epoch_is) found.is);
+            one = has.one;
+            told = has.there;
+            starts = ap (λ (e : ToldEvent). e.span.start) has.event_is ∙ ap (λ (e : Extent). e.start) (sym of.span_is);
+            shipped = ap (λ (e : ToldEvent). e.fate) has.event_is ∙ of.fate_is;
           }
 
   are_shipped : (windows : List (List Parcel)) → ((parcel : Parcel) → Contains (flat windows) parcel → IsParcelOf (turned_of files) parcel) →

@@ -14,10 +14,11 @@ use Rattle.wire_base.specs.Extent.{Extent}
 use Rattle.wire_base.specs.declared.note.Note.{Note}
 use Rattle.wire_base.specs.declared.numbers.Slot.{Slot}
 use Rattle.wire_base.specs.declared.parcel.Parcel.{Parcel}
+use Rattle.slot_parts.specs.Tellings.{tellings_in}
 use Rattle.accounts.specs.Once.{one_where}
 use Rattle.accounts.specs.RunDone.{AreAllCollected}
 use Rattle.accounts.specs.Taken.{FitBooks, Taken, acknowledged_in, carried_in, settles, taken_by, taken_in}
-use Rattle.accounts.specs.Turned.{Turned, announced_in, events_in, notes_in, notes_told, parcels_by, parcels_in, parcels_of, parcels_told, settlements_by, settlements_in, settlements_of, spans_in, tellings_in}
+use Rattle.accounts.specs.Turned.{Turned, announced_in, events_in, notes_in, notes_told, parcels_by, parcels_in, parcels_of, parcels_told, settlements_by, settlements_in, settlements_of, spans_in}
 
 abbrev one_each : {A : Type 0} → A → ℕ
 one_each item = 1

@@ -7,7 +7,7 @@ use Rattle.pass_sums.specs.Weight.{AsOften}
 use Rattle.ship_core.specs.Orderly.{AreOrderly}
 use Rattle.wire_base.specs.declared.note.Note.{Note}
 use Rattle.wire_base.specs.declared.note.Note.TheVariants.{Seen}
-use Rattle.accounts.specs.Filed.{Filed, HasItsSlot, turned_of}
+use Rattle.accounts.specs.Filed.{Filed, HasItsSlot, Opening, told_over, turned_of}
 use Rattle.accounts.specs.FirstNotes.{AreFirstNotes, AreFirstNotesAs, IsBeginAs, IsBeginOf, IsMomentAs, IsMomentOfOne}
 use Rattle.accounts.specs.Opened.{Opened}
 use Rattle.accounts.specs.Taken.{FitBooks, Taken, acknowledged_in}
@@ -60,7 +60,11 @@ module _ (looks : Opened → List Look) (changed : Opened → ℕ) (told : List 
 
   are_in_epochs : (files : List Filed) → AllByRecursion (IsJoined looks changed told) files → AllByRecursion IsInEpochs told → AllByRecursion IsInEpochs (turned_of files)
   are_in_epochs [] each epochs = tt
-  are_in_epochs (file ∷ files) each epochs = (member_is IsInEpochs told file.turned epochs each.0.among, are_in_epochs files each.1 epochs)
+  are_in_epochs (file ∷ files) each epochs = (
+    subst (λ (later : List Opening). IsInEpochs (record { slot = file.turned.slot; history = told_over file.turned.history later })) (sym each.0.alone)
+        (member_is IsInEpochs told file.turned epochs each.0.among),
+    are_in_epochs files each.1 epochs,
+  )
 
   module _ (opened : List Opened) (joined : AreJoined looks changed opened told) where
     pub joined_first_notes : (first : List Note) → AreFirstNotesAs changed opened first → AreFirstNotes joined.files first

@@ -1,18 +1,18 @@
 -- If no note is elsewhere, each event of the account that is settled is so by a note, and rows over all notes are stored as far as events are.
-use Rattle.std.proofs.Common.{◌≡◌, ℕ, ◌+◌, List, [], ◌∷◌, ◌++◌, Contains, map, Option, None, Some, refl, sym, subst}
+use Rattle.std.proofs.Common.{◌≡◌, ℕ, suc, List, [], ◌∷◌, ◌++◌, Contains, map, Option, None, Some, refl, sym, subst}
 use Rattle.std.proofs.lemmas.List.Elements.{Contains-append_left, Contains-append_right}
 use Rattle.std.specs.List.{AllByRecursion, flat_map}
 use Rattle.batch_worker.specs.Held.{note_of, notes_of}
-use Rattle.file_looks.specs.Segment.{Segment, segments_of}
 use Rattle.harvester.specs.History.{Telling}
 use Rattle.kept_rows.proofs.Images.{found_by_its_key}
+use Rattle.kept_rows.proofs.Showing.{both}
 use Rattle.kept_rows.proofs.Storing.{Covers, stored_at_the_end}
 use Rattle.kept_rows.specs.Account.{AccountedEvent, EpochAccount, Place, SlotAccount, slot_of}
 use Rattle.kept_rows.specs.Backed.{AreBacked, AreBegun, AreInRows}
 use Rattle.kept_rows.specs.Kept.{IsSettled, SettlesAs}
 use Rattle.kept_rows.specs.Stored.{AreAllNoted as AreAllSettledIn, IsAllSettledBy, IsStored, settlement_of}
 use Rattle.kept_rows.specs.Trace.{WireTold}
-use Rattle.ship_core.proofs.Members.{first_there, later_there}
+use Rattle.ship_core.proofs.Members.{first_there, later_there, none_there}
 use Rattle.ship_core.specs.RowsOver.{AreRowsOver}
 use Rattle.told_events.specs.Fate.{DroppedBy, Fate, ShippedAs, cause_of_fate}
 use Rattle.told_events.specs.Told.{ToldEvent}
@@ -22,18 +22,20 @@ use Rattle.wire_base.specs.declared.note.Note.TheVariants.{Settle}
 use Rattle.wire_base.specs.declared.numbers.Slot.{Slot}
 use Rattle.wire_base.specs.declared.parcel.Parcel.{Parcel}
 use Rattle.wire_base.specs.declared.row.Row.{Row}
-use Rattle.accounts.specs.Accounted.{accounted, epoch_accounts, place_by, untold_epochs}
-use Rattle.accounts.specs.Filed.{Filed, HasItsSlot, account_of, accounts_of, turned_of}
-use Rattle.accounts.specs.Opened.{Opened}
-use Rattle.accounts.specs.Parted.{kept_looks}
+use Rattle.slot_parts.specs.Account.{epoch_account, events_from}
+use Rattle.slot_parts.specs.Parts.{EpochParts, Part, epochs_of, told_in}
+use Rattle.slot_parts.specs.Tellings.{tellings_in}
+use Rattle.accounts.specs.Accounted.{place_by, place_in}
+use Rattle.accounts.specs.Filed.{Filed, IsFiled, TellEpochs, account_of, accounts_of, parts_told, turned_in, turned_of}
 use Rattle.accounts.specs.Places.{ArePlaces}
 use Rattle.accounts.specs.Same.{same_note}
 use Rattle.accounts.specs.Taken.{Taken, acknowledged_in}
-use Rattle.accounts.specs.Turned.{Turned, notes_told, settlements_by, settlements_in, settlements_of, tellings_in}
+use Rattle.accounts.specs.Turned.{Turned, notes_told, settlements_by, settlements_in, settlements_of}
 use Rattle.accounts.proofs.Backing.{mapped_there}
 use Rattle.accounts.proofs.Grounded.{each_member}
 use Rattle.accounts.proofs.Keeping.{closes_by}
 use Rattle.accounts.proofs.LastNotes.{flat_there, settlement_there}
+use Rattle.accounts.proofs.Lists.{flat_map_both}
 use Rattle.accounts.proofs.Numbers.{AreAllNoted}
 use Rattle.accounts.proofs.Often.{often_back, often_contains}
 use Rattle.accounts.proofs.Same.{tells_notes}
@@ -58,48 +60,63 @@ module _ (placed : Parcel → Option Place) (workers : List Taken) (wires : List
   abbrev IsNoted : Slot → ℕ → AccountedEvent → Type 0
   IsNoted slot epoch event = IsSettled wires event → Contains notes (settlement slot epoch event.event)
 
-  events_are_noted : (slot : Slot) (epoch : ℕ) (told : List ToldEvent) → ((note : Note) → Contains (settlements_of slot epoch told) note → Contains notes note) →
-      AllByRecursion (IsNoted slot epoch) (map (accounted placed slot epoch) told)
-  events_are_noted slot epoch [] own = tt
-  events_are_noted slot epoch (one ∷ told) own = (
+  events_are_noted : (slot : Slot) (epoch reading : ℕ) (told : List ToldEvent) → ((note : Note) → Contains (settlements_of slot epoch told) note → Contains notes note) →
+      AllByRecursion (IsNoted slot epoch) (map (λ (event : ToldEvent). record { event = event; reading = reading; place = place_in placed slot epoch event }) told)
+  events_are_noted slot epoch reading [] own = tt
+  events_are_noted slot epoch reading (one ∷ told) own = (
     fate_is_noted slot epoch one.span one.fate (λ note there. own note (Contains-append_left (settlements_by slot epoch one.span one.fate) (settlements_of slot epoch told) note there)),
-    events_are_noted slot epoch told (λ note there. own note (Contains-append_right (settlements_by slot epoch one.span one.fate) (settlements_of slot epoch told) note there)),
+    events_are_noted slot epoch reading told (λ note there. own note (Contains-append_right (settlements_by slot epoch one.span one.fate) (settlements_of slot epoch told) note there)),
   )
+
+  parts_are_noted : (slot : Slot) (epoch reading : ℕ) (parts : List Part) → ((note : Note) → Contains (settlements_of slot epoch (told_in parts)) note → Contains notes note) →
+      AllByRecursion (IsNoted slot epoch) (events_from (place_in placed slot epoch) reading parts)
+  parts_are_noted slot epoch reading [] own = tt
+  parts_are_noted slot epoch reading (part ∷ parts) own =
+      let here = settlements_of slot epoch part.told in
+      let later = settlements_of slot epoch (told_in parts) in
+      let both_are : here ++ later ≡ settlements_of slot epoch (part.told ++ told_in parts) =
+      sym (flat_map_both (λ (one : ToldEvent). settlements_by slot epoch one.span one.fate) part.told (told_in parts)) in
+      both (IsNoted slot epoch) (map (λ (event : ToldEvent). record { event = event; reading = reading; place = place_in placed slot epoch event }) part.told)
+      (events_from (place_in placed slot epoch) (suc reading) parts)
+      (events_are_noted slot epoch reading part.told (λ note there. own note (subst (λ (l : List Note). Contains l note) both_are (Contains-append_left here later note there))))
+      (parts_are_noted slot epoch (suc reading) parts (λ note there. own note (subst (λ (l : List Note). Contains l note) both_are (Contains-append_right here later note there))))
 
   abbrev AreNoted : Slot → EpochAccount → Type 0
   AreNoted slot epoch = AllByRecursion (IsNoted slot epoch.epoch) epoch.told
 
-  untold_are_noted : (slot : Slot) (opened : Opened) (number : ℕ) (segments : List Segment) → AllByRecursion (AreNoted slot) (untold_epochs opened number segments)
-  untold_are_noted slot opened number [] = tt
-  untold_are_noted slot opened number (segment ∷ segments) = (tt, untold_are_noted slot opened (number + 1) segments)
-
-  epochs_are_noted : (opened : Opened) (number : ℕ) (tellings : List Telling) (segments : List Segment) →
-      ((telling : Telling) → Contains tellings telling → (note : Note) → Contains (settlements_in opened.begin.slot telling) note → Contains notes note) →
-      AllByRecursion (AreNoted opened.begin.slot) (epoch_accounts opened placed number tellings segments)
-  epochs_are_noted opened number [] segments own = untold_are_noted opened.begin.slot opened number segments
-  epochs_are_noted opened number (telling ∷ tellings) [] own = tt
-  epochs_are_noted opened number (telling ∷ tellings) (segment ∷ segments) own = (
-    events_are_noted opened.begin.slot telling.epoch telling.told (own telling (first_there telling tellings)),
-    epochs_are_noted opened telling.epoch tellings segments (λ one there. own one (later_there telling one tellings there)),
+  epochs_are_noted : (slot : Slot) (epochs : List EpochParts) (tellings : List Telling) → TellEpochs epochs tellings →
+      ((telling : Telling) → Contains tellings telling → (note : Note) → Contains (settlements_in slot telling) note → Contains notes note) →
+      AllByRecursion (AreNoted slot) (map (epoch_account (place_in placed slot)) epochs)
+  epochs_are_noted slot [] tellings tell own = tt
+  epochs_are_noted slot (one ∷ epochs) [] tell own = (
+    parts_are_noted slot one.epoch 0 one.parts
+        (λ note there. absurd (none_there note (subst (λ (l : List ToldEvent). Contains (settlements_of slot one.epoch l) note) tell.0 there))),
+    epochs_are_noted slot epochs [] tell.1 own,
+  )
+  epochs_are_noted slot (one ∷ epochs) (telling ∷ tellings) tell own = (
+    parts_are_noted slot one.epoch 0 one.parts
+        (λ note there. own telling (first_there telling tellings) note
+        (subst (λ (l : List Note). Contains l note) (λ k. settlements_of slot (tell.0.epoch k) (tell.0.told k)) there)),
+    epochs_are_noted slot epochs tellings tell.1 (λ other there. own other (later_there telling other tellings there)),
   )
 
-  file_is_noted : (file : Filed) → HasItsSlot file → ((note : Note) → Contains (notes_told file.turned) note → Contains notes note) →
+  file_is_noted : (file : Filed) → IsFiled file → ((note : Note) → Contains (notes_told (turned_in file)) note → Contains notes note) →
       AllByRecursion (AreAllSettledIn notes wires (account_of placed file)) (account_of placed file).epochs
-  file_is_noted file slot own =
-      epochs_are_noted file.opened file.opened.begin.epoch.0 (tellings_in file.turned.history) (segments_of file.opened.begin.base (kept_looks file.turned.history file.looks))
-      (λ telling among note there. own note (settlement_there file.turned.slot (tellings_in file.turned.history) telling note among
-      (subst (λ (s : Slot). Contains (settlements_in s telling) note) (sym slot) there)))
+  file_is_noted file filed own =
+      epochs_are_noted file.opened.begin.slot (epochs_of file.opened.begin.epoch.0 file.opened.begin.base (parts_told file)) (tellings_in (turned_in file).history) filed.tell
+      (λ telling among note there. own note (settlement_there file.turned.slot (tellings_in (turned_in file).history) telling note among
+      (subst (λ (s : Slot). Contains (settlements_in s telling) note) (sym filed.slot) there)))
 
-  all_are_noted : (files : List Filed) → AllByRecursion HasItsSlot files → ((turned : Turned) → Contains (turned_of files) turned → (note : Note) → Contains (notes_told turned) note → Contains notes note) →
+  all_are_noted : (files : List Filed) → AllByRecursion IsFiled files → ((turned : Turned) → Contains (turned_of files) turned → (note : Note) → Contains (notes_told turned) note → Contains notes note) →
       IsAllSettledBy notes wires (accounts_of placed files)
-  all_are_noted [] slots own = tt
-  all_are_noted (file ∷ files) slots own = (
-    file_is_noted file slots.0 (own file.turned (first_there file.turned (turned_of files))),
-    all_are_noted files slots.1 (λ turned there. own turned (later_there file.turned turned (turned_of files) there)),
+  all_are_noted [] filed own = tt
+  all_are_noted (file ∷ files) filed own = (
+    file_is_noted file filed.0 (own (turned_in file) (first_there (turned_in file) (turned_of files))),
+    all_are_noted files filed.1 (λ turned there. own turned (later_there (turned_in file) turned (turned_of files) there)),
   )
 
 module _ (covers : Covers) (placed : Parcel → Option Place) (workers : List Taken) (wires : List WireTold) (places : ArePlaces placed workers wires) (files : List Filed)
-    (slots : AllByRecursion HasItsSlot files) (first collected : List Note) (noted : AreAllNoted (turned_of files) workers collected) where
+    (filed : AllByRecursion IsFiled files) (first collected : List Note) (noted : AreAllNoted (turned_of files) workers collected) where
   abbrev told_notes : List Note
   told_notes = flat_map notes_told (turned_of files)
 
@@ -113,7 +130,7 @@ module _ (covers : Covers) (placed : Parcel → Option Place) (workers : List Ta
   settled_by_notes =
       all_are_noted placed workers wires places (first ++ collected)
       (λ parcel there. in_notes (note_of parcel) (Contains-append_right told_notes (notes_of (acknowledged_in workers)) (note_of parcel) (mapped_there note_of (acknowledged_in workers) parcel there)))
-      files slots
+      files filed
       (λ turned among note there. in_notes note (Contains-append_left told_notes (notes_of (acknowledged_in workers)) note (flat_there notes_told (turned_of files) turned note among there)))
 
   pub rows_are_stored : AreInRows (accounts_of placed files) → AreBacked (accounts_of placed files) wires (first ++ collected) → AreBegun (accounts_of placed files) (first ++ collected) →

@@ -9,7 +9,7 @@ use Rattle.wire_base.specs.declared.note.Begin.{Begin}
 use Rattle.wire_base.specs.declared.note.Cause.TheVariants.{Dropped}
 use Rattle.wire_base.specs.declared.note.Note.TheVariants.{Announce, Settle}
 use Rattle.wire_base.specs.declared.parcel.Parcel.{Parcel}
-use Rattle.accounts.specs.Accounted.{slot_account}
+use Rattle.accounts.specs.Filed.{Filed, account_of}
 use Rattle.accounts.specs.Opened.{Opened}
 use Rattle.accounts.specs.Turned.{Turned, notes_told, parcels_told, spans_told}
 
@@ -58,7 +58,10 @@ history = record {
 abbrev placed : Parcel → Option Place
 placed parcel = Some (record { wire = 0; connection = 0; number = if parcel.span.start == 0 then 0 else 1 })
 
-pub two_plain_lines_are_accounted : slot_account opened 0 worked.looks placed history ≡ worked.slot_account
+abbrev file : Filed
+file = record { opened = opened; turned = record { slot = record { 0 = 0 }; history = history }; looks = worked.looks; changed = 0; later = [] }
+
+pub two_plain_lines_are_accounted : account_of placed file ≡ worked.slot_account
 two_plain_lines_are_accounted = refl
 
 -- ---- what it gave

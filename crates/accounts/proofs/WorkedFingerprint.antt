@@ -179,6 +179,7 @@ file_is_followed = record {
   shown = worked.shown;
   listed = record { number = 0; shows = shows_to; path_is = refl; first = first_path; before = (lit≤ tt, tt); starts = refl };
   moment = inl refl;
+  reopened = tt;
 }
 
 each_opening : EachOpeningIsOne run (file ∷ [])
@@ -237,6 +238,7 @@ is_done = record {
   served = served;
   whole = (
     record {
+      alone = refl;
       read_through = inl (record { ended = refl; all_told = refl });
       moment = record {
         shown = worked.shown;

@@ -173,6 +173,7 @@ file_is_followed = record {
   shown = behind;
   listed = record { number = 0; shows = shows_behind; path_is = refl; first = first_path; before = (lit≤ tt, (lit≤ tt, tt)); starts = refl };
   moment = inl refl;
+  reopened = tt;
 }
 
 -- ---- each entry is served

@@ -77,6 +77,7 @@ module _ (globs : List (List ℕ)) (identity : IdentityRule) (numbers : Option (
     turned = record { slot = record { 0 = 0 }; history = record history { rule = rule_by; begin = record begin { key = key }; before = asked } };
     looks = asked ++ worked.looks;
     changed = 0;
+    later = [];
   }
 
   is_telling : IsTelling (rules_in file_by.turned.history) telling
@@ -164,6 +165,7 @@ followed_file = record {
   shown = worked.shown;
   listed = record { number = 0; shows = worked.shows_to; path_is = refl; first = worked.first_path; before = (lit≤ tt, tt); starts = refl };
   moment = inl refl;
+  reopened = tt;
 }
 
 -- ---- its notes and its talk
@@ -261,6 +263,7 @@ is_done = record {
   served = served;
   whole = (
     record {
+      alone = refl;
       read_through = inl (record { ended = refl; all_told = refl });
       moment = record {
         shown = worked.shown;

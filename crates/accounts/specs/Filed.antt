@@ -1,33 +1,105 @@
--- The files of a run with what was told of them (this project's profile), and their account as a whole.
-use Rattle.std.specs.Prelude.{◌≡◌, ℕ, ◌≤◌, List, Contains, length, map, Option}
-use Rattle.file_looks.specs.Segment.{segments_of}
-use Rattle.kept_rows.specs.Account.{Place, SlotAccount}
+-- The files of a run with what was told of them (this project's profile), and their account as a whole. A file is opened again after its
+-- tail was closed: what its tails told, one by one, is joined in one account.
+use Rattle.std.specs.Prelude.{◌≡◌, ℕ, ◌-◌, ◌==◌, List, [], ◌∷◌, ◌++◌, Contains, map, take, Option, None, if◌then◌else◌}
+use Rattle.harvester.specs.History.{History, Telling, told_to}
+use Rattle.kept_rows.specs.Account.{Following, Place, SlotAccount}
 use Rattle.outside.specs.declared.history.Look.{Look}
+use Rattle.slot_parts.specs.Account.{slot_account}
+use Rattle.slot_parts.specs.Parts.{EpochParts, Part, epochs_of, told_in}
+use Rattle.slot_parts.specs.Tails.{ToldTail, parts_in, tails_of}
+use Rattle.slot_parts.specs.Tellings.{tellings_in}
 use Rattle.wire_base.specs.declared.note.Note.{Note}
 use Rattle.wire_base.specs.declared.note.Note.TheVariants.{Begin}
 use Rattle.wire_base.specs.declared.numbers.Moment.{Moment}
 use Rattle.wire_base.specs.declared.parcel.Parcel.{Parcel}
-use Rattle.accounts.specs.Accounted.{slot_account}
+use Rattle.accounts.specs.Accounted.{place_in, told_tail}
 use Rattle.accounts.specs.Opened.{Opened}
-use Rattle.accounts.specs.Parted.{kept_looks}
 use Rattle.accounts.specs.ToldFile.{AreEpochsFrom}
-use Rattle.accounts.specs.Turned.{Turned, tellings_in}
+use Rattle.accounts.specs.Turned.{Turned}
 
--- what its tail told, and the greatest moment of change that was noted of it
+-- an opening of a slot's file: what its tail told, and what its harvester told of it
+pub record Opening : Type 0 where
+  pub opened : Opened
+  pub history : History
+  pub looks : List Look
+
+-- what its first tail told, the greatest moment of change that was noted of it, and the openings behind its first one, in order
 pub record Filed : Type 0 where
   pub opened : Opened
   pub turned : Turned
   pub looks : List Look
   pub changed : ℕ
+  pub later : List Opening
 
 abbrev pub slot_in : Filed → ℕ
 slot_in file = file.opened.begin.slot.0
 
-abbrev pub turned_of : List Filed → List Turned
-turned_of files = map (λ (file : Filed). file.turned) files
+abbrev pub first_opening : Filed → Opening
+first_opening file = record { opened = file.opened; history = file.turned.history; looks = file.looks }
 
+-- ---- what was told of it over all its openings
+
+-- an epoch that a later tail goes on to tell, from where it was told so far
+abbrev pub told_on : Telling → Telling → Telling
+told_on before telling = record {
+  epoch = before.epoch;
+  start = before.start;
+  bytes = take (told_to before - before.start) before.bytes ++ telling.bytes;
+  licences = before.licences ++ telling.licences;
+  told = before.told ++ telling.told;
+}
+
+-- the first of the later epochs goes on with the present one where it has its number
+abbrev pub epochs_behind : List Telling → Telling → History → List Telling → History
+epochs_behind past present next [] =
+    if next.present.epoch == present.epoch then record next { past = past; present = told_on present next.present }
+    else record next { past = past ++ present ∷ [] }
+epochs_behind past present next (first ∷ later) =
+    if first.epoch == present.epoch then record next { past = past ++ told_on present first ∷ later }
+    else record next { past = past ++ present ∷ first ∷ later }
+
+-- the history of the later tail, behind the epochs that were told before
+abbrev pub told_both : History → History → History
+told_both before next = epochs_behind before.past before.present next next.past
+
+abbrev pub told_over : History → List Opening → History
+told_over so_far [] = so_far
+told_over so_far (next ∷ later) = told_over (told_both so_far next.history) later
+
+-- an epoch that rose as the file was opened again is announced as any other
+abbrev pub turned_in : Filed → Turned
+turned_in file = record { slot = file.turned.slot; history = told_over file.turned.history file.later }
+
+abbrev pub turned_of : List Filed → List Turned
+turned_of files = map turned_in files
+
+-- ---- its account
+
+abbrev pub tail_by : Opening → ToldTail
+tail_by one = told_tail one.opened one.looks one.history
+
+abbrev pub tails_in : Filed → List ToldTail
+tails_in file = tail_by (first_opening file) ∷ map tail_by file.later
+
+abbrev pub following_of : Filed → Following
+following_of file = record {
+  slot = file.opened.begin.slot.0;
+  input = file.opened.begin.input;
+  key = file.opened.begin.key;
+  epoch = file.opened.begin.epoch.0;
+  base = file.opened.begin.base;
+  known_from = 0;
+  gone_after = None;
+  tails = tails_of (tails_in file);
+}
+
+abbrev pub parts_told : Filed → List Part
+parts_told file = parts_in file.opened.rule.multiline (tails_in file)
+
+-- each of its events where `placed` has its parcel
 abbrev pub account_of : (Parcel → Option Place) → Filed → SlotAccount
-account_of placed file = slot_account file.opened file.changed file.looks placed file.turned.history
+account_of placed file =
+    slot_account (place_in placed file.opened.begin.slot) (following_of file) file.opened.number file.changed (parts_told file)
 
 abbrev pub accounts_of : (Parcel → Option Place) → List Filed → List SlotAccount
 accounts_of placed files = map (account_of placed) files
@@ -36,11 +108,24 @@ accounts_of placed files = map (account_of placed) files
 abbrev pub HasItsSlot : Filed → Type 0
 HasItsSlot file = file.turned.slot ≡ file.opened.begin.slot
 
--- each of its epochs was read by a segment of its looks
+-- the parts of the epoch told what the harvesters told of it
+pub record TellEpoch (parts : EpochParts) (telling : Telling) : Type 0 where
+  pub epoch : parts.epoch ≡ telling.epoch
+  pub start : parts.start ≡ telling.start
+  pub told : told_in parts.parts ≡ telling.told
+
+-- epoch by epoch; in those behind them nothing was told
+abbrev pub TellEpochs : List EpochParts → List Telling → Type 0
+TellEpochs [] [] = Unit {0}
+TellEpochs [] (telling ∷ tellings) = ⊥
+TellEpochs (one ∷ epochs) [] = (told_in one.parts ≡ []) × TellEpochs epochs []
+TellEpochs (one ∷ epochs) (telling ∷ tellings) = TellEpoch one telling × TellEpochs epochs tellings
+
+-- the epochs of its account are those that were told of it
 pub record IsFiled (file : Filed) : Type 0 where
   pub slot : file.turned.slot ≡ file.opened.begin.slot
-  pub epochs : AreEpochsFrom file.opened.begin.epoch.0 file.opened.begin.base (tellings_in file.turned.history)
-  pub few : length (tellings_in file.turned.history) ≤ length (segments_of file.opened.begin.base (kept_looks file.turned.history file.looks))
+  pub epochs : AreEpochsFrom file.opened.begin.epoch.0 file.opened.begin.base (tellings_in (turned_in file).history)
+  pub tell : TellEpochs (epochs_of file.opened.begin.epoch.0 file.opened.begin.base (parts_told file)) (tellings_in (turned_in file).history)
 
 -- its Begin is among the notes
 pub record IsNoted (notes : List Note) (file : Filed) : Type 0 where

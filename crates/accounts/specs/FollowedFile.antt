@@ -1,35 +1,37 @@
--- The files that a run follows, each by one tail (this project's profile): the one scan listed them, the folder opened them by
--- their paths and found their keys, and what their tails told stands in the folder's list.
-use Rattle.std.specs.Prelude.{◌≡◌, ◌⊎◌, ℕ, ◌+◌, ◌≤◌, max, List, [], ◌∷◌, ◌++◌, Contains, map, slice_get, Some}
+-- The files that a run follows, each by tails that were opened one by one (this project's profile): the one scan listed them, the folder
+-- opened them by their paths and found their keys, and what their tails told stands in the folder's list. A tail is opened again only
+-- after the one before it was closed; it goes on from the end of the last event that was told, in the same epoch where the file was
+-- listed with at least that size, else from the first byte in the next one.
+use Rattle.std.specs.Prelude.{◌≡◌, ◌⊎◌, ℕ, ◌+◌, ◌≤◌, max, List, [], ◌∷◌, ◌++◌, Contains, flat_map, map, slice_get, Some}
 use Rattle.std.specs.List.{AllByRecursion}
 use Rattle.file_identity.specs.AskedAgain.{GivesKey}
-use Rattle.kept_rows.specs.Followed.{OnlyReads, Start, asked_openings, start_by}
+use Rattle.harvester.specs.History.{Asks, Changed, Ended, History, Over, Reads, Stage, told_to}
+use Rattle.kept_rows.specs.Followed.{IsClosedBefore, OnlyReads, Start, asked_openings, start_by}
 use Rattle.kept_rows.specs.Run.{Run, Scan}
-use Rattle.kept_rows.specs.Scans.{AreDistinct, IsBefore, IsFirstPath, ShowsFileTo, moment_in}
+use Rattle.kept_rows.specs.Scans.{AreDistinct, IsBefore, IsFirstPath, ShowsFileTo, ShowsKey, moment_in}
 use Rattle.kept_rows.specs.Telling.{opening_moment}
 use Rattle.kept_rows.specs.Trace.{IsTail}
 use Rattle.multiline_core.specs.Rule.{IsGroupRule}
 use Rattle.outside.specs.Folders.{Opened as OpenedAs}
 use Rattle.outside.specs.Tails.{TailHistory}
+use Rattle.outside.specs.declared.history.Look.{Look}
 use Rattle.outside.specs.declared.history.Shown.{Shown}
 use Rattle.outside.specs.declared.history.Sight.{Sight}
 use Rattle.ship_core.specs.Rows.{find}
-use Rattle.accounts.specs.Filed.{Filed, slot_in}
+use Rattle.slot_parts.specs.Account.{goes_on}
+use Rattle.accounts.specs.Filed.{Filed, Opening, first_opening, slot_in, tail_by, told_both}
 use Rattle.accounts.specs.Opened.{Opened}
 use Rattle.accounts.specs.ToldFile.{IsToldFile}
 
--- what its tail told, in the words of a tail; the folder's closing has its looks once it is closed
-abbrev pub tail_of : Filed → TailHistory
-tail_of file = record {
-  opening = file.opened.opening;
-  number = file.opened.number;
-  file = file.opened.file;
-  begun = file.opened.begun;
-  looks = file.looks;
-}
+-- what the tail told, in its own words; the folder's closing has its looks once it is closed
+abbrev pub tail_with : Opened → List Look → TailHistory
+tail_with opened looks = record { opening = opened.opening; number = opened.number; file = opened.file; begun = opened.begun; looks = looks }
 
-abbrev pub opening_in : Filed → ℕ
-opening_in file = file.opened.opening
+abbrev pub tail_of : Filed → TailHistory
+tail_of file = tail_with file.opened file.looks
+
+abbrev pub openings_in : Filed → List ℕ
+openings_in file = file.opened.opening ∷ map (λ (one : Opening). one.opened.opening) file.later
 
 abbrev pub key_in : Filed → List ℕ
 key_in file = file.opened.begin.key
@@ -56,7 +58,56 @@ moment_by run file shown = max (opening_moment run.opening file.opened.begin.key
 abbrev pub IsMomentOf : Run → Filed → Shown → Type 0
 IsMomentOf run file shown = (file.changed ≡ opening_moment run.opening file.opened.begin.key) ⊎ (file.changed ≡ moment_by run file shown)
 
--- `told` is what outlives its harvester; the others stand in the settings, the scan and the folder's list
+-- ---- opened again
+
+-- the last scan before the opening that showed the key showed it by this path first
+pub record WasShownLast (run : Run) (opened : Opened) : Type 0 where
+  pub front : List Scan
+  pub scan : Scan
+  pub behind : List Scan
+  pub scans_are : run.scans ≡ front ++ scan ∷ behind
+  pub made_before : IsBefore opened.opening scan
+  pub none_nearer : AllByRecursion (λ other. ShowsKey run other opened.begin.key → ¬ (IsBefore opened.opening other)) behind
+  pub number : ℕ
+  pub shown : Shown
+  pub shows : ShowsFileTo run scan opened.begin.input opened.begin.key number shown
+  pub path_is : shown.entry.path ≡ opened.begin.path
+  pub first : IsFirstPath run scan opened.begin.key number opened.begin.path
+
+-- the tail was closed where it read on, at its file's end, or where the file had another key
+abbrev pub MayReopenAt : Stage → Type 0
+MayReopenAt Reads = Unit {0}
+MayReopenAt Asks = ⊥
+MayReopenAt Ended = Unit {0}
+MayReopenAt Changed = Unit {0}
+MayReopenAt Over = ⊥
+
+-- its slot's file, by the settings and the folder's list, with what its tail told
+pub record IsOpeningOf (run : Run) (first : Opened) (one : Opening) : Type 0 where
+  pub same_slot : one.opened.begin.slot ≡ first.begin.slot
+  pub same_input : one.opened.begin.input ≡ first.begin.input
+  pub same_key : one.opened.begin.key ≡ first.begin.key
+  pub same_rule : one.opened.rule ≡ first.rule
+  pub gave : GivesKey one.opened.rule one.opened.begin.key one.opened.begin.path one.opened.file one.opened.asked
+  pub file_is : slice_get run.trace.files one.opened.number ≡ Some one.opened.file
+  pub tail : IsTail run.trace one.opened.opening one.opened.begin.path one.opened.number one.looks
+  pub told : IsToldFile run.settings.processors one.opened run.trace.moments (record { slot = first.begin.slot; history = one.history }) (Some (tail_with one.opened one.looks))
+
+-- behind the opening before it, where so much was told so far
+pub record IsReopened (run : Run) (first : Opened) (last : Opening) (so_far : History) (next : Opening) : Type 0 where
+  pub is : IsOpeningOf run first next
+  pub shown : WasShownLast run next.opened
+  pub starts : start_in next.opened ≡ goes_on so_far.present.epoch (told_to so_far.present) shown.shown.entry.size
+  pub may : MayReopenAt last.history.stage
+  pub closed : IsClosedBefore run.trace (tail_by last).tail (tail_by next).tail
+
+abbrev pub AreReopened : Run → Opened → Opening → History → List Opening → Type 0
+AreReopened run first last so_far [] = Unit {0}
+AreReopened run first last so_far (next ∷ later) = IsReopened run first last so_far next × AreReopened run first next (told_both so_far next.history) later
+
+-- ---- together
+
+-- `told` is what outlives its first harvester; the others stand in the settings, the scan and the folder's list
 pub record IsFollowedFile (run : Run) (scan : Scan) (file : Filed) : Type 0 where
   pub rule_is : slice_get run.settings.inputs file.opened.begin.input ≡ Some file.opened.rule
   pub gave : GivesKey file.opened.rule file.opened.begin.key file.opened.begin.path file.opened.file file.opened.asked
@@ -67,6 +118,7 @@ pub record IsFollowedFile (run : Run) (scan : Scan) (file : Filed) : Type 0 wher
   pub shown : Shown
   pub listed : IsListedAs run scan file.opened shown
   pub moment : IsMomentOf run file shown
+  pub reopened : AreReopened run file.opened (first_opening file) file.turned.history file.later
 
 -- the slots rise from this one on
 abbrev pub AreInSlots : ℕ → List Filed → Type 0
@@ -77,7 +129,7 @@ AreInSlots least (file ∷ files) = (least ≤ slot_in file) × AreInSlots (slot
 abbrev pub EachOpeningIsOne : Run → List Filed → Type 0
 EachOpeningIsOne run files = (opening : ℕ) (path : List ℕ) (number : ℕ) (begun : Sight) → run.trace.began ≤ opening →
     slice_get run.trace.events opening ≡ Some (OpenedAs path number begun) →
-    Contains (map opening_in files) opening ⊎ OnlyReads run.trace opening
+    Contains (flat_map openings_in files) opening ⊎ OnlyReads run.trace opening
 
 -- in the order of their slots, which is that of the listed files; each key is there once, and each opening, those that only asked with
 -- them
@@ -85,5 +137,5 @@ pub record AreFollowedFiles (run : Run) (scan : Scan) (files : List Filed) : Typ
   pub each : AllByRecursion (IsFollowedFile run scan) files
   pub slots : AreInSlots 0 files
   pub keys_apart : AreDistinct (map key_in files)
-  pub openings_apart : AreDistinct (asked_openings run ++ map opening_in files)
+  pub openings_apart : AreDistinct (asked_openings run ++ flat_map openings_in files)
   pub openings_serve : EachOpeningIsOne run files

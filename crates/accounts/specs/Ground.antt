@@ -8,7 +8,8 @@ use Rattle.told_events.specs.Told.{ToldEvent}
 use Rattle.wire_base.specs.declared.note.Note.{Note}
 use Rattle.wire_base.specs.declared.note.Note.TheVariants.{Announce, Settle}
 use Rattle.wire_base.specs.declared.parcel.Parcel.{Parcel}
-use Rattle.accounts.specs.Turned.{Turned, tellings_in}
+use Rattle.slot_parts.specs.Tellings.{tellings_in}
+use Rattle.accounts.specs.Turned.{Turned}
 
 -- one of the epochs of one of the files
 pub record IsEpochOf (files : List Turned) (turned : Turned) (telling : Telling) : Type 0 where

@@ -1,7 +1,7 @@
 -- Runs in a row, by their accounts (this project's profile): where a run opens the row that the run before left, with the same
 -- settings and in the same life, the events up to its own row of that epoch are those of both, adjoining from the place from which
 -- the earlier run told them; each was dropped by its rule or acknowledged in one of the two runs.
-use Rattle.std.specs.Prelude.{◌≡◌, ◌≢◌, ◌⊎◌, ℕ, ◌<◌, List, [], map, slice_get, Some, None}
+use Rattle.std.specs.Prelude.{◌≡◌, ◌≢◌, ◌⊎◌, ℕ, ◌<◌, Contains, List, [], map, slice_get, Some, None}
 use Rattle.std.specs.List.{AllByRecursion}
 use Rattle.event_tree.specs.declared.input_rule.InputRule.{InputRule}
 use Rattle.kept_rows.specs.Account.{EpochAccount, SlotAccount, key_of, slot_of}
@@ -12,6 +12,7 @@ use Rattle.kept_rows.specs.Run.{Run}
 use Rattle.kept_rows.specs.Scans.{AreDistinct}
 use Rattle.kept_rows.specs.Telling.{IsAccount}
 use Rattle.outside.specs.Files.{File, life_of}
+use Rattle.ship_core.specs.Rows.{find}
 use Rattle.told_events.specs.Rules.{rules_of}
 use Rattle.wire_base.specs.declared.row.Row.{Row}
 
@@ -65,6 +66,17 @@ pub record TakesUp (earlier later : AccountedRun) (life : List ℕ) (left reache
 abbrev pub NoneWentBefore : List SlotAccount → SlotAccount → Type 0
 NoneWentBefore account one =
     AllByRecursion (λ other. key_of other ≡ key_of one → slot_of other < slot_of one → other.following.gone_after ≡ None) account
+
+-- the slot of a key that had a row as the registry was opened, before which none of the key went
+pub record HadFirstRow (accounted : AccountedRun) (one : SlotAccount) : Type 0 where
+  pub of_account : Contains accounted.account one
+  pub row : Row
+  pub found : find (key_of one) accounted.run.opening ≡ Some row
+  pub none_went : NoneWentBefore accounted.account one
+
+-- it was known from the first scan on
+abbrev pub IsKnownAtFirst : SlotAccount → Type 0
+IsKnownAtFirst one = one.following.known_from ≡ 0
 
 -- ---- what follows
 

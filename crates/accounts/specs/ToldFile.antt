@@ -1,7 +1,7 @@
 -- What was told of a file in a run that reads files once (this project's profile): its history goes on from how it was opened and asked
 -- for its key, at moments that the clock gave; its epochs are told by the path by which it was opened; and its
 -- looks are those of its tail. This outlives the harvester.
-use Rattle.std.specs.Prelude.{◌≡◌, ◌⊎◌, ℕ, ◌+◌, false, List, [], ◌∷◌, Contains, Option, IfSome}
+use Rattle.std.specs.Prelude.{◌≡◌, ◌⊎◌, ℕ, false, List, [], ◌∷◌, Option, IfSome}
 use Rattle.std.specs.List.{AllByRecursion}
 use Rattle.event_tree.specs.declared.processor_rule.ProcessorRule.{ProcessorRule}
 use Rattle.file_looks.specs.Looks.{TellsLooks}
@@ -9,27 +9,14 @@ use Rattle.harvester.specs.History.{Changed, Ended, History, IsTelling, Telling,
 use Rattle.harvester.specs.Looked.{AreLookedAt}
 use Rattle.kept_rows.specs.Scans.{StandInOrder}
 use Rattle.outside.specs.Tails.{TailHistory}
-use Rattle.told_events.specs.Told.{ToldEvent}
+use Rattle.slot_parts.specs.Tellings.{AreNumberedFrom, AreToldBy, tellings_in}
 use Rattle.accounts.specs.Opened.{IsTailOf, Opened}
-use Rattle.accounts.specs.Turned.{Turned, tellings_in}
-
--- each one behind this epoch is the next one, and is told from the file's first byte on
-abbrev pub AreNumberedFrom : ℕ → List Telling → Type 0
-AreNumberedFrom before [] = Unit {0}
-AreNumberedFrom before (telling ∷ later) = (telling.epoch ≡ before + 1) × (telling.start ≡ 0) × AreNumberedFrom (before + 1) later
+use Rattle.accounts.specs.Turned.{Turned}
 
 -- the first is the one with which the file was begun, and is told from the place with which it was
 abbrev pub AreEpochsFrom : ℕ → ℕ → List Telling → Type 0
 AreEpochsFrom epoch base [] = ⊥
 AreEpochsFrom epoch base (first ∷ later) = (first.epoch ≡ epoch) × (first.start ≡ base) × AreNumberedFrom epoch later
-
--- the event was told by this path, at one of these moments
-pub record IsToldBy (path moments : List ℕ) (event : ToldEvent) : Type 0 where
-  pub path_is : event.path ≡ path
-  pub given : Contains moments event.now
-
-abbrev pub AreToldBy : List ℕ → List ℕ → Telling → Type 0
-AreToldBy path moments telling = AllByRecursion (IsToldBy path moments) telling.told
 
 -- the history of a file that was opened so, which nothing was told but turns at some of these moments
 pub record IsHistoryOf (processors : List ProcessorRule) (opened : Opened) (moments : List ℕ) (history : History) : Type 0 where

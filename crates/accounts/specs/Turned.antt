@@ -11,15 +11,12 @@ use Rattle.wire_base.specs.declared.note.Note.{Note}
 use Rattle.wire_base.specs.declared.note.Note.TheVariants.{Announce, Settle}
 use Rattle.wire_base.specs.declared.numbers.Slot.{Slot}
 use Rattle.wire_base.specs.declared.parcel.Parcel.{Parcel}
+use Rattle.slot_parts.specs.Tellings.{tellings_in}
 
 -- a file of this slot that was turned so
 pub record Turned : Type 0 where
   pub slot : Slot
   pub history : History
-
--- its epochs, the present one last
-abbrev pub tellings_in : History → List Telling
-tellings_in history = history.past ++ history.present ∷ []
 
 -- ---- parcels
 

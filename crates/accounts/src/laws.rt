@@ -1,8 +1,7 @@
-ghost use Rattle.std.specs.Prelude.{◌≡◌, ℕ, List, Contains, Some};
-ghost use Rattle.kept_rows.specs.Account.{SlotAccount, key_of};
-ghost use Rattle.ship_core.specs.Rows.{find};
+ghost use Rattle.std.specs.Prelude.{ℕ, List};
+ghost use Rattle.kept_rows.specs.Account.{SlotAccount};
 ghost use Rattle.wire_base.specs.declared.row.Row.{Row};
-ghost use Rattle.accounts.specs.RunsInARow.{AccountedRun, AdjoinInARow, NoneWentBefore, TakesUp};
+ghost use Rattle.accounts.specs.RunsInARow.{AccountedRun, AdjoinInARow, HadFirstRow, IsKnownAtFirst, TakesUp};
 
 /// Where a run takes up the row that the run before left, the events of both up to its own row adjoin, by their accounts,
 /// each dropped by its rule or acknowledged in one of the two; a slot whose key had a row as the registry was opened was
@@ -11,7 +10,6 @@ pub fn accounted_runs_adjoin()
     ensures adjoin { (earlier later : AccountedRun) (life : List ℕ) (left reached : Row)
         (up : TakesUp earlier later life left reached) →
         AdjoinInARow earlier later life left reached up }
-    ensures known_at_first { (accounted : AccountedRun) (one : SlotAccount) (row : Row) →
-        Contains accounted.account one → find (key_of one) accounted.run.opening ≡ Some row →
-        NoneWentBefore accounted.account one → one.following.known_from ≡ 0 }
+    ensures known_at_first { (accounted : AccountedRun) (one : SlotAccount) →
+        HadFirstRow accounted one → IsKnownAtFirst one }
 {}

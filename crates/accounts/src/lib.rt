@@ -1,5 +1,6 @@
-//! What harvesters told in a run that reads files once: from what their lanes gave to the account of the run. Files are known
-//! by their paths, by native numbers or by fingerprints.
+//! What harvesters told in a run that makes one scan: from what their lanes gave to the account of the run. Files are known
+//! by their paths, by native numbers or by fingerprints. A file may be opened again after its tail was closed; what its tails
+//! told, one by one, is joined in one account. No run opens one twice yet.
 //!
 //! The history of each file gives a parcel for each event that is shipped, a settlement for each that a rule dropped, and
 //! an announcement for each epoch but the first. A turn of a harvester gives its lane just what its history then has more;

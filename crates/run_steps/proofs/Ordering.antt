@@ -42,7 +42,7 @@ use Rattle.accounts.proofs.Orderly.{member_is}
 pub zipped : (looks : Opened → List Look) (changed : Opened → ℕ) → List Opened → List Turned → List Filed
 zipped looks changed [] turned = []
 zipped looks changed (one ∷ opened) [] = []
-zipped looks changed (one ∷ opened) (first ∷ turned) = record { opened = one; turned = first; looks = looks one; changed = changed one } ∷ zipped looks changed opened turned
+zipped looks changed (one ∷ opened) (first ∷ turned) = record { opened = one; turned = first; looks = looks one; changed = changed one; later = [] } ∷ zipped looks changed opened turned
 
 abbrev slots_in : List Opened → List Slot
 slots_in opened = map (λ (one : Opened). one.begin.slot) opened
@@ -89,7 +89,7 @@ module _ (looks : Opened → List Look) (changed : Opened → ℕ) where
   zipped_there (first ∷ opened) (t ∷ turned) one same there = by_case (there_cases first one opened there) (zipped_there opened turned one (let later : slots_of turned ≡ slots_in opened = cc in later))
     where
       head : Filed
-      head = record { opened = first; turned = t; looks = looks first; changed = changed first }
+      head = record { opened = first; turned = t; looks = looks first; changed = changed first; later = [] }
 
       by_case : (first ≡ one) ⊎ Contains opened one → (Contains opened one → ZippedWith (zipped looks changed opened turned) one) →
           ZippedWith (zipped looks changed (first ∷ opened) (t ∷ turned)) one

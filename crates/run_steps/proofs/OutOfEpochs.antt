@@ -3,16 +3,17 @@
 use Rattle.std.proofs.Common.{◌≡◌, inl, inr, ℕ, ◌+◌, List, [], ◌∷◌, ◌++◌, Contains, length, map, Option, Some, None, IsSome, IfSome, refl, sym, ap, subst, ◌∙◌, length-append, arith, false}
 use Rattle.std.specs.Prelude.{slice_get}
 use Rattle.std.specs.List.{AllByRecursion}
-use Rattle.accounts.proofs.Accounting.{as_many}
 use Rattle.accounts.proofs.Askings.{asking_reads}
 use Rattle.accounts.proofs.Falls.{fallen_are, segments_with_fall}
 use Rattle.accounts.proofs.Joined.{joined}
 use Rattle.accounts.proofs.JoinedFile.{joined_turned}
 use Rattle.accounts.proofs.Parting.{all_kept}
+use Rattle.accounts.proofs.Segmented.{as_many}
 use Rattle.accounts.proofs.Slots.{file_is_read}
 use Rattle.accounts.specs.Opened.{Opened}
 use Rattle.accounts.specs.Parted.{has_lost_key, loses_key_at}
-use Rattle.accounts.specs.ToldFile.{AreEpochsFrom, AreNumberedFrom, IsToldFile}
+use Rattle.slot_parts.specs.Tellings.{AreNumberedFrom}
+use Rattle.accounts.specs.ToldFile.{AreEpochsFrom, IsToldFile}
 use Rattle.accounts.specs.Turned.{Turned}
 use Rattle.file_identity.specs.Answers.{with_numbers}
 use Rattle.file_identity.specs.AskedAgain.{IsRead, KeepsKey}

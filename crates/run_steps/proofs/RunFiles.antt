@@ -10,8 +10,8 @@ use Rattle.accounts.proofs.Following.{got_there}
 use Rattle.accounts.proofs.Grounded.{each_member, of_map}
 use Rattle.accounts.proofs.Joining.{AreJoined, AreOpenedInSlots, IsJoined, join, joined_in_slots, told_by_its_tail}
 use Rattle.accounts.proofs.Orderly.{member_is, same_item}
-use Rattle.accounts.specs.Filed.{Filed}
-use Rattle.accounts.specs.FollowedFile.{AreFollowedFiles, AreInSlots, EachOpeningIsOne, IsFollowedFile, IsListedAs, moment_by, opening_in, start_in}
+use Rattle.accounts.specs.Filed.{Filed, Opening, first_opening}
+use Rattle.accounts.specs.FollowedFile.{AreFollowedFiles, AreInSlots, AreReopened, EachOpeningIsOne, IsFollowedFile, IsListedAs, moment_by, openings_in, start_in}
 use Rattle.accounts.specs.Opened.{Opened}
 use Rattle.accounts.specs.ToldFile.{IsToldFile}
 use Rattle.accounts.specs.Turned.{Turned}
@@ -312,6 +312,7 @@ module _ {T W L D : Type 0} (words : Words T W L D) (start : Began D) (state : R
       shown = its_entry;
       listed = is_listed;
       moment = inr moment_noted_is;
+      reopened = subst (AreReopened run file.opened (first_opening file) file.turned.history) (sym is_joined.alone) tt;
     }
 
   -- ---- all of them
@@ -319,12 +320,14 @@ module _ {T W L D : Type 0} (words : Words T W L D) (start : Began D) (state : R
   in_slots : AreInSlots 0 files
   in_slots = joined_in_slots 0 files so_far.opened joined.opened_are (opened_in_slots 0 so_far.opened stands.files.each_once.rise)
 
-  openings_are : map opening_in files ≡ openings_of so_far.opened
-  openings_are = mapped_twice files ∙ ap openings_of joined.opened_are
+  -- each was opened once
+  openings_are : flat_map openings_in files ≡ openings_of so_far.opened
+  openings_are = mapped_twice files joined.each ∙ ap openings_of joined.opened_are
     where
-      mapped_twice : (some : List Filed) → map opening_in some ≡ openings_of (map (λ (f : Filed). f.opened) some)
-      mapped_twice [] = refl
-      mapped_twice (f ∷ some) = ap (λ (l : List ℕ). f.opened.opening ∷ l) (mapped_twice some)
+      mapped_twice : (some : List Filed) → AllByRecursion (IsJoined looks changed (files_in so_far)) some → flat_map openings_in some ≡ openings_of (map (λ (f : Filed). f.opened) some)
+      mapped_twice [] each = refl
+      mapped_twice (f ∷ some) each =
+          λ k. f.opened.opening ∷ (map (λ (one : Opening). one.opened.opening) (each.0.alone k) ++ mapped_twice some each.1 k)
 
   only_reads : (opening : ℕ) → WasOnlyAsked folder.ended opening → OnlyReads run.trace opening
   only_reads opening was = record {
@@ -350,8 +353,8 @@ module _ {T W L D : Type 0} (words : Words T W L D) (start : Began D) (state : R
       let is = of.is in
       omega (arith, within, since, is)
 
-  openings_apart : AreDistinct (asked_openings run ++ map opening_in files)
-  openings_apart = subst (λ (l : List ℕ). AreDistinct (l ++ map opening_in files)) (sym (append-nil (openings_asked folder.asked)))
+  openings_apart : AreDistinct (asked_openings run ++ flat_map openings_in files)
+  openings_apart = subst (λ (l : List ℕ). AreDistinct (l ++ flat_map openings_in files)) (sym (append-nil (openings_asked folder.asked)))
       (subst (λ (l : List ℕ). AreDistinct (openings_asked folder.asked ++ l)) (sym openings_are)
       (distinct_both (openings_asked folder.asked) (openings_of so_far.opened) (openings_distinct start.settings.inputs folder.asked folder.listed folder.scanned has.asks) done.apart
       none_in_both))

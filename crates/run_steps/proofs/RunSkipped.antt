@@ -1,11 +1,11 @@
 -- Each listed file of a run whose files were all begun is followed by the account, or was skipped for its reason.
-use Rattle.std.proofs.Common.{◌≡◌, ⊎_elim, ℕ, ◌+◌, All, List, [], append-nil, length, Option, Some, refl, sym, ap, subst, ◌∙◌, arith}
+use Rattle.std.proofs.Common.{◌≡◌, ⊎_elim, ℕ, ◌+◌, All, List, [], append-nil, length, map, Option, Some, refl, sym, ap, subst, ◌∙◌, arith}
 use Rattle.std.proofs.lemmas.Bool.{cases_lt}
 use Rattle.std.specs.Prelude.{flat_map, slice_get}
 use Rattle.accounts.proofs.Backing.{mapped_there}
 use Rattle.accounts.proofs.Grounded.{each_has_ground, of_map}
 use Rattle.accounts.specs.Accounted.{followed_tail}
-use Rattle.accounts.specs.Filed.{Filed, account_of, accounts_of, slot_in}
+use Rattle.accounts.specs.Filed.{Filed, account_of, accounts_of, slot_in, tail_by}
 use Rattle.accounts.specs.Taken.{FitBooks, Taken, acknowledged_in}
 use Rattle.kept_rows.specs.Account.{Place, SlotAccount, key_of}
 use Rattle.kept_rows.specs.Run.{Run}
@@ -19,6 +19,7 @@ use Rattle.report.specs.declared.passing.Passing.{Passing}
 use Rattle.rounds.specs.Crewed.{lanings}
 use Rattle.rounds.specs.Words.{Words}
 use Rattle.ship_core.proofs.Members.{first_there}
+use Rattle.slot_parts.specs.Tails.{tails_of}
 use Rattle.wire_base.specs.declared.note.Note.{Note}
 use Rattle.wire_base.specs.declared.parcel.Parcel.{Parcel}
 use Rattle.run_steps.specs.Began.{Began}
@@ -87,7 +88,7 @@ module _ {T W L D : Type 0} (words : Words T W L D) (start : Began D) (state : R
         key_is = ap (λ (l : Listed). l.key) (sym same) ∙ listed.keyed;
         input_is = input_is words start state so_far stands released folder has shown wires file there.among ∙ ap (λ (l : Listed). l.input) same;
         tail = followed_tail file.opened file.looks file.turned.history;
-        of_slot = first_there (followed_tail file.opened file.looks file.turned.history) [];
+        of_slot = first_there (followed_tail file.opened file.looks file.turned.history) (tails_of (map tail_by file.later));
         behind = since.since;
         begun = file.opened.begun;
         opened = since.stands ∙ ap (λ (path : List ℕ). Some (OpenedAs path file.opened.number file.opened.begun)) its_path;

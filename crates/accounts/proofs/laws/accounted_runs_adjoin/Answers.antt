@@ -5,4 +5,4 @@ pub returns-clause-adjoin : goal.returns-clause-adjoin
 returns-clause-adjoin c = adjoin_by_accounts
 
 pub returns-clause-known_at_first : goal.returns-clause-known_at_first
-returns-clause-known_at_first c = known_at_first
+returns-clause-known_at_first c = λ accounted one had. known_at_first accounted one had.row had.of_account had.found had.none_went

@@ -17,32 +17,26 @@ use Rattle.told_events.specs.Licence.{whole_lines_end}
 use Rattle.told_events.specs.Rules.{Rules}
 use Rattle.told_events.specs.Told.{AreTold, ToldEvent, spans_of}
 use Rattle.wire_base.specs.Extent.{Extent}
-use Rattle.accounts.proofs.Cuts.{behind_row, row_end_both, row_ends_behind, row_ends_within}
-use Rattle.accounts.proofs.Singles.{no_event_of_none}
+use Rattle.slot_parts.proofs.Cuts.{behind_row, row_end_both, row_ends_behind, row_ends_within}
+use Rattle.slot_parts.proofs.Singles.{no_event_of_none}
 
 -- ---- an event's lines
 
-record HasRow (lines : LineRule) (life : List ℕ) (start end : ℕ) : Type 0 where
-  row : List Line
-  behind : List Line
-  are : lines_from lines life start ≡ row ++ behind
-  ends : row_end start row ≡ end
+pub record HasRow (lines : LineRule) (life : List ℕ) (start end : ℕ) : Type 0 where
+  pub row : List Line
+  pub behind : List Line
+  pub are : lines_from lines life start ≡ row ++ behind
+  pub ends : row_end start row ≡ end
 
-module _ (lines : LineRule) (rule : GroupRule) (licensed : ℕ → Type 0) (life : List ℕ) where
-  row_of : (start end : ℕ) → IsNaturalEvent lines rule life start end ⊎ (IsFlushedEvent lines rule life start end × licensed end) → HasRow lines life start end
-  row_of start end (inl natural) =
-      record { row = natural.row; behind = natural.natural.behind; are = natural.natural.lines_are; ends = natural.ends }
-  row_of start end (inr flushed) =
-      record { row = flushed.0.row; behind = flushed.0.open_row.behind; are = flushed.0.open_row.lines_are; ends = flushed.0.ends }
-
-  row_from : (start end : ℕ) → HasRow lines life start end → start ≤ end
+module _ (lines : LineRule) (life : List ℕ) where
+  pub row_from : (start end : ℕ) → HasRow lines life start end → start ≤ end
   row_from start end r = let from = row_ends_behind lines start (drop start life) r.row r.behind r.are in omega (arith, from, r.ends)
 
   row_within : (start end : ℕ) → HasRow lines life start end → start ≤ length life → end ≤ length life
   row_within start end r within =
       let to = row_ends_within lines start (drop start life) r.row r.behind r.are in omega (arith, to, r.ends, length-drop start life, within)
 
-  lines_behind : (start end : ℕ) (r : HasRow lines life start end) → lines_from lines life end ≡ r.behind
+  pub lines_behind : (start end : ℕ) (r : HasRow lines life start end) → lines_from lines life end ≡ r.behind
   lines_behind start end r =
       let to = row_end start r.row in
       let n : start + (row_end start r.row - start) ≡ row_end start r.row = let from = row_ends_behind lines start (drop start life) r.row r.behind r.are in omega (arith, from) in
@@ -50,38 +44,45 @@ module _ (lines : LineRule) (rule : GroupRule) (licensed : ℕ → Type 0) (life
       ∙ ap (complete_lines lines to) (sym (drop-drop (to - start) start life ∙ ap (λ (m : ℕ). drop m life) n))
       ∙ behind_row lines r.row start (drop start life) r.behind r.are
 
-  -- ---- all events
+  module _ (rule : GroupRule) (licensed : ℕ → Type 0) where
+    pub row_of : (start end : ℕ) → IsNaturalEvent lines rule life start end ⊎ (IsFlushedEvent lines rule life start end × licensed end) → HasRow lines life start end
+    row_of start end (inl natural) =
+        record { row = natural.row; behind = natural.natural.behind; are = natural.natural.lines_are; ends = natural.ends }
+    row_of start end (inr flushed) =
+        record { row = flushed.0.row; behind = flushed.0.open_row.behind; are = flushed.0.open_row.lines_are; ends = flushed.0.ends }
 
-  -- each ends at or behind this place, and within the bytes
-  abbrev Within : ℕ → Extent → Type 0
-  Within base span = (base ≤ span.end) × (span.end ≤ length life)
+    -- ---- all events
 
-  spans_within : (base start : ℕ) (spans : List Extent) → base ≤ start → start ≤ length life → IsPartition lines rule licensed life start spans → AllByRecursion (Within base) spans
-  spans_within base start [] from within are = tt
-  spans_within base start (span ∷ spans) from within are =
-      let r = row_of start span.end are.1 in
-      let later = row_from start span.end r in
-      let to = row_within start span.end r within in
-      ((omega (arith, from, later), to), spans_within base span.end spans (omega (arith, from, later)) to are.2)
+    -- each ends at or behind this place, and within the bytes
+    abbrev Within : ℕ → Extent → Type 0
+    Within base span = (base ≤ span.end) × (span.end ≤ length life)
 
-  end_from : (start : ℕ) (spans : List Extent) → IsPartition lines rule licensed life start spans → start ≤ last_end start spans
-  end_from start [] are = omega arith
-  end_from start (span ∷ spans) are =
-      let later = row_from start span.end (row_of start span.end are.1) in
-      let end = end_from span.end spans are.2 in
-      omega (arith, later, end)
+    spans_within : (base start : ℕ) (spans : List Extent) → base ≤ start → start ≤ length life → IsPartition lines rule licensed life start spans → AllByRecursion (Within base) spans
+    spans_within base start [] from within are = tt
+    spans_within base start (span ∷ spans) from within are =
+        let r = row_of start span.end are.1 in
+        let later = row_from start span.end r in
+        let to = row_within start span.end r within in
+        ((omega (arith, from, later), to), spans_within base span.end spans (omega (arith, from, later)) to are.2)
 
-  -- the last line behind the start is the last one behind the events
-  same_last_line : (start : ℕ) (spans : List Extent) → IsPartition lines rule licensed life start spans →
-      row_end start (lines_from lines life start) ≡ row_end (last_end start spans) (lines_from lines life (last_end start spans))
-  same_last_line start [] are = refl
-  same_last_line start (span ∷ spans) are =
-      let r = row_of start span.end are.1 in
-      ap (row_end start) r.are
-      ∙ row_end_both start r.row r.behind
-      ∙ ap (λ (n : ℕ). row_end n r.behind) r.ends
-      ∙ ap (row_end span.end) (sym (lines_behind start span.end r))
-      ∙ same_last_line span.end spans are.2
+    pub end_from : (start : ℕ) (spans : List Extent) → IsPartition lines rule licensed life start spans → start ≤ last_end start spans
+    end_from start [] are = omega arith
+    end_from start (span ∷ spans) are =
+        let later = row_from start span.end (row_of start span.end are.1) in
+        let end = end_from span.end spans are.2 in
+        omega (arith, later, end)
+
+    -- the last line behind the start is the last one behind the events
+    same_last_line : (start : ℕ) (spans : List Extent) → IsPartition lines rule licensed life start spans →
+        row_end start (lines_from lines life start) ≡ row_end (last_end start spans) (lines_from lines life (last_end start spans))
+    same_last_line start [] are = refl
+    same_last_line start (span ∷ spans) are =
+        let r = row_of start span.end are.1 in
+        ap (row_end start) r.are
+        ∙ row_end_both start r.row r.behind
+        ∙ ap (λ (n : ℕ). row_end n r.behind) r.ends
+        ∙ ap (row_end span.end) (sym (lines_behind start span.end r))
+        ∙ same_last_line span.end spans are.2
 
 events_within : (base most : ℕ) (told : List ToldEvent) → AllByRecursion (λ (span : Extent). (base ≤ span.end) × (span.end ≤ most)) (spans_of told) →
     AllByRecursion (λ (one : ToldEvent). (base ≤ one.span.end) × (one.span.end ≤ most)) told
@@ -92,7 +93,7 @@ events_within base most (one ∷ told) all = (all.0, events_within base most tol
 pub told_within : (rules : Rules) (licences life : List ℕ) (start : ℕ) (told : List ToldEvent) → start ≤ length life → AreTold rules licences life start told →
     AllByRecursion (λ (one : ToldEvent). (start ≤ one.span.end) × (one.span.end ≤ length life)) told
 told_within rules licences life start told within are =
-    events_within start (length life) told (spans_within rules.lines rules.events (λ place. Contains licences place) life start start (spans_of told) (omega arith) within are.partition)
+    events_within start (length life) told (spans_within rules.lines life rules.events (λ place. Contains licences place) start start (spans_of told) (omega arith) within are.partition)
 
 -- ---- of what was read
 
@@ -133,12 +134,12 @@ ends_at_last_line h life tells none has =
     let told = tells short (shortest_has h.present) in
     let front : drop start (take (start + length bytes) life) ≡ bytes =
     drop-take start (length bytes) life ∙ ap (λ (l : List ℕ). take (length bytes) l) has.behind ∙ take-append_seam bytes has.more in
-    let from = end_from lines h.rule.multiline (λ place. Contains h.present.licences place) short start (spans_of h.present.told) told.partition in
+    let from = end_from lines short h.rule.multiline (λ place. Contains h.present.licences place) start (spans_of h.present.told) told.partition in
     let n : start + (end - start) ≡ end = omega (arith, from) in
     let behind : drop end short ≡ drop (end - start) bytes =
     ap (λ (m : ℕ). drop m short) (sym n) ∙ sym (drop-drop (end - start) start short) ∙ ap (drop (end - start)) (zeros_before start bytes) in
     ap (λ (l : List ℕ). row_end start (complete_lines lines start l)) (front ∙ sym (zeros_before start bytes))
-    ∙ same_last_line lines h.rule.multiline (λ place. Contains h.present.licences place) short start (spans_of h.present.told) told.partition
+    ∙ same_last_line lines short h.rule.multiline (λ place. Contains h.present.licences place) start (spans_of h.present.told) told.partition
     ∙ ap (λ (l : List ℕ). row_end end (complete_lines lines end l)) behind
     ∙ ap (row_end end) none
 
