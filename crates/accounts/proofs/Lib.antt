@@ -55,4 +55,5 @@ pub mod WorkedFingerprint
 pub mod WorkedInARow
 pub mod WorkedNative
 pub mod WorkedNumbers
+pub mod WorkedReopened
 pub mod WorkedRun
