@@ -5,6 +5,7 @@ use Rattle.std.specs.List.{AllByRecursion}
 use Rattle.event_tree.specs.declared.input_rule.IdentityRule.{IdentityRule}
 use Rattle.event_tree.specs.declared.input_rule.IdentityRule.TheVariants.{Fingerprint, Native, Path}
 use Rattle.event_tree.specs.declared.input_rule.InputRule.{InputRule}
+use Rattle.file_identity.proofs.CutAskings.{none_cut}
 use Rattle.file_identity.specs.AskedAgain.{GivesKey, IsRead, StillHasKey}
 use Rattle.file_identity.specs.Asking.{AreReads, IsAsking, ReadsOn, given_key}
 use Rattle.kept_rows.specs.Scans.{IsNoFingerprint}
@@ -39,7 +40,7 @@ asking_reads Path looks is = subst OnlyRead (sym is) tt
 -- a file that gave its key has it behind any other looks
 pub still_has_key : (rule : InputRule) (key path : List ℕ) (file : File) (asked behind : List Look) → GivesKey rule key path file asked → StillHasKey rule key path file (asked ++ behind)
 still_has_key rule key path file asked behind gave =
-    record { before = []; asked = asked; behind = behind; looks_are = refl; only_reads = tt; gives = gave }
+    record { before = []; asked = asked; behind = behind; looks_are = refl; cut = none_cut rule.file_identity; gives = gave }
 
 asks_nothing : (identity : IdentityRule) → IsNoFingerprint identity → IsAsking identity []
 asks_nothing (Fingerprint offset count) named = absurd named

@@ -1,10 +1,10 @@
 -- What a tail told before its harvester began belongs to the harvester's own looks: reads that only asked for the key
 -- stand before those of the first epoch, and change nothing of what was read and found.
-use Rattle.std.proofs.Common.{◌≡◌, inl, inr, ℕ, true, List, [], ◌∷◌, ◌++◌, Option, Some, None, refl, sym, ap, ◌∙◌, append_assoc}
+use Rattle.std.proofs.Common.{◌≡◌, inl, inr, ℕ, true, List, [], ◌∷◌, ◌++◌, Option, Some, None, refl, sym, ap, subst, ◌∙◌, append_assoc}
 use Rattle.std.specs.List.{AllByRecursion}
 use Rattle.event_tree.specs.declared.line_rule.LineRule.{LineRule}
 use Rattle.file_identity.specs.Answers.{with_numbers}
-use Rattle.file_identity.specs.AskedAgain.{IsRead, KeepsKey}
+use Rattle.file_identity.specs.AskedAgain.{IsRead}
 use Rattle.file_looks.proofs.AskedBefore.{asked_before, bytes_asked, end_look_asked, first_asked, had_read_asked, read_on_asked, read_to_asked, segments_asked}
 use Rattle.file_looks.specs.EndLook.{HasEndLook}
 use Rattle.file_looks.specs.Segment.{Segment}
@@ -20,7 +20,6 @@ use Rattle.harvester.specs.Held.{Held}
 use Rattle.outside.specs.declared.history.Look.{Look}
 use Rattle.outside.specs.Files.{File}
 use Rattle.outside.specs.Tails.{TailHistory}
-use Rattle.told_events.proofs.Going.{all_behind}
 use Rattle.told_events.specs.Licence.{IsLicensed}
 
 -- the history, of whose tail all looks are its own
@@ -38,6 +37,11 @@ record Parts (h : History) (file : File) (over : List Telling) (now : Telling) (
   past : AreReadBy h file over front
   present : IsReadBy h file now last
   end_look : (place : ℕ) → HasEndLook was place → HasEndLook last place
+
+-- the first of these segments is not behind a fall
+abbrev BeginsWithoutFall : List Segment → Type 0
+BeginsWithoutFall [] = Unit {0}
+BeginsWithoutFall (first ∷ others) = first.fall ≡ None
 
 -- ---- an epoch, whose segment has reads before its looks
 
@@ -57,48 +61,37 @@ module _ (reads : List Look) (only : AllByRecursion (λ look. IsRead look.questi
     all_licensed h telling segment places licensed.1,
   )
 
-  key_kept : (h : History) (file : File) (segment : Segment) → KeepsKey h.rule h.begin.key h.begin.path file segment →
-      KeepsKey h.rule h.begin.key h.begin.path file (asked_before reads segment)
-  key_kept h file segment (inl none) = inl none
-  key_kept h file segment (inr still) = inr (record {
-    before = reads ++ still.before;
-    asked = still.asked;
-    behind = still.behind;
-    looks_are = ap (λ (l : List Look). reads ++ l) still.looks_are ∙ sym (append_assoc reads still.before (still.asked ++ still.behind));
-    only_reads = all_behind (λ look. IsRead look.question) reads still.before only still.only_reads;
-    gives = still.gives;
-  })
-
-  read_by_first : (h : History) (file : File) (telling : Telling) (segment : Segment) → IsReadBy h file telling segment →
+  -- no fall begins the first one
+  read_by_first : (h : History) (file : File) (telling : Telling) (segment : Segment) → segment.fall ≡ None → IsReadBy h file telling segment →
       IsReadBy h file telling (asked_before reads segment)
-  read_by_first h file telling segment read = record {
+  read_by_first h file telling segment none read = record {
     place = read.place;
     to = read_to_asked reads only segment ∙ read.to;
     bytes = bytes_asked reads only segment file ∙ read.bytes;
     on = read_on_asked reads only segment read.on;
-    kept_key = key_kept h file segment read.kept_key;
+    kept_key = inl none;
     licensed = all_licensed h telling segment telling.licences read.licensed;
   }
 
   -- ---- all epochs
 
   asked_parts : (h : History) (file : File) (past : List Telling) (present : Telling) (front : List Segment) (last : Segment) →
-      AreReadBy h file past front → IsReadBy h file present last → Parts h file past present last (first_asked reads (front ++ last ∷ []))
-  asked_parts h file [] present [] last are is = record {
+      BeginsWithoutFall (front ++ last ∷ []) → AreReadBy h file past front → IsReadBy h file present last → Parts h file past present last (first_asked reads (front ++ last ∷ []))
+  asked_parts h file [] present [] last none are is = record {
     front = [];
     last = asked_before reads last;
     are = refl;
     past = tt;
-    present = read_by_first h file present last is;
+    present = read_by_first h file present last none is;
     end_look = λ place end. end_look_asked reads only last place end;
   }
-  asked_parts h file [] present (segment ∷ front) last are is = absurd are
-  asked_parts h file (telling ∷ past) present [] last are is = absurd are
-  asked_parts h file (telling ∷ past) present (segment ∷ front) last are is = record {
+  asked_parts h file [] present (segment ∷ front) last none are is = absurd are
+  asked_parts h file (telling ∷ past) present [] last none are is = absurd are
+  asked_parts h file (telling ∷ past) present (segment ∷ front) last none are is = record {
     front = asked_before reads segment ∷ front;
     last = last;
     are = refl;
-    past = (read_by_first h file telling segment are.0, are.1);
+    past = (read_by_first h file telling segment none are.0, are.1);
     present = is;
     end_look = λ place end. end;
   }
@@ -110,7 +103,7 @@ fallen h looks is = record { fall = is.fall; later = is.later; looks_are = is.lo
 
 behind : (h : History) (file : File) (stage : Stage) (looks : List Look) → StandBehind h file stage looks → StandBehind (joined_history h) file stage looks
 behind h file Reads looks is = is
-behind h file Asks looks is = record { fallen = fallen h looks is.fallen; unknown = is.unknown }
+behind h file Asks looks is = record { fallen = fallen h looks is.fallen; cut = is.cut; unknown = is.unknown }
 behind h file Ended looks is = is
 behind h file Changed looks is = record { fallen = fallen h looks is.fallen; other = is.other; lost = is.lost }
 behind h file Over looks is = record { fallen = fallen h looks is.fallen; same = is.same }
@@ -120,7 +113,8 @@ pub joined : (numbers : Option (ℕ × ℕ)) (h : History) (told : TailHistory) 
 joined numbers h told only looked =
     let file = with_numbers numbers told.file in
     let new = joined_history h in
-    let parts = asked_parts h.before only h file h.past h.present looked.front looked.last looked.past looked.present in
+    let none = subst BeginsWithoutFall looked.segments refl in
+    let parts = asked_parts h.before only h file h.past h.present looked.front looked.last none looked.past looked.present in
     record {
       since = h.before ++ looked.since;
       beyond = looked.beyond;

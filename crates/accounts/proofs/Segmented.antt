@@ -7,7 +7,7 @@ use Rattle.event_tree.specs.declared.input_rule.IdentityRule.{IdentityRule}
 use Rattle.event_tree.specs.declared.input_rule.IdentityRule.TheVariants.{Fingerprint, Native, Path}
 use Rattle.event_tree.specs.declared.input_rule.InputRule.{InputRule}
 use Rattle.file_identity.specs.Answers.{IsFingerprint, with_numbers}
-use Rattle.file_identity.specs.AskedAgain.{GivesKey, HasOtherKey, KeepsKey, StillHasKey}
+use Rattle.file_identity.specs.AskedAgain.{GivesKey, HasOtherKey, KeepsKey, StillHasKey, SomeAskingGives}
 use Rattle.file_looks.specs.EndLook.{HasEndLook}
 use Rattle.file_looks.specs.Reading.{ReadOn}
 use Rattle.file_looks.specs.Segment.{Segment, segments_of, steps_in}
@@ -230,7 +230,7 @@ module _ (h : History) (opened : Opened) (told : TailHistory) (file_is : told.fi
           (subst (AllByRecursion Keeps) (sym (fallen_are fallen_so.fall fallen_so.later fallen_so.only_reads)) (inr still, tt))
           (inl (none_lost h told.looks keeps))
 
-      read_lost : has_lost_key h ≡ true → (StillHasKey opened.rule opened.begin.key opened.begin.path opened.file fallen_so.later → ⊥) → IsReadSo h opened told.looks
+      read_lost : has_lost_key h ≡ true → (SomeAskingGives opened.rule opened.begin.key opened.begin.path opened.file fallen_so.later → ⊥) → IsReadSo h opened told.looks
       read_lost loses other =
           let to = looked.present.to in
           let below = fallen_so.below in
@@ -290,7 +290,7 @@ module _ (h : History) (opened : Opened) (told : TailHistory) (file_is : told.fi
             (moved (λ rule key path f. StillHasKey rule key path f behind.fallen.later) behind.same)
         by_stage Changed is behind =
             read_lost behind.fallen (loses_by Changed h.rule.file_identity true is refl refl)
-            (moved (λ rule key path f. StillHasKey rule key path f behind.fallen.later → ⊥) behind.lost)
+            (moved (λ rule key path f. SomeAskingGives rule key path f behind.fallen.later → ⊥) behind.lost)
         by_stage Asks is behind = by_identity h.rule.file_identity refl
           where
             named_so : IsNoFingerprint h.rule.file_identity → IsReadSo h opened told.looks
@@ -301,6 +301,6 @@ module _ (h : History) (opened : Opened) (told : TailHistory) (file_is : told.fi
             by_identity : (identity : IdentityRule) → h.rule.file_identity ≡ identity → IsReadSo h opened told.looks
             by_identity (Fingerprint offset count) rule =
                 read_lost behind.fallen (loses_by Asks (Fingerprint offset count) true is rule refl)
-                (moved (λ r key path f. StillHasKey r key path f behind.fallen.later → ⊥) (behind.unknown (subst IsFingerprint (sym rule) tt)))
+                (moved (λ r key path f. SomeAskingGives r key path f behind.fallen.later → ⊥) (behind.unknown (subst IsFingerprint (sym rule) tt)))
             by_identity Native rule = named_so (subst IsNoFingerprint (sym rule) tt)
             by_identity Path rule = named_so (subst IsNoFingerprint (sym rule) tt)

@@ -3,6 +3,7 @@
 -- first byte again takes nothing up.
 use Rattle.std.proofs.Common.{◌≡◌, inl, inr, ℕ, zero, suc, ◌≤◌, true, false, List, [], ◌∷◌, ◌++◌, Contains, Option, Some, None, unwrap_or, refl, sym, ap, ◌∙◌, subst, arith, append-nil, lit≤, codes}
 use Rattle.std.specs.Prelude.{slice_get}
+use Rattle.file_identity.proofs.CutAskings.{none_cut}
 use Rattle.file_identity.specs.AskedAgain.{StillHasKey}
 use Rattle.file_looks.specs.Segment.{Segment}
 use Rattle.kept_rows.proofs.Backing.{epoch_in, slot_in}
@@ -207,7 +208,7 @@ is_tail : IsTail trace 5 a_log 0 (looks ++ [])
 is_tail = record { in_this_run = lit≤ tt; begun = worked.sight; opened = refl; tells = refl }
 
 gives : StillHasKey worked.input worked.key a_log worked.file looks
-gives = record { before = []; asked = []; behind = looks; looks_are = refl; only_reads = tt; gives = record { asking = refl; gave = refl } }
+gives = record { before = []; asked = []; behind = looks; looks_are = refl; cut = none_cut worked.input.file_identity; gives = record { asking = refl; gave = refl } }
 
 second_is_told : AreTold plain [] life 2 (event_of second_line (payload (codes "2") (codes "b")) ∷ [])
 second_is_told = others plain [] life 0 (event_of first_line (payload (codes "0") (codes "a")) ∷ []) (event_of second_line (payload (codes "2") (codes "b")) ∷ []) two_plain_lines

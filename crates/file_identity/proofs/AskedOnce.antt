@@ -1,7 +1,7 @@
 -- The reads of one asking for a fingerprint begin at its offset, and each later one stands above it, as each but a last one
 -- gives bytes. So an asking among the looks of several begins where one of these began, and does not go over into the next:
 -- where no earlier one gave the key, and the last one was cut or gave another, none gave it.
-use Rattle.std.proofs.Common.{◌≡◌, ◌≢◌, ◌↔◌, ◌⊎◌, inl, inr, ℕ, zero, suc, ◌+◌, ◌-◌, ◌<◌, List, [], ◌∷◌, ◌++◌, Some, refl, sym, ap, subst, ◌∙◌, arith}
+use Rattle.std.proofs.Common.{◌≡◌, ◌≢◌, ◌⊎◌, inl, inr, ℕ, zero, suc, ◌+◌, ◌-◌, ◌<◌, List, [], ◌∷◌, ◌++◌, Some, refl, sym, ap, subst, ◌∙◌, arith}
 use Rattle.std.proofs.lemmas.List.{append-nil}
 use Rattle.std.specs.List.{AllByRecursion}
 use Rattle.event_tree.specs.declared.input_rule.IdentityRule.{IdentityRule}
@@ -13,7 +13,7 @@ use Rattle.outside.specs.declared.history.Question.TheVariants.{Length, ReadAt}
 use Rattle.outside.specs.declared.history.Sight.{Sight}
 use Rattle.outside.specs.Files.{File}
 use Rattle.file_identity.specs.Answers.{IsAskable, IsFingerprint}
-use Rattle.file_identity.specs.AskedAgain.{GivesKey, StillHasKey}
+use Rattle.file_identity.specs.AskedAgain.{GivesKey, SomeAskingGives}
 use Rattle.file_identity.specs.Asking.{AreCutReads, ArePartReads, AreReads, IsAsking, IsCutAsking, IsPartOfAsking, ReadsOn, given_key}
 use Rattle.file_identity.specs.Key.{WantsBytes, named_key}
 use Rattle.file_identity.proofs.Answered.{part_of_all}
@@ -202,7 +202,7 @@ whole_holds_itself (one ∷ asked) behind place wanted reads whole = by one.ques
     by (ReadAt at zero) on also later = subst (λ (l : List Look). l ++ behind ≡ []) on.1 also.1
     by (ReadAt at (suc more)) on also later = later (place + suc more) (wanted - suc more) on.2 also.2
 
--- ---- whether the file still has its key
+-- ---- whether some asking gave the key
 
 -- the reading's first looks are a whole asking that gave the key
 record GivesFirst (rule : InputRule) (key path : List ℕ) (file : File) (more : List Look) : Type 0 where
@@ -213,7 +213,7 @@ record GivesFirst (rule : InputRule) (key path : List ℕ) (file : File) (more :
 
 module _ (rule : InputRule) (key path : List ℕ) (file : File) where
   earlier_or_first : (looks more : List Look) → IsFingerprint rule.file_identity → WantsBytes rule.file_identity → IsPartOfAsking rule.file_identity more →
-      StillHasKey rule key path file (looks ++ more) → StillHasKey rule key path file looks ⊎ GivesFirst rule key path file more
+      SomeAskingGives rule key path file (looks ++ more) → SomeAskingGives rule key path file looks ⊎ GivesFirst rule key path file more
   earlier_or_first looks more is wants part still = which (by rule.file_identity is wants part still.gives.asking)
     where
       by : (identity : IdentityRule) → IsFingerprint identity → WantsBytes identity → IsPartOfAsking identity more → IsAsking identity still.asked →
@@ -222,7 +222,7 @@ module _ (rule : InputRule) (key path : List ℕ) (file : File) where
       by Native is wants part asking = absurd is
       by Path is wants part asking = absurd is
 
-      which : Earlier still.before still.asked looks ⊎ (more ≡ still.asked ++ still.behind) → StillHasKey rule key path file looks ⊎ GivesFirst rule key path file more
+      which : Earlier still.before still.asked looks ⊎ (more ≡ still.asked ++ still.behind) → SomeAskingGives rule key path file looks ⊎ GivesFirst rule key path file more
       which (inl earlier) = inl (record {
         before = still.before;
         asked = still.asked;
@@ -234,7 +234,7 @@ module _ (rule : InputRule) (key path : List ℕ) (file : File) where
       which (inr first) = inr (record { asked = still.asked; behind = still.behind; are = first; gives = still.gives })
 
   -- before any look of an asking none gave the key
-  pub none_asked : IsFingerprint rule.file_identity → WantsBytes rule.file_identity → ¬ (StillHasKey rule key path file [])
+  pub none_asked : IsFingerprint rule.file_identity → WantsBytes rule.file_identity → ¬ (SomeAskingGives rule key path file [])
   none_asked is wants still = by rule.file_identity is wants still.before still.asked still.gives.asking still.looks_are
     where
       by : (identity : IdentityRule) → IsFingerprint identity → WantsBytes identity → (before asked : List Look) → IsAsking identity asked → [] ≡ before ++ (asked ++ still.behind) → ⊥
@@ -245,7 +245,7 @@ module _ (rule : InputRule) (key path : List ℕ) (file : File) where
       by Path is wants before asked asking same = is
 
   -- an asking that a fault cut did not give it
-  pub none_by_cut : (looks more : List Look) → ¬ (StillHasKey rule key path file looks) → IsCutAsking rule.file_identity more → ¬ (StillHasKey rule key path file (looks ++ more))
+  pub none_by_cut : (looks more : List Look) → ¬ (SomeAskingGives rule key path file looks) → IsCutAsking rule.file_identity more → ¬ (SomeAskingGives rule key path file (looks ++ more))
   none_by_cut looks more none cut still =
       let read = cut_is_read rule.file_identity more cut in
       which (earlier_or_first looks more read.0 read.1 (cut_is_part rule.file_identity more cut) still)
@@ -255,7 +255,7 @@ module _ (rule : InputRule) (key path : List ℕ) (file : File) where
       by Native asked behind asking cut = cut
       by Path asked behind asking cut = cut
 
-      which : StillHasKey rule key path file looks ⊎ GivesFirst rule key path file more → ⊥
+      which : SomeAskingGives rule key path file looks ⊎ GivesFirst rule key path file more → ⊥
       which (inl earlier) = none earlier
       which (inr first) =
           by rule.file_identity first.asked first.behind first.gives.asking (subst (λ (l : List Look). IsCutAsking rule.file_identity l) first.are cut)
@@ -267,29 +267,14 @@ module _ (rule : InputRule) (key path : List ℕ) (file : File) where
   gives_named Native read looks = refl
   gives_named Path read looks = refl
 
-  asks_for_none : (identity : IdentityRule) → ¬ (IsFingerprint identity) → IsAsking identity []
-  asks_for_none (Fingerprint offset count) read = absurd (read tt)
-  asks_for_none Native read = refl
-  asks_for_none Path read = refl
-
-  pub still_by_name : (looks : List Look) → ¬ (IsFingerprint rule.file_identity) →
-      StillHasKey rule key path file looks ↔ (named_key rule.id rule.file_identity path file.numbers ≡ Some key)
-  still_by_name looks unread = (
-    λ still. sym (gives_named rule.file_identity unread still.asked) ∙ still.gives.gave,
-    λ named. record {
-      before = [];
-      asked = [];
-      behind = looks;
-      looks_are = refl;
-      only_reads = tt;
-      gives = record { asking = asks_for_none rule.file_identity unread; gave = gives_named rule.file_identity unread [] ∙ named };
-    },
-  )
+  given_by_name : (looks : List Look) → ¬ (IsFingerprint rule.file_identity) → SomeAskingGives rule key path file looks →
+      named_key rule.id rule.file_identity path file.numbers ≡ Some key
+  given_by_name looks unread some = sym (gives_named rule.file_identity unread some.asked) ∙ some.gives.gave
 
   -- ---- an asking that gave another key, or none
 
-  other_read : (looks more : List Look) → IsFingerprint rule.file_identity → WantsBytes rule.file_identity → ¬ (StillHasKey rule key path file looks) →
-      IsAsking rule.file_identity more → given_key rule.id rule.file_identity path file more ≢ Some key → ¬ (StillHasKey rule key path file (looks ++ more))
+  other_read : (looks more : List Look) → IsFingerprint rule.file_identity → WantsBytes rule.file_identity → ¬ (SomeAskingGives rule key path file looks) →
+      IsAsking rule.file_identity more → given_key rule.id rule.file_identity path file more ≢ Some key → ¬ (SomeAskingGives rule key path file (looks ++ more))
   other_read looks more is wants none whole other still =
       which (earlier_or_first looks more is wants (whole_is_part rule.file_identity more whole) still)
     where
@@ -298,15 +283,15 @@ module _ (rule : InputRule) (key path : List ℕ) (file : File) where
       alone Native is asked behind asking whole = absurd is
       alone Path is asked behind asking whole = absurd is
 
-      which : StillHasKey rule key path file looks ⊎ GivesFirst rule key path file more → ⊥
+      which : SomeAskingGives rule key path file looks ⊎ GivesFirst rule key path file more → ⊥
       which (inl earlier) = none earlier
       which (inr first) =
           let nothing = alone rule.file_identity is first.asked first.behind first.gives.asking (subst (λ (l : List Look). IsAsking rule.file_identity l) first.are whole) in
           let same : more ≡ first.asked = first.are ∙ ap (λ (l : List Look). first.asked ++ l) nothing ∙ append-nil first.asked in
           other (ap (λ (l : List Look). given_key rule.id rule.file_identity path file l) same ∙ first.gives.gave)
 
-  pub none_by_other : (looks more : List Look) → WantsBytes rule.file_identity → (IsFingerprint rule.file_identity → ¬ (StillHasKey rule key path file looks)) →
-      IsAsking rule.file_identity more → given_key rule.id rule.file_identity path file more ≢ Some key → ¬ (StillHasKey rule key path file (looks ++ more))
+  pub none_by_other : (looks more : List Look) → WantsBytes rule.file_identity → (IsFingerprint rule.file_identity → ¬ (SomeAskingGives rule key path file looks)) →
+      IsAsking rule.file_identity more → given_key rule.id rule.file_identity path file more ≢ Some key → ¬ (SomeAskingGives rule key path file (looks ++ more))
   none_by_other looks more wants none whole other = by (reads rule.file_identity)
     where
       reads : (identity : IdentityRule) → IsFingerprint identity ⊎ (¬ (IsFingerprint identity))
@@ -314,6 +299,6 @@ module _ (rule : InputRule) (key path : List ℕ) (file : File) where
       reads Native = inr (λ is. is)
       reads Path = inr (λ is. is)
 
-      by : IsFingerprint rule.file_identity ⊎ (¬ (IsFingerprint rule.file_identity)) → ¬ (StillHasKey rule key path file (looks ++ more))
+      by : IsFingerprint rule.file_identity ⊎ (¬ (IsFingerprint rule.file_identity)) → ¬ (SomeAskingGives rule key path file (looks ++ more))
       by (inl is) = other_read looks more is wants (none is) whole other
-      by (inr unread) = λ still. other (gives_named rule.file_identity unread more ∙ (still_by_name (looks ++ more) unread).0 still)
+      by (inr unread) = λ still. other (gives_named rule.file_identity unread more ∙ given_by_name (looks ++ more) unread still)

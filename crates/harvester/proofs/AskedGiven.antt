@@ -28,8 +28,8 @@ use Rattle.harvester.specs.Held.{Held}
 use Rattle.harvester.specs.History.{Asks, Changed, History, Over, rules_in, with_epoch, with_stage}
 use Rattle.harvester.specs.Looked.{AreLookedAt, IsLookedAt}
 use Rattle.harvester.specs.Standing.{StandsFor, stage_of}
-use Rattle.harvester.proofs.Unanswered.{refused_is_part, still_unknown, wants_bytes}
-use Rattle.harvester.proofs.LookingOn.{asks_on, begins_epoch, changes, is_over, was, was_unknown, with_looks}
+use Rattle.harvester.proofs.Unanswered.{cut_still, refused_is_part, still_unknown, wants_bytes}
+use Rattle.harvester.proofs.LookingOn.{asks_on, begins_epoch, changes, is_over, was, was_cut, was_unknown, with_looks}
 
 -- ---- the looks of an asking are reads
 
@@ -105,7 +105,7 @@ module _ {T : Type 0} (numbers : T → Option (ℕ × ℕ)) (told : T → Option
           asked = looks;
           behind = [];
           looks_are = ap (λ (l : List Look). w.later ++ l) (sym (append-nil looks));
-          only_reads = w.only_reads;
+          cut = was_cut (numbers old.tail) h before looked asks looks only;
           gives = gives;
         }
 
@@ -119,7 +119,7 @@ module _ {T : Type 0} (numbers : T → Option (ℕ × ℕ)) (told : T → Option
           asked = looks;
           behind = [];
           looks_are = ap (λ (l : List Look). w.later ++ l) (sym (append-nil looks));
-          only_reads = w.only_reads;
+          cut = was_cut (numbers old.tail) h before looked asks looks only;
           asking = asked;
           other = differs;
         }
@@ -163,8 +163,10 @@ module _ {T : Type 0} (numbers : T → Option (ℕ × ℕ)) (told : T → Option
   fault_step error before looked looks gave =
       let file = with_numbers (numbers old.tail) before.file in
       let only = part_reads old.reader.identity looks (refused_is_part old.reader file looks error gave) in
+      let later = (was (numbers old.tail) h before looked asks looks only).later in
       asks_on (numbers old.tail) h before looked asks looks only
-      (still_unknown h old.reader has.held file file (was (numbers old.tail) h before looked asks looks only).later looks error gave
+      (cut_still h old.reader has.held file later looks error gave (was_cut (numbers old.tail) h before looked asks looks only))
+      (still_unknown h old.reader has.held file file later looks error gave
       (was_unknown (numbers old.tail) h before looked asks looks only))
 
   module _ (tail : T) (same : numbers tail ≡ numbers old.tail) (untold : IsNone (told old.tail) → IsNone (told tail)) (reader : Held) where

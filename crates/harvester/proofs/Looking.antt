@@ -66,7 +66,7 @@ key_stays h file before now on (inr still) = inr (record {
   looks_are = on.looks_on ∙ ap (λ (l : List Look). l ++ on.more) still.looks_are
       ∙ append_assoc still.before (still.asked ++ still.behind) on.more
       ∙ ap (λ (l : List Look). still.before ++ l) (append_assoc still.asked still.behind on.more);
-  only_reads = still.only_reads;
+  cut = still.cut;
   gives = still.gives;
 })
 

@@ -3,7 +3,8 @@ use Rattle.std.proofs.Common.{◌≡◌, ◌⊎◌, inl, inr, ℕ, ◌+◌, ◌<
 use Rattle.std.specs.List.{AllByRecursion}
 use Rattle.file_identity.specs.Answers.{IsFingerprint, with_numbers}
 use Rattle.file_identity.proofs.AskedOnce.{none_asked}
-use Rattle.file_identity.specs.AskedAgain.{HasOtherKey, IsRead, StillHasKey}
+use Rattle.file_identity.proofs.CutAskings.{none_cut}
+use Rattle.file_identity.specs.AskedAgain.{AreCutAskings, HasOtherKey, IsRead, SomeAskingGives, StillHasKey}
 use Rattle.file_identity.specs.Key.{WantsBytes}
 use Rattle.file_looks.proofs.Going.{had_read_all}
 use Rattle.file_looks.specs.EndLook.{HadReadTo, HasEndLook}
@@ -75,7 +76,7 @@ module _ (numbers : Option (ℕ × ℕ)) (h : History) (told : TailHistory) (l :
       behind : (stage : Stage) (looks : List Look) → StandBehind h (with_numbers numbers told.file) stage looks →
           StandBehind (turned_as path moments last_line ends may_end forgets h) (with_numbers numbers told.file) stage looks
       behind Reads looks is = is
-      behind Asks looks is = record { fallen = fallen looks is.fallen; unknown = is.unknown }
+      behind Asks looks is = record { fallen = fallen looks is.fallen; cut = is.cut; unknown = is.unknown }
       behind Ended looks is = is
       behind Changed looks is = record { fallen = fallen looks is.fallen; other = is.other; lost = is.lost }
       behind Over looks is = record { fallen = fallen looks is.fallen; same = is.same }
@@ -160,6 +161,7 @@ module _ (numbers : Option (ℕ × ℕ)) (h : History) (told : TailHistory) (l :
           present = read_stays h new on file h.present l.last l.present;
           stand_behind = record {
             fallen = record { fall = fall; later = []; looks_are = refl; asks = asks; below = below; only_reads = tt };
+            cut = none_cut h.rule.file_identity;
             unknown = λ is. none_asked h.rule h.begin.key h.begin.path file is wants;
           };
           end_look = λ ended. absurd (let no : Asks ≡ Ended = ended in cc);
@@ -177,7 +179,7 @@ module _ (numbers : Option (ℕ × ℕ)) (h : History) (told : TailHistory) (l :
       behind : (stage : Stage) (looks : List Look) → StandBehind h (with_numbers numbers told.file) stage looks →
           StandBehind (with_present present h) (with_numbers numbers told.file) stage looks
       behind Reads looks is = is
-      behind Asks looks is = record { fallen = fallen looks is.fallen; unknown = is.unknown }
+      behind Asks looks is = record { fallen = fallen looks is.fallen; cut = is.cut; unknown = is.unknown }
       behind Ended looks is = is
       behind Changed looks is = record { fallen = fallen looks is.fallen; other = is.other; lost = is.lost }
       behind Over looks is = record { fallen = fallen looks is.fallen; same = is.same }
@@ -242,8 +244,13 @@ module _ (numbers : Option (ℕ × ℕ)) (h : History) (told : TailHistory) (l :
     pub was : HasFallen h l.beyond
     was = (unanswered_in h.stage asks l.stand_behind).fallen
 
+    -- a fault cut each asking
+    pub was_cut : AreCutAskings h.rule.file_identity was.later
+    unfolding was
+    was_cut = (unanswered_in h.stage asks l.stand_behind).cut
+
     -- by these looks the key was not told
-    pub was_unknown : IsFingerprint h.rule.file_identity → ¬ (StillHasKey h.rule h.begin.key h.begin.path (with_numbers numbers told.file) was.later)
+    pub was_unknown : IsFingerprint h.rule.file_identity → ¬ (SomeAskingGives h.rule h.begin.key h.begin.path (with_numbers numbers told.file) was.later)
     unfolding was
     was_unknown = (unanswered_in h.stage asks l.stand_behind).unknown
 
@@ -263,10 +270,11 @@ module _ (numbers : Option (ℕ × ℕ)) (h : History) (told : TailHistory) (l :
         ∙ ap (λ (b : List Look). h.before ++ b) (append_assoc l.since l.beyond more)
 
     -- the asking met a fault
-    pub asks_on : (IsFingerprint h.rule.file_identity → ¬ (StillHasKey h.rule h.begin.key h.begin.path (with_numbers numbers told.file) (was.later ++ more))) →
+    pub asks_on : AreCutAskings h.rule.file_identity (was.later ++ more) →
+        (IsFingerprint h.rule.file_identity → ¬ (SomeAskingGives h.rule h.begin.key h.begin.path (with_numbers numbers told.file) (was.later ++ more))) →
         IsLookedAt numbers h (with_looks told more)
     unfolding now was
-    asks_on unknown = record {
+    asks_on cut unknown = record {
       since = l.since;
       beyond = l.beyond ++ more;
       looks_are = looks_now;
@@ -275,13 +283,13 @@ module _ (numbers : Option (ℕ × ℕ)) (h : History) (told : TailHistory) (l :
       segments = l.segments;
       past = l.past;
       present = l.present;
-      stand_behind = subst (λ (s : Stage). StandBehind h (with_numbers numbers told.file) s (l.beyond ++ more)) (sym asks) (record { fallen = now; unknown = unknown });
+      stand_behind = subst (λ (s : Stage). StandBehind h (with_numbers numbers told.file) s (l.beyond ++ more)) (sym asks) (record { fallen = now; cut = cut; unknown = unknown });
       end_look = λ ended. absurd (let no : Asks ≡ Ended = sym asks ∙ ended in cc);
     }
 
     -- it has another key
     pub changes : HasOtherKey h.rule h.begin.key h.begin.path (with_numbers numbers told.file) (was.later ++ more) →
-        ¬ (StillHasKey h.rule h.begin.key h.begin.path (with_numbers numbers told.file) (was.later ++ more)) →
+        ¬ (SomeAskingGives h.rule h.begin.key h.begin.path (with_numbers numbers told.file) (was.later ++ more)) →
         IsLookedAt numbers (with_stage Changed h) (with_looks told more)
     unfolding now was
     changes key lost =

@@ -3,8 +3,9 @@ use Rattle.std.proofs.Common.{◌≡◌, ℕ, Bool, true, false, List, ◌++◌,
 use Rattle.event_tree.specs.declared.input_rule.IdentityRule.{IdentityRule}
 use Rattle.event_tree.specs.declared.input_rule.IdentityRule.TheVariants.{Fingerprint}
 use Rattle.file_identity.proofs.AskedOnce.{askable_wants, cut_is_part, none_by_cut, nothing_is_part}
+use Rattle.file_identity.proofs.CutAskings.{cut_again}
 use Rattle.file_identity.specs.Answers.{IsCompared, IsFingerprint, IsSameKey, with_numbers}
-use Rattle.file_identity.specs.AskedAgain.{StillHasKey}
+use Rattle.file_identity.specs.AskedAgain.{AreCutAskings, SomeAskingGives}
 use Rattle.file_identity.specs.Asking.{IsCutAsking, IsPartOfAsking}
 use Rattle.file_identity.specs.Key.{WantsBytes}
 use Rattle.outside.specs.declared.failed.Failed.{Failed}
@@ -29,14 +30,23 @@ refused_is_part held file looks NoMemory gave = subst (λ (l : List Look). IsPar
 
 -- what was not told before is not told by an asking that was refused
 pub still_unknown : (h : History) (held : Held) → StandsFor h held → (file given : File) (before looks : List Look) (error : TurnError) → IsGivenKey held given looks (Err error) →
-    (IsFingerprint h.rule.file_identity → ¬ (StillHasKey h.rule h.begin.key h.begin.path file before)) →
-    IsFingerprint h.rule.file_identity → ¬ (StillHasKey h.rule h.begin.key h.begin.path file (before ++ looks))
+    (IsFingerprint h.rule.file_identity → ¬ (SomeAskingGives h.rule h.begin.key h.begin.path file before)) →
+    IsFingerprint h.rule.file_identity → ¬ (SomeAskingGives h.rule h.begin.key h.begin.path file (before ++ looks))
 still_unknown h held stands file given before looks ReadFault gave unknown is =
     none_by_cut h.rule h.begin.key h.begin.path file before looks (unknown is)
     (subst (λ (r : IdentityRule). IsCutAsking r looks) stands.holds.follows.identity gave)
 still_unknown h held stands file given before looks NoMemory gave unknown is =
-    subst (λ (l : List Look). ¬ (StillHasKey h.rule h.begin.key h.begin.path file (before ++ l))) (sym gave)
-    (subst (λ (l : List Look). ¬ (StillHasKey h.rule h.begin.key h.begin.path file l)) (sym (append-nil before)) (unknown is))
+    subst (λ (l : List Look). ¬ (SomeAskingGives h.rule h.begin.key h.begin.path file (before ++ l))) (sym gave)
+    (subst (λ (l : List Look). ¬ (SomeAskingGives h.rule h.begin.key h.begin.path file l)) (sym (append-nil before)) (unknown is))
+
+-- a fault cut it, or it had no look
+pub cut_still : (h : History) (held : Held) → StandsFor h held → (given : File) (before looks : List Look) (error : TurnError) → IsGivenKey held given looks (Err error) →
+    AreCutAskings h.rule.file_identity before → AreCutAskings h.rule.file_identity (before ++ looks)
+cut_still h held stands given before looks ReadFault gave cut =
+    cut_again h.rule.file_identity before looks cut (subst (λ (r : IdentityRule). IsCutAsking r looks) stands.holds.follows.identity gave)
+cut_still h held stands given before looks NoMemory gave cut =
+    subst (λ (l : List Look). AreCutAskings h.rule.file_identity (before ++ l)) (sym gave)
+    (subst (λ (l : List Look). AreCutAskings h.rule.file_identity l) (sym (append-nil before)) cut)
 
 -- ---- whether the file has the key by its fingerprint
 

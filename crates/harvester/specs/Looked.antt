@@ -4,7 +4,7 @@
 use Rattle.std.specs.Prelude.{◌≡◌, ℕ, ◌<◌, true, List, [], ◌∷◌, ◌++◌, Option, IfSome}
 use Rattle.std.specs.List.{AllByRecursion}
 use Rattle.file_identity.specs.Answers.{IsFingerprint, with_numbers}
-use Rattle.file_identity.specs.AskedAgain.{HasOtherKey, IsRead, KeepsKey, StillHasKey}
+use Rattle.file_identity.specs.AskedAgain.{AreCutAskings, HasOtherKey, IsRead, KeepsKey, SomeAskingGives, StillHasKey}
 use Rattle.file_looks.specs.EndLook.{HasEndLook}
 use Rattle.file_looks.specs.Reading.{ReadOn, bytes_read}
 use Rattle.file_looks.specs.Segment.{Segment, read_to, segments_of, steps_in}
@@ -45,16 +45,17 @@ pub record HasFallen (h : History) (looks : List Look) : Type 0 where
   pub below : fall.sight.length < history.read_to h.present
   pub only_reads : AllByRecursion (λ look. IsRead look.question) later
 
--- and it was not told yet: no asking for a fingerprint gave the key
+-- and it was not told yet: a fault cut each asking, and none for a fingerprint gave the key
 pub record IsUnanswered (h : History) (file : File) (looks : List Look) : Type 0 where
   pub fallen : HasFallen h looks
-  pub unknown : IsFingerprint h.rule.file_identity → ¬ (StillHasKey h.rule h.begin.key h.begin.path file fallen.later)
+  pub cut : AreCutAskings h.rule.file_identity fallen.later
+  pub unknown : IsFingerprint h.rule.file_identity → ¬ (SomeAskingGives h.rule h.begin.key h.begin.path file fallen.later)
 
 -- and it was another: no asking gave the key
 pub record HasChanged (h : History) (file : File) (looks : List Look) : Type 0 where
   pub fallen : HasFallen h looks
   pub other : HasOtherKey h.rule h.begin.key h.begin.path file fallen.later
-  pub lost : ¬ (StillHasKey h.rule h.begin.key h.begin.path file fallen.later)
+  pub lost : ¬ (SomeAskingGives h.rule h.begin.key h.begin.path file fallen.later)
 
 -- or the same, where no epoch is left
 pub record IsOver (h : History) (file : File) (looks : List Look) : Type 0 where

@@ -148,7 +148,7 @@ other_key_stays rule key path file looks more has = record {
   behind = has.behind ++ more;
   looks_are = ap (λ (l : List Look). l ++ more) has.looks_are ∙ append_assoc has.before (has.asked ++ has.behind) more
       ∙ ap (λ (l : List Look). has.before ++ l) (append_assoc has.asked has.behind more);
-  only_reads = has.only_reads;
+  cut = has.cut;
   asking = has.asking;
   other = has.other;
 }

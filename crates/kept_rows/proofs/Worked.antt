@@ -11,6 +11,7 @@ use Rattle.event_tree.specs.declared.group_rule.GroupRule.TheVariants.{Single}
 use Rattle.event_tree.specs.declared.input_rule.IdentityRule.TheVariants.{Path}
 use Rattle.event_tree.specs.declared.input_rule.InputRule.{InputRule}
 use Rattle.event_tree.specs.declared.settings.Settings.{Settings}
+use Rattle.file_identity.proofs.CutAskings.{none_cut}
 use Rattle.file_identity.specs.Key.{path_key}
 use Rattle.file_looks.specs.EndLook.{HasEndLook}
 use Rattle.file_looks.specs.Segment.{Segment}
@@ -253,7 +254,7 @@ is_tail : IsTail trace 2 a_log 0 (looks ++ [])
 is_tail = record { in_this_run = omega arith; begun = sight; opened = refl; tells = refl }
 
 gives : StillHasKey input key a_log file looks
-gives = record { before = []; asked = []; behind = looks; looks_are = refl; only_reads = tt; gives = record { asking = refl; gave = refl } }
+gives = record { before = []; asked = []; behind = looks; looks_are = refl; cut = none_cut input.file_identity; gives = record { asking = refl; gave = refl } }
 
 path_of : (told : AccountedEvent) → told.reading ≡ 0 → told.event.path ≡ a_log → 0 < told.event.span.end → told.event.span.end ≤ 4 → IsPathOf run slot_account epoch_account told
 path_of told reading_is path_is some within = record {

@@ -3,7 +3,7 @@
 use Rattle.std.specs.Prelude.{◌≡◌, ◌⊎◌, ℕ, zero, suc, ◌+◌, ◌<◌, ◌≤◌, nat_le, List, [], ◌∷◌, ◌++◌, map, flat_map, codes, Contains, slice_get, Option, Some, None, IsSomeAnd, if◌then◌else◌}
 use Rattle.std.specs.List.{AllByRecursion, filter_map}
 use Rattle.event_tree.specs.declared.input_rule.InputRule.{InputRule}
-use Rattle.file_identity.specs.AskedAgain.{IsRead, KeepsKey, StillHasKey}
+use Rattle.file_identity.specs.AskedAgain.{IsRead, KeepsKey, SomeAskingGives, StillHasKey}
 use Rattle.file_looks.specs.Reading.{ReadOn}
 use Rattle.file_looks.specs.Segment.{Segment, read_to, segments_of, steps_in}
 use Rattle.outside.specs.declared.history.Look.{Look}
@@ -82,7 +82,7 @@ pub record LostItsKey (rule : InputRule) (key path : List ℕ) (file : File) (ta
   pub last : Segment
   pub segments_are : segments_of tail.place tail.looks ≡ front ++ last ∷ []
   pub below : fall.sight.length < read_to last
-  pub other_key : ¬ (StillHasKey rule key path file later)
+  pub other_key : ¬ (SomeAskingGives rule key path file later)
 
 -- a tail that follows the key's file: as it was opened the file gave the key, and so it did where a new life began
 pub record IsFollowedTail (run : Run) (rule : InputRule) (key : List ℕ) (tail : FollowedTail) : Type 0 where

@@ -1,5 +1,5 @@
 -- A tail that a run opened and asked for its key: what it tells of its file, and what was told of the file before its harvester looked.
-use Rattle.std.proofs.Common.{◌≡◌, ℕ, zero, suc, ◌+◌, ◌-◌, List, [], ◌∷◌, length, Option, Some, None, IfSome, IsNone, Result, Ok, Err, refl, sym, ap, subst, ◌∙◌}
+use Rattle.std.proofs.Common.{◌≡◌, ℕ, zero, suc, ◌+◌, ◌-◌, List, [], ◌∷◌, length, Option, Some, None, IfSome, IsNone, Result, Ok, Err, append-nil, refl, sym, ap, subst, ◌∙◌}
 use Rattle.std.specs.Prelude.{slice_get}
 use Rattle.std.specs.List.{AllByRecursion}
 use Rattle.accounts.specs.Opened.{IsTailOf, Opened as OpenedFile}
@@ -13,7 +13,7 @@ use Rattle.event_tree.specs.declared.processor_rule.ProcessorRule.{ProcessorRule
 use Rattle.event_tree.specs.declared.settings.Settings.{Settings}
 use Rattle.file_identity.specs.Answers.{IsAsked, IsGiven, with_numbers}
 use Rattle.file_identity.specs.AskedAgain.{IsRead}
-use Rattle.file_identity.specs.Asking.{AreCutReads, ArePartReads, AreReads, IsAsking, IsCutAsking, IsPartOfAsking, ReadsOn}
+use Rattle.file_identity.specs.Asking.{ArePartReads, AreReads, IsPartOfAsking, ReadsOn}
 use Rattle.file_identity.specs.declared.identity.Identity.{Identity}
 use Rattle.file_identity.specs.declared.identity.Identity.TheVariants.{Key, TooSmall}
 use Rattle.file_identity.specs.declared.identity_error.IdentityError.{IdentityError}
@@ -36,6 +36,7 @@ use Rattle.rounds.specs.Words.{TailWords}
 use Rattle.wire_base.specs.declared.note.Begin.{Begin}
 use Rattle.run_steps.specs.Beginning.{AsksKey, ListedFile}
 use Rattle.accounts.proofs.Askings.{asking_reads}
+use Rattle.file_identity.proofs.CutAskings.{cut_askings_read}
 
 -- ---- an asking only reads
 
@@ -62,26 +63,17 @@ part_reads_only [] place wanted are = tt
 part_reads_only (look ∷ looks) place wanted are =
     read_on place wanted (λ next left. ArePartReads looks next left) (looks ≡ []) looks (λ next left. part_reads_only looks next left) (nothing_read looks) look.question are.1
 
-cut_reads_only : (looks : List Look) (place wanted : ℕ) → AreCutReads looks place wanted → OnlyRead looks
-cut_reads_only [] place wanted are = tt
-cut_reads_only (look ∷ looks) place wanted are =
-    read_on place wanted (λ next left. AreCutReads looks next left) ⊥ looks (λ next left. cut_reads_only looks next left) (λ no. absurd no) look.question are.1
-
 part_only_reads : (rule : IdentityRule) (looks : List Look) → IsPartOfAsking rule looks → OnlyRead looks
 part_only_reads (Fingerprint offset count) looks is = part_reads_only looks offset count is
 part_only_reads Native looks is = nothing_read looks is
 part_only_reads Path looks is = nothing_read looks is
 
-cut_only_reads : (rule : IdentityRule) (looks : List Look) → IsCutAsking rule looks → OnlyRead looks
-cut_only_reads (Fingerprint offset count) looks is = cut_reads_only looks offset count is
-cut_only_reads Native looks is = absurd is
-cut_only_reads Path looks is = absurd is
-
 -- whatever it gave
 pub given_only_reads : (id : List ℕ) (rule : IdentityRule) (path : List ℕ) (file : File) (looks : List Look) (result : Result Identity IdentityError) → IsGiven id rule path file looks result → OnlyRead looks
 given_only_reads id rule path file looks (Ok (Key key)) gave = asking_reads rule looks gave.0
 given_only_reads id rule path file looks (Ok (TooSmall place)) gave = asking_reads rule looks gave.0
-given_only_reads id rule path file looks (Err ReadFault) gave = cut_only_reads rule looks gave
+given_only_reads id rule path file looks (Err ReadFault) gave =
+    cut_askings_read rule looks (record { askings = looks ∷ []; together = sym (append-nil looks); each = (gave, tt) })
 given_only_reads id rule path file looks (Err NoNative) gave = part_only_reads rule looks gave
 given_only_reads id rule path file looks (Err NoMemory) gave = part_only_reads rule looks gave
 

@@ -7,6 +7,7 @@ use Rattle.std.specs.List.{AllByRecursion}
 use Rattle.event_tree.specs.declared.input_rule.IdentityRule.{IdentityRule}
 use Rattle.event_tree.specs.declared.input_rule.IdentityRule.TheVariants.{Fingerprint}
 use Rattle.event_tree.specs.declared.input_rule.InputRule.{InputRule}
+use Rattle.file_identity.proofs.CutAskings.{none_cut}
 use Rattle.file_identity.specs.AskedAgain.{KeepsKey, StillHasKey}
 use Rattle.file_identity.specs.Asking.{IsAsking}
 use Rattle.file_identity.specs.Key.{path_key}
@@ -62,7 +63,7 @@ now = record { files = file ∷ []; events = Opened (codes "/a") 0 longer ∷ Cl
 
 -- the key of its path needs no look
 still_has_key : StillHasKey input key (codes "/a") file []
-still_has_key = record { before = []; asked = []; behind = []; looks_are = refl; only_reads = tt; gives = record { asking = refl; gave = refl } }
+still_has_key = record { before = []; asked = []; behind = []; looks_are = refl; cut = none_cut input.file_identity; gives = record { asking = refl; gave = refl } }
 
 ran_out : RanOutOfEpochs (input ∷ []) (row_of_epoch MAX_EPOCH ∷ []) (file_of_size 9) before now
 ran_out = record {
