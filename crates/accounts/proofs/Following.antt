@@ -5,6 +5,8 @@ use Rattle.std.specs.List.{AllByRecursion, flat_map}
 use Rattle.harvester.specs.History.{History}
 use Rattle.kept_rows.specs.Account.{FollowedTail, Following, Place, SlotAccount}
 use Rattle.kept_rows.specs.Followed.{AreFollowed, AreInTurn, AreRising, IsFollowedTail, IsFollowing, IsGoneBefore, IsNewlyKnown, OnlyReads, asked_openings, followed_openings}
+use Rattle.file_identity.specs.AskedAgain.{StillHasKey}
+use Rattle.kept_rows.specs.Askings.{AsksInOrder}
 use Rattle.kept_rows.specs.Run.{Run, Scan}
 use Rattle.kept_rows.specs.Scans.{AllButTheLast, AreAsked, AreDistinct, IsFirstPath}
 use Rattle.ship_core.proofs.Members.{first_there, later_there}
@@ -116,6 +118,7 @@ module _ (run : Run) (scan : Scan) (by : IsByOneScan run scan) where
       record {
         scans = by.scans;
         asked = subst (AllButTheLast (AreAsked run)) (sym by.only) tt;
+        asks_in_order = subst (AllByRecursion (AsksInOrder run)) (sym by.only) (by.asks_in_order, tt);
         each = are_following placed files are.each;
         slots_rise = are_rising placed 0 files are.slots;
         in_turn = are_in_turn placed files are.keys_apart;

@@ -2,6 +2,7 @@
 use Rattle.std.proofs.Common.{◌≡◌, List, [], ◌∷◌, ◌++◌, Option, length, map, sym, ap, subst, ◌∙◌}
 use Rattle.std.specs.List.{AllByRecursion, filter_map, flat_map}
 use Rattle.kept_rows.specs.Acknowledged.{open_talks, talk_of}
+use Rattle.kept_rows.specs.Askings.{AsksInOrder}
 use Rattle.kept_rows.specs.Followed.{AreFollowed}
 use Rattle.kept_rows.specs.Run.{Asking, Run, Scan}
 use Rattle.kept_rows.specs.Scans.{AllButTheLast, AreAsked, AreDistinct, AreScans, ListGlobs, StandInOrder, globs_in}
@@ -35,6 +36,7 @@ module _ (run : Run) (is : IsUnscanned run) where
   follows_nothing = record {
     scans = are_scans;
     asked = subst (AllButTheLast (AreAsked run)) (sym is.no_scan) tt;
+    asks_in_order = subst (AllByRecursion (AsksInOrder run)) (sym is.no_scan) tt;
     each = tt;
     slots_rise = tt;
     in_turn = tt;

@@ -145,6 +145,11 @@ by_one_scan = record {
   only = refl;
   scans = record { together = refl; by_globs = ((inl (worked.shown ∷ [], refl), tt), tt); full = tt; moments = ([], [], refl, tt) };
   asked_well = (asked_well, tt);
+  asks_in_order = record {
+    each = (record { shown = worked.shown; entry = entry; path_is = refl; rule = input; rule_is = refl; covered = worked.is_covered; opening = λ named. named }, tt);
+    in_order = (tt, tt);
+    made = (3, (refl, inl (record { number = 0; begun = worked.sight; opened = refl; looks = asked; faults = 0; closed = refl }, refl)), tt);
+  };
   own_ids = record { no_colon = ((λ e. cc, tt), tt); ids_apart = (none_there worked.input.id, tt) };
 }
 
@@ -155,6 +160,10 @@ unopened_is_refused by =
     let q : Some input ≡ Some asked.rule = asked.rule_is in
     let same : input ≡ asked.rule = cc in
     subst (λ (r : InputRule). IsNoFingerprint r.file_identity) (sym same) asked.well
+
+-- nor one that takes the opening by which the file was followed for its asking
+pub followed_is_refused : IsByOneScan run (record scan { askings = record asking { opening = Some 3 } ∷ [] }) → ⊥
+followed_is_refused by = let at : 3 ≡ 1 = by.asks_in_order.made.1.0 in absurd (omega (arith, at))
 
 -- nor is a file followed whose tail was not asked
 pub unasked_is_refused : GivesKey input key a_log worked.file [] → ⊥

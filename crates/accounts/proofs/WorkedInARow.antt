@@ -268,6 +268,14 @@ is_followed : AreFollowed run (following ∷ [])
 is_followed = record {
   scans = record { together = refl; by_globs = ((inl (worked.shown ∷ [], refl), tt), tt); full = tt; moments = ([], [], refl, tt) };
   asked = asked_each;
+  asks_in_order = (
+    record {
+      each = (record { shown = worked.shown; entry = entry; path_is = refl; rule = worked.input; rule_is = refl; covered = worked.is_covered; opening = tt }, tt);
+      in_order = (tt, tt);
+      made = (5, refl, tt);
+    },
+    tt,
+  );
   each = (
     record {
       rule = worked.input;

@@ -228,6 +228,7 @@ has_told = record {
     only = refl;
     scans = worked.is_account.followed.scans;
     asked_well = worked.whole.none_faulty;
+    asks_in_order = worked.asks_in_order;
     own_ids = record { no_colon = ((λ e. cc, tt), tt); ids_apart = (none_there worked.input.id, tt) };
   };
   followed = record {

@@ -2,6 +2,7 @@
 -- asking and was closed without a fault. What its listings told, and what was asked of their entries, is the scan's own.
 use Rattle.std.specs.Prelude.{◌≡◌, true, [], ◌∷◌}
 use Rattle.std.specs.List.{AllByRecursion}
+use Rattle.kept_rows.specs.Askings.{AsksInOrder}
 use Rattle.kept_rows.specs.Run.{Run, Scan}
 use Rattle.kept_rows.specs.Scans.{AreScans, WasAskedWell}
 use Rattle.accounts.specs.RunsInARow.{HaveOwnIds}
@@ -12,4 +13,5 @@ pub record IsByOneScan (run : Run) (scan : Scan) : Type 0 where
   pub only : run.scans ≡ scan ∷ []
   pub scans : AreScans run
   pub asked_well : AllByRecursion (WasAskedWell run scan) scan.askings
+  pub asks_in_order : AsksInOrder run scan
   pub own_ids : HaveOwnIds run.settings.inputs

@@ -16,3 +16,4 @@ mod Older
 mod Refused
 mod Removed
 mod Undrained
+mod WorkedAskings

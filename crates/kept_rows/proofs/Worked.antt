@@ -41,6 +41,7 @@ use Rattle.wire_base.specs.declared.talk.Piece.TheVariants.{In, Out}
 use Rattle.wire_base.specs.KeyOrder.{compare}
 use Rattle.kept_rows.specs.Account.{AccountedEvent, EpochAccount, FollowedTail, Following, Place, Reading, SlotAccount}
 use Rattle.kept_rows.specs.Acknowledged.{IsAcknowledgedAt}
+use Rattle.kept_rows.specs.Askings.{AsksInOrder}
 use Rattle.kept_rows.specs.Drained.{IsDoneWith, IsDrained}
 use Rattle.kept_rows.specs.Epochs.{GoesOnFrom, WasListedWith}
 use Rattle.file_identity.specs.AskedAgain.{StillHasKey}
@@ -319,10 +320,18 @@ serves (suc (suc (suc (suc later)))) path number begun since is = absurd (let q 
 asked_each : AllButTheLast (AreAsked run) (scan ∷ [])
 asked_each = tt
 
+pub asks_in_order : AsksInOrder run scan
+asks_in_order = record {
+  each = (record { shown = shown; entry = entry; path_is = refl; rule = input; rule_is = refl; covered = is_covered; opening = tt }, tt);
+  in_order = (tt, tt);
+  made = (2, refl, tt);
+}
+
 is_followed : AreFollowed run (following ∷ [])
 is_followed = record {
   scans = record { together = refl; by_globs = ((inl (shown ∷ [], refl), tt), tt); full = tt; moments = ([], [], refl, tt) };
   asked = asked_each;
+  asks_in_order = (asks_in_order, tt);
   each = (
     record {
       rule = input;

@@ -15,6 +15,7 @@ use Rattle.outside.specs.Folders.{Closed, Opened}
 use Rattle.ship_core.specs.Rows.{find}
 use Rattle.wire_base.specs.declared.row.Row.{Row}
 use Rattle.kept_rows.specs.Account.{FollowedTail, Following}
+use Rattle.kept_rows.specs.Askings.{AsksInOrder}
 use Rattle.kept_rows.specs.Run.{Run, Scan}
 use Rattle.kept_rows.specs.Scans.{AllButTheLast, AreAsked, AreDistinct, AreScans, IsFirstPath, IsWhole, ShowsFileAt, ShowsKey}
 use Rattle.kept_rows.specs.Trace.{IsTail, Trace, looks_of}
@@ -202,6 +203,7 @@ EachOpeningServes run followings = (opening : ℕ) (path : List ℕ) (number : �
 pub record AreFollowed (run : Run) (followings : List Following) : Type 0 where
   pub scans : AreScans run
   pub asked : AllButTheLast (AreAsked run) run.scans
+  pub asks_in_order : AllByRecursion (AsksInOrder run) run.scans
   pub each : AllByRecursion (IsFollowing run) followings
   pub slots_rise : AreRising 0 followings
   pub in_turn : AreInTurn followings

@@ -1,5 +1,6 @@
 pub mod Account
 pub mod Acknowledged
+pub mod Askings
 pub mod Backed
 pub mod Drained
 pub mod Epochs

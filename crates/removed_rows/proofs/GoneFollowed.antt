@@ -152,6 +152,7 @@ module _ (run : Run) (scan : Scan) (gones : List Gone) (may : MayAllGo run scan 
       record {
         scans = followed.scans;
         asked = followed.asked;
+        asks_in_order = followed.asks_in_order;
         each = each;
         slots_rise = rising_behind 0 account (gone_accounts (next_slot account) gones) followed.slots_rise (gone_rise (next_slot account) gones);
         in_turn = all_in_turn (next_slot account) account gones followed.in_turn apart may.apart;

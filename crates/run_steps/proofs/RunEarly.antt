@@ -239,6 +239,7 @@ module _ {D : Type 0} (disks : DiskWords D) (start : Began D) (folder : FolderTo
       moments = (given.among.0, given.among.1, given.among.2, tt);
     };
     asked_well = tt;
+    asks_in_order = record { each = tt; in_order = tt; made = tt };
     own_ids = inputs_have_own_ids start.settings has.in_range;
   }
 

@@ -102,7 +102,8 @@ module _ {D : Type 0} (start : Began D) (folder : FolderTold) (has : HasScanned 
   events_listed : folder.listed.events ≡ folder.earlier.events ++ listed_events
   events_listed = ap (λ (h : FolderHistory). h.events) listed_is
 
-  listed_length : length folder.listed.events ≡ began + length listed_events
+  -- what was done before the run, and behind it its listings
+  pub listed_length : length folder.listed.events ≡ began + length listed_events
   listed_length = ap length events_listed ∙ length-append folder.earlier.events listed_events
 
   -- the listings stand behind what was done before the run
