@@ -24,6 +24,7 @@ use Rattle.rounds.specs.Making.{all_seen}
 use Rattle.rounds.specs.Words.{DiskWords, WireWords}
 use Rattle.run_steps.specs.AccountedFor.{AccountedFor, Objects, RunObjects}
 use Rattle.run_steps.specs.Areas.{GiveTheRows, HaveHeldFronts}
+use Rattle.run_steps.specs.Starting.{AreFewFiles, HaveRoomBefore}
 use Rattle.run_steps.specs.Began.{Began}
 use Rattle.run_steps.specs.FollowedOrSkipped.{AreFollowedOrSkipped}
 use Rattle.run_steps.specs.Met.{IsMetOf, IsTelling}
@@ -48,6 +49,7 @@ use Rattle.beat_run.specs.Scanning.{TellsScanned}
 use Rattle.beat_run.specs.Skipped.{AreSkipped, all_skipped}
 use Rattle.beat_run.proofs.Causes.{named_so}
 use Rattle.beat_run.proofs.EpochsOut.{HasNoneFor}
+use Rattle.beat_run.specs.WithinLimits.{IsWithinLimits}
 use Rattle.beat_run.proofs.PathsListed.{GoesFurther, are_skipped}
 use Rattle.beat_run.proofs.PrintedEnds.{never_reported}
 use Rattle.beat_run.proofs.ScanShown.{ScannedSome, each_some, scanned_folder}
@@ -220,6 +222,7 @@ module _ {D : Type 0} (disks : DiskWords D) (one : OneChoice) (settings : Settin
         cleaned = λ rest telling. absurd (early_not_telling status telling);
         reported = λ end. absurd (never_reported status ends end);
         counted = λ is_done. absurd (early_not_done status is_done);
+        within = λ end. absurd (never_reported status ends end);
         full_for = full;
       }
 
@@ -243,6 +246,7 @@ module _ {D : Type 0} (disks : DiskWords D) (one : OneChoice) (settings : Settin
     cleaned = λ rest telling. absurd (early_not_telling status telling);
     reported = λ end. absurd (never_reported status ends end);
     counted = λ is_done. absurd (early_not_done status is_done);
+    within = λ end. absurd (never_reported status ends end);
     full_for = full;
   }
 
@@ -281,12 +285,46 @@ module _ {D : Type 0} (disks : DiskWords D) (start : Began D) (in_range : AreInR
       (IsTelling what → IfSome told (λ history. AreSkipped run account history after.folder (all_skipped passed scan))) → IsReportEnd status → (text : List ℕ) → tells text →
       IsReportOver (worked_run told) run account status text
 
+  -- what the files that it started kept within
+  pub record KeptWithin : Type 0 where
+    pub gave : GiveTheRows disks start.a start.b start.opening
+    pub few : AreFewFiles start.opening scan.listed.items
+    pub room : HaveRoomBefore start.opening scan.listed.items (length scan.listed.items)
+
+  within_limits : KeptWithin → (history : FolderHistory) → TellsScanned start.settings.inputs history scan start.shown → GoesFurther start.shown after.folder →
+      IsWithinLimits start.settings.inputs start.opening history after.folder
+  within_limits limits history scans goes =
+      let parted = scans.parted in
+      let more = goes.more parted.scanned parted.after_is in
+      record {
+        files = scan.listed.items;
+        doubled = scan.doubled.items;
+        scanned = parted.scanned;
+        scans = record {
+          all = parted.all;
+          listed = parted.listed;
+          scanned = parted.scanned;
+          scans = parted.scans;
+          keyed = parted.keyed;
+          asked = parted.asked;
+          asked_are = parted.asked_are;
+          asks = parted.asks;
+          after_is = refl;
+          parts = parted.parts;
+        };
+        later = more.0;
+        after_is = more.1;
+        few_listed = scans.few;
+        few_known = limits.few;
+        room = limits.room;
+      }
+
   pub worked : {tells : List ℕ → Type 0} (told : Option FolderHistory) (status : Status) → IsSome told → IfSome told (λ history. TellsScanned start.settings.inputs history scan start.shown) → GoesFurther start.shown after.folder →
-      IsMetFor status what → IsFullFor disks start.settings (worked_run told) status → ReportsOver tells told status →
+      KeptWithin → IsMetFor status what → IsFullFor disks start.settings (worked_run told) status → ReportsOver tells told status →
       ((folder : FolderTold) → HasScanned start folder → IsWorked disks start.settings what shipped dropped start.listed (length folder.scanned.events) passed (worked_run (Some folder.earlier))) →
       IsAccounted disks start.settings (worked_run told) status tells
-  worked None status some scans goes is full reports accounted = absurd (nothing FolderHistory some)
-  worked (Some history) status some scans goes is full reports accounted =
+  worked None status some scans goes limits is full reports accounted = absurd (nothing FolderHistory some)
+  worked (Some history) status some scans goes limits is full reports accounted =
       let parted = scans.parted in
       let folder : FolderTold = record { earlier = history; listed = parted.listed; scanned = parted.scanned; ended = parted.scanned; asked = parted.asked } in
       let worked_so = accounted folder (record {
@@ -310,6 +348,7 @@ module _ {D : Type 0} (disks : DiskWords D) (start : Began D) (in_range : AreInR
             are_skipped start.settings worked_so.accounted.run worked_so.accounted.account history start.shown after.folder scan passed worked_so.accounted.by_settings scans goes
             (subst (λ (l : List Listed). AreFollowedOrSkipped worked_so.accounted.run worked_so.accounted.account (length parted.scanned.events) l passed) (sym listed_are) (worked_so.followed_or_skipped telling)));
         counted = worked_so.counted;
+        within = λ end. record { rows = start.opening; given = limits.gave; within = within_limits limits history scans goes };
         full_for = full;
       }
 
@@ -331,6 +370,7 @@ module _ {F W D : Type 0} (disks : DiskWords D) (source : Option (List ℕ)) (le
       cleaned = by.is.cleaned;
       reported = λ end text told. by.is.reported end text (was end text told);
       counted = by.is.counted;
+      within = by.is.within;
       full_for = by.is.full_for;
     };
   }
@@ -343,7 +383,7 @@ module _ {F W D : Type 0} (disks : DiskWords D) (source : Option (List ℕ)) (le
     named_or_unused = by.named_or_unused;
     supported = by.supported;
     in_range = by.in_range;
-    is = record { what = by.is.what; met_for = tt; accounted = by.is.accounted; cleaned = by.is.cleaned; reported = λ end. absurd end; counted = by.is.counted; full_for = tt };
+    is = record { what = by.is.what; met_for = tt; accounted = by.is.accounted; cleaned = by.is.cleaned; reported = λ end. absurd end; counted = by.is.counted; within = λ end. absurd end; full_for = tt };
   }
 
   -- a status alone

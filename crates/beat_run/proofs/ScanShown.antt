@@ -224,9 +224,10 @@ module _ (inputs : List InputRule) (told : FolderHistory) (listed : List Listed)
   parted_shows_one rows few status (inl memory) = subst (ShowsScanEnd inputs told rows after) (sym memory) (inr nothing_more)
   parted_shows_one rows few status (inr end) = start_shows rows end.files end.doubled end.parts few status end.ends
 
-  tells_scanned : (scanned : Scanned) → PartsDoubled keyed.files.items scanned.listed.items scanned.doubled.items → scanned.gone ≡ keyed.gone → scanned.small ≡ keyed.small → TellsScanned inputs told scanned after
-  tells_scanned scanned parts gone small = record {
+  tells_scanned : length listed ≤ 65_536 → (scanned : Scanned) → PartsDoubled keyed.files.items scanned.listed.items scanned.doubled.items → scanned.gone ≡ keyed.gone → scanned.small ≡ keyed.small → TellsScanned inputs told scanned after
+  tells_scanned few scanned parts gone small = record {
     parted = parts_asked scanned.listed.items scanned.doubled.items parts;
+    few = few;
     gone = ap (λ v. v.items) gone ∙ has.asks.gone;
     small = ap (λ v. v.items) small ∙ has.asks.small;
   }
@@ -253,14 +254,14 @@ refused_parted rows listed files doubled parts (Ok scanned) ends = tt
 refused_parted rows listed files doubled parts (Err status) ends = inr (record { files = files; doubled = doubled; parts = parts; ends = ends })
 
 module _ (result : Result Scanned Status) (keyed : Keyed) (parts : IfOk result (λ scanned. PartsDoubled keyed.files.items scanned.listed.items scanned.doubled.items)) where
-  pub scanned_parts : (inputs : List InputRule) (before after : Option FolderHistory) (listed : List Listed) → IfSome before (λ told. HasAsked inputs told listed keyed after) →
+  pub scanned_parts : (inputs : List InputRule) (before after : Option FolderHistory) (listed : List Listed) → length listed ≤ 65_536 → IfSome before (λ told. HasAsked inputs told listed keyed after) →
       IfOk result (λ scanned. scanned.gone ≡ keyed.gone) → IfOk result (λ scanned. scanned.small ≡ keyed.small) → IfOk result (λ scanned. IfSome before (λ told. TellsScanned inputs told scanned after))
-  scanned_parts inputs before after listed has gone small = by_result result parts gone small
+  scanned_parts inputs before after listed few_listed has gone small = by_result result parts gone small
     where
       by_result : (r : Result Scanned Status) → IfOk r (λ scanned. PartsDoubled keyed.files.items scanned.listed.items scanned.doubled.items) → IfOk r (λ scanned. scanned.gone ≡ keyed.gone) →
           IfOk r (λ scanned. scanned.small ≡ keyed.small) → IfOk r (λ scanned. IfSome before (λ told. TellsScanned inputs told scanned after))
       by_result (Ok scanned) parted none few =
-          each_some before (λ told. HasAsked inputs told listed keyed after) (λ told. TellsScanned inputs told scanned after) (λ told is. tells_scanned inputs told listed keyed after is scanned parted none few) has
+          each_some before (λ told. HasAsked inputs told listed keyed after) (λ told. TellsScanned inputs told scanned after) (λ told is. tells_scanned inputs told listed keyed after is few_listed scanned parted none few) has
       by_result (Err status) parted none few = tt
 
   pub parted_each : (P : Listed → Type 0) → All P keyed.files.items → IfOk result (λ scanned. All P scanned.listed.items)

@@ -27,6 +27,7 @@ use Rattle.beat_run.specs.Ends.{FindsNoRoom, IsBehindSettings, IsReportEnd}
 use Rattle.beat_run.specs.EpochsLeft.{FindsNoEpoch}
 use Rattle.beat_run.specs.Named.{IsNamed}
 use Rattle.beat_run.specs.Printed.{IsReportOver}
+use Rattle.beat_run.specs.WithinLimits.{StaysWithinLimits}
 use Rattle.run_steps.specs.declared.met.Met.TheVariants as met
 
 -- what a run with this status may have met; where it was refused, found no memory, or a disk or the sink failed, anything
@@ -72,7 +73,7 @@ LeavesNoRemoved disks objects what run =
     WereAtRest disks objects → IsTelling what → AreRowsBy disks objects.after (λ rows. AllByRecursion (λ row. ¬ (IsOfRemovedFile run row)) rows)
 
 -- the numbers of the report that it tells are those of the account, and its skipped paths those that the run skipped, each for its reason;
--- where it is done, the numbers are of all events
+-- where it is done, the numbers are of all events; and where it tells a report, it stayed within the limits of files, epochs and native numbers
 pub record IsAccounted {D : Type 0} (disks : DiskWords D) (settings : Settings) (objects : RunObjects D) (status : Status) (tells : List ℕ → Type 0) : Type 0 where
   pub what : Met
   pub met_for : IsMetFor status what
@@ -80,6 +81,7 @@ pub record IsAccounted {D : Type 0} (disks : DiskWords D) (settings : Settings) 
   pub cleaned : LeavesNoRemoved disks objects what accounted.run
   pub reported : IsReportEnd status → (text : List ℕ) → tells text → IsReportOver objects accounted.run accounted.account status text
   pub counted : what ≡ met.Done → AreAllCounted accounted.account
+  pub within : IsReportEnd status → IfSome objects.before.folder (StaysWithinLimits disks settings objects)
   pub full_for : IsFullFor disks settings objects status
 
 -- folder and clock tell before it, and each wire behind it

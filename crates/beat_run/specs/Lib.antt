@@ -15,3 +15,4 @@ pub mod Scanning
 pub mod Skipped
 pub mod Untouched
 pub mod UsedImages
+pub mod WithinLimits

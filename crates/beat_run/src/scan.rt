@@ -6,7 +6,7 @@ ghost use Rattle.prospect.specs.Doubled.{PartsDoubled};
 ghost use Rattle.prospect.specs.ListedFiles.{IsListedInRange};
 ghost use Rattle.prospect.specs.Members.{HaveGlobs, HaveShortIds};
 ghost use Rattle.wire_base.specs.Ranges.{IsMoment};
-ghost use Rattle.run_steps.specs.Starting.{AreFewFiles, starts_among};
+ghost use Rattle.run_steps.specs.Starting.{AreFewFiles, HaveRoomBefore, starts_among};
 ghost use Rattle.beat_run.specs.Ends.{IsPartedEnd, IsScanEnd, IsStartEnd, ShowsScanEnd};
 ghost use Rattle.beat_run.specs.Scanning.{TellsScanned};
 ghost use Rattle.run_steps.specs.ClockOn.{MomentsGoOn};
@@ -39,6 +39,8 @@ pub fn scan<F: Folder, K: Clock>(
         TellsScanned inputs.now told scanned (F.told folder.new))) }
     ensures few_listed { IfOk result (λ scanned. length scanned.listed.items ≤ 65_536) }
     ensures few { IfOk result (λ scanned. AreFewFiles rows.now scanned.listed.items) }
+    ensures room { IfOk result (λ scanned.
+        HaveRoomBefore rows.now scanned.listed.items (length scanned.listed.items)) }
     ensures starts { IfOk result (λ scanned.
         scanned.starts.items ≡ starts_among rows.now scanned.listed.items) }
     ensures of_inputs { IfOk result (λ scanned.
@@ -80,6 +82,8 @@ fn part_files(alloc: Global, rows: &Rows, keyed: Keyed, now: Moment) -> Result<S
     ensures small { IfOk result (λ scanned. scanned.small ≡ keyed.small) }
     ensures now { IfOk result (λ scanned. scanned.now ≡ now) }
     ensures few { IfOk result (λ scanned. AreFewFiles rows.now scanned.listed.items) }
+    ensures room { IfOk result (λ scanned.
+        HaveRoomBefore rows.now scanned.listed.items (length scanned.listed.items)) }
     ensures starts { IfOk result (λ scanned.
         scanned.starts.items ≡ starts_among rows.now scanned.listed.items) }
     ensures refused { IfErr result (IsPartedEnd rows.now keyed.files.items) }
@@ -106,6 +110,7 @@ fn starts_by_rows(alloc: Global, rows: &Rows, files: &[Listed]) -> Result<Vec<St
     requires few_rows { length rows.now ≤ 65_536 }
     requires few_files { length files.now ≤ 65_536 }
     ensures few { IfOk result (λ _. AreFewFiles rows.now files.now) }
+    ensures room { IfOk result (λ _. HaveRoomBefore rows.now files.now (length files.now)) }
     ensures starts { IfOk result (λ starts. starts.items ≡ starts_among rows.now files.now) }
     ensures refused { IfErr result (IsStartEnd rows.now files.now) }
 {

@@ -35,7 +35,7 @@ key = path_key (codes "w") (codes "/a")
 abbrev pub row_of_epoch : ℕ → Row
 row_of_epoch epoch = record { key = key; path = codes "/a"; epoch = record { 0 = epoch }; offset = 5; changed = record { 0 = 0 } }
 
-abbrev file_of_size : ℕ → Listed
+abbrev pub file_of_size : ℕ → Listed
 file_of_size size = record { input = 0; key = Some key; path = codes "/a"; size = size; changed = record { 0 = 0 } }
 
 -- ---- as it is read

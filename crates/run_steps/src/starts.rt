@@ -4,7 +4,7 @@ ghost use Rattle.restart_join.specs.Joining.{full_for};
 ghost use Rattle.restart_join.specs.Starts.{start_of};
 ghost use Rattle.wire_base.specs.Ranges.{IsRow};
 ghost use Rattle.run_steps.specs.BeginFor.{row_of};
-ghost use Rattle.run_steps.specs.Starting.{AreFewFiles, IsTooManyAt, RefusesStarts, starts_among};
+ghost use Rattle.run_steps.specs.Starting.{AreFewFiles, HaveRoomBefore, IsTooManyAt, RefusesStarts, starts_among};
 
 use prospect::Listed;
 use restart_join::{JoinError, Start, start_of};
@@ -22,6 +22,7 @@ pub fn starts_of(alloc: Global, rows: &Rows, listed: &[Listed]) -> Result<Vec<St
     requires few_listed { length listed.now ≤ 65_536 }
     ensures starts { IfOk result (λ starts. starts.items ≡ starts_among rows.now listed.now) }
     ensures few { OnOk result (AreFewFiles rows.now listed.now) }
+    ensures room { OnOk result (HaveRoomBefore rows.now listed.now (length listed.now)) }
     ensures refused { IfErr result (RefusesStarts rows.now listed.now) }
 {
     let mut starts = Vec::with_capacity(alloc, listed.len())?;

@@ -1,4 +1,4 @@
-use Rattle.std.proofs.Common.{◌≡◌, ◌∙◌, ℕ, ◌+◌, ◌-◌, ◌^◌, ◌<◌, ◌≤◌, Some, ap, length, map, refl, subst, sym, arith}
+use Rattle.std.proofs.Common.{◌≡◌, ◌∙◌, ℕ, ◌+◌, ◌-◌, ◌^◌, ◌<◌, ◌≤◌, List, Some, ap, length, map, refl, subst, sym, arith}
 use Rattle.std.proofs.lemmas.Result.{err_from_is_err_and}
 use Rattle.keeper.specs.Keeping.{Keeping}
 use Rattle.report.specs.declared.status.Status.TheVariants.{NoMemory}
@@ -8,6 +8,9 @@ use Rattle.rounds.specs.WordsOf.{disks_of, wires_of}
 use Rattle.run_steps.proofs.Clocks.{clock_by_two}
 use Rattle.run_steps.proofs.NamedInputs.{inputs_are_askable}
 use Rattle.run_steps.specs.Outset.{began_with}
+use Rattle.run_steps.specs.Starting.{AreFewFiles, HaveRoomBefore}
+use Rattle.registry_store.specs.Standing.{Standing}
+use Rattle.wire_base.specs.declared.row.Row.{Row}
 use Rattle.beat_run.proofs.Accounts.{early, full_for_scan, outcomes_seen, wires_tell, worked}
 use Rattle.ship_core.specs.Rows.{IsInOrder}
 use Rattle.beat_run.specs.Cause.{Signs}
@@ -147,11 +150,15 @@ returns-clause-accounted g c = λ from opened tells.
     (g.K.Clock.moments c.args.outside.now.clock.now) (g.K.Clock.moments c.scan.new.clock) c.in_ok-scanned.ensures.moment_given (g.F.Folder.told c.scan.new.folder) (rw inputs at c.in_ok-scanned.ensures.of_inputs)) before in
     let ends = c.in_ok-worked.ensures.ends before sets in
     let keeper = c.in_ok-parts.ensures.keeper in
+    let rows : c.rows.result.now ≡ start.opening = c.rows.ensures.rows ∙ ap (λ (s : Standing). s.rows) (sym c.in_ok-parts.ensures.store) in
+    let few = subst (λ (l : List Row). AreFewFiles l c.in_ok-scanned.scanned.listed.items) rows c.in_ok-scanned.ensures.few in
+    let room = subst (λ (l : List Row). HaveRoomBefore l c.in_ok-scanned.scanned.listed.items (length c.in_ok-scanned.scanned.listed.items)) rows c.in_ok-scanned.ensures.room in
     let keeper_is : c.keeper-2-1.given.0 ≡ c.run_over.new.storing.keeper.now = c.keeper-2-1.given.1 (sym c.run_over.ensures.same_keeper) in
     (worked disks start c.requires.in_range (map g.W.Wire.outcomes c.args.outside.now.wires.now.items) _ fin.0 c.keeper-2-1.given.0.shipped c.keeper-2-1.given.0.dropped
     c.in_ok-scanned.scanned refl refl c.in_ok-worked.worked.passed.items
     (g.F.Folder.told c.args.outside.now.folder.now) (ended c.finish.result) tells.folder (rw inputs at c.in_ok-scanned.ensures.scanned)
     (shown_goes_further (g.F.Folder.told c.scan.new.folder) _ _ ends.1.ends.stands.files.shown)
+    (record { gave = sets.gave; few = few; room = room })
     (met_for_ending c.in_ok-scanned.scanned.listed.items c.args.settings.now.output.attempts fin.0 c.finish.result of fin.2.stands fin.2.refused)
     (full_for_ending disks c.args.settings.now _ start.opening sets.gave c.in_ok-scanned.scanned.listed.items c.args.settings.now.output.attempts fin.0 c.finish.result of
     (none_after_cleaning disks _ _ _ _ cleans c.args.settings.now start.opening c.in_ok-scanned.scanned.listed.items (g.F.Folder.told c.args.outside.now.folder.now) (g.F.Folder.told c.run_over.new.around.folder.now)

@@ -15,7 +15,7 @@ returns-in-Ok-ask_files-clause-moment_given_first g c = whatever_came c.part_fil
 pub returns-in-Ok-ask_files-clause-scanned : goal.returns-in-Ok-ask_files-clause-scanned
 returns-in-Ok-ask_files-clause-scanned g c =
     let listed = c.in-Ok.listed.items in
-    scanned_parts c.part_files.result c.in-Ok-ask_files.keyed c.part_files.ensures.parts c.args.inputs.now (g.F.Folder.told c.args.folder.now) (g.F.Folder.told c.ask_files.new.folder) listed
+    scanned_parts c.part_files.result c.in-Ok-ask_files.keyed c.part_files.ensures.parts c.args.inputs.now (g.F.Folder.told c.args.folder.now) (g.F.Folder.told c.ask_files.new.folder) listed c.in-Ok.ensures.few
     (has_asked c.args.inputs.now (g.F.Folder.told c.args.folder.now) (g.F.Folder.told c.list_files.new.folder) (g.F.Folder.told c.ask_files.new.folder) listed c.in-Ok-ask_files.keyed
     c.in-Ok.ensures.scanned c.in-Ok.ensures.keyed c.in-Ok-ask_files.ensures.asked)
     c.part_files.ensures.gone c.part_files.ensures.small

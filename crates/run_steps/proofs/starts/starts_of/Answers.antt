@@ -24,3 +24,7 @@ files-preserved c =
           (subst (λ (n : ℕ). full_for n c.files.place one.size (row_of rows one.key) ≡ None) c.files.invariant.counted
           (subst (λ (o : Option Row). full_for c.files.files c.files.place one.size o ≡ None) c.row_of-row.ensures.found c.in_ok-start.ensures.room));
     }
+
+-- all files were looked at
+pub returns-clause-room : goal.returns-clause-room
+returns-clause-room c = λ earlier one less is. c.files.invariant.room earlier one (omega (arith, less, c.files-test.false)) is
