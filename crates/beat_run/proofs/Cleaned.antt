@@ -478,7 +478,7 @@ module _ {D : Type 0} (disks : DiskWords D) (reads : (disk : D) → IfSome (disk
       ((over.accounted.supposing premises).drained were was_done rest.first rest.second old.store.rows rest.a_holds rest.b_holds (store_gives were rest)))
 
   fits : FitsObjects (with_areas objects new.a new.b) run
-  fits = let was = over.accounted.fits in record { once = was.once; one_scan = was.one_scan; folder = was.folder; moments = was.moments; wires_go_on = was.wires_go_on; wires = was.wires }
+  fits = let was = over.accounted.fits in record { once = was.once; one_scan = was.one_scan; folder = was.folder; moments = was.moments; scan_first = was.scan_first; wires_go_on = was.wires_go_on; wires = was.wires }
 
   abbrev cleaned_is_accounted_for : AccountedFor disks settings (with_areas objects new.a new.b) new.met
   cleaned_is_accounted_for = record {

@@ -1,11 +1,12 @@
 -- The moments that a clock gives go on, and end with the last one.
 use Rattle.std.proofs.Common.{◌≡◌, inl, inr, ℕ, suc, ◌+◌, ◌-◌, ◌<◌, drop, List, [], ◌∷◌, ◌++◌, length, append-nil, append_assoc, length-append, Option, Some, None, slice_get, refl, sym, ap, subst, ◌∙◌, arith, unwrap_or}
+use Rattle.std.proofs.Math.Seq.{drop-append_seam}
 use Rattle.std.proofs.lemmas.List.{drop-append-le}
 use Rattle.accounts.proofs.Lists.{in_order_on}
 use Rattle.harvester.specs.Standing.{EndsAt}
 use Rattle.kept_rows.specs.Scans.{StandInOrder}
 use Rattle.outside.specs.Times.{EndsWith, GivesMoment}
-use Rattle.run_steps.specs.Shown.{HasGiven}
+use Rattle.run_steps.specs.Shown.{GaveSince, HasGiven}
 
 pub ends_at : (moments : List ℕ) (now : ℕ) → EndsWith moments now → EndsAt moments now
 ends_at [] now ends = absurd cc
@@ -34,7 +35,41 @@ pub record GivenOn (start after : Option (List ℕ)) (moment now : ℕ) (since :
   pub ends : EndsAt (since ++ more) now
   pub given : HasGiven start after moment (since ++ more)
 
+-- the last one of all that it gave is the last one since then
+ends_since : (front later all : List ℕ) (moment now : ℕ) → all ≡ front ++ moment ∷ later → EndsWith all now → EndsAt (moment ∷ later) now
+ends_since front later all moment now are ends =
+    let long : length all ≡ length front + length (moment ∷ later) = ap length are ∙ length-append front (moment ∷ later) in
+    subst (λ (l : List ℕ). EndsAt l now) (ap (drop (length front)) are ∙ drop-append_seam front (moment ∷ later))
+    (ends_behind all now (length front) (omega (arith, long)) (ends_at all now ends))
+
 module _ (moment now : ℕ) (since : List ℕ) where
+  -- of which the first one stands in a list that it had given by then, or behind it
+  module _ (earlier later : List ℕ) (since_is : since ≡ moment ∷ later) (all : List ℕ) (Gave : Option (List ℕ) → List ℕ → Type 0)
+      (gave_none : Gave (Some all) later) (gave_now : Gave (Some (all ++ now ∷ [])) (later ++ now ∷ [])) (ends : EndsWith all now → EndsAt (moment ∷ later) now) where
+    -- what it has given by now
+    record GivenNow (after : Option (List ℕ)) : Type 0 where
+      more : List ℕ
+      end : EndsAt (since ++ more) now
+      rest : List ℕ
+      rest_is : since ++ more ≡ moment ∷ rest
+      gave : Gave after rest
+
+    given_now : (after : Option (List ℕ)) → GivesMoment (Some all) now after → GivenNow after
+    given_now after (inl same) = record {
+      more = [];
+      end = subst (λ (l : List ℕ). EndsAt l now) (sym (append-nil since ∙ since_is)) (ends same.0);
+      rest = later;
+      rest_is = append-nil since ∙ since_is;
+      gave = subst (λ (o : Option (List ℕ)). Gave o later) (sym same.1) gave_none;
+    }
+    given_now after (inr grows) = record {
+      more = now ∷ [];
+      end = record { earlier = since; are = refl };
+      rest = later ++ now ∷ [];
+      rest_is = ap (λ (l : List ℕ). l ++ now ∷ []) since_is;
+      gave = subst (λ (o : Option (List ℕ)). Gave o (later ++ now ∷ [])) (sym grows.1) gave_now;
+    }
+
   pub given_on : (start before after : Option (List ℕ)) → HasGiven start before moment since → GivesMoment before now after → GivenOn start after moment now since
   given_on None before after given gives = record {
     more = now ∷ [];
@@ -45,48 +80,30 @@ module _ (moment now : ℕ) (since : List ℕ) where
       among = in_order_on (moment ∷ []) since (now ∷ []) given.among;
     };
   }
-  given_on (Some earlier) before after given gives = by_case (subst (λ (o : Option (List ℕ)). GivesMoment o now after) given.told.1 gives)
+  given_on (Some earlier) before after given gives = by_first given.told.2
     where
-      more : List ℕ
-      more = given.told.0
+      later : List ℕ
+      later = given.told.0
 
-      all : List ℕ
-      all = earlier ++ more
+      since_is : since ≡ moment ∷ later
+      since_is = given.told.1
 
-      since_is : since ≡ drop (length earlier - 1) all
-      since_is = given.told.2
+      on : (more : List ℕ) → StandInOrder (moment ∷ []) (since ++ more)
+      on more = in_order_on (moment ∷ []) since more given.among
 
-      long : length all ≡ length earlier + length more
-      long = length-append earlier more
-
-      by_case : GivesMoment (Some all) now after → GivenOn (Some earlier) after moment now since
-      by_case (inl same) =
-          let some = some_there all now same.0 in
-          let ends : EndsAt (drop (length earlier - 1) all) now = ends_behind all now (length earlier - 1) (omega (arith, some, long)) (ends_at all now same.0) in
-          let list : since ++ [] ≡ since = append-nil since in
-          record {
-            more = [];
-            ends = subst (λ (l : List ℕ). EndsAt l now) (sym (list ∙ since_is)) ends;
-            given = record {
-              told = (more, same.1, list ∙ since_is);
-              untold = λ none. absurd cc;
-              among = in_order_on (moment ∷ []) since [] given.among;
-            };
-          }
-      by_case (inr grows) = record {
-        more = now ∷ [];
-        ends = record { earlier = since; are = refl };
-        given = record {
-          told = (
-            more ++ now ∷ [],
-            grows.1 ∙ ap (λ (l : List ℕ). Some l) (append_assoc earlier more (now ∷ [])),
-            ap (λ (l : List ℕ). l ++ now ∷ []) since_is ∙ sym (drop-append-le (length earlier - 1) all (now ∷ []) (omega (arith, long)))
-                ∙ ap (drop (length earlier - 1)) (append_assoc earlier more (now ∷ [])),
-          );
-          untold = λ none. absurd cc;
-          among = in_order_on (moment ∷ []) since (now ∷ []) given.among;
-        };
-      }
+      by_first : GaveSince earlier before moment later → GivenOn (Some earlier) after moment now since
+      by_first (inl last) =
+          let front = ends_at earlier moment last.0 in
+          let Gave : Option (List ℕ) → List ℕ → Type 0 = λ o rest. o ≡ Some (earlier ++ rest) in
+          let of = given_now earlier later since_is (earlier ++ later) Gave refl (ap (λ (l : List ℕ). Some l) (append_assoc earlier later (now ∷ [])))
+          (ends_since front.earlier later (earlier ++ later) moment now (ap (λ (l : List ℕ). l ++ later) front.are ∙ append_assoc front.earlier (moment ∷ []) later))
+          after (subst (λ (o : Option (List ℕ)). GivesMoment o now after) last.1 gives) in
+          record { more = of.more; ends = of.end; given = record { told = (of.rest, of.rest_is, inl (last.0, of.gave)); untold = λ none. absurd cc; among = on of.more } }
+      by_first (inr appended) =
+          let Gave : Option (List ℕ) → List ℕ → Type 0 = λ o rest. o ≡ Some (earlier ++ moment ∷ rest) in
+          let of = given_now earlier later since_is (earlier ++ moment ∷ later) Gave refl (ap (λ (l : List ℕ). Some l) (append_assoc earlier (moment ∷ later) (now ∷ [])))
+          (ends_since earlier later (earlier ++ moment ∷ later) moment now refl) after (subst (λ (o : Option (List ℕ)). GivesMoment o now after) appended.1 gives) in
+          record { more = of.more; ends = of.end; given = record { told = (of.rest, of.rest_is, inr (appended.0, of.gave)); untold = λ none. absurd cc; among = on of.more } }
 
 -- ---- the first one
 
@@ -97,37 +114,23 @@ pub record FirstGiven (before after : Option (List ℕ)) (moment : ℕ) : Type 0
   pub given : HasGiven before after moment since
 
 module _ (moment : ℕ) where
-  last_among : (since : List ℕ) → EndsAt since moment → StandInOrder (moment ∷ []) since
-  last_among since ends = (ends.earlier, [], ends.are, tt)
+  alone : EndsAt (moment ∷ []) moment
+  alone = record { earlier = []; are = refl }
 
   pub first_given : (before after : Option (List ℕ)) → GivesMoment before moment after → FirstGiven before after moment
-  first_given None after gives = record {
+  first_given None after gives =
+      record { since = moment ∷ []; ends = alone; given = record { told = tt; untold = λ _. gives; among = ([], [], refl, tt) } }
+  first_given (Some earlier) after (inl same) = record {
     since = moment ∷ [];
-    ends = record { earlier = []; are = refl };
-    given = record { told = tt; untold = λ _. gives; among = ([], [], refl, tt) };
+    ends = alone;
+    given = record {
+      told = ([], refl, inl (same.0, same.1 ∙ ap (λ (l : List ℕ). Some l) (sym (append-nil earlier))));
+      untold = λ none. absurd cc;
+      among = ([], [], refl, tt);
+    };
   }
-  first_given (Some earlier) after (inl same) =
-      let some = some_there earlier moment same.0 in
-      let ends = ends_behind earlier moment (length earlier - 1) (omega (arith, some)) (ends_at earlier moment same.0) in
-      record {
-        since = drop (length earlier - 1) earlier;
-        ends = ends;
-        given = record {
-          told = ([], same.1 ∙ ap (λ (l : List ℕ). Some l) (sym (append-nil earlier)), ap (drop (length earlier - 1)) (sym (append-nil earlier)));
-          untold = λ none. absurd cc;
-          among = last_among (drop (length earlier - 1) earlier) ends;
-        };
-      }
-  first_given (Some earlier) after (inr grows) =
-      let all = earlier ++ moment ∷ [] in
-      let long : length all ≡ length earlier + 1 = length-append earlier (moment ∷ []) in
-      let ends = ends_behind all moment (length earlier - 1) (omega (arith, long)) (record { earlier = earlier; are = refl }) in
-      record {
-        since = drop (length earlier - 1) all;
-        ends = ends;
-        given = record {
-          told = (moment ∷ [], grows.1, refl);
-          untold = λ none. absurd cc;
-          among = last_among (drop (length earlier - 1) all) ends;
-        };
-      }
+  first_given (Some earlier) after (inr grows) = record {
+    since = moment ∷ [];
+    ends = alone;
+    given = record { told = ([], refl, inr (grows.0, grows.1)); untold = λ none. absurd cc; among = ([], [], refl, tt) };
+  }

@@ -61,7 +61,7 @@ use Rattle.run_steps.proofs.NamedInputs.{inputs_have_own_ids}
 use Rattle.run_steps.proofs.ImagesHold.{images_hold, ordered_at_rest, together_hold}
 use Rattle.run_steps.proofs.Members.{some_is}
 use Rattle.run_steps.proofs.RowsStay.{rows_stay}
-use Rattle.run_steps.proofs.RunFits.{moments_since}
+use Rattle.run_steps.proofs.RunFits.{first_since, moments_since}
 use Rattle.run_steps.proofs.RunRows.{OneChoice, given_over_fronts}
 use Rattle.run_steps.proofs.RunWires.{acknowledged_none, of_no_worker, took_none}
 use Rattle.run_steps.proofs.Scanning.{AreAt, are_at, no_more_listings}
@@ -313,6 +313,7 @@ module _ {D : Type 0} (disks : DiskWords D) (start : Began D) (folder : FolderTo
         one_scan = omega arith;
         folder = record { goes_on = folder_goes_on; files = refl; events = refl; began = refl; none_open = refl };
         moments = moments_since start.moments later start.moment moments given clock_tells;
+        scan_first = (first_since start.moments later start.moment moments given clock_tells, tt);
         wires_go_on = all_told_stay outcomes;
         wires = refl;
       };
@@ -329,8 +330,8 @@ module _ {D : Type 0} (disks : DiskWords D) (start : Began D) (folder : FolderTo
 -- ---- a run that made no scan
 
 -- it ended before: its folder, its clock and its wires tell what they told before
-abbrev pub unscanned_run : Settings → List Row → FolderHistory → List ℕ → List (Option (List Outcome)) → Run
-unscanned_run settings opening told before outcomes = record {
+abbrev pub unscanned_run : Settings → List Row → FolderHistory → List (Option (List Outcome)) → Run
+unscanned_run settings opening told outcomes = record {
   settings = settings;
   once = true;
   opening = opening;
@@ -339,7 +340,7 @@ unscanned_run settings opening told before outcomes = record {
     events = told.events;
     began = length told.events;
     open_tails = [];
-    moments = drop (length before - 1) before;
+    moments = [];
     wires = wires_behind (map length_of outcomes) outcomes;
   };
   scans = [];
@@ -352,7 +353,7 @@ silent_each (Some list ∷ outcomes) = (record { none_made = drop-length list; n
 
 module _ {D : Type 0} (disks : DiskWords D) (settings : Settings) (opening : List Row) (told : FolderHistory) (before : List ℕ) (outcomes : List (Option (List Outcome))) where
   abbrev pub still_run : Run
-  still_run = unscanned_run settings opening told before outcomes
+  still_run = unscanned_run settings opening told outcomes
 
   is_unscanned : IsUnscanned still_run
   is_unscanned = record {
@@ -397,7 +398,8 @@ module _ {D : Type 0} (disks : DiskWords D) (settings : Settings) (opening : Lis
         once = refl;
         one_scan = omega arith;
         folder = record { goes_on = record { files = refl; more = []; events = sym (append-nil told.events) }; files = refl; events = refl; began = refl; none_open = refl };
-        moments = refl;
+        moments = inl (refl, refl);
+        scan_first = tt;
         wires_go_on = all_told_stay outcomes;
         wires = refl;
       };

@@ -4,7 +4,7 @@
 -- area by itself, but for an area that it did not use then and that is as it was. A key that had a row has one or lost it rightly, the same one where it was not
 -- begun; and so has one that was begun, where the last steps were made. Where files keep their identities and truncations are seen, the
 -- account is one of the run, and a run that is done drained its folder. It is said where the folder, the clock and each wire tell.
-use Rattle.std.specs.Prelude.{◌≡◌, ◌⊎◌, ℕ, ◌-◌, ◌≤◌, true, Contains, List, [], drop, length, map, Option, Some, None}
+use Rattle.std.specs.Prelude.{◌≡◌, ◌⊎◌, ℕ, ◌≤◌, true, Contains, List, [], ◌∷◌, ◌++◌, length, map, Option, Some, None}
 use Rattle.std.specs.List.{AllByRecursion}
 use Rattle.accounts.specs.AccountedFor.{HasItsRow, followings_in}
 use Rattle.batch_worker.specs.Standing.{length_of}
@@ -21,6 +21,7 @@ use Rattle.kept_rows.specs.Stored.{IsStored}
 use Rattle.kept_rows.specs.Telling.{IsAccount}
 use Rattle.kept_rows.specs.Trace.{Trace}
 use Rattle.outside.specs.Folders.{FolderHistory}
+use Rattle.outside.specs.Times.{EndsWith}
 use Rattle.outside.specs.Wires.{Outcome}
 use Rattle.registry_log.specs.State.{IsOpened}
 use Rattle.registry_store.specs.Choice.{GivesRows}
@@ -70,11 +71,24 @@ FitsFolders None after trace = ⊥
 FitsFolders (Some before) None trace = ⊥
 FitsFolders (Some before) (Some after) trace = FitsFolder before after trace
 
--- these are the moments that the clock gave since then, with the last one before
+-- these are the moments that the clock gave since then. The first of them it had given last before, or else appended; the others it
+-- appended
+pub record AreGivenSince (before after moments : List ℕ) : Type 0 where
+  pub first : ℕ
+  pub later : List ℕ
+  pub moments_are : moments ≡ first ∷ later
+  pub first_is : (EndsWith before first × (after ≡ before ++ later)) ⊎ ((¬ (EndsWith before first)) × (after ≡ before ++ first ∷ later))
+
+-- or it was not asked
 abbrev pub AreMomentsSince : Option (List ℕ) → Option (List ℕ) → List ℕ → Type 0
 AreMomentsSince None after moments = ⊥
 AreMomentsSince (Some before) None moments = ⊥
-AreMomentsSince (Some before) (Some after) moments = moments ≡ drop (length before - 1) after
+AreMomentsSince (Some before) (Some after) moments = ((moments ≡ []) × (after ≡ before)) ⊎ AreGivenSince before after moments
+
+-- the moments begin with this one
+pub record BeginWith (moment : ℕ) (moments : List ℕ) : Type 0 where
+  pub later : List ℕ
+  pub are : moments ≡ moment ∷ later
 
 -- the run reads its files once, by one scan if it made one, and is what its objects told
 pub record FitsObjects {D : Type 0} (objects : RunObjects D) (run : Run) : Type 0 where
@@ -82,6 +96,8 @@ pub record FitsObjects {D : Type 0} (objects : RunObjects D) (run : Run) : Type 
   pub one_scan : length run.scans ≤ 1
   pub folder : FitsFolders objects.before.folder objects.after.folder run.trace
   pub moments : AreMomentsSince objects.before.moments objects.after.moments run.trace.moments
+  -- the moment of its scan is the first
+  pub scan_first : AllByRecursion (λ scan. BeginWith scan.moment run.trace.moments) run.scans
   pub wires_go_on : Pairs OutcomesGoOn objects.before.outcomes objects.after.outcomes
   pub wires : run.trace.wires ≡ wires_behind (map length_of objects.before.outcomes) objects.after.outcomes
 

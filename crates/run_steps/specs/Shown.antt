@@ -1,12 +1,13 @@
 -- What a run does with the folder behind its scan (this project's profile): it opens files and closes them, and lists nothing more.
 -- Each opening is of a file that was begun, or its tail was closed when it had been asked for its key, or unread.
-use Rattle.std.specs.Prelude.{◌≡◌, ◌⊎◌, ℕ, suc, ◌-◌, ◌≤◌, drop, List, [], ◌∷◌, ◌++◌, Contains, length, map, slice_get, Option, Some, None, IfSome}
+use Rattle.std.specs.Prelude.{◌≡◌, ◌⊎◌, ℕ, suc, ◌≤◌, drop, List, [], ◌∷◌, ◌++◌, Contains, length, map, slice_get, Option, Some, None, IfSome}
 use Rattle.std.specs.List.{AllByRecursion, flat_map}
 use Rattle.accounts.specs.Opened.{Opened as OpenedFile}
 use Rattle.file_identity.specs.AskedAgain.{IsRead}
 use Rattle.kept_rows.specs.Scans.{AreDistinct, StandInOrder}
 use Rattle.kept_rows.specs.Trace.{closing_in}
 use Rattle.outside.specs.Folders.{Closed, Event, FolderHistory, Listed, ListingFailed, NotThere, Opened, OpeningFailed}
+use Rattle.outside.specs.Times.{EndsWith}
 use Rattle.outside.specs.declared.history.Look.{Look}
 use Rattle.outside.specs.declared.history.Sight.{Sight}
 use Rattle.run_steps.specs.SoFar.{FilesSoFar, Left}
@@ -70,8 +71,14 @@ HasShown (Some before) (Some after) so_far = HasDone before after so_far
 
 -- ---- the clock
 
--- these are the moments that it gave since then, with the last one before, and among them is this one
+-- it gave this moment, and then the later ones: it had given the moment last before, or appended it
+abbrev pub GaveSince : List ℕ → Option (List ℕ) → ℕ → List ℕ → Type 0
+GaveSince earlier after moment later =
+    (EndsWith earlier moment × (after ≡ Some (earlier ++ later)))
+    ⊎ ((¬ (EndsWith earlier moment)) × (after ≡ Some (earlier ++ moment ∷ later)))
+
+-- these are the moments that it gave since then, of which this is the first
 pub record HasGiven (before after : Option (List ℕ)) (moment : ℕ) (since : List ℕ) : Type 0 where
-  pub told : IfSome before (λ earlier. (more : List ℕ) × (after ≡ Some (earlier ++ more)) × (since ≡ drop (length earlier - 1) (earlier ++ more)))
+  pub told : IfSome before (λ earlier. (later : List ℕ) × (since ≡ moment ∷ later) × GaveSince earlier after moment later)
   pub untold : before ≡ None → after ≡ None
   pub among : StandInOrder (moment ∷ []) since
