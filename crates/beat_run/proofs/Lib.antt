@@ -20,4 +20,5 @@ pub mod Skipping
 pub mod Untroubled
 pub mod WiresFailed
 mod Worked
+mod WorkedAccount
 mod WorkedEpochs

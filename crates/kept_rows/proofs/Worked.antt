@@ -75,7 +75,7 @@ input = record {
 abbrev pub settings : Settings
 settings = record {
   inputs = input ∷ [];
-  output = record { hosts = []; workers = 1; bulk_max_size = 2048; pipelining = 2; timeout = 30000; attempts = 3 };
+  output = record { hosts = record { name = codes "localhost"; port = 5044 } ∷ []; workers = 1; bulk_max_size = 2048; pipelining = 2; timeout = 30000; attempts = 3 };
   processors = [];
   events = 3200;
   lanes = 2;

@@ -14,15 +14,15 @@ use Rattle.run_steps.proofs.RunRows.{OneChoice}
 -- ---- disks
 
 -- what a disk holds, and what it held before, the earliest first
-record Holding : Type 0 where
-  past : List (List ℕ)
-  now : List ℕ
+pub record Holding : Type 0 where
+  pub past : List (List ℕ)
+  pub now : List ℕ
 
-abbrev IsAmong : List (List ℕ) → List ℕ → Type 0
+abbrev pub IsAmong : List (List ℕ) → List ℕ → Type 0
 IsAmong [] image = ⊥
 IsAmong (first ∷ rest) image = (image ≡ first) ⊎ IsAmong rest image
 
-abbrev disks : DiskWords Holding
+abbrev pub disks : DiskWords Holding
 disks = record {
   contents = λ disk. Some disk.now;
   images = λ disk image. image ≡ disk.now;
@@ -33,13 +33,13 @@ disks = record {
 
 -- ---- areas
 
-abbrev first_area : List ℕ
+abbrev pub first_area : List ℕ
 first_area = codes "{beat 2 00000000000000000001\n."
 
 abbrev second_area : List ℕ
 second_area = codes "{beat 2 00000000000000000002\n."
 
-abbrev closed_area : List ℕ
+abbrev pub closed_area : List ℕ
 closed_area = codes ".beat"
 
 first_opened : IsOpened first_area 1 [] 29
@@ -64,10 +64,10 @@ second_opened = record {
   replayed = refl;
 }
 
-closed : IsState closed_area Closed
+pub closed : IsState closed_area Closed
 closed = (omega arith, λ same. omega (arith, same))
 
-beside_blank : GivesRows first_area [] []
+pub beside_blank : GivesRows first_area [] []
 beside_blank = record {
   choice = Chosen A 1 [] 29 29;
   chosen = record { first_state = Opened 1 [] 29 29; second_state = Blank; first_is = (refl, first_opened); second_is = omega arith; chosen = refl };
