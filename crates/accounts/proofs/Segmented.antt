@@ -7,7 +7,7 @@ use Rattle.event_tree.specs.declared.input_rule.IdentityRule.{IdentityRule}
 use Rattle.event_tree.specs.declared.input_rule.IdentityRule.TheVariants.{Fingerprint, Native, Path}
 use Rattle.event_tree.specs.declared.input_rule.InputRule.{InputRule}
 use Rattle.file_identity.specs.Answers.{IsFingerprint, with_numbers}
-use Rattle.file_identity.specs.AskedAgain.{GivesKey, HasOtherKey, KeepsKey, StillHasKey, SomeAskingGives}
+use Rattle.file_identity.specs.AskedAgain.{GivesKey, HasOtherKey, KeepsKey, SomeAskingGives, StillHasKey}
 use Rattle.file_looks.specs.EndLook.{HasEndLook}
 use Rattle.file_looks.specs.Reading.{ReadOn}
 use Rattle.file_looks.specs.Segment.{Segment, segments_of, steps_in}

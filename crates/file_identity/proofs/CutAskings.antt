@@ -11,7 +11,7 @@ use Rattle.outside.specs.declared.history.Question.{Question}
 use Rattle.outside.specs.declared.history.Question.TheVariants.{Length, ReadAt}
 use Rattle.outside.specs.declared.history.Sight.{Sight}
 use Rattle.outside.specs.Files.{File}
-use Rattle.file_identity.specs.AskedAgain.{AreCutAskings, IsRead, SomeAskingGives, StillHasKey}
+use Rattle.file_identity.specs.AskedAgain.{AreCutAskings, GivesKey, IsRead, SomeAskingGives, StillHasKey}
 use Rattle.file_identity.specs.Asking.{AreCutReads, IsCutAsking, ReadsOn}
 
 pub none_cut : (rule : IdentityRule) → AreCutAskings rule []

@@ -4,6 +4,7 @@ use denote.Param.Send.{IsSend, sendable, view_send}
 use denote.Param.SendFields.{declared_send, variants_send}
 use denote.RattleType.{RattleType}
 use Rattle.std.proofs.Crossing.{crosses}
+use Rattle.std.proofs.MapsCrossing.{BTreeMap-send}
 use Rattle.regex_dfa.proofs.dfa.Dfa.TheSendSync as dfa
 use Rattle.regex_dfa.proofs.forward.Forward.TheSendSync as forward
 use Rattle.regex_extract.proofs.frames.Frame.TheSendSync as frame
@@ -170,4 +171,4 @@ seat_send : (T : RattleType) → IsSend T → IsSend (Seat.the_row T)
 seat_send T s = declared_send (Seat.the_type T) (harvester_send T s, (search sendable depth 20, tt))
 
 pub lane_send : (T : RattleType) → IsSend T → IsSend (Lane.the_row T)
-lane_send T s = declared_send (Lane.the_type T) (search (sendable, crosses, put_pass.the_send) depth 20, (search (sendable, crosses, post_pass.the_send) depth 20, (search (sendable, crosses, seat_send T s) depth 20, (given.the_send, (search sendable depth 20, (tally.the_send, (search sendable depth 20, tt)))))))
+lane_send T s = declared_send (Lane.the_type T) (search (sendable, crosses, put_pass.the_send) depth 20, (search (sendable, crosses, post_pass.the_send) depth 20, (search (sendable, crosses, seat_send T s) depth 20, (given.the_send, (search sendable depth 20, (tally.the_send, (search sendable depth 20, (search (sendable, BTreeMap-send) depth 20, tt))))))))
