@@ -9,7 +9,8 @@
 //! and writes each event to the file as a line, a window before its acknowledgement.
 //!
 //! `bare records AREA ROWS TURNS` writes and syncs the record of an area as often as is said, as commits of so many rows
-//! do. `bare spans STRIDE SPANS` keeps settled spans in a map of intervals. `bare texts FORMAT` reads a container log
+//! do. `bare put LINES BYTES` writes and syncs so many records of a spool, each with a payload of so many bytes. `bare spans
+//! STRIDE SPANS` keeps settled spans in a map of intervals. `bare texts FORMAT` reads a container log
 //! from standard input and writes the container's own lines, as far as the log of the bench needs it.
 
 use std::collections::{BTreeMap, VecDeque};
@@ -41,10 +42,11 @@ fn main() -> Result<(), Box<dyn Error>> {
         ["receive", times, late] => receive(times.parse()?, Duration::from_millis(late.parse()?)),
         ["lines", port, file] => write_lines(port.parse()?, file),
         ["records", area, rows, turns] => write_records(area, rows.parse()?, turns.parse()?),
+        ["put", lines, size] => put_records(lines.parse()?, size.parse()?),
         ["spans", stride, spans] => settle(stride.parse()?, spans.parse()?),
         ["texts", format] => write_texts(format),
         _ => Err("usage: bare send FOLDER HOST | windows PORT DEPTH EVENTS BYTES | receive TIMES LATE | lines PORT FILE \
-            | records AREA ROWS TURNS | spans STRIDE SPANS | texts FORMAT".into()),
+            | records AREA ROWS TURNS | put LINES BYTES | spans STRIDE SPANS | texts FORMAT".into()),
     }
 }
 
@@ -283,6 +285,24 @@ fn write_records(area: &str, rows: u64, turns: u64) -> Result<(), Box<dyn Error>
         end += record.len() as u64;
     }
     println!("{}", rows * turns);
+    Ok(())
+}
+
+/// Writes each record behind a gate, and opens the gate.
+fn put_records(lines: u64, size: usize) -> Result<(), Box<dyn Error>> {
+    let record = format!("{size:010} e{}\n.", "x".repeat(size));
+    let file = File::create("bare.spool")?;
+    file.write_all_at(b".", 0)?;
+    file.sync_all()?;
+    let mut gate = 0;
+    for _ in 0..lines {
+        file.write_all_at(record.as_bytes(), gate + 1)?;
+        file.sync_all()?;
+        file.write_all_at(b"{", gate)?;
+        file.sync_all()?;
+        gate += record.len() as u64;
+    }
+    println!("{lines}");
     Ok(())
 }
 

@@ -17,6 +17,7 @@ from harvester import harvester_table
 from memory import settled_table, stored_table
 from rounds import rounds_tables
 from sink import sink_table
+from spool import spool_table
 from syncs import syncs_table
 from transport import transport_table
 from unchanged import unchanged_table
@@ -34,6 +35,7 @@ PARTS = {
     "sink": sink_table,
     "harvester": harvester_table,
     "container": container_table,
+    "spool": spool_table,
     "rounds": rounds_tables,
     "spans": settled_table,
     "commits": stored_table,

@@ -232,8 +232,15 @@ fn stopped_disks_keep_what_is_not_settled(rt: HostRuntime) -> Result<(), Fail> {
     let alloc = rt.alloc();
     let put_lists: &[&[&[u8]]] = &[&[], &[b"a"], &[b"a", b"bb"]];
     let sent_lists: &[&[&[u8]]] = &[&[b"a", b"bb"], &[b"bb"]];
+    let rest_lists: &[&[&[u8]]] = &[&[b"bb"], &[]];
     let part = send(TWO, Peer::Closes(b"2A\0\0\0\x01"));
-    for (case, lists) in [(put(b"a\nbb\n"), put_lists), (part, sent_lists)] {
+    let rest = send(ONE_SETTLED, Peer::Acknowledges);
+    let cases = [
+        (put(b"a\nbb\n"), put_lists),
+        (part, sent_lists),
+        (rest, rest_lists),
+    ];
+    for (case, lists) in cases {
         for disk_calls in 0..40 {
             let ran = run_of(&rt, alloc, Case { disk_calls, ..case })?;
             for pick in 0..3 {

@@ -5,6 +5,10 @@ mod Heads
 mod Logs
 mod OneReading
 mod OnlyReads
+mod PutEnds
+mod PutReadings
+mod Puttings
+mod Runs
 mod Sinks
 mod Standings
 mod Steps

@@ -39,3 +39,7 @@ IsReadAs spool list =
 
 abbrev pub IsBad : List ℕ → ℕ → Type 0
 IsBad spool at = (1 < length spool) × ((log : Log) × BreaksAt spool log at)
+
+-- the last gate of a spool with these bytes stands at this place
+abbrev pub IsLastGate : List ℕ → ℕ → Type 0
+IsLastGate spool end = ((length spool ≤ 1) × (end ≡ 0)) ⊎ ((1 < length spool) × ((log : Log) × EndsAt spool log end))

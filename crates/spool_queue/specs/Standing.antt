@@ -18,6 +18,10 @@ abbrev pub Holds : (List ℕ → Type 0) → Option (List ℕ) → Type 0
 Holds Kind None = ⊥
 Holds Kind (Some bytes) = Kind bytes
 
+-- the contents are told, and are those of this spool, with these payloads outstanding
+abbrev pub HoldsList : Spool → List (List ℕ) → Option (List ℕ) → Type 0
+HoldsList spool list contents = Holds (λ now. IsSpoolOf spool now list) contents
+
 abbrev pub count_of : Spool → ℕ
 count_of spool = spool.events - spool.settled
 

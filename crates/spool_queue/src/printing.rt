@@ -1,6 +1,6 @@
-ghost use Rattle.std.specs.Prelude.{◌≡◌, ◌≤◌, ◌++◌, OnErr, OnOk, codes, decimal};
+ghost use Rattle.std.specs.Prelude.{◌≤◌, OnErr, OnOk};
 ghost use Rattle.outside.specs.Counts.{Rose};
-ghost use Rattle.spool_queue.specs.Printing.{HasTaken};
+ghost use Rattle.spool_queue.specs.Printing.{HasTaken, sent_text, spooled_text};
 
 use itoa::Buffer;
 use outside::{Failed, Sink};
@@ -22,8 +22,7 @@ fn write_all<S: Sink>(out: &mut S, bytes: &[u8]) -> Result<(), Failed>
 
 /// Prints how many lines were put.
 pub(crate) fn print_spooled<S: Sink>(out: &mut S, lines: u64) -> Result<(), Failed>
-    ensures written { OnOk result (HasTaken (S.written out.old) (codes "spooled " ++ decimal
-        lines ++ codes "\n") (S.written out.new)) }
+    ensures written { OnOk result (HasTaken (S.written out.old) (spooled_text lines) (S.written out.new)) }
     ensures faults_never_fall { S.faults out.old ≤ S.faults out.new }
     ensures failed_only_where_faults_rose { OnErr result (Rose (S.faults out.old) (S.faults
         out.new)) }
@@ -35,9 +34,8 @@ pub(crate) fn print_spooled<S: Sink>(out: &mut S, lines: u64) -> Result<(), Fail
 
 /// Prints how many payloads were settled and how many are left.
 pub(crate) fn print_sent<S: Sink>(out: &mut S, sent: u64, left: u64) -> Result<(), Failed>
-    ensures written { OnOk result (HasTaken (S.written out.old)
-        (codes "sent " ++ decimal sent ++ codes " left " ++ decimal left ++ codes "\n") (S.written
-        out.new)) }
+    ensures written { OnOk result (HasTaken (S.written out.old) (sent_text sent left)
+        (S.written out.new)) }
     ensures faults_never_fall { S.faults out.old ≤ S.faults out.new }
     ensures failed_only_where_faults_rose { OnErr result (Rose (S.faults out.old) (S.faults
         out.new)) }

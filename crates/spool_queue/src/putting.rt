@@ -1,6 +1,7 @@
-ghost use Rattle.std.specs.Prelude.{◌≡◌, ◌≤◌, Err};
+ghost use Rattle.std.specs.Prelude.{◌≡◌, ◌≢◌, [], ◌∷◌, Err, IfErr, OnOk};
 ghost use Rattle.outside.specs.Counts.{Rose};
-ghost use Rattle.spool_queue.specs.Standing.{count_of};
+ghost use Rattle.spool_queue.specs.PutSoFar.{PutsAll, PutsLines, StopsIn};
+ghost use Rattle.spool_queue.specs.Standing.{IsClosed};
 
 use crate::stop::Stop;
 use crate::{Spool, SpoolError};
@@ -19,7 +20,9 @@ pub(crate) fn put_lines<X: Wait, R: Source, D: Disk>(
     spool: &mut Spool,
     disk: &mut D,
 ) -> Result<(), Stop>
-    ensures no_fewer { count_of spool.old ≤ count_of spool.new }
+    requires open { ¬ (IsClosed spool.old) }
+    ensures puts { PutsAll D.Disk disk.old disk.new spool.old spool.new (R.left source.old) result }
+    ensures never_unreachable { result ≢ Err Stop.Unreachable }
     ensures source_fault_only_where_faults_rose { result ≡ Err Stop.Source →
         Rose (R.faults source.old) (R.faults source.new) }
 {
@@ -43,15 +46,35 @@ fn put_piece<D: Disk>(
     line: &mut Vec<u8>,
     piece: &[u8],
 ) -> Result<(), SpoolError>
-    ensures no_fewer { count_of spool.old ≤ count_of spool.new }
+    ensures puts { OnOk result (PutsLines D.Disk disk.old disk.new spool.old spool.new
+        line.old.items piece.now line.new.items) }
+    ensures stops { IfErr result (StopsIn D.Disk disk.old disk.new spool.old spool.new
+        line.old.items piece.now) }
 {
     'bytes: for byte in piece {
-        if *byte == b'\n' {
-            spool.put(alloc, disk, line)?;
-            line.clear();
-        } else {
-            line.push(*byte)?;
-        }
+        put_byte(alloc, spool, disk, line, *byte)?;
+    }
+    Ok(())
+}
+
+/// Takes the next byte of a line: puts the line where the byte ends it.
+fn put_byte<D: Disk>(
+    alloc: Global,
+    spool: &mut Spool,
+    disk: &mut D,
+    line: &mut Vec<u8>,
+    byte: u8,
+) -> Result<(), SpoolError>
+    ensures puts { OnOk result (PutsLines D.Disk disk.old disk.new spool.old spool.new
+        line.old.items (byte ∷ []) line.new.items) }
+    ensures stops { IfErr result (StopsIn D.Disk disk.old disk.new spool.old spool.new
+        line.old.items (byte ∷ [])) }
+{
+    if byte == b'\n' {
+        spool.put(alloc, disk, line)?;
+        line.clear();
+    } else {
+        line.push(byte)?;
     }
     Ok(())
 }

@@ -1,16 +1,26 @@
-ghost use Rattle.std.specs.Prelude.{◌≡◌, ◌≤◌};
+ghost use Rattle.std.specs.Prelude.{◌≡◌, ◌≢◌, ◌≤◌, ◌↔◌, ◌-◌, ℕ, List, Some};
 ghost use Rattle.outside.specs.Counts.{Rose};
+ghost use Rattle.outside.specs.DiskImages.{LeavesOnly, Only};
+ghost use Rattle.spool_queue.specs.OnlyRead.{IsOnlyRead};
+ghost use Rattle.spool_queue.specs.Printing.{sent_text, spooled_text};
+ghost use Rattle.spool_queue.specs.Putting.{IsPutBehind, IsPutStatus, LeavesTheDisk, Puts};
+ghost use Rattle.spool_queue.specs.Running.{GoesOn, others_of};
+ghost use Rattle.spool_queue.specs.Saying.{IsSaid};
+ghost use Rattle.spool_queue.specs.Spool.{IsBad, IsReadAs};
+ghost use Rattle.spool_queue.specs.Standing.{HoldsList, IsClosed, reserved};
+ghost use Rattle.spool_queue.specs.Stopping.{status_after};
+ghost use Rattle.spool_queue.specs.Words.{IsCommand, IsPut};
 
 use crate::printing::{print_sent, print_spooled};
 use crate::putting::put_lines;
 use crate::sending::send;
 use crate::stop::{Stop, status_of};
-use crate::words::{Asked, read_words};
+use crate::words::{Asked, asked_of};
 use crate::{Spool, SpoolStatus};
 use outside::{Clock, Disk, Sink, Source, Wire};
 use std::alloc::Global;
 use std::sync::Wait;
-use wire_base::{Host, Text};
+use wire_base::Text;
 
 /// Puts the lines of the source into the spool on the disk, or sends what is outstanding there to a host, as the arguments
 /// ask, and prints what was done.
@@ -24,15 +34,47 @@ pub fn spool_run<X: Wait, R: Source, W: Wire, D: Disk, K: Clock, S: Sink>(
     clock: &mut K,
     out: &mut S,
 ) -> SpoolStatus
+    ensures usage_exactly_for_other_words { (result ≡ SpoolStatus.Usage) ↔
+        ¬ (IsCommand words.now) }
+    ensures usage_touches_no_disk { result ≡ SpoolStatus.Usage → disk.new ≡ disk.old }
+    ensures usage_calls_no_other_object { result ≡ SpoolStatus.Usage →
+        others_of source.new wire.new clock.new out.new
+        ≡ others_of source.old wire.old clock.old out.old }
+
+    // A run that puts, over a disk that tells and is read.
+    ensures puts { IsPut words.now → (bytes : List ℕ) (list : List (List ℕ)) →
+        D.contents disk.old ≡ Some bytes → IsReadAs bytes list →
+        GoesOn (others_of source.old wire.old clock.old out.old)
+        (others_of source.new wire.new clock.new out.new) result bytes list (λ room. Puts (record {
+          source = R.left source.old;
+          contents = D.contents disk.new;
+          written_before = S.written out.old;
+          written_after = S.written out.new;
+        }) list room result) }
+
+    // Where nothing was pending, a crash at any moment of it leaves the payloads and the first lines behind them.
+    ensures put_at_each_moment { IsPut words.now → Only (D.contents disk.old) (D.images disk.old) →
+        (bytes : List ℕ) (list : List (List ℕ)) → D.contents disk.old ≡ Some bytes →
+        IsReadAs bytes list →
+        LeavesOnly D.moment D.images_since disk.old disk.new
+        (IsPutBehind (R.left source.old) list) }
+
+    ensures put_says_bad_only_where_it_is { IsPut words.now → (bytes : List ℕ) (at : ℕ) →
+        D.contents disk.old ≡ Some bytes → result ≡ SpoolStatus.SpoolBad at →
+        IsBad bytes at × IsOnlyRead D.contents D.images D.moment D.images_since D.faults
+        disk.old disk.new × (others_of source.new wire.new clock.new out.new
+        ≡ others_of source.old wire.old clock.old out.old) }
+    ensures put_disk_fault_only_where_faults_rose { IsPut words.now →
+        result ≡ SpoolStatus.DiskFault → Rose (D.faults disk.old) (D.faults disk.new) }
+    ensures put_is_never_unreachable { IsPut words.now → result ≢ SpoolStatus.Unreachable }
+
     ensures source_fault_only_where_faults_rose { result ≡ SpoolStatus.SourceFault →
         Rose (R.faults source.old) (R.faults source.new) }
     ensures out_fault_only_where_faults_rose { result ≡ SpoolStatus.OutFault →
         Rose (S.faults out.old) (S.faults out.new) }
 {
-    let asked = match read_words(alloc, words) {
-        Ok(Some(asked)) => asked,
-        Ok(None) => return SpoolStatus::Usage,
-        Err(_) => return SpoolStatus::NoMemory,
+    let Some(asked) = asked_of(alloc, words) else {
+        return SpoolStatus::Usage;
     };
     let mut spool = match Spool::open(disk) {
         Ok(spool) => spool,
@@ -40,7 +82,11 @@ pub fn spool_run<X: Wait, R: Source, W: Wire, D: Disk, K: Clock, S: Sink>(
     };
     match asked {
         Asked::Put => run_put(rt, alloc, source, &mut spool, disk, out),
-        Asked::Send(host) => run_send(rt, alloc, &host, &mut spool, wire, disk, clock, out),
+        Asked::Send(target) => {
+            let before = spool.outstanding();
+            let answer = send(rt, target, &mut spool, wire, disk, clock);
+            say_sent(out, before, spool.outstanding(), answer)
+        }
     }
 }
 
@@ -53,42 +99,57 @@ fn run_put<X: Wait, R: Source, D: Disk, S: Sink>(
     disk: &mut D,
     out: &mut S,
 ) -> SpoolStatus
+    requires open { ¬ (IsClosed spool.old) }
+    ensures puts { (list : List (List ℕ)) → HoldsList spool.old list (D.contents disk.old) →
+        Puts (record {
+          source = R.left source.old;
+          contents = D.contents disk.new;
+          written_before = S.written out.old;
+          written_after = S.written out.new;
+        }) list (reserved spool.old) result }
+    ensures each_moment { Only (D.contents disk.old) (D.images disk.old) →
+        (list : List (List ℕ)) → HoldsList spool.old list (D.contents disk.old) →
+        LeavesOnly D.moment D.images_since disk.old disk.new
+        (IsPutBehind (R.left source.old) list) }
+    ensures durable { LeavesTheDisk result → Only (D.contents disk.old) (D.images disk.old) →
+        Only (D.contents disk.new) (D.images disk.new) }
+    ensures status { IsPutStatus result }
     ensures source_fault_only_where_faults_rose { result ≡ SpoolStatus.SourceFault →
         Rose (R.faults source.old) (R.faults source.new) }
+    ensures disk_fault_only_where_faults_rose { result ≡ SpoolStatus.DiskFault →
+        Rose (D.faults disk.old) (D.faults disk.new) }
     ensures out_fault_only_where_faults_rose { result ≡ SpoolStatus.OutFault →
         Rose (S.faults out.old) (S.faults out.new) }
 {
     let before = spool.outstanding();
     let answer = put_lines(rt, alloc, source, spool, disk);
-    let lines = spool.outstanding() - before;
-    let status = status_of(answer, lines);
+    say_spooled(out, spool.outstanding() - before, answer)
+}
+
+/// The status of a run that put so many lines, which it prints.
+fn say_spooled<S: Sink>(out: &mut S, lines: u64, answer: Result<(), Stop>) -> SpoolStatus
+    ensures said { IsSaid (S.written out.old) (spooled_text lines) (S.written out.new)
+        (status_after answer lines) result }
+    ensures out_fault_only_where_faults_rose { result ≡ SpoolStatus.OutFault →
+        Rose (S.faults out.old) (S.faults out.new) }
+{
     match print_spooled(out, lines) {
-        Ok(()) => status,
+        Ok(()) => status_of(answer, lines),
         Err(_) => SpoolStatus::OutFault,
     }
 }
 
-/// Sends what is outstanding, and prints how much was settled and how much is left.
-fn run_send<X: Wait, W: Wire, D: Disk, K: Clock, S: Sink>(
-    rt: &X,
-    alloc: Global,
-    host: &Host,
-    spool: &mut Spool,
-    wire: &mut W,
-    disk: &mut D,
-    clock: &mut K,
-    out: &mut S,
-) -> SpoolStatus
-    ensures no_source_fault { result ≡ SpoolStatus.SourceFault → ⊥ }
+/// The status of a run before and behind which so many payloads were outstanding. It prints how many it has settled, and
+/// how many are left.
+fn say_sent<S: Sink>(out: &mut S, before: u64, left: u64, answer: Result<(), Stop>) -> SpoolStatus
+    requires fewer { left ≤ before }
+    ensures said { IsSaid (S.written out.old) (sent_text (before - left) left) (S.written out.new)
+        (status_after answer 0) result }
     ensures out_fault_only_where_faults_rose { result ≡ SpoolStatus.OutFault →
         Rose (S.faults out.old) (S.faults out.new) }
 {
-    let before = spool.outstanding();
-    let answer = send(rt, alloc, host, spool, wire, disk, clock);
-    let left = spool.outstanding();
-    let status = status_of(answer, 0);
     match print_sent(out, before - left, left) {
-        Ok(()) => status,
+        Ok(()) => status_of(answer, 0),
         Err(_) => SpoolStatus::OutFault,
     }
 }

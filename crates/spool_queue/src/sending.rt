@@ -7,11 +7,12 @@ ghost use Rattle.wire_base.specs.Ranges.{IsParcel};
 use crate::Spool;
 use crate::stop::Stop;
 use crate::walk::Walk;
+use crate::words::Target;
 use lumber_client::{Heard, Window};
 use outside::{Clock, Disk, Link, Recv, Wire};
 use std::alloc::Global;
 use std::sync::Wait;
-use wire_base::{Blob, Epoch, Host, Moment, Parcel, Slot, Span};
+use wire_base::{Blob, Epoch, Moment, Parcel, Slot, Span};
 
 /// The most payloads of a window.
 const WINDOW_PAYLOADS: u32 = 2048;
@@ -28,8 +29,7 @@ const RECEIVED_BYTES: usize = 4096;
 /// Sends what is outstanding over one link, settles what is acknowledged, and tidies a spool of which nothing is left.
 pub(crate) fn send<X: Wait, W: Wire, D: Disk, K: Clock>(
     rt: &X,
-    alloc: Global,
-    host: &Host,
+    target: Target<'_>,
     spool: &mut Spool,
     wire: &mut W,
     disk: &mut D,
@@ -40,10 +40,11 @@ pub(crate) fn send<X: Wait, W: Wire, D: Disk, K: Clock>(
     ensures no_source { result ≢ Err Stop.Source }
 {
     if spool.outstanding() > 0 {
-        let Ok(mut link) = wire.connect(host) else {
+        let host = target.host()?;
+        let Ok(mut link) = wire.connect(&host) else {
             return Err(Stop::Unreachable);
         };
-        let answer = send_over(rt, alloc, spool, disk, &mut link, clock);
+        let answer = send_over(rt, target.alloc, spool, disk, &mut link, clock);
         wire.finish(link);
         answer?;
     }

@@ -1,9 +1,9 @@
-ghost use Rattle.std.specs.Prelude.{◌≡◌, ◌≢◌, ◌<◌, ◌≤◌, ◌+◌, ◌++◌, ◌∷◌, ◌↔◌, ◌⊎◌, ◌-◌, ℕ, [], IfErr, IfOk, IsErrOf, IsSome, List, OnErr, OnOk, Some, Err, codes, drop, length, slice_get};
+ghost use Rattle.std.specs.Prelude.{◌≡◌, ◌≢◌, ◌<◌, ◌≤◌, ◌+◌, ◌++◌, ◌∷◌, ◌↔◌, ◌⊎◌, ◌-◌, ℕ, [], IfErr, IfOk, IsErrOf, IsSome, List, MatchResult, OnErr, OnOk, Some, Err, codes, drop, length, slice_get};
 ghost use Rattle.outside.specs.Counts.{Rose};
 ghost use Rattle.outside.specs.DiskImages.{LeavesOnly, Only};
 ghost use Rattle.spool_queue.specs.Appending.{IsPartAppended, appended};
 ghost use Rattle.spool_queue.specs.OnlyRead.{IsOnlyRead};
-ghost use Rattle.spool_queue.specs.Spool.{IsBad, IsReadAs};
+ghost use Rattle.spool_queue.specs.Spool.{IsBad, IsLastGate, IsReadAs};
 ghost use Rattle.wire_base.specs.Ranges.{IsPlace};
 
 use crate::appending::append;
@@ -34,13 +34,20 @@ pub struct Spool {
 }
 
 impl Spool {
-    ghost use Rattle.spool_queue.specs.Standing.{HasRoom, Holds, IsClosed, IsEither, IsSpoolOf, WouldFill, count_of};
+    ghost use Rattle.spool_queue.specs.Standing.{HasRoom, Holds, HoldsList, IsClosed, IsEither, IsSpoolOf, WouldFill, count_of, reserved};
+    ghost use Rattle.spool_queue.specs.Lines.{reserved_with};
 
     /// Opens the spool on a disk. One of at most one byte is empty, and its gate is written.
     pub fn open<D: Disk>(disk: &mut D) -> Result<Spool, SpoolError>
         ensures opened { (bytes : List ℕ) → D.contents disk.old ≡ Some bytes →
             IfOk result (λ spool. (list : List (List ℕ)) × IsReadAs bytes list ×
             Holds (λ now. IsSpoolOf spool now list) (D.contents disk.new)) }
+        ensures reads { (bytes : List ℕ) (list : List (List ℕ)) →
+            D.contents disk.old ≡ Some bytes → IsReadAs bytes list →
+            MatchResult result (λ spool. HoldsList spool list (D.contents disk.new))
+            (λ error. error ≡ SpoolError.DiskFault) }
+        ensures at_its_last_gate { (bytes : List ℕ) → D.contents disk.old ≡ Some bytes →
+            IfOk result (λ spool. IsLastGate bytes spool.end) }
         ensures bad { (bytes : List ℕ) (at : ℕ) → D.contents disk.old ≡ Some bytes →
             result ≡ Err (SpoolError.Bad at) → IsBad bytes at }
         ensures durable { Only (D.contents disk.old) (D.images disk.old) →
@@ -103,6 +110,9 @@ impl Spool {
             IsSpoolOf self.new now (list ++ payload.now ∷ [])) (D.contents disk.new)) }
         ensures durable { OnOk result (Only (D.contents disk.new) (D.images disk.new)) }
         ensures room { OnOk result (HasRoom self.new) }
+        ensures short { OnOk result (length payload.now ≤ MAX_EVENT_BYTES) }
+        ensures reserves { OnOk result (reserved self.new ≡ reserved_with (reserved self.old)
+            payload.now) }
         ensures one_more { OnOk result (count_of self.new ≡ count_of self.old + 1) }
         ensures count_kept { OnErr result (count_of self.new ≡ count_of self.old) }
 

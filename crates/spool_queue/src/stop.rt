@@ -1,4 +1,5 @@
-ghost use Rattle.std.specs.Prelude.{◌≡◌, ◌≢◌, Err};
+ghost use Rattle.std.specs.Prelude.{◌≡◌};
+ghost use Rattle.spool_queue.specs.Stopping.{status_after, status_for};
 
 use crate::{SpoolError, SpoolStatus};
 use wire_base::NoMemory;
@@ -14,8 +15,7 @@ pub(crate) enum Stop {
 impl Stop {
     /// The status, where so many lines were put.
     pub(crate) fn status(self, lines: u64) -> SpoolStatus
-        ensures no_out_fault { result ≢ SpoolStatus.OutFault }
-        ensures source_fault { result ≡ SpoolStatus.SourceFault → self ≡ Stop.Source }
+        ensures { result ≡ status_for self lines }
     {
         match self {
             Stop::Source => SpoolStatus::SourceFault,
@@ -32,8 +32,7 @@ impl Stop {
 
 /// The status of a run, where so many lines were put.
 pub(crate) fn status_of(answer: Result<(), Stop>, lines: u64) -> SpoolStatus
-    ensures no_out_fault { result ≢ SpoolStatus.OutFault }
-    ensures source_fault { result ≡ SpoolStatus.SourceFault → answer ≡ Err Stop.Source }
+    ensures { result ≡ status_after answer lines }
 {
     match answer {
         Ok(()) => SpoolStatus::Done,

@@ -1,12 +1,12 @@
 use Rattle.std.proofs.Common.{◌≡◌, ◌≤◌, length}
-use Rattle.spool_queue.specs.Standing.{count_of}
+use Rattle.spool_queue.proofs.PutReadings.{HasPut}
 use Rattle.spool_queue.proofs.putting.put_lines.Given as goal
 
--- no fewer payloads are outstanding, and no fault is forgotten
+-- the lines of what was read are put, and no fault is forgotten
 abbrev pub invariant-loop : goal.invariant-loop
 invariant-loop g l = record {
   able : (goal.iterator-loop g).can_next l.iterator' × (goal.iterator-loop g).is_finite l.iterator';
   piece : length l.piece ≡ 65_536;
-  count : count_of l.initial.spool ≤ count_of l.spool;
+  put : HasPut g.D.Disk l.initial.disk l.disk l.initial.spool l.spool l.line.items (g.R.Source.left l.initial.source) (g.R.Source.left l.source);
   faults : g.R.Source.faults l.initial.source ≤ g.R.Source.faults l.source;
 }

@@ -35,3 +35,11 @@ returns-clause-each_moment g c = λ only bytes list told is.
     let spelled : 0x7B ∷ c.deref.result.now ≡ record_of 0x65 payload ++ codes "." = ap (λ (l : List ℕ). 0x7B ∷ l) c.deref.ensures.value ∙ c.in_ok-text.ensures in
     moments g.D.Disk.moment g.D.Disk.images_since c.args.disk.now c.add.new.disk (g.D.Disk.contents c.args.disk.now) bytes is.log c.args.self.now.end (Event payload) c.deref.result.now list (list ++ payload ∷ []) told is.ends (omega arith) spelled is.list_is
     (with_event is.log payload is.ends.reaches.each ∙ ap (λ (l : List (List ℕ)). l ++ payload ∷ []) is.list_is) (c.add.ensures.each_moment only)
+
+pub returns-clause-reserves : goal.returns-clause-reserves
+returns-clause-reserves g c =
+    let payload = c.args.payload.now in
+    let spelled : 0x7B ∷ c.deref.result.now ≡ record_of 0x65 payload ++ codes "." = ap (λ (l : List ℕ). 0x7B ∷ l) c.deref.ensures.value ∙ c.in_ok-text.ensures in
+    let short : length payload < 10 ^ 10 = omega arith in
+    let sized : length c.deref.result.now ≡ length payload + 14 = omega (arith, ap length spelled, length-append (record_of 0x65 payload) (codes "."), record_length 0x65 payload short) in
+    omega (arith, sized, c.in_ok-add.ensures.end, c.add.ensures.events, c.add.ensures.settled)

@@ -1,0 +1,51 @@
+use Rattle.std.proofs.Common.{inl, ℕ, Err, refl, sym, ap, ◌∙◌}
+use Rattle.spool_queue.specs.declared.stop.Stop.TheVariants.{Spool}
+use Rattle.spool_queue.specs.declared.spool_error.SpoolError.{SpoolError}
+use Rattle.spool_queue.specs.declared.status.SpoolStatus.TheVariants.{SpoolBad, Unreachable}
+use Rattle.spool_queue.specs.Putting.{PutCall, Puts}
+use Rattle.spool_queue.specs.Stopping.{status_for}
+use Rattle.spool_queue.proofs.Runs.{bad_at, fault_of, goes_on, never_unreachable, opened_put, put_behind, put_never}
+use Rattle.spool_queue.proofs.run.spool_run.Goals as goal
+
+pub returns-in-Err-clause-puts : goal.returns-in-Err-clause-puts
+returns-in-Err-clause-puts g c = λ put bytes list told is.
+    inl (c.status.ensures ∙ ap (λ (e : SpoolError). status_for (Spool e) 0) (c.in-Err.ensures.reads bytes list told is), refl)
+
+pub returns-in-Err-clause-put_at_each_moment : goal.returns-in-Err-clause-put_at_each_moment
+returns-in-Err-clause-put_at_each_moment g c = λ put only bytes list told is.
+    opened_put g.D.Disk _ _ _ list (c.open.ensures.each_moment only bytes list told is)
+
+pub returns-in-Put-clause-puts : goal.returns-in-Put-clause-puts
+returns-in-Put-clause-puts g c = λ put bytes list told is.
+    let held = c.in-Ok.ensures.reads bytes list told is in
+    let call : PutCall = record {
+      source = g.R.Source.left c.args.source.now;
+      contents = g.D.Disk.contents c.run_put.new.disk;
+      written_before = g.S.Sink.written c.args.out.now;
+      written_after = g.S.Sink.written c.run_put.new.out;
+    } in
+    let Run : ℕ → Type 0 = λ room. Puts call list room c.run_put.result in
+    goes_on _ _ _ bytes list Run c.in-Ok.spool (g.D.Disk.contents c.open.new.disk) held (c.in-Ok.ensures.at_its_last_gate bytes told) (c.run_put.ensures.puts list held)
+
+pub returns-in-Put-clause-put_at_each_moment : goal.returns-in-Put-clause-put_at_each_moment
+returns-in-Put-clause-put_at_each_moment g c = λ put only bytes list told is.
+    let held = c.in-Ok.ensures.reads bytes list told is in
+    put_behind g.D.Disk _ _ _ _ list (c.open.ensures.each_moment only bytes list told is) (c.run_put.ensures.each_moment (c.in-Ok.ensures.durable only) list held)
+
+pub returns-in-Err-clause-put_says_bad_only_where_it_is : goal.returns-in-Err-clause-put_says_bad_only_where_it_is
+returns-in-Err-clause-put_says_bad_only_where_it_is g c = λ put bytes at told same.
+    let bad = bad_at c.in-Err.error at (sym c.status.ensures ∙ same) in
+    (c.open.ensures.bad bytes at told (c.in-Err.is ∙ ap (λ (e : SpoolError). Err e) bad), c.open.ensures.bad_only_reads at (c.in-Err.is ∙ ap (λ (e : SpoolError). Err e) bad), refl)
+
+pub returns-in-Err-clause-put_disk_fault_only_where_faults_rose : goal.returns-in-Err-clause-put_disk_fault_only_where_faults_rose
+returns-in-Err-clause-put_disk_fault_only_where_faults_rose g c = λ put same.
+    c.open.ensures.disk_fault_only_where_faults_rose (c.in-Err.is ∙ ap (λ (e : SpoolError). Err e) (fault_of c.in-Err.error c.in-Err.ensures.errors (sym c.status.ensures ∙ same)))
+
+pub returns-in-Err-clause-put_is_never_unreachable : goal.returns-in-Err-clause-put_is_never_unreachable
+returns-in-Err-clause-put_is_never_unreachable g c = λ put same. never_unreachable c.in-Err.error (sym c.status.ensures ∙ same)
+
+pub returns-in-Put-clause-put_says_bad_only_where_it_is : goal.returns-in-Put-clause-put_says_bad_only_where_it_is
+returns-in-Put-clause-put_says_bad_only_where_it_is g c = λ put bytes at told same. absurd (put_never c.run_put.result (SpoolBad at) c.run_put.ensures.status same (λ is. is))
+
+pub returns-in-Put-clause-put_is_never_unreachable : goal.returns-in-Put-clause-put_is_never_unreachable
+returns-in-Put-clause-put_is_never_unreachable g c = λ put same. put_never c.run_put.result Unreachable c.run_put.ensures.status same (λ is. is)
