@@ -22,7 +22,7 @@ MANY_PARAMETERS = {"ship", "spool_run"}
 
 LIMITS = {
     "clause lines above 100 columns": 518,
-    "functions with more than six parameters": 3,
+    "functions with more than six parameters": 1,
     "functions above 40 lines of body": 0,
     "files above 500 lines": 5,
     "ghost use lines for each 1,000 lines of code": 44,

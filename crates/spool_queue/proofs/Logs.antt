@@ -1,8 +1,8 @@
 -- Two readings of the same bytes: what was read so far is a front of all there is.
-use Rattle.std.proofs.Common.{◌≡◌, ◌≢◌, ◌⊎◌, inl, inr, ℕ, ◌^◌, ◌<◌, ◌≤◌, List, [], ◌∷◌, ◌++◌, length, drop, get_or, refl, sym, ap, ◌∙◌, subst, arith, decimal, append-nil, append_assoc, length-append}
+use Rattle.std.proofs.Common.{◌≡◌, ◌≢◌, ◌⊎◌, inl, inr, ℕ, ◌^◌, ◌<◌, ◌≤◌, List, [], ◌∷◌, ◌++◌, length, take, drop, get_or, refl, sym, ap, ◌∙◌, subst, arith, decimal, append-nil, append_assoc, length-append}
 use Rattle.std.specs.Str.Parse.{digits_value}
 use Rattle.std.proofs.lemmas.Fmt.{decimal_is_IsNumeral}
-use Rattle.std.proofs.lemmas.List.{drop_at}
+use Rattle.std.proofs.lemmas.List.{drop_at, take-append-drop, take-append-le, take_at}
 use Rattle.spool_queue.specs.Log.{Log, Empty, Then, AreRecords, MayFollow, log_bytes, payloads}
 use Rattle.spool_queue.specs.Records.{Record, Event, Settlement, body_of, kind_of, record_bytes}
 use Rattle.spool_queue.specs.Spool.{BreaksAt, EndsAt, Reaches}
@@ -30,7 +30,7 @@ next_of part (Then log one) (inr front) = elim (next_of part log front) [
   | inr more ↦ inr (more.0, inr more.1)
 ]
 
-bytes_on : (part whole : Log) → Extends part whole → (more : List ℕ) × (log_bytes whole ≡ log_bytes part ++ more)
+pub bytes_on : (part whole : Log) → Extends part whole → (more : List ℕ) × (log_bytes whole ≡ log_bytes part ++ more)
 bytes_on part Empty is = ([], ap log_bytes (sym is) ∙ sym (append-nil (log_bytes part)))
 bytes_on part (Then log one) (inl same) = ([], ap log_bytes (sym same) ∙ sym (append-nil (log_bytes part)))
 bytes_on part (Then log one) (inr front) =
@@ -145,3 +145,34 @@ no_break bytes part whole place end (inr reaches) few ends = by_case (behind_fro
     by_case : Behind part whole [] ends.gate ends.rest → ⊥
     by_case (All_read all same) = cc same
     by_case (One_more one later same may) = absurd (omega (arith, ap length (same ∙ flat_record (kind_of one) (body_of one) later)))
+
+-- ---- two places at which the same bytes break
+
+front_bytes : (a r b s : List ℕ) → a ++ r ≡ b ++ s → length a ≤ length b → b ≡ a ++ drop (length a) b
+front_bytes a r b s same short =
+    let front : take (length a) b ≡ a = sym (take-append-le (length a) b s short) ∙ ap (take (length a)) (sym same) ∙ take_at a r (length a) refl in
+    sym (take-append-drop (length a) b) ∙ ap (λ (l : List ℕ). l ++ drop (length a) b) front
+
+rest_of : (spool : List ℕ) (log : Log) (at : ℕ) → BreaksAt spool log at → (rest : List ℕ) × Reaches spool log at rest × ((one : Record) (later : List ℕ) → rest ≡ record_bytes one ++ later → MayFollow log one → ⊥)
+rest_of spool log at (inl lacks) = (0x7B ∷ lacks.rest, lacks.reaches, λ one later same may. lacks.no_record (one, later, same, may))
+rest_of spool log at (inr reaches) = ([], reaches, λ one later same may. absurd (omega (arith, ap length (same ∙ flat_record (kind_of one) (body_of one) later))))
+
+-- behind the one that stands in front nothing was read
+pub no_later : (bytes : List ℕ) (part whole : Log) (at other : ℕ) (rest : List ℕ) → BreaksAt bytes part at → Reaches bytes whole other rest → length (payloads part) < 2 ^ 64 → at ≤ other → at ≡ other
+no_later bytes part whole at other rest breaks reaches few early =
+    let broken = rest_of bytes part at breaks in
+    let here = broken.1 in
+    let same : log_bytes part ++ broken.0 ≡ log_bytes whole ++ rest = sym here.bytes ∙ reaches.bytes in
+    let between : List ℕ = drop (length (log_bytes part)) (log_bytes whole) in
+    let front : log_bytes whole ≡ log_bytes part ++ between = front_bytes (log_bytes part) broken.0 (log_bytes whole) rest same (omega (arith, early, here.begins, reaches.begins)) in
+    let cut : List ℕ = log_bytes whole ++ 46 ∷ [] in
+    let ends : EndsAt cut whole other = record { gate = 46; rest = []; reaches = record { each = reaches.each; bytes = refl; begins = reaches.begins }; closed = λ is. omega (arith, is) } in
+    let first : Reaches cut part at (between ++ 46 ∷ []) = record { each = here.each; bytes = ap (λ (l : List ℕ). l ++ 46 ∷ []) front ∙ append_assoc (log_bytes part) between (46 ∷ []); begins = here.begins } in
+    elim (next_of part whole (read_front cut part whole at other (between ++ 46 ∷ []) first few ends)) [
+      | inl all ↦ sym here.begins ∙ ap (λ (l : Log). length (log_bytes l)) all ∙ reaches.begins
+      | inr further ↦
+          let on = bytes_on (Then part further.0) whole further.1 in
+          let next : log_bytes part ++ broken.0 ≡ log_bytes part ++ (record_bytes further.0 ++ (on.0 ++ rest)) =
+          same ∙ ap (λ (l : List ℕ). l ++ rest) on.1 ∙ append_assoc (log_bytes part ++ record_bytes further.0) on.0 rest ∙ append_assoc (log_bytes part) (record_bytes further.0) (on.0 ++ rest) in
+          absurd (broken.2 further.0 (on.0 ++ rest) (cancelled (log_bytes part) _ _ next) (records_on (Then part further.0) whole further.1 reaches.each).1)
+    ]

@@ -10,10 +10,9 @@ use Rattle.spool_queue.specs.declared.status.SpoolStatus.TheVariants as status
 use Rattle.spool_queue.specs.declared.stop.Stop.{Stop}
 use Rattle.spool_queue.specs.declared.stop.Stop.TheVariants as stop
 use Rattle.spool_queue.specs.Lines.{AreFirstLines, lines_of, refusal_of}
-use Rattle.spool_queue.specs.Printing.{HasTaken, spooled_text}
+use Rattle.spool_queue.specs.Printing.{HasTaken, IsSaid, spooled_text}
 use Rattle.spool_queue.specs.PutSoFar.{IsFrontPut, PutsAll}
 use Rattle.spool_queue.specs.Putting.{IsByRefusal, IsNextLine, IsPutBehind, IsPutStatus, LeavesTheDisk, Puts}
-use Rattle.spool_queue.specs.Saying.{IsSaid}
 use Rattle.spool_queue.specs.Spool.{IsReadAs}
 use Rattle.spool_queue.specs.Standing.{Holds, HoldsList, count_of, reserved}
 use Rattle.spool_queue.specs.Stopping.{status_after}

@@ -11,7 +11,7 @@ use Rattle.spool_queue.specs.declared.stop.Stop.TheVariants.{Spool as AtSpool}
 use Rattle.spool_queue.specs.Lines.{AreFirstLines, lines_of}
 use Rattle.spool_queue.specs.Log.{payloads}
 use Rattle.spool_queue.specs.Putting.{IsPutBehind, IsPutStatus}
-use Rattle.spool_queue.specs.Running.{GoesOn, Others}
+use Rattle.spool_queue.specs.Running.{Others, RunsOn}
 use Rattle.spool_queue.specs.Spool.{IsLastGate, IsReadAs}
 use Rattle.spool_queue.specs.Stopping.{status_for}
 use Rattle.spool_queue.specs.Words.{IsPut, IsSend}
@@ -27,7 +27,7 @@ held_count spool (Some bytes) list holds = count_is spool bytes list holds
 
 -- the spool was opened, and the run went on
 pub goes_on : {R W K S : Type 0} (before after : Others R W K S) (status : SpoolStatus) (bytes : List ℕ) (list : List (List ℕ)) (Run : ℕ → Type 0) (spool : Spool) (contents : Option (List ℕ)) → HoldsList spool list contents → IsLastGate bytes spool.end → Run (reserved spool)
-    → GoesOn before after status bytes list Run
+    → RunsOn before after status bytes list Run
 goes_on before after status bytes list Run spool contents holds gate run =
     let same : reserved spool ≡ spool.end + 34 * length list = omega (arith, held_count spool contents list holds) in
     inr (spool.end, gate, subst Run same run)

@@ -1,5 +1,6 @@
 pub mod Appending
 pub mod AskedWords
+pub mod Cited
 pub mod Codes
 pub mod Lines
 pub mod Log
@@ -9,8 +10,9 @@ pub mod PutSoFar
 pub mod Putting
 pub mod Records
 pub mod Running
-pub mod Saying
+pub mod SendSoFar
 pub mod Sending
+pub mod Sent
 pub mod Spool
 pub mod Standing
 pub mod Stopping

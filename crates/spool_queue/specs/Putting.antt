@@ -46,6 +46,9 @@ pub record PutCall : Type 0 where
   pub written_before : Option (List ℕ)
   pub written_after : Option (List ℕ)
 
+abbrev pub put_call : Option (List ℕ) → Option (List ℕ) → Option (List ℕ) → Option (List ℕ) → PutCall
+put_call source contents before after = record { source = source; contents = contents; written_before = before; written_after = after }
+
 -- a run that began with these payloads and so many bytes reserved put these lines, and printed how many
 pub record Puts (call : PutCall) (list : List (List ℕ)) (reserved : ℕ) (status : SpoolStatus) : Type 0 where
   pub lines : List (List ℕ)

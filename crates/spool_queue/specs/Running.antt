@@ -17,6 +17,6 @@ others_of source wire clock out = record { source = source; wire = wire; clock =
 
 -- the spool of these bytes was opened, and the run went on with so many bytes reserved for its payloads; or the opening
 -- failed, and no other object was called
-abbrev pub GoesOn : {R W K S : Type 0} → Others R W K S → Others R W K S → SpoolStatus → List ℕ → List (List ℕ) → (ℕ → Type 0) → Type 0
-GoesOn before after status bytes list Run =
+abbrev pub RunsOn : {R W K S : Type 0} → Others R W K S → Others R W K S → SpoolStatus → List ℕ → List (List ℕ) → (ℕ → Type 0) → Type 0
+RunsOn before after status bytes list Run =
     ((status ≡ DiskFault) × (after ≡ before)) ⊎ ((end : ℕ) × IsLastGate bytes end × Run (end + 34 * length list))

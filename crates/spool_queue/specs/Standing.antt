@@ -1,9 +1,9 @@
 -- What a spool that was opened stands for (this project's profile).
-use Rattle.std.specs.Prelude.{◌≡◌, ℕ, ◌+◌, ◌-◌, ◌*◌, ◌<◌, ◌≤◌, ◌⊎◌, List, length, Option, Some, None, IsTrue}
+use Rattle.std.specs.Prelude.{◌≡◌, ℕ, ◌+◌, ◌-◌, ◌*◌, ◌^◌, ◌<◌, ◌≤◌, ◌⊎◌, List, length, drop, Option, Some, None, IsTrue}
 use Rattle.spool_queue.specs.declared.limits.TheConstants.{MAX_SPOOL_BYTES}
 use Rattle.spool_queue.specs.declared.spool.Spool.{Spool}
 use Rattle.spool_queue.specs.Log.{Log, payloads, settled, outstanding}
-use Rattle.spool_queue.specs.Spool.{EndsAt, IsReadAs}
+use Rattle.spool_queue.specs.Spool.{EndsAt, IsReadAs, Reaches}
 
 -- the disk has these bytes, and these payloads are outstanding
 pub record IsSpoolOf (spool : Spool) (bytes : List ℕ) (list : List (List ℕ)) : Type 0 where
@@ -44,3 +44,8 @@ WouldFill spool size = MAX_SPOOL_BYTES < spool.end + 14 + size + 34 * (count_of 
 -- read as one list, or as the other
 abbrev pub IsEither : List (List ℕ) → List (List ℕ) → List ℕ → Type 0
 IsEither one other image = IsReadAs image one ⊎ IsReadAs image other
+
+-- records that were passed stay where they are
+abbrev pub KeepsPlaces : Spool → Option (List ℕ) → Option (List ℕ) → Type 0
+KeepsPlaces was before now = (bytes : List ℕ) (list : List (List ℕ)) (log : Log) (place : ℕ) → before ≡ Some bytes → IsSpoolOf was bytes list → Reaches bytes log place (drop place bytes) → length (payloads log) < 2 ^ 64 →
+    Holds (λ bytes. Reaches bytes log place (drop place bytes)) now

@@ -22,7 +22,8 @@ fn write_all<S: Sink>(out: &mut S, bytes: &[u8]) -> Result<(), Failed>
 
 /// Prints how many lines were put.
 pub(crate) fn print_spooled<S: Sink>(out: &mut S, lines: u64) -> Result<(), Failed>
-    ensures written { OnOk result (HasTaken (S.written out.old) (spooled_text lines) (S.written out.new)) }
+    ensures written { OnOk result (HasTaken (S.written out.old) (spooled_text lines)
+        (S.written out.new)) }
     ensures faults_never_fall { S.faults out.old ≤ S.faults out.new }
     ensures failed_only_where_faults_rose { OnErr result (Rose (S.faults out.old) (S.faults
         out.new)) }

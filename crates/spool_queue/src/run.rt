@@ -1,15 +1,7 @@
 ghost use Rattle.std.specs.Prelude.{◌≡◌, ◌≢◌, ◌≤◌, ◌↔◌, ◌-◌, ℕ, List, Some};
 ghost use Rattle.outside.specs.Counts.{Rose};
 ghost use Rattle.outside.specs.DiskImages.{LeavesOnly, Only};
-ghost use Rattle.spool_queue.specs.OnlyRead.{IsOnlyRead};
-ghost use Rattle.spool_queue.specs.Printing.{sent_text, spooled_text};
-ghost use Rattle.spool_queue.specs.Putting.{IsPutBehind, IsPutStatus, LeavesTheDisk, Puts};
-ghost use Rattle.spool_queue.specs.Running.{GoesOn, others_of};
-ghost use Rattle.spool_queue.specs.Saying.{IsSaid};
-ghost use Rattle.spool_queue.specs.Spool.{IsBad, IsReadAs};
-ghost use Rattle.spool_queue.specs.Standing.{HoldsList, IsClosed, reserved};
-ghost use Rattle.spool_queue.specs.Stopping.{status_after};
-ghost use Rattle.spool_queue.specs.Words.{IsCommand, IsPut};
+ghost use Rattle.spool_queue.specs.Cited.{AreAcknowledged, HoldsList, IsBad, IsClosed, IsCommand, IsLeftOf, IsOnlyRead, IsPut, IsPutBehind, IsPutStatus, IsReadAs, IsSaid, IsSend, LeavesTheDisk, Puts, RunsOn, Sends, others_of, put_call, reserved, send_call, sent_text, spooled_text, status_after};
 
 use crate::printing::{print_sent, print_spooled};
 use crate::putting::put_lines;
@@ -44,13 +36,10 @@ pub fn spool_run<X: Wait, R: Source, W: Wire, D: Disk, K: Clock, S: Sink>(
     // A run that puts, over a disk that tells and is read.
     ensures puts { IsPut words.now → (bytes : List ℕ) (list : List (List ℕ)) →
         D.contents disk.old ≡ Some bytes → IsReadAs bytes list →
-        GoesOn (others_of source.old wire.old clock.old out.old)
-        (others_of source.new wire.new clock.new out.new) result bytes list (λ room. Puts (record {
-          source = R.left source.old;
-          contents = D.contents disk.new;
-          written_before = S.written out.old;
-          written_after = S.written out.new;
-        }) list room result) }
+        RunsOn (others_of source.old wire.old clock.old out.old)
+        (others_of source.new wire.new clock.new out.new) result bytes list (λ room. Puts
+        (put_call (R.left source.old) (D.contents disk.new) (S.written out.old) (S.written out.new))
+        list room result) }
 
     // Where nothing was pending, a crash at any moment of it leaves the payloads and the first lines behind them.
     ensures put_at_each_moment { IsPut words.now → Only (D.contents disk.old) (D.images disk.old) →
@@ -67,6 +56,24 @@ pub fn spool_run<X: Wait, R: Source, W: Wire, D: Disk, K: Clock, S: Sink>(
     ensures put_disk_fault_only_where_faults_rose { IsPut words.now →
         result ≡ SpoolStatus.DiskFault → Rose (D.faults disk.old) (D.faults disk.new) }
     ensures put_is_never_unreachable { IsPut words.now → result ≢ SpoolStatus.Unreachable }
+
+    // A run that sends, over a disk that tells and is read: what its one talk acknowledges is settled, and nothing else.
+    ensures sends { IsSend words.now → (bytes : List ℕ) (list : List (List ℕ)) →
+        D.contents disk.old ≡ Some bytes → IsReadAs bytes list →
+        RunsOn (others_of source.old wire.old clock.old out.old)
+        (others_of source.new wire.new clock.new out.new) result bytes list (λ room.
+        (acknowledged : List (List ℕ)) ×
+        AreAcknowledged (W.outcomes wire.old) (W.outcomes wire.new) acknowledged ×
+        Sends (send_call (D.contents disk.new) (S.written out.old) (S.written out.new))
+        list acknowledged result) }
+
+    // Where nothing was pending, a crash at any moment of it leaves the payloads without a front that is acknowledged.
+    ensures sent_at_each_moment { IsSend words.now →
+        Only (D.contents disk.old) (D.images disk.old) →
+        (bytes : List ℕ) (list : List (List ℕ)) → D.contents disk.old ≡ Some bytes →
+        IsReadAs bytes list → (acknowledged : List (List ℕ)) ×
+        AreAcknowledged (W.outcomes wire.old) (W.outcomes wire.new) acknowledged ×
+        LeavesOnly D.moment D.images_since disk.old disk.new (IsLeftOf list acknowledged) }
 
     ensures source_fault_only_where_faults_rose { result ≡ SpoolStatus.SourceFault →
         Rose (R.faults source.old) (R.faults source.new) }
@@ -101,12 +108,9 @@ fn run_put<X: Wait, R: Source, D: Disk, S: Sink>(
 ) -> SpoolStatus
     requires open { ¬ (IsClosed spool.old) }
     ensures puts { (list : List (List ℕ)) → HoldsList spool.old list (D.contents disk.old) →
-        Puts (record {
-          source = R.left source.old;
-          contents = D.contents disk.new;
-          written_before = S.written out.old;
-          written_after = S.written out.new;
-        }) list (reserved spool.old) result }
+        Puts
+        (put_call (R.left source.old) (D.contents disk.new) (S.written out.old) (S.written out.new))
+        list (reserved spool.old) result }
     ensures each_moment { Only (D.contents disk.old) (D.images disk.old) →
         (list : List (List ℕ)) → HoldsList spool.old list (D.contents disk.old) →
         LeavesOnly D.moment D.images_since disk.old disk.new

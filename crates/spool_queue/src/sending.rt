@@ -1,13 +1,17 @@
-ghost use Rattle.std.specs.Prelude.{◌≡◌, ◌≢◌, ◌<◌, ◌≤◌, ◌+◌, [], Err, OnErr, OnOk, length, false};
-ghost use Rattle.lumber_client.specs.Held.{begun_in};
-ghost use Rattle.spool_queue.specs.Sending.{IsAwaited, IsIdle};
-ghost use Rattle.spool_queue.specs.Standing.{count_of};
+ghost use Rattle.std.specs.Prelude.{◌≡◌, ◌≢◌, ◌⊎◌, ◌<◌, ◌≤◌, ◌+◌, [], ℕ, List, Option, Some, Err, IfErr, OnErr, OnOk, drop, length, false};
+ghost use Rattle.std.specs.Bool.{OnTrue};
+ghost use Rattle.lumber_client.specs.Exchange.{Exchange, with_begun};
+ghost use Rattle.lumber_client.specs.Newly.{KeepsParcels};
+ghost use Rattle.lumber_client.specs.Standing.{StandsFor};
+ghost use Rattle.outside.specs.Counts.{Rose};
+ghost use Rattle.outside.specs.Talks.{Talk};
+ghost use Rattle.spool_queue.specs.Cited.{GoesOut, HasPieces, Hears, IsAwaited, IsClosed, IsFilledWith, IsIdle, IsOnlyRead, IsReadStop, IsSettlingStop, IsSpoolOf, IsWalkOf, KeepsPlaces, Log, SendsAll, SendsOver, Settles, SettlesSome, SettlesWindow, Talks, count_of, settled_in, with_all_handed};
 ghost use Rattle.wire_base.specs.Ranges.{IsParcel};
 
-use crate::Spool;
 use crate::stop::Stop;
 use crate::walk::Walk;
 use crate::words::Target;
+use crate::{Spool, SpoolError};
 use lumber_client::{Heard, Window};
 use outside::{Clock, Disk, Link, Recv, Wire};
 use std::alloc::Global;
@@ -35,21 +39,44 @@ pub(crate) fn send<X: Wait, W: Wire, D: Disk, K: Clock>(
     disk: &mut D,
     clock: &mut K,
 ) -> Result<(), Stop>
-    ensures no_more { count_of spool.new ≤ count_of spool.old }
+    requires open { ¬ (IsClosed spool.old) }
+    ensures sends { SendsAll D.Disk disk.old disk.new spool.old spool.new (W.outcomes wire.old)
+        (W.outcomes wire.new) result }
     ensures done { OnOk result (count_of spool.new ≡ 0) }
     ensures no_source { result ≢ Err Stop.Source }
 {
-    if spool.outstanding() > 0 {
-        let host = target.host()?;
-        let Ok(mut link) = wire.connect(&host) else {
-            return Err(Stop::Unreachable);
-        };
-        let answer = send_over(rt, target.alloc, spool, disk, &mut link, clock);
-        wire.finish(link);
-        answer?;
+    if spool.outstanding() == 0 {
+        spool.tidy(disk)?;
+        return Ok(());
     }
+    send_linked(rt, target, spool, wire, disk, clock)?;
     spool.tidy(disk)?;
     Ok(())
+}
+
+/// Makes a link, sends over it, and finishes it.
+fn send_linked<X: Wait, W: Wire, D: Disk, K: Clock>(
+    rt: &X,
+    target: Target<'_>,
+    spool: &mut Spool,
+    wire: &mut W,
+    disk: &mut D,
+    clock: &mut K,
+) -> Result<(), Stop>
+    requires open { ¬ (IsClosed spool.old) }
+    ensures sends { SendsAll D.Disk disk.old disk.new spool.old spool.new (W.outcomes wire.old)
+        (W.outcomes wire.new) result }
+    ensures done { OnOk result (count_of spool.new ≡ 0) }
+    ensures still_open { OnOk result (¬ (IsClosed spool.new)) }
+    ensures no_source { result ≢ Err Stop.Source }
+{
+    let host = target.host()?;
+    let Ok(mut link) = wire.connect(&host) else {
+        return Err(Stop::Unreachable);
+    };
+    let answer = send_over(rt, target.alloc, spool, disk, &mut link, clock);
+    wire.finish(link);
+    answer
 }
 
 /// Sends window after window over a link until nothing is outstanding.
@@ -61,8 +88,12 @@ fn send_over<X: Wait, L: Link, D: Disk, K: Clock>(
     link: &mut L,
     clock: &mut K,
 ) -> Result<(), Stop>
-    ensures no_more { count_of spool.new ≤ count_of spool.old }
+    requires open { ¬ (IsClosed spool.old) }
+    requires fresh { HasPieces (L.told link.old) (L.told link.old) [] }
+    ensures sends { SendsOver D.Disk disk.old disk.new spool.old spool.new (L.told link.old)
+        (L.told link.new) result }
     ensures done { OnOk result (count_of spool.new ≡ 0) }
+    ensures still_open { OnOk result (¬ (IsClosed spool.new)) }
     ensures no_source { result ≢ Err Stop.Source }
 {
     let mut window = Window::new(alloc, WINDOW_PAYLOADS, 1)?;
@@ -89,7 +120,18 @@ fn fill<D: Disk>(
     requires idle { IsIdle window.old }
     requires some { 0 < count_of spool.now }
     ensures begun { OnOk result (IsAwaited window.new (count_of spool.now)) }
-    ensures no_source { result ≢ Err Stop.Source }
+    ensures talks { OnOk result ((began told : Option Talk) (e : Exchange) →
+        Talks window.old began told e →
+        Talks window.new began told (with_begun e window.new.parcels)) }
+    ensures first { OnOk result ((bytes : List ℕ) (list : List (List ℕ)) (log : Log) →
+        D.contents disk.old ≡ Some bytes → IsSpoolOf spool.now bytes list →
+        IsWalkOf bytes walk.old log → IsFilledWith bytes list window.new walk.new) }
+    ensures never_bad { (bytes : List ℕ) (list : List (List ℕ)) (log : Log) →
+        D.contents disk.old ≡ Some bytes → IsSpoolOf spool.now bytes list →
+        IsWalkOf bytes walk.old log → (at : ℕ) → result ≢ Err (Stop.Spool (SpoolError.Bad at)) }
+    ensures only_read { IsOnlyRead D.contents D.images D.moment D.images_since D.faults
+        disk.old disk.new }
+    ensures errors { IfErr result (IsReadStop (D.faults disk.old) (D.faults disk.new)) }
 {
     let count = spool.outstanding().min(WINDOW_PAYLOADS as u64);
     'payloads: for i in 0..count {
@@ -120,13 +162,18 @@ fn parcel(payload: Blob) -> Parcel
 /// Sends all of the window that was begun.
 fn send_out<L: Link>(link: &mut L, window: &mut Window) -> Result<(), Stop>
     ensures all_is_out { OnOk result (window.new.out ≡ []) }
-    ensures no_source { result ≢ Err Stop.Source }
+    ensures goes_out { (began : Option Talk) (e : Exchange) →
+        Talks window.old began (L.told link.old) e → GoesOut window.new began (L.told link.new) e }
+    ensures unreachable { IfErr result (λ stop. (stop ≡ Stop.Unreachable) ×
+        Rose (L.faults link.old) (L.faults link.new)) }
     ensures parcels { window.new.parcels ≡ window.old.parcels }
     ensures acknowledged { window.new.acknowledged ≡ window.old.acknowledged }
     ensures in_flight { window.new.in_flight ≡ window.old.in_flight }
     ensures most { window.new.most ≡ window.old.most }
     ensures depth { window.new.depth ≡ window.old.depth }
     ensures hearing { window.new.hearing ≡ window.old.hearing }
+    ensures link_faults_never_fall { L.faults link.old ≤ L.faults link.new }
+    ensures link_idles_never_fall { L.idles link.old ≤ L.idles link.new }
 {
     'pieces: while !window.out().is_empty() {
         match link.send(window.out()) {
@@ -146,11 +193,15 @@ fn settle_window<X: Wait, L: Link, D: Disk, K: Clock>(
     clock: &mut K,
     window: &mut Window,
 ) -> Result<(), Stop>
+    requires open { ¬ (IsClosed spool.old) }
     requires awaited { IsAwaited window.old (count_of spool.old) }
     requires all_is_out { window.old.out ≡ [] }
-    ensures no_more { count_of spool.new ≤ count_of spool.old }
+    ensures settles { SettlesWindow D.Disk disk.old disk.new spool.old spool.new window.old
+        window.new (L.told link.old) (L.told link.new) result }
     ensures idle { OnOk result (IsIdle window.new) }
-    ensures no_source { result ≢ Err Stop.Source }
+    ensures stops { IfErr result (IsSettlingStop (D.faults disk.old) (D.faults disk.new)) }
+    ensures link_faults_never_fall { L.faults link.old ≤ L.faults link.new }
+    ensures link_idles_never_fall { L.idles link.old ≤ L.idles link.new }
 {
     let mut heard = clock.now();
     let mut piece = [0u8; RECEIVED_BYTES];
@@ -160,9 +211,7 @@ fn settle_window<X: Wait, L: Link, D: Disk, K: Clock>(
         }
         match link.recv(&mut piece) {
             Recv::Got(count) => {
-                let told = hear(window, &piece[..count]);
-                settle(spool, disk, window)?;
-                told?;
+                settle_heard(spool, disk, window, &piece[..count])?;
                 heard = clock.now();
             }
             Recv::NotYet => {
@@ -178,37 +227,62 @@ fn settle_window<X: Wait, L: Link, D: Disk, K: Clock>(
     unreachable!()
 }
 
-/// Takes the bytes that the peer gave, up to its first fault.
-fn hear(window: &mut Window, bytes: &[u8]) -> Result<(), Stop>
+/// Settles what the bytes that the peer gave acknowledge, up to its first fault.
+fn settle_heard<D: Disk>(
+    spool: &mut Spool,
+    disk: &mut D,
+    window: &mut Window,
+    bytes: &[u8],
+) -> Result<(), Stop>
+    requires open { ¬ (IsClosed spool.old) }
+    requires awaited { IsAwaited window.old (count_of spool.old) }
+    requires all_is_out { window.old.out ≡ [] }
+    requires some { 0 < length bytes.now }
+    ensures settles { SettlesSome D.Disk disk.old disk.new spool.old spool.new window.old
+        window.new bytes.now result }
+    ensures awaited { OnOk result (IsAwaited window.new (count_of spool.new)) }
+    ensures all_is_out { window.new.out ≡ [] }
+    ensures stops { IfErr result (IsSettlingStop (D.faults disk.old) (D.faults disk.new)) }
+{
+    let fine = hear(window, bytes);
+    settle(spool, disk, window)?;
+    if fine { Ok(()) } else { Err(Stop::Unreachable) }
+}
+
+/// Takes the bytes that the peer gave, up to its first fault; whether there is none.
+fn hear(window: &mut Window, bytes: &[u8]) -> bool
     requires all_is_out { window.old.out ≡ [] }
     requires no_fault { window.old.hearing.failed ≡ false }
-    ensures all_is_out { window.new.out ≡ [] }
-    ensures no_fault { OnOk result (window.new.hearing.failed ≡ false) }
-    ensures no_source { result ≢ Err Stop.Source }
-    ensures parcels { window.new.parcels ≡ window.old.parcels }
-    ensures begun { begun_in window.new ≡ begun_in window.old }
-    ensures most { window.new.most ≡ window.old.most }
-    ensures depth { window.new.depth ≡ window.old.depth }
+    ensures kept { KeepsParcels window.old window.new }
+    ensures no_fewer { window.old.acknowledged ≤ window.new.acknowledged }
+    ensures no_fault { OnTrue result (window.new.hearing.failed ≡ false) }
+    ensures hears { (e : Exchange) → StandsFor window.old e → Hears window.new e bytes.now result }
 {
-    'bytes: for byte in bytes {
+    for byte in bytes {
         if let Heard::PeerFault { .. } = window.got(*byte) {
-            return Err(Stop::Unreachable);
+            return false;
         }
     }
-    Ok(())
+    true
 }
 
 /// Settles exactly the payloads that are acknowledged.
 fn settle<D: Disk>(spool: &mut Spool, disk: &mut D, window: &mut Window) -> Result<(), Stop>
+    requires open { ¬ (IsClosed spool.old) }
     requires held { length window.old.parcels ≤ count_of spool.old }
     requires acknowledged { window.old.acknowledged ≤ length window.old.parcels }
-    ensures settled { OnOk result (count_of spool.new + window.old.acknowledged ≡ count_of
-        spool.old) }
-    ensures none_settled { OnErr result (count_of spool.new ≡ count_of spool.old) }
-    ensures no_source { result ≢ Err Stop.Source }
+    ensures settles { OnOk result (Settles D.Disk disk.old disk.new spool.old spool.new
+        window.old.acknowledged window.old.acknowledged) }
+    ensures places { OnOk result (KeepsPlaces spool.old (D.contents disk.old) (D.contents
+        disk.new)) }
+    ensures fails { IfErr result (λ stop. (stop ≡ Stop.Spool SpoolError.DiskFault) ×
+        Rose (D.faults disk.old) (D.faults disk.new) ×
+        Settles D.Disk disk.old disk.new spool.old spool.new 0 window.old.acknowledged ×
+        (0 < window.old.acknowledged)) }
+    ensures handed { (e : Exchange) → StandsFor window.old e →
+        StandsFor window.new (with_all_handed e (settled_in window.old)) }
+    ensures parcels { window.new.parcels ≡ drop window.old.acknowledged window.old.parcels }
     ensures handed_out { window.new.acknowledged ≡ 0 }
-    ensures fewer { length window.new.parcels + window.old.acknowledged ≡ length
-        window.old.parcels }
     ensures in_flight { window.new.in_flight ≡ window.old.in_flight }
     ensures out { window.new.out ≡ window.old.out }
     ensures hearing { window.new.hearing ≡ window.old.hearing }
@@ -226,6 +300,8 @@ fn settle<D: Disk>(spool: &mut Spool, disk: &mut D, window: &mut Window) -> Resu
 }
 
 /// The peer was silent for too long.
-fn is_over(heard: Moment, now: Moment) -> bool {
+fn is_over(heard: Moment, now: Moment) -> bool
+    ensures over { OnTrue result (heard.0 + 30_000 ≤ now.0) }
+{
     heard.0 <= now.0 && TIMEOUT_MS <= now.0 - heard.0
 }

@@ -1,9 +1,6 @@
 ghost use Rattle.std.specs.Prelude.{◌≡◌, ◌≢◌, ◌<◌, ◌≤◌, ◌+◌, ◌++◌, ◌∷◌, ◌↔◌, ◌⊎◌, ◌-◌, ℕ, [], IfErr, IfOk, IsErrOf, IsSome, List, MatchResult, OnErr, OnOk, Some, Err, codes, drop, length, slice_get};
 ghost use Rattle.outside.specs.Counts.{Rose};
 ghost use Rattle.outside.specs.DiskImages.{LeavesOnly, Only};
-ghost use Rattle.spool_queue.specs.Appending.{IsPartAppended, appended};
-ghost use Rattle.spool_queue.specs.OnlyRead.{IsOnlyRead};
-ghost use Rattle.spool_queue.specs.Spool.{IsBad, IsLastGate, IsReadAs};
 ghost use Rattle.wire_base.specs.Ranges.{IsPlace};
 
 use crate::appending::append;
@@ -34,8 +31,7 @@ pub struct Spool {
 }
 
 impl Spool {
-    ghost use Rattle.spool_queue.specs.Standing.{HasRoom, Holds, HoldsList, IsClosed, IsEither, IsSpoolOf, WouldFill, count_of, reserved};
-    ghost use Rattle.spool_queue.specs.Lines.{reserved_with};
+    ghost use Rattle.spool_queue.specs.Cited.{HasRoom, Holds, HoldsList, IsBad, IsClosed, IsEither, IsLastGate, IsOnlyRead, IsPartAppended, IsReadAs, IsSpoolOf, IsWalkOf, KeepsPlaces, Log, WouldFill, appended, count_of, reserved, reserved_with};
 
     /// Opens the spool on a disk. One of at most one byte is empty, and its gate is written.
     pub fn open<D: Disk>(disk: &mut D) -> Result<Spool, SpoolError>
@@ -188,6 +184,15 @@ impl Spool {
         i: u64,
     ) -> Result<Blob, SpoolError>
         requires { i < count_of self.now }
+        ensures payload { (bytes : List ℕ) (list : List (List ℕ)) (log : Log) →
+            D.contents disk.old ≡ Some bytes → IsSpoolOf self.now bytes list →
+            IsWalkOf bytes walk.old log → IfOk result (λ blob. (slice_get list i ≡ Some blob) ×
+            ((later : Log) × IsWalkOf bytes walk.new later)) }
+        ensures never_bad { (bytes : List ℕ) (list : List (List ℕ)) (log : Log) →
+            D.contents disk.old ≡ Some bytes → IsSpoolOf self.now bytes list →
+            IsWalkOf bytes walk.old log → (at : ℕ) → result ≢ Err (SpoolError.Bad at) }
+        ensures errors { IfErr result (λ error. (error ≡ SpoolError.DiskFault) ⊎
+            ((error ≡ SpoolError.NoMemory) ⊎ ((at : ℕ) × (error ≡ SpoolError.Bad at)))) }
         ensures short { IfOk result (λ blob. length blob ≤ MAX_EVENT_BYTES) }
         ensures only_read { IsOnlyRead D.contents D.images D.moment D.images_since D.faults
             disk.old disk.new }
@@ -222,6 +227,8 @@ impl Spool {
         ensures closed { IsErrOf result SpoolError.Closed ↔ IsClosed self.old }
         ensures errors { IfErr result (λ error. (error ≡ SpoolError.DiskFault) ⊎
             (error ≡ SpoolError.Closed)) }
+        ensures places { OnOk result (KeepsPlaces self.old (D.contents disk.old) (D.contents
+            disk.new)) }
         ensures fewer { OnOk result (count_of self.new ≡ count_of self.old - n) }
         ensures count_kept { OnErr result (count_of self.new ≡ count_of self.old) }
         ensures disk_fault_only_where_faults_rose { IsErrOf result SpoolError.DiskFault →

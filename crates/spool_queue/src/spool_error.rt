@@ -1,3 +1,6 @@
+ghost use Rattle.std.specs.Prelude.{◌≡◌};
+ghost use Rattle.spool_queue.specs.declared.spool_error.SpoolError.TheVariants.{DiskFault, NoMemory};
+
 use outside::Failed;
 use std::alloc::{AllocError, AllocFailed};
 use thiserror::Error;
@@ -25,9 +28,6 @@ pub enum SpoolError {
 }
 
 impl From<Failed> for SpoolError {
-    ghost use Rattle.std.specs.Prelude.{◌≡◌};
-    ghost use Rattle.spool_queue.specs.declared.spool_error.SpoolError.TheVariants.{DiskFault};
-
     ghost from_gives = { λ _ e. e ≡ DiskFault };
 
     fn from(_: Failed) -> Self {
@@ -36,9 +36,6 @@ impl From<Failed> for SpoolError {
 }
 
 impl From<NoMemory> for SpoolError {
-    ghost use Rattle.std.specs.Prelude.{◌≡◌};
-    ghost use Rattle.spool_queue.specs.declared.spool_error.SpoolError.TheVariants.{NoMemory};
-
     ghost from_gives = { λ _ e. e ≡ NoMemory };
 
     fn from(_: NoMemory) -> Self {
@@ -47,9 +44,6 @@ impl From<NoMemory> for SpoolError {
 }
 
 impl From<AllocError> for SpoolError {
-    ghost use Rattle.std.specs.Prelude.{◌≡◌};
-    ghost use Rattle.spool_queue.specs.declared.spool_error.SpoolError.TheVariants.{NoMemory};
-
     ghost from_gives = { λ _ e. e ≡ NoMemory };
 
     fn from(_: AllocError) -> Self {
@@ -58,9 +52,6 @@ impl From<AllocError> for SpoolError {
 }
 
 impl<T: Drop> From<AllocFailed<T>> for SpoolError {
-    ghost use Rattle.std.specs.Prelude.{◌≡◌};
-    ghost use Rattle.spool_queue.specs.declared.spool_error.SpoolError.TheVariants.{NoMemory};
-
     ghost from_gives = { λ _ e. e ≡ NoMemory };
 
     fn from(_: AllocFailed<T>) -> Self {

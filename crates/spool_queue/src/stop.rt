@@ -1,4 +1,6 @@
 ghost use Rattle.std.specs.Prelude.{◌≡◌};
+ghost use Rattle.spool_queue.specs.declared.spool_error.SpoolError.TheVariants.{NoMemory};
+ghost use Rattle.spool_queue.specs.declared.stop.Stop.TheVariants.{Spool};
 ghost use Rattle.spool_queue.specs.Stopping.{status_after, status_for};
 
 use crate::{SpoolError, SpoolStatus};
@@ -41,9 +43,6 @@ pub(crate) fn status_of(answer: Result<(), Stop>, lines: u64) -> SpoolStatus
 }
 
 impl From<SpoolError> for Stop {
-    ghost use Rattle.std.specs.Prelude.{◌≡◌};
-    ghost use Rattle.spool_queue.specs.declared.stop.Stop.TheVariants.{Spool};
-
     ghost from_gives = { λ error stop. stop ≡ Spool error };
 
     fn from(error: SpoolError) -> Self {
@@ -52,10 +51,6 @@ impl From<SpoolError> for Stop {
 }
 
 impl From<NoMemory> for Stop {
-    ghost use Rattle.std.specs.Prelude.{◌≡◌};
-    ghost use Rattle.spool_queue.specs.declared.spool_error.SpoolError.TheVariants.{NoMemory};
-    ghost use Rattle.spool_queue.specs.declared.stop.Stop.TheVariants.{Spool};
-
     ghost from_gives = { λ _ stop. stop ≡ Spool NoMemory };
 
     fn from(_: NoMemory) -> Self {

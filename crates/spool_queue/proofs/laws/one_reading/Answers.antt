@@ -1,4 +1,4 @@
-use Rattle.spool_queue.proofs.OneReading.{never_both, one_list}
+use Rattle.spool_queue.proofs.OneReading.{never_both, one_list, one_place}
 use Rattle.spool_queue.proofs.laws.one_reading.Goals as goal
 
 pub returns-clause-one_list : goal.returns-clause-one_list
@@ -6,3 +6,6 @@ returns-clause-one_list c = one_list
 
 pub returns-clause-never_both : goal.returns-clause-never_both
 returns-clause-never_both c = never_both
+
+pub returns-clause-one_place : goal.returns-clause-one_place
+returns-clause-one_place c = one_place

@@ -1,9 +1,14 @@
-use Rattle.std.proofs.Common.{inl, ℕ, Err, refl, sym, ap, ◌∙◌}
+use Rattle.std.proofs.Common.{◌≡◌, ◌-◌, inl, ℕ, List, [], None, Err, take, refl, sym, ap, subst, ◌∙◌}
 use Rattle.spool_queue.specs.declared.stop.Stop.TheVariants.{Spool}
 use Rattle.spool_queue.specs.declared.spool_error.SpoolError.{SpoolError}
-use Rattle.spool_queue.specs.declared.status.SpoolStatus.TheVariants.{SpoolBad, Unreachable}
+use Rattle.spool_queue.specs.declared.status.SpoolStatus.TheVariants.{Done, SpoolBad, Unreachable}
 use Rattle.spool_queue.specs.Putting.{PutCall, Puts}
-use Rattle.spool_queue.specs.Stopping.{status_for}
+use Rattle.spool_queue.specs.Stopping.{status_after, status_for}
+use Rattle.spool_queue.specs.Printing.{IsSaid, sent_text}
+use Rattle.spool_queue.specs.Sent.{AreAcknowledged, Sends, send_call}
+use Rattle.spool_queue.specs.Standing.{count_of}
+use Rattle.spool_queue.proofs.Links.{no_link}
+use Rattle.spool_queue.proofs.SendEnds.{left_from, opened_sent, sends_from, sent_behind}
 use Rattle.spool_queue.proofs.Runs.{bad_at, fault_of, goes_on, never_unreachable, opened_put, put_behind, put_never}
 use Rattle.spool_queue.proofs.run.spool_run.Goals as goal
 
@@ -49,3 +54,34 @@ returns-in-Put-clause-put_says_bad_only_where_it_is g c = λ put bytes at told s
 
 pub returns-in-Put-clause-put_is_never_unreachable : goal.returns-in-Put-clause-put_is_never_unreachable
 returns-in-Put-clause-put_is_never_unreachable g c = λ put same. put_never c.run_put.result Unreachable c.run_put.ensures.status same (λ is. is)
+
+pub returns-in-Err-clause-sends : goal.returns-in-Err-clause-sends
+returns-in-Err-clause-sends g c = λ send bytes list told is.
+    inl (c.status.ensures ∙ ap (λ (e : SpoolError). status_for (Spool e) 0) (c.in-Err.ensures.reads bytes list told is), refl)
+
+pub returns-in-Err-clause-sent_at_each_moment : goal.returns-in-Err-clause-sent_at_each_moment
+returns-in-Err-clause-sent_at_each_moment g c = λ send only bytes list told is.
+    ([], no_link _, opened_sent g.D.Disk _ _ list [] (c.open.ensures.each_moment only bytes list told is))
+
+pub returns-in-Send-clause-sends : goal.returns-in-Send-clause-sends
+returns-in-Send-clause-sends g c = λ send bytes list told is.
+    let held = c.in-Ok.ensures.reads bytes list told is in
+    let s = c.send-answer.ensures.sends in
+    let acked = take s.tried list in
+    let Run : ℕ → Type 0 = λ room. (acknowledged : List (List ℕ)) × AreAcknowledged (g.W.Wire.outcomes c.args.wire.now) (g.W.Wire.outcomes c.send-answer.new.wire) acknowledged
+    × Sends (send_call (g.D.Disk.contents c.send-answer.new.disk) (g.S.Sink.written c.args.out.now) (g.S.Sink.written c.say_sent.new.out)) list acknowledged c.say_sent.result in
+    goes_on _ _ _ bytes list Run c.in-Ok.spool (g.D.Disk.contents c.open.new.disk) held (c.in-Ok.ensures.at_its_last_gate bytes told)
+    let A : ℕ → Type 0 = λ n. IsSaid (g.S.Sink.written c.args.out.now) (sent_text (n - c.outstanding.result) c.outstanding.result) (g.S.Sink.written c.say_sent.new.out) (status_after c.send-answer.result 0) c.say_sent.result in
+    let B : ℕ → Type 0 = λ n. IsSaid (g.S.Sink.written c.args.out.now) (sent_text (count_of c.in-Ok.spool - n) n) (g.S.Sink.written c.say_sent.new.out) (status_after c.send-answer.result 0) c.say_sent.result in
+    let said = subst B c.outstanding.ensures.counted (subst A c.outstanding-before.ensures.counted c.say_sent.ensures.said) in
+    (acked, s.acknowledged list held, sends_from g.D.Disk _ _ _ _ _ _ _ _ c.send-answer.result _ s c.send-answer.ensures.done said list held)
+
+pub returns-in-Send-clause-sent_at_each_moment : goal.returns-in-Send-clause-sent_at_each_moment
+returns-in-Send-clause-sent_at_each_moment g c = λ send only bytes list told is.
+    let held = c.in-Ok.ensures.reads bytes list told is in
+    let s = c.send-answer.ensures.sends in (
+      take s.tried list,
+      s.acknowledged list held,
+      sent_behind g.D.Disk _ _ _ list (take s.tried list) (c.open.ensures.each_moment only bytes list told is)
+          (left_from g.D.Disk _ _ _ _ _ _ None None c.send-answer.result Done s (c.in-Ok.ensures.durable only) list held),
+    )

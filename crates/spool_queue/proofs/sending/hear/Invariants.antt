@@ -1,14 +1,6 @@
-use Rattle.std.proofs.Common.{◌≡◌, [], false}
-use Rattle.lumber_client.specs.Held.{begun_in}
+use Rattle.std.proofs.Common.{length}
+use Rattle.spool_queue.proofs.Hearings.{HearsOn}
 use Rattle.spool_queue.proofs.sending.hear.Given as goal
 
--- no fault was told, and the window holds the same parcels
-abbrev pub invariant-bytes : goal.invariant-bytes
-invariant-bytes l = record {
-  out : l.window.out ≡ [];
-  faultless : l.window.hearing.failed ≡ false;
-  parcels : l.window.parcels ≡ l.initial.window.parcels;
-  begun : begun_in l.window ≡ begun_in l.initial.window;
-  most : l.window.most ≡ l.initial.window.most;
-  depth : l.window.depth ≡ l.initial.window.depth;
-}
+abbrev pub invariant-loop-byte : goal.invariant-loop-byte
+invariant-loop-byte l = HearsOn l.initial.window l.window l.bytes l.byte-index

@@ -1,11 +1,15 @@
-use Rattle.std.proofs.Common.{◌≡◌, ◌+◌, length}
+use Rattle.std.proofs.Common.{◌≡◌, ◌+◌, length, take, drop}
+use Rattle.lumber_client.specs.Exchange.{Exchange}
+use Rattle.lumber_client.specs.Standing.{StandsFor}
+use Rattle.spool_queue.specs.SendSoFar.{with_all_handed}
 use Rattle.spool_queue.proofs.sending.settle.Given as goal
 
 -- so many of the acknowledged payloads were handed out
 abbrev pub invariant-parcels : goal.invariant-parcels
 invariant-parcels g l = record {
   handed : l.window.acknowledged + l.count ≡ l.initial.window.acknowledged;
-  fewer : length l.window.parcels + l.count ≡ length l.initial.window.parcels;
+  parcels : l.window.parcels ≡ drop l.count l.initial.window.parcels;
+  stands : (e : Exchange) → StandsFor l.initial.window e → StandsFor l.window (with_all_handed e (take l.count l.initial.window.parcels));
   in_flight : l.window.in_flight ≡ l.initial.window.in_flight;
   out : l.window.out ≡ l.initial.window.out;
   hearing : l.window.hearing ≡ l.initial.window.hearing;

@@ -1,14 +1,18 @@
 use Rattle.std.proofs.Common.{◌≡◌, ◌≤◌, [], length}
 use Rattle.spool_queue.specs.Sending.{IsAwaited}
-use Rattle.spool_queue.specs.Standing.{count_of}
+use Rattle.spool_queue.specs.Standing.{IsClosed, count_of}
+use Rattle.spool_queue.proofs.Windows.{IsSettledTo}
 use Rattle.spool_queue.proofs.sending.settle_window.Given as goal
 
--- the window is awaited, and all of it is out
+-- the window is awaited, all of it is out, and what was acknowledged of it is settled
 abbrev pub invariant-loop : goal.invariant-loop
 invariant-loop g l = record {
   able : (goal.iterator-loop g).can_next l.iterator' × (goal.iterator-loop g).is_finite l.iterator';
   piece : length l.piece ≡ 4096;
   awaited : IsAwaited l.window (count_of l.spool);
   out : l.window.out ≡ [];
-  count : count_of l.spool ≤ count_of l.initial.spool;
+  unclosed : ¬ (IsClosed l.spool);
+  settled : IsSettledTo g.D.Disk l.initial.disk l.disk l.initial.spool l.spool l.initial.window l.window (g.L.Link.told l.initial.link) (g.L.Link.told l.link);
+  faults : g.L.Link.faults l.initial.link ≤ g.L.Link.faults l.link;
+  idles : g.L.Link.idles l.initial.link ≤ g.L.Link.idles l.link;
 }

@@ -1,0 +1,18 @@
+use Rattle.spool_queue.proofs.Links.{fresh_link, link_refused, no_link, sends_nothing, sends_over}
+use Rattle.spool_queue.proofs.Settlings.{settles_none}
+use Rattle.spool_queue.proofs.sending.send_linked.Goals as goal
+
+pub returns-in_err-host-clause-sends : goal.returns-in_err-host-clause-sends
+returns-in_err-host-clause-sends g c =
+    sends_nothing g.D.Disk _ _ _ _ _ (settles_none g.D.Disk _ _ (g.met.D.Disk.only_now c.args.disk.now)) (no_link _)
+
+pub returns-in_default-clause-sends : goal.returns-in_default-clause-sends
+returns-in_default-clause-sends g c =
+    sends_nothing g.D.Disk _ _ _ _ _ (settles_none g.D.Disk _ _ (g.met.D.Disk.only_now c.args.disk.now)) (link_refused g.W.Link.Link.told _ _ c.in_default.field-0 _ c.in_default.ensures.told)
+
+pub send_over-answer-requires-clause-fresh : goal.send_over-answer-requires-clause-fresh
+send_over-answer-requires-clause-fresh g c = fresh_link g.W.Link.Link.told _ _ c.in-Ok.link _ c.in-Ok.ensures.told
+
+pub returns-clause-sends : goal.returns-clause-sends
+returns-clause-sends g c =
+    sends_over g.D.Disk g.W.Link.Link.told _ _ _ _ _ _ _ c.in-Ok.link _ _ _ _ c.send_over-answer.result c.in-Ok.ensures.told c.finish.ensures.told c.send_over-answer.ensures.sends
