@@ -1,15 +1,17 @@
 -- The file of two plain lines, read once by a run over an empty registry: the whole account of the run. Its areas were at rest; area A was
 -- started, and then the file's row was stored there; whatever a crash leaves meanwhile gives rows that are kept. The premises of the account
 -- hold, and the folder is drained.
-use Rattle.std.proofs.Common.{◌≡◌, inl, inr, ℕ, ◌≤◌, List, [], ◌∷◌, drop, length, codes, None, Some, refl, sym, ap, subst, ◌∙◌, arith, lit≤}
+use Rattle.std.proofs.Common.{◌≡◌, inl, inr, ℕ, ◌≤◌, Bool, cond, eqb, true, false, List, [], ◌∷◌, drop, length, codes, None, Some, refl, sym, ap, subst, ◌∙◌, arith, lit≤}
 use Rattle.std.specs.Fmt.{digits}
+use Rattle.std.specs.List.{AllByRecursion}
 use Rattle.std.proofs.lemmas.List.Elements.{All-cons, All-nil}
 use Rattle.event_json.specs.Json.{escape}
 use Rattle.kept_rows.proofs.Worked as worked
-use Rattle.kept_rows.specs.Account.{SlotAccount}
+use Rattle.kept_rows.specs.Account.{EpochAccount, SlotAccount, epoch_at}
 use Rattle.kept_rows.specs.Drained.{IsDrained}
-use Rattle.kept_rows.specs.Kept.{IsKept, IsKeptInImage}
+use Rattle.kept_rows.specs.Kept.{IsKept, IsKeptInImage, IsToldRow}
 use Rattle.kept_rows.specs.Premises.{Premises}
+use Rattle.kept_rows.specs.Stored.{IsStored, WaitsAt}
 use Rattle.outside.specs.Folders.{Closed, FolderHistory}
 use Rattle.outside.specs.Wires.{Finished}
 use Rattle.registry_frame.specs.Body.{body_bytes}
@@ -144,11 +146,32 @@ none_are = record { kept = tt; stay = tt; unbegun = tt }
 row_is : AreImageRows LostKey worked.run account (worked.row ∷ [])
 row_is = record { kept = (kept_in_image worked.row worked.both_lines_are_kept, tt); stay = tt; unbegun = tt }
 
+-- nothing begins behind both lines
+none_waits : AllByRecursion (WaitsAt worked.wires 4) worked.epoch_account.told
+none_waits = ((λ begins settled. omega (arith, begins)), ((λ begins settled. omega (arith, begins)), tt))
+
+told_so_far : (told : IsToldRow account worked.wires worked.row) → AllByRecursion (WaitsAt worked.wires 4) told.epoch.told
+told_so_far told = by_slot (eqb 0 told.slot) told.slot_is
+  where
+    by_epoch : worked.slot_account ≡ told.one → AllByRecursion (WaitsAt worked.wires 4) told.epoch.told
+    by_epoch same =
+        let is : Some worked.epoch_account ≡ Some told.epoch = ap (λ (one : SlotAccount). epoch_at 0 one.epochs) same ∙ told.epoch_is in
+        subst (λ (epoch : EpochAccount). AllByRecursion (WaitsAt worked.wires 4) epoch.told) (some_is worked.epoch_account told.epoch is) none_waits
+
+    by_slot : (b : Bool) → cond b (Some worked.slot_account) None ≡ Some told.one → AllByRecursion (WaitsAt worked.wires 4) told.epoch.told
+    by_slot true is = by_epoch (some_is worked.slot_account told.one is)
+    by_slot false is = absurd (let q : None ≡ Some told.one = is in cc)
+
+is_stored : IsKept account [] worked.wires worked.row → IsStored account worked.wires worked.row
+is_stored (inl told) = inl (record { told = told; next = told_so_far told })
+is_stored (inr stands) = inr stands.0
+
 pub rows_are : RowsBy LostKey worked.run account Done (worked.row ∷ [])
 rows_are = record {
   in_image = row_is;
   kept = λ left. (worked.both_lines_are_kept, tt);
   begun = λ left. (inl (record { row = worked.row; of_rows = (0, omega arith, refl); key_is = refl }), tt);
+  stored = λ left. (is_stored worked.both_lines_are_kept, tt);
 }
 
 -- ---- whatever a crash leaves
