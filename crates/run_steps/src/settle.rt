@@ -13,13 +13,7 @@ use std::sync::Wait;
 
 /// Hands on and stores what was noted and settled, until nothing of it is left. What ends that, if something does. If there is
 /// nothing to store, no disk is called. Takes as long as the disk does.
-pub fn store_all<
-    T: Tail + Send,
-    L: Link + Send,
-    W: Wire<Link = L> + Send,
-    D: Disk + Send,
-    R: Wait,
->(
+pub fn store_all<T: Tail + Send, L: Link + Send, W: Wire<Link = L> + Send, D: Disk + Send, R: Wait>(
     rt: &R,
     context: Context<'_, '_>,
     crew: &mut Crew<T, W, L>,
