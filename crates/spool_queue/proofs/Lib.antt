@@ -1,4 +1,5 @@
 mod Blocks
+mod Causes
 mod Crashes
 mod Digits
 mod Fillings

@@ -230,3 +230,15 @@ module _ {D : Type 0} (d : DiskGhosts D) where
     exact = λ not. refl;
     acknowledged = λ list holds. pieces_acknowledge told told [] [] fresh (settled_is [] [] nothing);
   }
+
+  -- nothing of the spool is bad where the window is filled
+  pub filled_well : (old mid : D) (was now : Spool) (window : Held) (began told : Option Talk) (walk : Walk) (Is : Type 0) → IsSentTo old mid was now window began told walk → ((bytes : List ℕ) (list : List (List ℕ)) (log : Log) → d.contents mid ≡ Some bytes → IsSpoolOf now bytes list → IsWalkOf bytes walk log → Is → ⊥)
+      → (list : List (List ℕ)) → HoldsList was list (d.contents old) → Is → ⊥
+  filled_well old mid was now window began told walk Is sent never list held is = by_contents (d.contents mid) refl
+    where
+      by_contents : (contents : Option (List ℕ)) → d.contents mid ≡ contents → ⊥
+      by_contents None same = let H : Option (List ℕ) → Type 0 = λ o. HoldsList now (drop sent.done list) o in absurd (subst H same (sent.settles.whole refl list held))
+      by_contents (Some bytes) same =
+          let H : Option (List ℕ) → Type 0 = λ o. HoldsList now (drop sent.done list) o in
+          let at = sent.walked list bytes held same in
+          never bytes (drop sent.done list) at.0 same (subst H same (sent.settles.whole refl list held)) at.1 is

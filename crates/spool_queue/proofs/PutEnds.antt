@@ -70,7 +70,7 @@ fewer_first (Some bytes) lines tried first = (tried ++ first.0, first.1 ∙ appe
 -- ---- the end
 
 -- a line that was said with this status
-said : (before after : Option (List ℕ)) (text : List ℕ) (told result : SpoolStatus) (P : SpoolStatus → Type 0) → IsSaid before text after told result → P status.OutFault → P told → P result
+pub said : (before after : Option (List ℕ)) (text : List ℕ) (told result : SpoolStatus) (P : SpoolStatus → Type 0) → IsSaid before text after told result → P status.OutFault → P told → P result
 said before after text told result P (inl out) at_fault at_told = subst P (sym out) at_fault
 said before after text told result P (inr (same, taken)) at_fault at_told = subst P (sym same) at_told
 

@@ -1,6 +1,7 @@
 -- A run that sends, from what was settled and what was printed.
-use Rattle.std.proofs.Common.{◌≡◌, ◌≢◌, ◌⊎◌, inl, inr, ℕ, zero, suc, ◌+◌, ◌-◌, ◌≤◌, min, List, [], ◌∷◌, ◌++◌, length, take, drop, Option, Some, None, Ok, Err, Result, OnOk, refl, sym, ap, ◌∙◌, subst, arith, length-drop}
+use Rattle.std.proofs.Common.{◌≡◌, ◌≢◌, ◌⊎◌, inl, inr, ℕ, zero, suc, ◌+◌, ◌-◌, ◌≤◌, min, List, [], ◌∷◌, ◌++◌, length, take, drop, Option, Some, None, Ok, Err, Result, IfErr, OnOk, refl, sym, ap, ◌∙◌, subst, arith, length-drop}
 use Rattle.std.proofs.lemmas.List.{length-take, nil_from_length, take-append-drop}
+use Rattle.outside.specs.Counts.{Rose}
 use Rattle.outside.specs.DiskImages.{LeavesOnly, Only}
 use Rattle.outside.specs.Wires.{Outcome}
 use Rattle.outside.specs.declared.disk.Disk.{Ghosts as DiskGhosts}
@@ -12,8 +13,8 @@ use Rattle.spool_queue.specs.declared.stop.Stop.{Stop}
 use Rattle.spool_queue.specs.declared.stop.Stop.TheVariants as stop
 use Rattle.spool_queue.specs.Printing.{HasTaken, IsSaid, sent_text}
 use Rattle.spool_queue.specs.Putting.{LeavesTheDisk}
-use Rattle.spool_queue.specs.SendSoFar.{IsDropped, SendsAll}
-use Rattle.spool_queue.specs.Sent.{AreAcknowledged, IsFrontOf, IsLeftOf, SendCall, Sends}
+use Rattle.spool_queue.specs.SendSoFar.{IsDropped, IsSendingStop, SendsAll}
+use Rattle.spool_queue.specs.Sent.{AreAcknowledged, IsFrontOf, IsLeftOf, IsSendStatus, SendCall, Sends}
 use Rattle.spool_queue.specs.Spool.{IsReadAs}
 use Rattle.spool_queue.specs.Standing.{HoldsList, count_of}
 use Rattle.spool_queue.specs.Stopping.{status_after}
@@ -102,3 +103,49 @@ module _ {D : Type 0} (d : DiskGhosts D) where
 
   pub sent_behind : (old mid new : D) (list acknowledged : List (List ℕ)) → LeavesOnly d.moment d.images_since old mid (λ image. IsReadAs image list) → LeavesOnly d.moment d.images_since mid new (IsLeftOf list acknowledged) → LeavesOnly d.moment d.images_since old new (IsLeftOf list acknowledged)
   sent_behind old mid new list acknowledged first second = behind d.moment d.images_since old mid new (IsLeftOf list acknowledged) (opened_sent old mid list acknowledged first) second
+
+-- ---- the status
+
+pub was_bad : (answer : Result Unit Stop) (at : ℕ) → status_after answer 0 ≡ status.SpoolBad at → answer ≡ Err (stop.Spool (errors.Bad at))
+was_bad (Ok done) at same = absurd cc
+was_bad (Err stop.Source) at same = absurd cc
+was_bad (Err stop.Unreachable) at same = absurd cc
+was_bad (Err (stop.Spool (errors.Bad place))) at same = let is : place ≡ at = cc in ap (λ (n : ℕ). Err (stop.Spool (errors.Bad n))) is
+was_bad (Err (stop.Spool errors.DiskFault)) at same = absurd cc
+was_bad (Err (stop.Spool errors.TooLong)) at same = absurd cc
+was_bad (Err (stop.Spool errors.Full)) at same = absurd cc
+was_bad (Err (stop.Spool errors.Closed)) at same = absurd cc
+was_bad (Err (stop.Spool errors.NoMemory)) at same = absurd cc
+
+pub was_lost : (answer : Result Unit Stop) → status_after answer 0 ≡ status.Unreachable → answer ≡ Err stop.Unreachable
+was_lost (Ok done) same = absurd cc
+was_lost (Err stop.Source) same = absurd cc
+was_lost (Err stop.Unreachable) same = refl
+was_lost (Err (stop.Spool (errors.Bad place))) same = absurd cc
+was_lost (Err (stop.Spool errors.DiskFault)) same = absurd cc
+was_lost (Err (stop.Spool errors.TooLong)) same = absurd cc
+was_lost (Err (stop.Spool errors.Full)) same = absurd cc
+was_lost (Err (stop.Spool errors.Closed)) same = absurd cc
+was_lost (Err (stop.Spool errors.NoMemory)) same = absurd cc
+
+pub sent_fault : (answer : Result Unit Stop) (before now : ℕ) → IfErr answer (IsSendingStop before now) → status_after answer 0 ≡ status.DiskFault → Rose before now
+sent_fault (Ok done) before now is same = absurd cc
+sent_fault (Err stop.Source) before now is same = absurd is
+sent_fault (Err stop.Unreachable) before now is same = absurd cc
+sent_fault (Err (stop.Spool (errors.Bad place))) before now is same = absurd cc
+sent_fault (Err (stop.Spool errors.DiskFault)) before now is same = is
+sent_fault (Err (stop.Spool errors.TooLong)) before now is same = absurd is
+sent_fault (Err (stop.Spool errors.Full)) before now is same = absurd is
+sent_fault (Err (stop.Spool errors.Closed)) before now is same = absurd is
+sent_fault (Err (stop.Spool errors.NoMemory)) before now is same = absurd cc
+
+pub sent_status : (answer : Result Unit Stop) (before now : ℕ) → IfErr answer (IsSendingStop before now) → IsSendStatus (status_after answer 0)
+sent_status (Ok done) before now is = tt
+sent_status (Err stop.Source) before now is = is
+sent_status (Err stop.Unreachable) before now is = tt
+sent_status (Err (stop.Spool (errors.Bad place))) before now is = tt
+sent_status (Err (stop.Spool errors.DiskFault)) before now is = tt
+sent_status (Err (stop.Spool errors.TooLong)) before now is = is
+sent_status (Err (stop.Spool errors.Full)) before now is = is
+sent_status (Err (stop.Spool errors.Closed)) before now is = absurd is
+sent_status (Err (stop.Spool errors.NoMemory)) before now is = tt

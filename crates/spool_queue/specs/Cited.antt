@@ -8,9 +8,9 @@ pub use Rattle.spool_queue.specs.PutSoFar.{PutsAll, PutsLines, StopsIn}
 pub use Rattle.spool_queue.specs.Putting.{IsPutBehind, IsPutStatus, LeavesTheDisk, Puts, put_call}
 pub use Rattle.spool_queue.specs.Records.{Event, head_bytes}
 pub use Rattle.spool_queue.specs.Running.{RunsOn, others_of}
-pub use Rattle.spool_queue.specs.SendSoFar.{GoesOut, HasPieces, Hears, IsFilledWith, IsReadStop, IsSettlingStop, SendsAll, SendsOver, Settles, SettlesSome, SettlesWindow, Talks, settled_in, with_all_handed}
+pub use Rattle.spool_queue.specs.SendSoFar.{GoesOut, HasPieces, HasTalkFault, Hears, IsFilledWith, IsLost, IsReadStop, IsSendingStop, IsSettlingStop, SendsAll, SendsOver, Settles, SettlesSome, SettlesWindow, Talks, link_counts, settled_in, with_all_handed}
 pub use Rattle.spool_queue.specs.Sending.{IsAwaited, IsIdle}
-pub use Rattle.spool_queue.specs.Sent.{AreAcknowledged, IsLeftOf, Sends, send_call}
+pub use Rattle.spool_queue.specs.Sent.{AreAcknowledged, IsLeftOf, IsSendStatus, PeerFails, Sends, send_call}
 pub use Rattle.spool_queue.specs.Spool.{BreaksAt, EndsAt, IsBad, IsLastGate, IsReadAs, Reaches}
 pub use Rattle.spool_queue.specs.Standing.{HasRoom, Holds, HoldsList, IsClosed, IsEither, IsSpoolOf, KeepsPlaces, WouldFill, count_of, reserved}
 pub use Rattle.spool_queue.specs.Stopping.{status_after, status_for}

@@ -165,3 +165,36 @@ pub record SendsAll {D : Type 0} (disk : DiskGhosts D) (old new : D) (was now : 
   pub settles : Settles disk old new was now done tried
   pub exact : answer ≢ Err (stop.Spool DiskFault) → tried ≡ done
   pub acknowledged : (list : List (List ℕ)) → HoldsList was list (disk.contents old) → AreAcknowledged before after (take tried list)
+
+-- ---- causes
+
+-- why a run over a link ended before all was sent
+abbrev pub IsSendingStop : ℕ → ℕ → Stop → Type 0
+IsSendingStop before now stop.Source = ⊥
+IsSendingStop before now stop.Unreachable = Unit {0}
+IsSendingStop before now (stop.Spool (Bad at)) = Unit {0}
+IsSendingStop before now (stop.Spool DiskFault) = Rose before now
+IsSendingStop before now (stop.Spool TooLong) = ⊥
+IsSendingStop before now (stop.Spool Full) = ⊥
+IsSendingStop before now (stop.Spool Closed) = ⊥
+IsSendingStop before now (stop.Spool NoMemory) = Unit {0}
+
+-- the talk of a link that told as it was made has a fault of the peer
+abbrev pub HasTalkFault : Option Talk → Option Talk → Type 0
+HasTalkFault None told = Unit {0}
+HasTalkFault (Some began) None = ⊥
+HasTalkFault (Some began) (Some talk) = HasPeerFault talk.pieces
+
+-- counts of a link before a call and behind it
+pub record LinkCounts : Type 0 where
+  pub faults_before : ℕ
+  pub faults_now : ℕ
+  pub idles_before : ℕ
+  pub idles_now : ℕ
+
+abbrev pub link_counts : ℕ → ℕ → ℕ → ℕ → LinkCounts
+link_counts faults_before faults_now idles_before idles_now = record { faults_before = faults_before; faults_now = faults_now; idles_before = idles_before; idles_now = idles_now }
+
+-- a peer is not reached where the link failed, where it was idle, or where its talk has a fault of the peer
+abbrev pub IsLost : LinkCounts → Type 0 → Type 0
+IsLost counts Fault = Rose counts.faults_before counts.faults_now ⊎ (Rose counts.idles_before counts.idles_now ⊎ Fault)

@@ -2,10 +2,11 @@
 -- as it began without a front of them, which the talk of its one link acknowledges; and what it prints.
 use Rattle.std.specs.Prelude.{◌≡◌, ◌⊎◌, ℕ, List, [], ◌∷◌, ◌++◌, length, Option, Some, None}
 use Rattle.lumber_frame.specs.Acknowledged.{Acknowledges}
+use Rattle.lumber_frame.specs.PeerFault.{HasPeerFault}
 use Rattle.outside.specs.Talks.{Talk}
 use Rattle.outside.specs.Wires.{Outcome, Refused, Finished}
 use Rattle.spool_queue.specs.declared.status.SpoolStatus.{SpoolStatus}
-use Rattle.spool_queue.specs.declared.status.SpoolStatus.TheVariants.{Done, Unreachable, OutFault}
+use Rattle.spool_queue.specs.declared.status.SpoolStatus.TheVariants.{Done, Usage, SourceFault, SpoolBad, DiskFault, Full, Unreachable, OutFault, TooLong, NoMemory}
 use Rattle.spool_queue.specs.Printing.{HasTaken, sent_text}
 use Rattle.spool_queue.specs.Putting.{LeavesTheDisk}
 use Rattle.spool_queue.specs.Spool.{IsReadAs}
@@ -59,3 +60,24 @@ pub record Sends (call : SendCall) (list acknowledged : List (List ℕ)) (status
 
 abbrev pub send_call : Option (List ℕ) → Option (List ℕ) → Option (List ℕ) → SendCall
 send_call contents before after = record { contents = contents; written_before = before; written_after = after }
+
+-- the talk of the run's one link has a fault of the peer, where the wire tells
+pub record HasFaultyTalk (before after : List Outcome) : Type 0 where
+  pub talk : Talk
+  pub faults : ℕ
+  pub idles : ℕ
+  pub finished : after ≡ before ++ Finished talk faults idles ∷ []
+  pub fault : HasPeerFault talk.pieces
+
+abbrev pub PeerFails : Option (List Outcome) → Option (List Outcome) → Type 0
+PeerFails None after = Unit {0}
+PeerFails (Some before) None = ⊥
+PeerFails (Some before) (Some after) = HasFaultyTalk before after
+
+-- how a run that sends may end behind its opening; `SpoolBad` only where the disk has changed by itself
+abbrev pub IsSendStatus : SpoolStatus → Type 0
+IsSendStatus Usage = ⊥
+IsSendStatus SourceFault = ⊥
+IsSendStatus (Full line) = ⊥
+IsSendStatus (TooLong line) = ⊥
+IsSendStatus _ = Unit {0}

@@ -1,7 +1,7 @@
 ghost use Rattle.std.specs.Prelude.{◌≡◌, ◌≢◌, ◌≤◌, ◌↔◌, ◌-◌, ℕ, List, Some};
 ghost use Rattle.outside.specs.Counts.{Rose};
 ghost use Rattle.outside.specs.DiskImages.{LeavesOnly, Only};
-ghost use Rattle.spool_queue.specs.Cited.{AreAcknowledged, HoldsList, IsBad, IsClosed, IsCommand, IsLeftOf, IsOnlyRead, IsPut, IsPutBehind, IsPutStatus, IsReadAs, IsSaid, IsSend, LeavesTheDisk, Puts, RunsOn, Sends, others_of, put_call, reserved, send_call, sent_text, spooled_text, status_after};
+ghost use Rattle.spool_queue.specs.Cited.{AreAcknowledged, HoldsList, IsBad, IsClosed, IsCommand, IsLeftOf, IsLost, IsOnlyRead, IsPut, IsPutBehind, IsPutStatus, IsReadAs, IsSaid, IsSend, IsSendStatus, LeavesTheDisk, PeerFails, Puts, RunsOn, Sends, link_counts, others_of, put_call, reserved, send_call, sent_text, spooled_text, status_after};
 
 use crate::printing::{print_sent, print_spooled};
 use crate::putting::put_lines;
@@ -48,13 +48,6 @@ pub fn spool_run<X: Wait, R: Source, W: Wire, D: Disk, K: Clock, S: Sink>(
         LeavesOnly D.moment D.images_since disk.old disk.new
         (IsPutBehind (R.left source.old) list) }
 
-    ensures put_says_bad_only_where_it_is { IsPut words.now → (bytes : List ℕ) (at : ℕ) →
-        D.contents disk.old ≡ Some bytes → result ≡ SpoolStatus.SpoolBad at →
-        IsBad bytes at × IsOnlyRead D.contents D.images D.moment D.images_since D.faults
-        disk.old disk.new × (others_of source.new wire.new clock.new out.new
-        ≡ others_of source.old wire.old clock.old out.old) }
-    ensures put_disk_fault_only_where_faults_rose { IsPut words.now →
-        result ≡ SpoolStatus.DiskFault → Rose (D.faults disk.old) (D.faults disk.new) }
     ensures put_is_never_unreachable { IsPut words.now → result ≢ SpoolStatus.Unreachable }
 
     // A run that sends, over a disk that tells and is read: what its one talk acknowledges is settled, and nothing else.
@@ -75,10 +68,23 @@ pub fn spool_run<X: Wait, R: Source, W: Wire, D: Disk, K: Clock, S: Sink>(
         AreAcknowledged (W.outcomes wire.old) (W.outcomes wire.new) acknowledged ×
         LeavesOnly D.moment D.images_since disk.old disk.new (IsLeftOf list acknowledged) }
 
+    ensures send_ends { IsSend words.now → IsSendStatus result }
+
+    ensures says_bad_only_where_it_is { (bytes : List ℕ) (at : ℕ) →
+        D.contents disk.old ≡ Some bytes → result ≡ SpoolStatus.SpoolBad at →
+        IsBad bytes at × IsOnlyRead D.contents D.images D.moment D.images_since D.faults
+        disk.old disk.new × (others_of source.new wire.new clock.new out.new
+        ≡ others_of source.old wire.old clock.old out.old) }
     ensures source_fault_only_where_faults_rose { result ≡ SpoolStatus.SourceFault →
         Rose (R.faults source.old) (R.faults source.new) }
+    ensures disk_fault_only_where_faults_rose { result ≡ SpoolStatus.DiskFault →
+        Rose (D.faults disk.old) (D.faults disk.new) }
     ensures out_fault_only_where_faults_rose { result ≡ SpoolStatus.OutFault →
         Rose (S.faults out.old) (S.faults out.new) }
+    // The peer was not reached, its link failed or was idle, or its talk has a fault of the peer.
+    ensures unreachable_only_where_it_is_lost { result ≡ SpoolStatus.Unreachable →
+        IsLost (link_counts (W.faults wire.old) (W.faults wire.new) (W.idles wire.old)
+        (W.idles wire.new)) (PeerFails (W.outcomes wire.old) (W.outcomes wire.new)) }
 {
     let Some(asked) = asked_of(alloc, words) else {
         return SpoolStatus::Usage;

@@ -5,7 +5,7 @@ ghost use Rattle.lumber_client.specs.Newly.{KeepsParcels};
 ghost use Rattle.lumber_client.specs.Standing.{StandsFor};
 ghost use Rattle.outside.specs.Counts.{Rose};
 ghost use Rattle.outside.specs.Talks.{Talk};
-ghost use Rattle.spool_queue.specs.Cited.{GoesOut, HasPieces, Hears, IsAwaited, IsClosed, IsFilledWith, IsIdle, IsOnlyRead, IsReadStop, IsSettlingStop, IsSpoolOf, IsWalkOf, KeepsPlaces, Log, SendsAll, SendsOver, Settles, SettlesSome, SettlesWindow, Talks, count_of, settled_in, with_all_handed};
+ghost use Rattle.spool_queue.specs.Cited.{GoesOut, HasPieces, HasTalkFault, Hears, IsAwaited, IsClosed, IsFilledWith, IsIdle, IsLost, IsOnlyRead, IsReadStop, IsSendingStop, IsSettlingStop, IsSpoolOf, IsWalkOf, HoldsList, KeepsPlaces, Log, PeerFails, SendsAll, SendsOver, Settles, SettlesSome, SettlesWindow, Talks, count_of, link_counts, settled_in, with_all_handed};
 ghost use Rattle.wire_base.specs.Ranges.{IsParcel};
 
 use crate::stop::Stop;
@@ -43,7 +43,12 @@ pub(crate) fn send<X: Wait, W: Wire, D: Disk, K: Clock>(
     ensures sends { SendsAll D.Disk disk.old disk.new spool.old spool.new (W.outcomes wire.old)
         (W.outcomes wire.new) result }
     ensures done { OnOk result (count_of spool.new ≡ 0) }
-    ensures no_source { result ≢ Err Stop.Source }
+    ensures stops { IfErr result (IsSendingStop (D.faults disk.old) (D.faults disk.new)) }
+    ensures never_bad { (list : List (List ℕ)) → HoldsList spool.old list (D.contents disk.old) →
+        (at : ℕ) → result ≢ Err (Stop.Spool (SpoolError.Bad at)) }
+    ensures unreachable { result ≡ Err Stop.Unreachable →
+        IsLost (link_counts (W.faults wire.old) (W.faults wire.new) (W.idles wire.old)
+        (W.idles wire.new)) (PeerFails (W.outcomes wire.old) (W.outcomes wire.new)) }
 {
     if spool.outstanding() == 0 {
         spool.tidy(disk)?;
@@ -68,7 +73,12 @@ fn send_linked<X: Wait, W: Wire, D: Disk, K: Clock>(
         (W.outcomes wire.new) result }
     ensures done { OnOk result (count_of spool.new ≡ 0) }
     ensures still_open { OnOk result (¬ (IsClosed spool.new)) }
-    ensures no_source { result ≢ Err Stop.Source }
+    ensures stops { IfErr result (IsSendingStop (D.faults disk.old) (D.faults disk.new)) }
+    ensures never_bad { (list : List (List ℕ)) → HoldsList spool.old list (D.contents disk.old) →
+        (at : ℕ) → result ≢ Err (Stop.Spool (SpoolError.Bad at)) }
+    ensures unreachable { result ≡ Err Stop.Unreachable →
+        IsLost (link_counts (W.faults wire.old) (W.faults wire.new) (W.idles wire.old)
+        (W.idles wire.new)) (PeerFails (W.outcomes wire.old) (W.outcomes wire.new)) }
 {
     let host = target.host()?;
     let Ok(mut link) = wire.connect(&host) else {
@@ -94,7 +104,12 @@ fn send_over<X: Wait, L: Link, D: Disk, K: Clock>(
         (L.told link.new) result }
     ensures done { OnOk result (count_of spool.new ≡ 0) }
     ensures still_open { OnOk result (¬ (IsClosed spool.new)) }
-    ensures no_source { result ≢ Err Stop.Source }
+    ensures stops { IfErr result (IsSendingStop (D.faults disk.old) (D.faults disk.new)) }
+    ensures never_bad { (list : List (List ℕ)) → HoldsList spool.old list (D.contents disk.old) →
+        (at : ℕ) → result ≢ Err (Stop.Spool (SpoolError.Bad at)) }
+    ensures unreachable { result ≡ Err Stop.Unreachable →
+        IsLost (link_counts (L.faults link.old) (L.faults link.new) (L.idles link.old)
+        (L.idles link.new)) (HasTalkFault (L.told link.old) (L.told link.new)) }
 {
     let mut window = Window::new(alloc, WINDOW_PAYLOADS, 1)?;
     let mut walk = Walk::start();
@@ -200,6 +215,10 @@ fn settle_window<X: Wait, L: Link, D: Disk, K: Clock>(
         window.new (L.told link.old) (L.told link.new) result }
     ensures idle { OnOk result (IsIdle window.new) }
     ensures stops { IfErr result (IsSettlingStop (D.faults disk.old) (D.faults disk.new)) }
+    ensures unreachable { result ≡ Err Stop.Unreachable → (began : Option Talk) (e : Exchange) →
+        Talks window.old began (L.told link.old) e →
+        IsLost (link_counts (L.faults link.old) (L.faults link.new) (L.idles link.old)
+        (L.idles link.new)) (HasTalkFault began (L.told link.new)) }
     ensures link_faults_never_fall { L.faults link.old ≤ L.faults link.new }
     ensures link_idles_never_fall { L.idles link.old ≤ L.idles link.new }
 {

@@ -1,7 +1,7 @@
 use Rattle.std.proofs.Common.{◌≡◌, Ok, Err, Result, ⊎_elim, ap, arith, sym, subst}
 use Rattle.std.proofs.lemmas.Result.{err_from_is_err_and}
 use Rattle.spool_queue.specs.declared.spool_error.SpoolError.{SpoolError}
-use Rattle.spool_queue.specs.declared.spool_error.SpoolError.TheVariants.{DiskFault}
+use Rattle.spool_queue.specs.declared.spool_error.SpoolError.TheVariants.{Bad, DiskFault}
 use Rattle.spool_queue.specs.declared.stop.Stop.{Stop}
 use Rattle.spool_queue.specs.declared.stop.Stop.TheVariants.{Spool}
 use Rattle.spool_queue.specs.SendSoFar.{SendsAll}
@@ -49,3 +49,10 @@ returns-clause-sends g c =
     let sent = c.in_ok-send_linked.ensures in
     let met = c.in_ok-tidy-2.ensures in
     tidied g.D.Disk _ _ _ _ _ _ _ _ sent.sends sent.done met.nothing_left met.open_kept met.tidied met.durable met.each_moment met.faults_never_fall
+
+pub returns-in_err-send_linked-clause-never_bad : goal.returns-in_err-send_linked-clause-never_bad
+returns-in_err-send_linked-clause-never_bad g c = λ list held at same.
+    let p = err_from_is_err_and c.from_residual-in_err-send_linked.result c.from_residual-in_err-send_linked.ensures.1 in
+    let stop = c.in_err-send_linked.field-0.0 in
+    let bad : stop ≡ Spool (Bad at) = cc (p.1, p.2, same) in
+    c.in_err-send_linked.ensures.never_bad list held at (ap (λ (s : Stop). Err s) bad)

@@ -1,3 +1,5 @@
+use Rattle.std.proofs.Common.{inl}
+use Rattle.spool_queue.proofs.Causes.{link_faulty, lost_over}
 use Rattle.spool_queue.proofs.Links.{fresh_link, link_refused, no_link, sends_nothing, sends_over}
 use Rattle.spool_queue.proofs.Settlings.{settles_none}
 use Rattle.spool_queue.proofs.sending.send_linked.Goals as goal
@@ -16,3 +18,11 @@ send_over-answer-requires-clause-fresh g c = fresh_link g.W.Link.Link.told _ _ c
 pub returns-clause-sends : goal.returns-clause-sends
 returns-clause-sends g c =
     sends_over g.D.Disk g.W.Link.Link.told _ _ _ _ _ _ _ c.in-Ok.link _ _ _ _ c.send_over-answer.result c.in-Ok.ensures.told c.finish.ensures.told c.send_over-answer.ensures.sends
+
+pub returns-in_default-clause-unreachable : goal.returns-in_default-clause-unreachable
+returns-in_default-clause-unreachable g c = λ same. inl c.in_default.ensures.failed_only_where_faults_rose
+
+pub returns-clause-unreachable : goal.returns-clause-unreachable
+returns-clause-unreachable g c = λ same.
+    lost_over _ _ _ _ _ _ _ _ _ _ _ _ c.in-Ok.ensures.starts_with_no_count.faults c.in-Ok.ensures.starts_with_no_count.idles c.in-Ok.ensures.faults_never_fall c.in-Ok.ensures.idles_never_fall c.finish.ensures.counts_faults c.finish.ensures.counts_idles
+    (link_faulty g.W.Link.Link.told _ _ _ c.in-Ok.link _ _ _ _ c.in-Ok.ensures.told c.finish.ensures.told) (c.send_over-answer.ensures.unreachable same)

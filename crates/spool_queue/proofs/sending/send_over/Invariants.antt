@@ -1,3 +1,4 @@
+use Rattle.std.proofs.Common.{◌≤◌}
 use Rattle.spool_queue.specs.Sending.{IsIdle}
 use Rattle.spool_queue.specs.Standing.{IsClosed}
 use Rattle.spool_queue.proofs.Overs.{IsSentTo}
@@ -10,4 +11,6 @@ invariant-loop g l = record {
   unclosed : ¬ (IsClosed l.spool);
   idle : IsIdle l.window;
   sent : IsSentTo g.D.Disk l.initial.disk l.disk l.initial.spool l.spool l.window (g.L.Link.told l.initial.link) (g.L.Link.told l.link) l.walk;
+  faults : g.L.Link.faults l.initial.link ≤ g.L.Link.faults l.link;
+  idles : g.L.Link.idles l.initial.link ≤ g.L.Link.idles l.link;
 }

@@ -1,8 +1,10 @@
-use Rattle.std.proofs.Common.{rules, ◌≡◌, ◌<◌, Err, length, take, arith, sym, subst, ◌∙◌}
+use Rattle.std.proofs.Common.{rules, ◌≡◌, ◌<◌, inl, inr, Err, length, take, arith, sym, subst, ◌∙◌}
 use Rattle.std.proofs.lemmas.List.{length-take, nil_from_length}
 use Rattle.std.proofs.lemmas.Result.{err_from_is_err_and}
 use Rattle.spool_queue.specs.declared.stop.Stop.{Stop}
+use Rattle.spool_queue.specs.declared.stop.Stop.TheVariants.{Unreachable}
 use Rattle.spool_queue.specs.SendSoFar.{SettlesWindow}
+use Rattle.spool_queue.proofs.Causes.{piece_faulty, rose_behind}
 use Rattle.spool_queue.proofs.Settlings.{settles_none}
 use Rattle.spool_queue.proofs.Talkings.{receives_closed, receives_failed, receives_nothing}
 use Rattle.spool_queue.proofs.Windows.{link_ends, more_settled, none_yet, piece_ends, still_settled, window_settled}
@@ -75,3 +77,20 @@ returns-in-Closed-clause-settles g c =
 pub returns-in-Failed-clause-settles : goal.returns-in-Failed-clause-settles
 returns-in-Failed-clause-settles g c =
     link_ends g.D.Disk _ _ _ _ _ _ _ _ _ c.loop.invariant.settled c.loop.invariant.awaited.acknowledged (λ began pieces has. receives_failed began _ _ pieces c.recv.new.into has c.in-Failed.ensures.told)
+
+pub returns-in_err-settle_heard-in-Got-clause-unreachable : goal.returns-in_err-settle_heard-in-Got-clause-unreachable
+returns-in_err-settle_heard-in-Got-clause-unreachable g c = λ same began e talks.
+    let p = err_from_is_err_and c.from_residual.result c.from_residual.ensures.1 in
+    let stop = c.in_err-settle_heard-in-Got.field-0.0 in
+    let lost : stop ≡ Unreachable = cc (p.1, p.2, same) in
+    inr (inr (piece_faulty g.D.Disk _ _ _ _ _ _ _ _ _ _ _ _ c.recv.new.into c.in-Got.count stop c.loop.invariant.settled c.in_err-settle_heard-in-Got.ensures.settles c.in-Got.ensures.told lost began e talks))
+
+pub returns-then-is_over-clause-unreachable : goal.returns-then-is_over-clause-unreachable
+returns-then-is_over-clause-unreachable g c = λ same began e talks.
+    inr (inl (rose_behind _ _ _ c.loop.invariant.idles (c.in-NotYet.ensures.not_yet_only_where_idles_rose tt)))
+
+pub returns-in-Closed-clause-unreachable : goal.returns-in-Closed-clause-unreachable
+returns-in-Closed-clause-unreachable g c = λ same began e talks. inl (rose_behind _ _ _ c.loop.invariant.faults (c.in-Closed.ensures.ended_only_where_faults_rose tt))
+
+pub returns-in-Failed-clause-unreachable : goal.returns-in-Failed-clause-unreachable
+returns-in-Failed-clause-unreachable g c = λ same began e talks. inl (rose_behind _ _ _ c.loop.invariant.faults (c.in-Failed.ensures.ended_only_where_faults_rose tt))
