@@ -33,7 +33,7 @@ closing_of stand.Removed look inactive = None
 closing_of stand.Lost look inactive = None
 closing_of stand.Forgotten look inactive = None
 
--- ---- which closings fit which stand
+-- ---- which closings fit which state
 
 abbrev pub FitsClosing : Closing → Stand → Type 0
 FitsClosing why stand.Waits = ⊥

@@ -1,5 +1,5 @@
--- The entries of a table (this project's profile): with which a file begins, where it is opened (Filebeat reference, filestream
--- input and its registry), and what news makes of one. The last is cited by private calls alone: what it means is in Standing.
+-- The entries of a table (this project's profile): with which a file begins, at which place it is opened (Filebeat reference,
+-- filestream input and its registry), and what news makes of one. Only private calls cite the last: its meaning is in Standing.
 use Rattle.std.specs.Prelude.{◌≡◌, ℕ, ◌+◌, ◌==◌, nat_le, nat_lt, Bool, true, false, ◌&&◌, Option, Some, None, if◌then◌else◌}
 use Rattle.file_table.specs.declared.at.At.{At}
 use Rattle.file_table.specs.declared.closing.Closing.{Closing}
@@ -17,12 +17,12 @@ use Rattle.file_table.specs.declared.stand.Stand.{Stand}
 use Rattle.file_table.specs.declared.stand.Stand.TheVariants.{Waits, Open, Ending, Closed, Removed, Lost, Forgotten}
 use Rattle.file_table.specs.Closings.{FitsClosing}
 
--- ---- where a file goes on
+-- ---- the place from which a file goes on
 
 abbrev pub at_of : ℕ → ℕ → At
 at_of epoch place = record { epoch = record { 0 = epoch }; place = place }
 
--- at its place where its listed size is at least that, else at the next epoch and 0; nowhere where there is no next epoch
+-- its place if the listed size is at least that, else the next epoch and 0, if there is one
 abbrev pub opening_at : At → ℕ → Option At
 opening_at at size =
     if nat_le at.place size then Some at
@@ -193,7 +193,7 @@ deed_of news.Missed entry = missed_deed entry.stand entry.at
 deed_of (news.Opened at) entry = deed.Nothing
 deed_of (news.Shut at why) entry = forget_where (shut_stand why entry.stand) at
 
--- ---- which news a file that stands so may have
+-- ---- which news a file in a state may have
 
 abbrev pub FitsNews : FileNews → Stand → Type 0
 FitsNews news.Returned stand = Unit {0}

@@ -1,4 +1,4 @@
--- What a table was told of files so far (this project's profile): that the run begins with a file, that a scan shows one for
+-- What a table took in of files so far (this project's profile): that the run begins with a file, that a scan shows one for
 -- the first time, news of one, and that one is gone. Lists of these have the newest first.
 use Rattle.std.specs.Prelude.{ℕ, ◌==◌, Bool, true, false, not, ◌&&◌, ◌||◌, List, [], ◌∷◌, Option, Some, None, if◌then◌else◌}
 use Rattle.prospector_core.specs.declared.change.Change.{Change}
@@ -187,7 +187,7 @@ misses Missed = true
 misses (Opened at) = false
 misses (Shut at why) = false
 
--- where it tells that the file goes on
+-- the place from which the file goes on, if it names one
 abbrev pub place_by : FileEvent → Option At
 place_by (Began at row) = Some at
 place_by Created = Some (at_of 0 0)

@@ -1,4 +1,4 @@
--- How a file stands, by the events of its slot (Filebeat reference, filestream input: `clean_removed`, `close_inactive`; this
+-- The state of a file, by the events of its slot (Filebeat reference, filestream input: `clean_removed`, `close_inactive`; this
 -- project's profile):
 --
 --   it has an open tail          it was opened, and its tail was not closed since
@@ -6,10 +6,10 @@
 --   it ends                      it has an open tail, and was removed since that was opened
 --   it is closed                 its tail was closed as idle, and nothing was heard of it since
 --   it waits to be opened        it is present, has no open tail, and is not closed
---   it goes on                   where it was told to, opened or told up to last
+--   it goes on                   from the newest of these: its begin, its opening, the last span of a closed tail
 --
--- A removed file without a tail is forgotten where such files of its input are, or where the registry knows nothing of it;
--- but one whose tail found another file after it was removed, only once a whole scan shows no file with its key.
+-- A removed file without a tail is forgotten if its input forgets such files, or if the registry has nothing of it; but one
+-- whose tail found another file after it was removed, only after a whole scan that shows no file with its key.
 use Rattle.std.specs.Prelude.{◌≡◌, ◌⊎◌, ℕ, Bool, true, false, not, ◌&&◌, ◌||◌, List, [], ◌∷◌, Option, Some, None, if◌then◌else◌}
 use Rattle.file_table.specs.declared.at.At.{At}
 use Rattle.file_table.specs.declared.deed.Deed.{Deed}
@@ -54,7 +54,7 @@ is_rested events = since (heard (shuts_for is_idle)) (heard stirs) events
 abbrev pub is_lost : List FileEvent → Bool
 is_lost events = since (heard (shuts_for is_changed)) (heard (λ one. removes one || (shuts one || misses one))) events
 
--- a Begin of it was told: at its first opening, or, where a row of it was stored, as it was removed
+-- a Begin of it was noted: at its first opening, or, if a row of it was stored, at its removal
 abbrev pub is_begun : List FileEvent → Bool
 is_begun events = has (heard opens) events || (has has_row events && has (heard removes) events)
 
@@ -62,7 +62,7 @@ abbrev pub first_place : Option At → At → At
 first_place None later = later
 first_place (Some at) later = at
 
--- the newest place that was told
+-- the newest place that an event names
 abbrev pub place_in : List FileEvent → At
 place_in [] = at_of 0 0
 place_in (newest ∷ earlier) = first_place (place_by newest) (place_in earlier)
@@ -76,7 +76,7 @@ abbrev pub shown_in : List FileEvent → Option ℕ
 shown_in [] = None
 shown_in (newest ∷ earlier) = first_scan (shown_by newest) (shown_in earlier)
 
--- ---- how it stands
+-- ---- its state
 
 -- the tail is open or not, and the file removed or present
 abbrev pub IsSo : List FileEvent → Bool → Bool → Type 0

@@ -1,5 +1,5 @@
--- For which events a table stands (this project's profile): it has an entry of each slot that a file began with and that is
--- not gone since, as the slot's events say.
+-- Which events a table has taken in (this project's profile): it has an entry of each slot that began and is not gone since, as
+-- the slot's events say.
 use Rattle.std.specs.Prelude.{◌≡◌, ℕ, ◌≤◌, ◌<◌, Bool, true, false, not, ◌&&◌, List, ◌∷◌, Option, Some, None, IfSome}
 use Rattle.std.specs.Borrow.{Bor}
 use Rattle.std.specs.Option.{option_copied}
@@ -23,11 +23,11 @@ use Rattle.file_table.specs.Standing.{IsFile, deed_in}
 abbrev pub file_of : FileTable → ℕ → Option FileEntry
 file_of table slot = get nat_cmp table.files slot
 
--- the entry is lent, where there is one
+-- the entry is lent, if there is one
 abbrev pub Finds : Option FileEntry → Option (Bor FileEntry) → Type 0
 Finds entry lent = option_copied lent ≡ entry
 
--- a file that waits is opened, and a tail is closed for a reason that fits how its file stands; else it may have any news
+-- only a file that waits is opened, and a tail is closed for a reason that fits its file's state
 abbrev pub MayHear : FileNews → Option FileEntry → Type 0
 MayHear one entry = IfSome entry (λ known. FitsNews one known.stand)
 
@@ -84,7 +84,7 @@ abbrev pub closing_at : Option FileEntry → TailLook → Inactive → Option Cl
 closing_at None look inactive = None
 closing_at (Some entry) look inactive = closing_of entry.stand look inactive
 
--- the tail is closed for this reason, and the place up to which it told is where the file goes on
+-- the tail is closed for this reason, and the file goes on from the end of its last span
 pub record Closes (slot : Slot) (look : TailLook) (inactive : Inactive) (old : FileTable) (asked : Deed) (new : FileTable) : Type 0 where
   pub why : Closing
   pub is_why : closing_at (file_of old slot.0) look inactive ≡ Some why
@@ -96,7 +96,7 @@ abbrev pub may_go : Bool → Option FileEntry → Bool
 may_go stored None = false
 may_go stored (Some entry) = not stored && is_forgotten entry.stand
 
--- the first entry from this slot on, where there is one
+-- the first entry from this slot on, if there is one
 abbrev pub IsFirstFrom : ℕ → FileTable → Option (Slot × Bor FileEntry) → Type 0
 IsFirstFrom from table None = (slot : ℕ) → from ≤ slot → file_of table slot ≡ None
 IsFirstFrom from table (Some (slot, entry)) =

@@ -20,7 +20,7 @@ pub enum Closing {
 /// What a look at an open tail gives.
 #[derive(Clone, Copy, Debug, PartialEq, Eq)]
 pub struct TailLook {
-    /// The epoch, and the end of the last span told in it.
+    /// The epoch, and the end of its last reported span.
     pub told: At,
     /// The place up to which it read, in bytes.
     pub read_to: u64,
@@ -40,7 +40,7 @@ pub struct Inactive {
     pub after_ms: u64,
 }
 
-/// Whether a file that stands so is to be closed, and why.
+/// Whether a file in this state is to be closed, and why.
 pub(crate) fn closing_of(stand: Stand, look: &TailLook, inactive: Inactive) -> Option<Closing>
     ensures { result ≡ closing_of stand look.now inactive }
 {

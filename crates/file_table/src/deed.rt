@@ -4,16 +4,16 @@ use crate::At;
 #[derive(Clone, Copy, Debug, PartialEq, Eq)]
 pub enum Deed {
     Nothing,
-    /// Rename is told with this scan's number, and an open harvester is renamed.
+    /// Note Rename with this scan's number, and rename an open harvester.
     Rename { scan: u64 },
-    /// The open harvester is stirred.
+    /// Stir the open harvester.
     Stir,
-    /// The open harvester is told that the file ends, and is stirred.
+    /// Call `ending` of the open harvester, and stir it.
     End,
-    /// Begin is told with the row's place, and, if the file is to be forgotten, Forget with that place.
+    /// Note Begin with the row's place, and, if the file is to be forgotten, Forget with that place.
     BeginRemoved { forget: bool },
-    /// Forget is told with this place.
+    /// Note Forget with this place.
     Forget(At),
-    /// The file has no row: it is gone at once.
+    /// The file has no row: let it go at once.
     Drop,
 }

@@ -18,7 +18,7 @@ pub enum Registered {
 #[derive(Clone, Copy, Debug, PartialEq, Eq)]
 pub struct FileEntry {
     pub registered: Registered,
-    /// Where it goes on: the end of the last span that a closed tail told, or where it began or was opened.
+    /// The place from which it goes on: the end of the last span of a closed tail, or the place of its opening or its begin.
     pub at: At,
     /// The number of the scan that showed its key last.
     pub shown: Option<u64>,
@@ -55,8 +55,8 @@ impl FileEntry {
         )
     }
 
-    /// Where it is opened when it was listed with this size in bytes: where it goes on, if it is not shorter than that place,
-    /// and else at the first byte of the next epoch. `None` exactly where that epoch would be above the last one,
+    /// The place at which it is opened when it was listed with this size in bytes: `at`, if it is not shorter than that, and
+    /// else the first byte of the next epoch. `None` exactly if that epoch would be above the last one,
     /// 4,294,967,295.
     pub fn opening(&self, size: u64) -> Option<At>
         ensures { result ≡ opening_at self.now.at size }
@@ -78,7 +78,7 @@ impl FileEntry {
         matches!(self.stand, Stand::Waits) && self.shown == Some(scan)
     }
 
-    /// Takes one thing more of the file in, and says what it asks for.
+    /// Takes in one piece of news; what it asks for.
     pub(crate) fn hear(&mut self, news: FileNews) -> Deed
         ensures next { self.new ≡ next_entry news self.old }
         ensures deed { result ≡ deed_of news self.old }
@@ -204,7 +204,7 @@ fn removed_stand(clean: bool) -> Stand
     }
 }
 
-/// A file that stood so and whose tail was closed.
+/// The state of a file whose tail was closed in this state.
 fn shut_stand(stand: Stand, closing: Closing) -> Stand
     ensures { result ≡ shut_stand closing stand }
 {

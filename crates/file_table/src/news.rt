@@ -1,6 +1,6 @@
 use crate::{At, Closing};
 
-/// What is heard of a known file.
+/// News of a known file.
 #[derive(Clone, Copy, Debug, PartialEq, Eq)]
 pub enum FileNews {
     /// A scan shows it again after it was removed.
@@ -17,6 +17,6 @@ pub enum FileNews {
     Missed,
     /// A tail was opened, from this place on.
     Opened { at: At },
-    /// Its tail was closed, which had told up to this place.
+    /// Its tail was closed; its last span ended at this place.
     Shut { at: At, closing: Closing },
 }

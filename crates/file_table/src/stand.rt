@@ -1,7 +1,7 @@
 ghost use Rattle.std.specs.Prelude.{◌≡◌};
 ghost use Rattle.file_table.specs.Entries.{after_removal, has_tail};
 
-/// How a known file stands (Filebeat reference, filestream input; this project's profile).
+/// The state of a known file (Filebeat reference, filestream input; this project's profile).
 #[derive(Clone, Copy, Debug, PartialEq, Eq)]
 pub enum Stand {
     /// It is present and has no open tail: it is opened after each scan that shows its key, until that succeeds.
@@ -10,7 +10,7 @@ pub enum Stand {
     Open,
     /// It was removed while its tail was open, which is read to its end look and then closed.
     Ending(AfterEnd),
-    /// Its tail was closed because the file was idle, and no scan told a change of it since.
+    /// Its tail was closed because the file was idle, and no scan found a change of it since.
     Closed,
     /// It was removed, has no open tail, and its row stays.
     Removed,

@@ -26,14 +26,14 @@ impl FileTable {
         }
     }
 
-    /// The file of this slot. `None` exactly where the table has none.
+    /// The file of this slot. `None` exactly if the table has none.
     pub fn find(&self, slot: Slot) -> Option<&FileEntry>
         ensures { Finds (file_of self.now slot.0) result }
     {
         self.files.get(&slot.0)
     }
 
-    /// The first file from this slot on. `None` exactly where there is none.
+    /// The first file from this slot on. `None` exactly if there is none.
     pub fn first_from(&self, from: Slot) -> Option<(Slot, &FileEntry)>
         ensures { IsFirstFrom from.0 self.now result }
     {
@@ -41,7 +41,7 @@ impl FileTable {
         Some((Slot(*slot), entry))
     }
 
-    /// The run begins with a file, which goes on at this place; whether a row of it is stored.
+    /// The run begins with a file, which goes on at this place; `row` says whether a row of it is stored.
     pub fn begin(&mut self, slot: Slot, at: At, row: bool) -> Result<(), NoMemory>
         ensures begun { OnOk result (Adds (event_at slot (Began at row)) self.old self.new) }
         ensures kept { OnErr result (AreSame self.old self.new) }
@@ -50,8 +50,8 @@ impl FileTable {
         Ok(())
     }
 
-    /// Takes in what the scan of this number said of a file, and says what is to be done; `clean` says whether removed files of
-    /// its input are to be forgotten. Takes memory only for a file that is Created.
+    /// Takes in what the scan of this number found of a file; what is to be done. `clean` says whether removed files of its
+    /// input are to be forgotten. Takes memory only for a file that is Created.
     pub fn take(&mut self, change: &Change, scan: u64, clean: bool) -> Result<Deed, NoMemory>
         ensures taken { IfOk result (λ asked.
             Takes (news_of scan clean change.now) self.old asked self.new) }
@@ -96,8 +96,8 @@ impl FileTable {
         self.hear(slot, FileNews::Opened { at });
     }
 
-    /// Closes the tail of this slot's file, if a look at it says so, and says what that asks for. `None` exactly where the
-    /// tail stays open, or there is none.
+    /// Closes the tail of this slot's file, if a look at it asks for that; what is to be done then. `None` exactly if the tail
+    /// stays open, or there is none.
     pub fn close(&mut self, slot: Slot, look: &TailLook, inactive: Inactive) -> Option<Deed>
         ensures closed { IfSome result (λ asked.
             Closes slot look.now inactive self.old asked self.new) }
@@ -134,7 +134,7 @@ impl FileTable {
         Ok(Deed::Nothing)
     }
 
-    /// Takes one piece of news in, and says what it asks for.
+    /// Takes in one piece of news; what it asks for.
     fn hear(&mut self, slot: Slot, news: FileNews) -> Deed
         requires { MayHear news (file_of self.old slot.0) }
         ensures { Hears (event_at slot (News news)) self.old result self.new }

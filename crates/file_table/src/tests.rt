@@ -7,7 +7,7 @@ use std::alloc::Global;
 use std::test::Fail;
 use wire_base::{Epoch, Moment, Slot, Text};
 
-/// What is told of the file of one slot.
+/// One event of the file of a slot.
 #[derive(Clone, Copy, Debug)]
 pub(crate) enum Step {
     Begin {
