@@ -144,7 +144,7 @@ impl Area {
 
 /// Whether a regular file has the path. It is asked before the file is opened, since opening a pipe or a
 /// device may wait.
-fn is_there(rt: &impl Files<File = File>, path: &str) -> io::Result<bool> {
+pub(crate) fn is_there(rt: &impl Files<File = File>, path: &str) -> io::Result<bool> {
     match fs::metadata(rt, path) {
         Ok(found) => {
             require_regular(&found)?;
@@ -155,7 +155,7 @@ fn is_there(rt: &impl Files<File = File>, path: &str) -> io::Result<bool> {
     }
 }
 
-fn require_regular(found: &Metadata) -> io::Result<()> {
+pub(crate) fn require_regular(found: &Metadata) -> io::Result<()> {
     if found.is_file() {
         Ok(())
     } else {
