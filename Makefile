@@ -2,7 +2,7 @@
 
 PREFIX ?= /usr/local
 
-# what is built and installed: beat_main, beat_sink, beat_container or beat_spool
+# what is built and installed: beat_main, beat_status, beat_sink, beat_container or beat_spool
 PROGRAM ?= beat_main
 
 # ships the logs of examples/ by examples/beat.toml to a receiver on loopback, and shows what came in

@@ -1,7 +1,8 @@
 #!/usr/bin/env python3
 """Runs the programs over real files, real sockets and a real registry area, and compares what they did.
 
-    python3 tests/end_to_end/run.py [--program PATH] [--receiver PATH] [--container PATH] [--spool PATH] [--seed N] [NAME..]
+    python3 tests/end_to_end/run.py [--program PATH] [--receiver PATH] [--container PATH] [--spool PATH] [--status PATH]
+                                   [--seed N] [NAME..]
 
 Names choose tests; without any, all are run.
 """
@@ -25,6 +26,7 @@ from refusals import Refusals
 from restarts import Restarts
 from shipping import Shipping
 from spool import Spool
+from status import Status
 from surroundings import Surroundings
 
 HERE = Path(__file__).resolve().parent
@@ -74,7 +76,7 @@ def all_tests():
     """Each test, by its name."""
     tests = {}
     kinds = (Generated, OneFile, ManyFiles, Refusals, Peers, Surroundings)
-    kinds += (Receiver, Containers, Spool, Killed, Restarts)
+    kinds += (Receiver, Containers, Spool, Status, Killed, Restarts)
     for kind in kinds:
         tests.update({it[len(PREFIX) :]: kind(it) for it in vars(kind) if it.startswith(PREFIX)})
     return tests
@@ -97,6 +99,8 @@ def give_programs(given, chosen):
     if Spool in kinds:
         Spool.tested = program_at(given.spool, "beat_spool")
         Spool.sink = program_at(given.receiver, "beat_sink")
+    if Status in kinds:
+        Status.status = program_at(given.status, "beat_status")
 
 
 def main():
@@ -108,6 +112,7 @@ def main():
         ("--receiver", "beat_sink"),
         ("--container", "beat_container"),
         ("--spool", "beat_spool"),
+        ("--status", "beat_status"),
     )
     for option, name in programs:
         words.add_argument(option, type=Path, help=f"the program {name} (default: the one that rt ci built)")

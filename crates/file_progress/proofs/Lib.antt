@@ -1,0 +1,9 @@
+mod Chains
+mod Jsons
+mod Keys
+mod Lists
+mod OnlyReads
+mod Registries
+mod Scans
+mod SettingsBytes
+mod Sums

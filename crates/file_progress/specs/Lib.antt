@@ -1,0 +1,13 @@
+pub mod Causes
+pub mod Json
+pub mod Looks
+pub mod OnlyReads
+pub mod Parts
+pub mod Progress
+pub mod Prometheus
+pub mod Registry
+pub mod Scanning
+pub mod Shown
+pub mod Table
+pub mod Texts
+pub mod Totals
