@@ -1,60 +1,19 @@
--- The bytes of the settings, read piece by piece, and what they spell.
-use Rattle.std.proofs.Common.{◌≡◌, ℕ, ◌+◌, ◌<◌, ◌≤◌, List, [], ◌++◌, length, take, drop, Option, Some, None, Ok, IfSome, sym, ◌∙◌, ap, subst, arith}
-use Rattle.std.proofs.Math.Seq.{take-add}
-use Rattle.std.proofs.lemmas.List.{take-append-le, drop-drop, take_all, length-drop}
+-- What the bytes of the settings spell.
+use Rattle.std.proofs.Common.{◌≡◌, ℕ, List, take, Option, IfSome}
 use Rattle.beat_config.specs.Document.{AreSettingsOf, IsFirstFault}
 use Rattle.beat_config.specs.declared.settings_error.SettingsError.{SettingsError}
 use Rattle.event_tree.specs.declared.settings.Settings.{Settings}
-use Rattle.outside.specs.Streams.{GivesFront, ReadsOn}
+use Rattle.source_bytes.proofs.Spelled.{spelled}
 use Rattle.beat_run.specs.declared.settings.TheConstants.{LIMIT}
-
--- so many bytes were read, and the rest of them is left
-abbrev pub AreRead : Option (List ℕ) → List ℕ → ℕ → Option (List ℕ) → Type 0
-AreRead start all count left = IfSome start (λ bytes. (left ≡ Some (drop count bytes)) × (all ≡ take count bytes))
-
-pub read_more : (start : Option (List ℕ)) (all into piece new : List ℕ) (before count now : ℕ) (left after : Option (List ℕ)) → count ≤ length into →
-    AreRead start all before left → ReadsOn left into (Ok count) after → new ≡ all ++ take count (into ++ piece) → now ≡ before + count → AreRead start new now after
-read_more None all into piece new before count now left after within are reads is more = tt
-read_more (Some bytes) all into piece new before count now left after within are reads is more =
-    let P : Option (List ℕ) → Type 0 = λ l. ReadsOn l into (Ok count) after in
-    let gives : GivesFront (drop before bytes) into count after = subst P are.0 reads in (
-      gives.rest ∙ ap (λ (l : List ℕ). Some l) (drop-drop count before bytes) ∙ ap (λ (n : ℕ). Some (drop n bytes)) (sym more),
-      is
-          ∙ ap (λ (l : List ℕ). all ++ l) (take-append-le count into piece within ∙ gives.bytes)
-          ∙ ap (λ (l : List ℕ). l ++ take count (drop before bytes)) are.1
-          ∙ sym (take-add before count bytes)
-          ∙ ap (λ (n : ℕ). take n bytes) (sym more),
-    )
-
-pub read_full : (start : Option (List ℕ)) (all : List ℕ) (count : ℕ) (left : Option (List ℕ)) → count ≤ LIMIT → LIMIT ≤ count → AreRead start all count left → IfSome start (λ bytes. all ≡ take LIMIT bytes)
-read_full None all count left few many are = tt
-read_full (Some bytes) all count left few many are = let full : count ≡ LIMIT = omega arith in are.1 ∙ ap (λ (n : ℕ). take n bytes) full
-
--- a read of nothing shows that all was read
-pub read_to_the_end : (start : Option (List ℕ)) (all into : List ℕ) (before count : ℕ) (left after : Option (List ℕ)) → before ≤ LIMIT → 0 < length into → count ≡ 0 →
-    AreRead start all before left → ReadsOn left into (Ok count) after → IfSome start (λ bytes. all ≡ take LIMIT bytes)
-read_to_the_end None all into before count left after few some none are reads = tt
-read_to_the_end (Some bytes) all into before count left after few some none are reads =
-    let P : Option (List ℕ) → Type 0 = λ l. ReadsOn l into (Ok count) after in
-    let gives : GivesFront (drop before bytes) into count after = subst P are.0 reads in
-    let nothing : drop before bytes ≡ [] = gives.zero_only_at_the_end some none in
-    let short : length bytes ≤ before = omega (arith, length-drop before bytes, ap (λ (l : List ℕ). length l) nothing) in
-    are.1 ∙ take_all before bytes short ∙ sym (take_all LIMIT bytes (omega arith))
-
--- ---- what the bytes spell
-
-pub spelled : (source : Option (List ℕ)) (all : List ℕ) (P : List ℕ → Type 0) → IfSome source (λ bytes. all ≡ take LIMIT bytes) → P all → IfSome source (λ bytes. P (take LIMIT bytes))
-spelled None all P is holds = tt
-spelled (Some bytes) all P is holds = subst P is holds
 
 -- settings have no fault
 pub never_faulty : (source : Option (List ℕ)) (all : List ℕ) (settings : Settings) (fault : SettingsError) (P : Type 0) →
     ((bytes : List ℕ) (s : Settings) (f : SettingsError) → AreSettingsOf bytes s → IsFirstFault bytes f → ⊥) →
     IfSome source (λ bytes. all ≡ take LIMIT bytes) → AreSettingsOf all settings → IfSome source (λ bytes. IsFirstFault (take LIMIT bytes) fault → P)
-never_faulty source all settings fault P law is are = spelled source all (λ bytes. IsFirstFault bytes fault → P) is (λ first. absurd (law all settings fault are first))
+never_faulty source all settings fault P law is are = spelled source LIMIT all (λ bytes. IsFirstFault bytes fault → P) is (λ first. absurd (law all settings fault are first))
 
 -- and faulty ones have one first fault
 pub only_fault : (source : Option (List ℕ)) (all : List ℕ) (told fault : SettingsError) →
     ((bytes : List ℕ) (first second : SettingsError) → IsFirstFault bytes first → IsFirstFault bytes second → first ≡ second) →
     IfSome source (λ bytes. all ≡ take LIMIT bytes) → IsFirstFault all told → IfSome source (λ bytes. IsFirstFault (take LIMIT bytes) fault → told ≡ fault)
-only_fault source all told fault law is are = spelled source all (λ bytes. IsFirstFault bytes fault → told ≡ fault) is (λ first. law all told fault are first)
+only_fault source all told fault law is are = spelled source LIMIT all (λ bytes. IsFirstFault bytes fault → told ≡ fault) is (λ first. law all told fault are first)

@@ -34,12 +34,6 @@ IsSettingsEnd before now NoMemory = Unit {0}
 IsSettingsEnd before now (Settings fault) = Unit {0}
 IsSettingsEnd before now _ = ⊥
 
--- reading the bytes of the settings
-abbrev pub IsReadEnd : ℕ → ℕ → Status → Type 0
-IsReadEnd before now SourceFault = Rose before now
-IsReadEnd before now NoMemory = Unit {0}
-IsReadEnd before now _ = ⊥
-
 -- looking for what the settings ask for and is not built
 abbrev pub IsLackEnd : Status → Type 0
 IsLackEnd NoMemory = Unit {0}

@@ -5,5 +5,4 @@ mod Lists
 mod OnlyReads
 mod Registries
 mod Scans
-mod SettingsBytes
 mod Sums

@@ -12,13 +12,7 @@ use Rattle.report.specs.declared.status.Status.{Status}
 use Rattle.report.specs.declared.status.Status.TheVariants.{Done, DiskFault, FolderFault, NoMemory, NoNative, OutFault, RegistryBad, Settings, SourceFault, TooMany}
 use Rattle.wire_base.specs.declared.limits.Full.TheVariants.{Files}
 
--- reading the bytes of the settings, by the source's count of faults
-abbrev pub IsReadEnd : ℕ → ℕ → Status → Type 0
-IsReadEnd before now SourceFault = Rose before now
-IsReadEnd before now NoMemory = Unit {0}
-IsReadEnd before now _ = ⊥
-
--- reading the settings
+-- reading the settings, by the source's count of faults
 abbrev pub IsSettingsEnd : ℕ → ℕ → Status → Type 0
 IsSettingsEnd before now SourceFault = Rose before now
 IsSettingsEnd before now NoMemory = Unit {0}

@@ -1,11 +1,11 @@
 use Rattle.std.proofs.Common.{◌≡◌, ◌-◌, ◌≤◌, length, take, drop, vec_len, Some, IfSome}
-use Rattle.file_progress.specs.declared.settings.TheConstants.{LIMIT, PIECE_BYTES}
-use Rattle.file_progress.proofs.settings.read_all.Given as goal
+use Rattle.source_bytes.specs.declared.reading.TheConstants.{PIECE_BYTES}
+use Rattle.source_bytes.proofs.reading.read_up_to.Given as goal
 
 -- all bytes so far were read, and the rest of them is left
 abbrev pub invariant-loop-piece : goal.invariant-loop-piece
 invariant-loop-piece g l = record {
-  within : vec_len l.all ≤ LIMIT;
+  within : vec_len l.all ≤ l.initial.limit;
   piece : length l.piece ≡ PIECE_BYTES;
   faults : g.R.Source.faults l.initial.source ≤ g.R.Source.faults l.source;
   told : IfSome (g.R.Source.left l.initial.source)
@@ -13,4 +13,4 @@ invariant-loop-piece g l = record {
 }
 
 abbrev pub decreases-loop-piece : goal.decreases-loop-piece
-decreases-loop-piece g l = LIMIT - vec_len l.all
+decreases-loop-piece g l = l.initial.limit - vec_len l.all
