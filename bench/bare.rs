@@ -10,7 +10,8 @@
 //!
 //! `bare records AREA ROWS TURNS` writes and syncs the record of an area as often as is said, as commits of so many rows
 //! do. `bare put LINES BYTES` writes and syncs so many records of a spool, each with a payload of so many bytes. `bare spans
-//! STRIDE SPANS` keeps settled spans in a map of intervals. `bare texts FORMAT` reads a container log
+//! STRIDE SPANS` keeps settled spans in a map of intervals. `bare grown FILES SCANS` and `bare gone FILES TURNS` keep known
+//! files in two maps, one by their keys and one by their slots. `bare texts FORMAT` reads a container log
 //! from standard input and writes the container's own lines, as far as the log of the bench needs it.
 
 use std::collections::{BTreeMap, VecDeque};
@@ -44,9 +45,12 @@ fn main() -> Result<(), Box<dyn Error>> {
         ["records", area, rows, turns] => write_records(area, rows.parse()?, turns.parse()?),
         ["put", lines, size] => put_records(lines.parse()?, size.parse()?),
         ["spans", stride, spans] => settle(stride.parse()?, spans.parse()?),
+        ["grown", files, scans] => grow(files.parse()?, scans.parse()?),
+        ["gone", files, turns] => come_and_go(files.parse()?, turns.parse()?),
         ["texts", format] => write_texts(format),
         _ => Err("usage: bare send FOLDER HOST | windows PORT DEPTH EVENTS BYTES | receive TIMES LATE | lines PORT FILE \
-            | records AREA ROWS TURNS | put LINES BYTES | spans STRIDE SPANS | texts FORMAT".into()),
+            | records AREA ROWS TURNS | put LINES BYTES | spans STRIDE SPANS | grown FILES SCANS | gone FILES TURNS \
+            | texts FORMAT".into()),
     }
 }
 
@@ -323,6 +327,130 @@ fn settle(stride: u64, spans: u64) -> Result<(), Box<dyn Error>> {
         ahead.insert(first, last);
     }
     println!("{until}");
+    Ok(())
+}
+
+/// One file as a scan shows it.
+struct Seen {
+    key: String,
+    path: String,
+    size: u64,
+}
+
+struct Known {
+    key: String,
+    path: String,
+    size: u64,
+    shown: u64,
+    is_open: bool,
+    is_stirred: bool,
+}
+
+enum Change {
+    Created(u32),
+    Written(u32),
+    Removed(u32),
+}
+
+#[derive(Default)]
+struct Files {
+    by_key: BTreeMap<String, u32>,
+    by_slot: BTreeMap<u32, Known>,
+    next: u32,
+    scan: u64,
+}
+
+impl Files {
+    /// What a scan says of the files.
+    fn compare(&mut self, seen: &[Seen]) -> Vec<Change> {
+        let mut changes = Vec::new();
+        self.scan += 1;
+        for member in seen {
+            let Some(slot) = self.by_key.get(&member.key) else {
+                changes.push(Change::Created(self.create(member)));
+                continue;
+            };
+            let Some(file) = self.by_slot.get_mut(slot) else { continue };
+            if file.size != member.size {
+                changes.push(Change::Written(*slot));
+            }
+            if file.path != member.path {
+                file.path.clone_from(&member.path);
+            }
+            (file.size, file.shown) = (member.size, self.scan);
+        }
+        let hidden = self.by_slot.iter().filter(|(_, file)| file.shown != self.scan);
+        changes.extend(hidden.map(|(slot, _)| Change::Removed(*slot)));
+        changes
+    }
+
+    fn create(&mut self, member: &Seen) -> u32 {
+        let slot = self.next;
+        self.next += 1;
+        self.by_key.insert(member.key.clone(), slot);
+        let (key, path) = (member.key.clone(), member.path.clone());
+        let file = Known { key, path, size: member.size, shown: self.scan, is_open: false, is_stirred: false };
+        self.by_slot.insert(slot, file);
+        slot
+    }
+
+    /// Does what a change asks for. Whether a file went.
+    fn take(&mut self, change: &Change) -> bool {
+        match change {
+            Change::Created(slot) | Change::Written(slot) => {
+                if let Some(file) = self.by_slot.get_mut(slot) {
+                    file.is_stirred = file.is_open;
+                    file.is_open = true;
+                }
+                false
+            }
+            Change::Removed(slot) => {
+                let Some(file) = self.by_slot.remove(slot) else { return false };
+                self.by_key.remove(&file.key).is_some()
+            }
+        }
+    }
+}
+
+fn shown(count: u64) -> Vec<Seen> {
+    let member = |number| Seen {
+        key: format!("filestream::nginx::native::{number:08}-64513"),
+        path: format!("/var/log/app-{number:08}.log"),
+        size: 1,
+    };
+    (0..count).map(member).collect()
+}
+
+fn grow(count: u64, scans: u64) -> Result<(), Box<dyn Error>> {
+    let (mut files, mut seen, mut told) = (Files::default(), shown(count), 0);
+    for change in files.compare(&seen) {
+        files.take(&change);
+    }
+    for _ in 0..scans {
+        for member in &mut seen {
+            member.size += 1;
+        }
+        let changes = files.compare(&seen);
+        for change in &changes {
+            files.take(change);
+        }
+        told += changes.len();
+    }
+    println!("{told}");
+    Ok(())
+}
+
+fn come_and_go(count: u64, turns: u64) -> Result<(), Box<dyn Error>> {
+    let (mut files, seen, mut went) = (Files::default(), shown(count), 0);
+    for _ in 0..turns {
+        for change in files.compare(&seen) {
+            files.take(&change);
+        }
+        for change in files.compare(&[]) {
+            went += u64::from(files.take(&change));
+        }
+    }
+    println!("{went}");
     Ok(())
 }
 

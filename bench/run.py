@@ -14,6 +14,7 @@ from pathlib import Path
 
 from container import container_table
 from harvester import harvester_table
+from known import known_table
 from memory import settled_table, stored_table
 from rounds import rounds_tables
 from sink import sink_table
@@ -37,6 +38,7 @@ PARTS = {
     "container": container_table,
     "spool": spool_table,
     "rounds": rounds_tables,
+    "known": known_table,
     "spans": settled_table,
     "commits": stored_table,
 }
