@@ -22,7 +22,7 @@ EVENTS, EVENT = 409_600, 120
 HELD = 200
 SPOOL_BYTES = 1_073_741_824
 HEAD_BYTES, SETTLING_BYTES = 14, 34
-RUNS = 5
+PUT_RUNS, RUNS = 2, 3
 # more connections than all runs make
 CONNECTIONS = 1_000
 
@@ -31,7 +31,8 @@ HEAD = f"""
 
 `put` of {LINES:,} lines of {LINE} bytes, beside a bare writer (`bench/bare.rs`) that writes the same records and syncs as
 often, twice for each; and `send` of {EVENTS:,} events of {EVENT} bytes in windows of 2,048 to a receiver on loopback,
-beside a bare sender of the same windows. Each time is the best of {RUNS} runs, taken in turn.
+beside a bare sender of the same windows. Each time is the best of {PUT_RUNS} runs of `put`
+and of {RUNS} of `send`, taken in turn.
 
 | What | A second | Of the bare program | Times its time |
 |---|---:|---:|---:|
@@ -64,7 +65,7 @@ def put_row(spool, bare, folder):
     lines = folder / "lines"
     lines.write_bytes((b"x" * LINE + b"\n") * LINES)
     runs = []
-    for _ in range(RUNS):
+    for _ in range(PUT_RUNS):
         (folder / "spool").unlink(missing_ok=True)
         runs.append((seconds([spool, "put"], folder, lines), seconds([bare, "put", LINES, LINE], folder)))
     return row("put", LINES, *map(min, zip(*runs)))
