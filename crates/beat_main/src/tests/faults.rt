@@ -255,6 +255,61 @@ fn each_fault_ends_the_run_by_its_object(rt: HostRuntime) -> Result<(), Fail> {
     Ok(())
 }
 
+/// Whether the run ends with 5 and has stored no row, as this call of its area fails. It has sent nothing then.
+fn is_unstored<X: Threads + Wait + Sync + AllocGlobal + Abort>(
+    rt: &X,
+    start: Start,
+    call: u64,
+) -> Result<bool, Fail> {
+    let alloc = rt.alloc();
+    let failing = [(Object::Area, call)];
+    let mut ran = run(
+        rt,
+        Start {
+            failing: &failing,
+            ..start
+        },
+    )?;
+    use_up(alloc, &mut ran);
+    let is_unstored = ran.code() == 5 && ran.stored(alloc)?.is_empty();
+    let sent = ran.payloads(alloc)?.len();
+    assert!(rt;
+        !is_unstored || sent == 0,
+        "{sent} events are sent, though call {call} of the area fails"
+    );
+    Ok(is_unstored)
+}
+
+/// How many calls of its area a run makes before it has stored a row: the first ones fail, each in a run of its own.
+fn calls_before_a_row<X: Threads + Wait + Sync + AllocGlobal + Abort>(
+    rt: &X,
+    start: Start,
+) -> Result<u64, Fail> {
+    for call in 0..CALLS {
+        if !is_unstored(rt, start, call)? {
+            return Ok(call);
+        }
+    }
+    Ok(CALLS)
+}
+
+/// There is nothing to store.
+const NO_FILE: Start = Start {
+    files: &[],
+    ..PLAIN
+};
+
+#[test]
+fn nothing_is_sent_before_its_row_is_stored(rt: HostRuntime) -> Result<(), Fail> {
+    let opening = calls_before_a_row(&rt, NO_FILE)?;
+    let storing = calls_before_a_row(&rt, PLAIN)?;
+    assert!(&rt;
+        opening < storing && storing < CALLS,
+        "{opening} calls to open, {storing} to store"
+    );
+    Ok(())
+}
+
 #[test]
 fn failures_of_a_peer_are_made_good(rt: HostRuntime) -> Result<(), Fail> {
     for object in [Object::Wire, Object::LinkSend, Object::LinkReceive] {
