@@ -28,6 +28,8 @@ LINK = re.compile(r"\[([^\[\]]*)\]\(([^)#:]*)(?:#([^)]*))?\)")
 TARGET = re.compile(r"make (\w+)\b.*")
 # such words, as NAME or ID, stand for any other
 PLACEHOLDER = re.compile(r"\b[A-Z]+\b")
+# the page that compares with Filebeat: the first cell of each of its rows has Filebeat's names
+COMPARING = "coming_from_filebeat.md"
 # names of Filebeat's reference and of systems
 REFERENCE = {
     "SO_SNDTIMEO",
@@ -164,7 +166,10 @@ def is_there(named, words):
 
 def names_in(page):
     """What stands in backticks and looks like a name or a path of this repository."""
-    for span in re.findall(r"`([^`\n]+)`", FENCE.sub("", page.read_text()).replace("\n", " ")):
+    text = FENCE.sub("", page.read_text())
+    if page.name == COMPARING:
+        text = re.sub(r"^\|[^|]*\|", "|", text, flags=re.MULTILINE)
+    for span in re.findall(r"`([^`\n]+)`", text.replace("\n", " ")):
         if NAME.fullmatch(span) or is_path(span) or TARGET.fullmatch(span):
             yield span
 
