@@ -1,7 +1,8 @@
 #!/usr/bin/env python3
 """Compares the pages with the repository: the table of crates in docs/architecture.md with crates.txt, the files and
 headings that pages link to with those that are there, the names in backticks with those of the code, the tests and the
-settings, a clause that is linked with its file, and the example that has every key with docs/settings.md.
+settings, a clause that is linked with its file, the example that has every key with docs/settings.md, and the version that
+programs and pages state with the file VERSION.
 """
 
 import re
@@ -15,7 +16,7 @@ NOT_YET = "not yet"
 
 # where names stand, and how a comment begins there; what a comment alone says is no name
 COMMENTS = {".rt": "//", ".rs": "//", ".c": "//", ".antt": "--", ".py": "#", ".toml": "#", ".txt": "#", "": "#"}
-PLACES = ("crates", "tests", "bench", "examples", ".ci", "Makefile", "crates.txt")
+PLACES = ("crates", "tests", "bench", "examples", "package", ".ci", "Makefile", "VERSION", "crates.txt")
 BUILT = {"out", "__pycache__"}
 # pages whose names are compared; the changelog and results of measurements speak of other days, too
 NAMING = [ROOT / "README.md", ROOT / "CONTRIBUTING.md", *sorted(ROOT.glob("docs/*.md"))]
@@ -221,8 +222,27 @@ def faults_of_names():
                 yield f"{page.relative_to(ROOT)} names {name}, which is not there"
 
 
+def stated_versions():
+    """Each version that a program or a page states, and the file that states it."""
+    for file in sorted(ROOT.glob("crates/*/src/**/*.rt")):
+        for version in re.findall(r'\.version\("([^"]*)"\)', file.read_text()):
+            yield file, version
+    for page in PAGES:
+        for version in re.findall(r"\bmoqhuluzi[-_](\d[\d.]*)[-_](?:x86_64|amd64)\b", page.read_text()):
+            yield page, version
+
+
+def faults_of_version():
+    version = (ROOT / "VERSION").read_text().strip()
+    for file, stated in stated_versions():
+        if stated != version:
+            yield f"{file.relative_to(ROOT)} states version {stated}, and VERSION has {version}"
+    if not re.search(rf"^## {re.escape(version)}\b", (ROOT / "CHANGELOG.md").read_text(), re.MULTILINE):
+        yield f"CHANGELOG.md has no section of {version}"
+
+
 def main():
-    faults = [*faults_of_crates(), *faults_of_links(), *faults_of_example(), *faults_of_names()]
+    faults = [*faults_of_crates(), *faults_of_links(), *faults_of_example(), *faults_of_names(), *faults_of_version()]
     for fault in faults:
         print(fault)
     print(f"pages: {len(faults)} faults")
