@@ -81,6 +81,10 @@ EVERY_KEY_BUILT = (
     ("lanes = 2", "lanes = 8"),
 )
 
+# pages whose examples a run takes: whole settings, keys, or members of the list of processors
+PAGES = [program.ROOT / name for name in ("README.md", "docs/settings.md", "docs/coming_from_filebeat.md")]
+EXAMPLE = re.compile(r"^```toml\n(.*?)^```$", re.MULTILINE | re.DOTALL)
+
 # the same settings spelled otherwise
 SETTINGS_TAKEN = (
     lambda valid: valid[:-1],
@@ -153,6 +157,16 @@ class Refusals(Shipping):
             ran = self.run_settings(re.sub(r"^#(?=[^ \n])", "", settings, flags=re.MULTILINE))
         self.assert_done(ran, [row(self.path, 2, "services")], 1)
         self.assertIn(b'"tags":["x"]', peer.payloads[0])
+
+    def test_examples_of_pages(self):
+        """A run takes each. Its folders are absent, so that it finds nothing to ship."""
+        plain = program.settings_text("/a.log", "h")
+        for example in (it for page in PAGES for it in EXAMPLE.findall(page.read_text())):
+            with self.subTest(example=example):
+                settings = f"processors = [{example}]\n" if example.startswith("{") else example
+                settings += "" if "[output]" in example else plain
+                settings = settings.replace('"/', f'"{self.folder}/absent/')
+                self.assert_wrote(self.run_settings(settings), "shipped 0 dropped 0", "status 0 done")
 
     def test_settings_file_is_absent(self):
         self.assert_wrote(self.run_words("-c", "beat.toml", "--once"), "status 9 source fault")

@@ -3,13 +3,15 @@
 import contextlib
 import os
 import random
+import shutil
 import subprocess
 from pathlib import Path
 
+import example
 import program
 from area import changed, fingerprint_row, native_row, row
 from peer import CUT_OFF, Behaviour, Peer
-from shipping import Shipping, end_of, numbered_lines, places_of
+from shipping import ONCE, Shipping, end_of, lines_of, numbered_lines, places_of
 
 # so many files; of them so many grew, were cut and were renamed between two runs
 FILES = 1_000
@@ -94,6 +96,25 @@ class Restarts(Shipping):
                 self.write_settings(text.replace("[output]", f"clean_removed = {clean}\n[output]"))
                 ran = program.finish(self.start_prepared(), PATIENCE)
                 self.assert_shipped(ran, peer, rows, [])
+
+    def test_example_loses_nothing_at_a_rotation(self):
+        """By the settings of the example, files that grew, were renamed and have successors are sent whole, each line once."""
+        logs = Path(shutil.copytree(example.FOLDER / "logs", self.folder / "shop"))
+        files = sorted(logs.rglob("*.log"))
+        wanted = sorted((str(it), *line) for it in files for line in lines_of(it.read_bytes()))
+        with Peer() as peer:
+            self.assertEqual(self.run_settings(example.settings_for(logs, peer.host)).returncode, 0)
+            self.assertEqual(sorted(places_of(peer.payloads)), wanted)
+            for it in files:
+                before, rotated = it.read_bytes(), Path(f"{it}.1")
+                it.rename(rotated)
+                with rotated.open("ab") as opened:
+                    opened.write(b"the last line\n")
+                it.write_bytes(b"anew: " + before)
+                wanted.append((str(rotated), len(before), "the last line"))
+                wanted += [(str(it), *line) for line in lines_of(it.read_bytes())]
+            self.assertEqual(self.run_words(*ONCE).returncode, 0)
+        self.assertEqual((peer.faults, sorted(places_of(peer.payloads))), ([], sorted(wanted)))
 
     def test_rotated_file_goes_on_by_native_numbers(self):
         """Its row goes with it to the new name, and the new file under the old name is sent from its start."""
