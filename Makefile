@@ -1,35 +1,48 @@
-.PHONY: run build install test check edits e2e fmt bench
+.PHONY: help run build install dist deb test check edits e2e fmt bench
 
 PREFIX ?= /usr/local
 
 # what is built and installed: beat_main, beat_status, beat_sink, beat_container or beat_spool
 PROGRAM ?= beat_main
 
+# prints this list
+help:
+	@awk '/^$$/ { said = "" } /^# / { said = substr($$0, 3) } \
+	/^[a-z0-9]+:/ { printf "make %-8s %s\n", substr($$1, 1, length($$1) - 1), said }' $(MAKEFILE_LIST)
+
 # ships the logs of examples/ by examples/beat.toml to a receiver on loopback, and shows what came in
 run:
 	python3 -B examples/demo.py
 
-# proves and builds one program alone, and runs it once by its crate's args: make build PROGRAM=beat_sink
+# proves and builds one program, and says beforehand how long it takes: make build PROGRAM=beat_sink
 build:
-	cd crates/$(PROGRAM) && rt run
+	python3 -B package/build.py $(PROGRAM)
 
 # puts the built program into PREFIX/bin
 install:
 	install -D -m 755 crates/$(PROGRAM)/out/$(PROGRAM) $(DESTDIR)$(PREFIX)/bin/$(PROGRAM)
 
-# the merge check: all proofs, all tests, all must-fail edits, and the program tested from outside
+# packs the proved programs into dist/moqhuluzi-VERSION-x86_64.tar.gz
+dist:
+	python3 -B package/dist.py
+
+# makes the Debian package of them, dist/moqhuluzi_VERSION_amd64.deb
+deb:
+	python3 -B package/deb.py
+
+# the merge check: all proofs, all tests, all must-fail edits, and the programs and the package tested from outside
 test:
 	.ci/run
 
-# one crate while it is written: make check CRATE=line_cutter
+# checks one crate while it is written: make check CRATE=line_cutter
 check:
 	cd crates/$(CRATE) && rt check
 
-# wrong bodies, which the prover has to refuse: of one crate, make edits CRATE=line_cutter, or of all, before a release
+# tries wrong bodies, which the prover has to refuse: of one crate, make edits CRATE=line_cutter, or all, before a release
 edits:
 	python3 -B tests/edits.py $(CRATE)
 
-# the built program over real files and sockets: make e2e TEST=two_inputs, or all
+# tests the built programs over real files and sockets: make e2e TEST=two_inputs, or all
 e2e:
 	python3 -B tests/end_to_end/run.py $(TEST)
 
