@@ -1,12 +1,15 @@
 #!/usr/bin/env python3
-"""Ships generated lines in memory; then the logs of examples/ by examples/beat.toml to a receiver on loopback, and
-shows the events, the report and the stored offsets.
+"""Ships generated lines in memory; then the logs of examples/ by examples/beat.toml to a receiver on loopback, twice, and
+shows the events, the reports and the stored offsets.
 
-It runs the program that the gate proved; where there is none, one that `rt try` builds with no proof. The receiver is
-the proved beat_sink, or where there is none a script. All files that a run makes lie in a temporary folder.
+It runs the program that the gate proved; without one, it has `rt try` build the program with no proof, once for all runs.
+The receiver is the proved beat_sink, or without it a script. All files that a run makes are in a temporary folder.
 """
 
+import json
+import re
 import shutil
+import subprocess
 import sys
 import tempfile
 import time
@@ -20,16 +23,16 @@ from area import rows_of  # noqa: E402
 from peer import GLANCE, Peer  # noqa: E402
 from receiver import free_port  # noqa: E402
 
-# seconds that `rt try` may take to build the program and run it
+# seconds that building the program and running it usually takes, may take, and between two signs of life
+USUAL_SECONDS = 90
 PATIENCE = 600
+SIGN_SECONDS = 10
 # so many lines make four events
 GENERATED_LINES = 10
 
 
-def run_unproved(words):
-    """Builds and runs the program with no proof."""
-    started = program.start("rt", ["try", "--", *words], program.CRATE)
-    return program.finish(started, PATIENCE)
+class Unbuilt(Exception):
+    """The program could not be built or run."""
 
 
 class Sink:
@@ -42,7 +45,7 @@ class Sink:
         self.faults = []
 
     def __enter__(self):
-        self.started = program.start(self.receiver, ["-l", self.host, "-o", "lines", "--links", "1"], self.folder)
+        self.started = program.start(self.receiver, ["-l", self.host, "-o", "lines", "--links", "2"], self.folder)
         while not (self.folder / "lines").exists() and self.started.poll() is None:
             time.sleep(GLANCE)
         return self
@@ -51,83 +54,93 @@ class Sink:
         (self.folder / "stop").touch()
         program.finish(self.started)
         self.payloads = (self.folder / "lines").read_bytes().splitlines()
-        for payload in self.payloads:
-            show(payload)
 
 
 def receiving(folder):
-    """The receiver of a run."""
+    """The receiver of the runs."""
     try:
         return Sink(program.proved_program("beat_sink"), folder)
     except program.Missing:
-        return Peer(tell=show)
+        return Peer()
 
 
-def show(payload):
-    print(f"  {payload.decode(errors='replace')}", flush=True)
+def finish_with_signs(started):
+    """Waits until a started program has ended, and says from time to time that it goes on; what it wrote."""
+    begun = time.monotonic()
+    while True:
+        try:
+            return started.communicate(timeout=SIGN_SECONDS)
+        except subprocess.TimeoutExpired:
+            seconds = time.monotonic() - begun
+            if seconds > PATIENCE:
+                program.end(started)
+                raise Unbuilt(f"rt try has not ended after {PATIENCE} seconds") from None
+            print(f"  {seconds:.0f} of about {USUAL_SECONDS} seconds", flush=True)
 
 
-def words_for(logs, folder, peer):
-    """The arguments of a run, whose settings are written by then."""
-    settings = folder / "beat.toml"
-    settings.write_text(example.settings_for(logs, peer.host))
-    return ["-c", str(settings), "--data", str(folder / "data"), "--once"]
+def run_unproved(runs, folder):
+    """Builds the program with no proof, once, and plays the runs; what each printed, and its exit status."""
+    cases = folder / "cases"
+    cases.mkdir()
+    for number, words in enumerate(runs):
+        (cases / str(number)).touch()
+        (cases / f"{number}.args").write_text("".join(f"{word}\n" for word in words))
+    wrote, complained = finish_with_signs(program.start("rt", ["try", "--cases", str(cases)], program.CRATE))
+    printed = re.split(rb"^== \d+\n", wrote, flags=re.MULTILINE)[1:]
+    statuses = re.findall(rb"^case=\d+ run=ended status=(\d+) ", complained, re.MULTILINE)
+    if not len(printed) == len(statuses) == len(runs):
+        raise Unbuilt(complained.decode(errors="replace"))
+    return [(text, int(status)) for text, status in zip(printed, statuses)]
 
 
-def run(words, folder):
+def run_all(runs, folder):
+    """What each of the runs printed, and its exit status; the proved program is taken, if there is one."""
     try:
-        return program.run(program.proved_program(), words, folder)
-    except program.Missing:
-        return run_unproved(words)
-
-
-def generate(folder):
-    """Ships generated lines, which needs nothing but the program; whether it went well."""
-    try:
-        print(f"Proved: {program.proved_program().relative_to(program.ROOT)}, as rt ci built it.")
+        proved = program.proved_program()
     except program.Missing as why:
-        print(f"Not proved: {why}. So rt try builds the program and runs it, which takes a minute or two.")
-    print(f"Generated lines, {GENERATED_LINES} in memory:", flush=True)
-    settings = shutil.copy(example.FOLDER / "generated.toml", folder)
-    ran = run(["-c", settings, "--once", "--generate", str(GENERATED_LINES)], folder)
-    show_report(ran)
-    return not ran.returncode
+        print(f"Not proved: {why}.")
+        print(f"So rt try builds the program, with no proof, and runs it, in about {USUAL_SECONDS} seconds:", flush=True)
+        return run_unproved(runs, folder)
+    print(f"Proved: {proved.relative_to(program.ROOT)}, as rt ci built it.", flush=True)
+    ran = [program.run(proved, words, folder) for words in runs]
+    return [(it.stdout, it.returncode) for it in ran]
 
 
-def ship(logs, folder, peer):
-    words = words_for(logs, folder, peer)
-    print(f"Settings: examples/beat.toml, with {logs} for {example.LOGS} and {peer.host} for {example.HOST}")
-    print("Events received:", flush=True)
-    return run(words, folder)
+def words_of(folder, logs, host):
+    """The arguments of the runs: of generated lines, and then twice of the same files."""
+    generated = shutil.copy(example.FOLDER / "generated.toml", folder)
+    settings = folder / "beat.toml"
+    settings.write_text(example.settings_for(logs, host))
+    shipping = ["-c", str(settings), "--data", str(folder / "data"), "--once"]
+    return [["-c", str(generated), "--once", "--generate", str(GENERATED_LINES)], shipping, shipping]
 
 
-def ship_again(logs, folder):
-    """A second run goes on where the first one ended; how many events it sent."""
-    print("A second run over the same files:", flush=True)
-    with receiving(folder) as peer:
-        ran = run(words_for(logs, folder, peer), folder)
-    for line in ran.stdout.decode(errors="replace").splitlines()[-2:]:
-        print(f"  {line}")
-    return len(peer.payloads)
-
-
-def show_report(ran):
-    for line in ran.stdout.decode(errors="replace").splitlines():
+def show(title, lines):
+    print(title)
+    for line in lines:
         print(f"  {line}")
 
 
-def tell(ran, folder, peer):
-    print("Report:")
-    show_report(ran)
-    area = folder / "data" / "registry.a"
-    if area.exists():
-        print("Stored in the registry:")
-        for row in rows_of(area.read_bytes()):
-            print(f"  offset {row['offset']} of {row['path']}")
-    for fault in peer.faults:
-        print(f"The program broke the protocol: {fault}")
-    if ran.returncode:
-        print(f"Exit status {ran.returncode}. {ran.stderr.decode(errors='replace')}")
+def report_lines(printed):
+    return printed.decode(errors="replace").splitlines()
+
+
+def show_files(logs):
+    """Shows the files that are shipped; how many lines they have."""
+    counts = {log.relative_to(logs): log.read_bytes().count(b"\n") for log in sorted(logs.rglob("*.log"))}
+    show("Files, copied from examples/logs:", [f"{log}, {count} lines" for log, count in counts.items()])
+    return sum(counts.values())
+
+
+def show_stored(area):
+    rows = rows_of(area.read_bytes()) if area.exists() else []
+    show("Stored in the registry:", [f"offset {row['offset']} of {row['path']}" for row in rows])
+
+
+def count_again(payloads):
+    """How many of the events came before."""
+    logs = [json.loads(payload)["log"] for payload in payloads]
+    return len(logs) - len({(log["file"]["path"], log["offset"]) for log in logs})
 
 
 def main():
@@ -136,29 +149,27 @@ def main():
         return 1
     with tempfile.TemporaryDirectory(prefix="beat-run-") as room:
         folder = Path(room).resolve()
-        try:
-            if not generate(folder):
-                return 1
-        except (program.TooLong, OSError) as fault:
-            print(fault)
-            return 1
         logs = Path(shutil.copytree(example.FOLDER / "logs", folder / "logs"))
-        lines = 0
-        print("Files, copied from examples/logs:")
-        for log in sorted(logs.rglob("*.log")):
-            count = log.read_bytes().count(b"\n")
-            print(f"  {log.relative_to(logs)}, {count} lines")
-            lines += count
         try:
             with receiving(folder) as peer:
-                ran = ship(logs, folder, peer)
-        except (program.TooLong, OSError) as fault:
+                host = peer.host
+                (generated, _), (first, _), (second, _) = ran = run_all(words_of(folder, logs, host), folder)
+        except (program.TooLong, Unbuilt, OSError) as fault:
             print(fault)
             return 1
-        tell(ran, folder, peer)
-        again = ship_again(logs, folder)
-    print(f"Received {len(peer.payloads)} of {lines} lines, and {again} of them again.")
-    return 1 if ran.returncode or peer.faults or len(peer.payloads) != lines or again else 0
+        show(f"Generated lines, {GENERATED_LINES} in memory:", report_lines(generated))
+        lines = show_files(logs)
+        print(f"Settings: examples/beat.toml, with {logs} for {example.LOGS} and {host} for {example.HOST}")
+        show("Events received:", [payload.decode(errors="replace") for payload in peer.payloads])
+        show("Report:", report_lines(first))
+        show_stored(folder / "data" / "registry.a")
+        show("A second run over the same files:", report_lines(second)[-2:])
+    for fault in peer.faults:
+        print(f"The program broke the protocol: {fault}")
+    again = count_again(peer.payloads)
+    print(f"Received {len(peer.payloads) - again} of {lines} lines, and {again} of them again.")
+    is_whole = len(peer.payloads) == lines and not again and not peer.faults
+    return 0 if is_whole and not any(status for _, status in ran) else 1
 
 
 if __name__ == "__main__":
