@@ -34,10 +34,14 @@ def programs():
     )
 
 
+@functools.cache
 def moment():
     """Seconds since 1970 that every packed file has: SOURCE_DATE_EPOCH, or the time of the commit."""
     said = os.environ.get("SOURCE_DATE_EPOCH")
     if said is None:
         command = ("git", "-C", os.fspath(ROOT), "log", "-1", "--format=%ct")
-        said = subprocess.run(command, check=True, capture_output=True, text=True).stdout
+        ran = subprocess.run(command, capture_output=True, text=True)
+        if ran.returncode:
+            raise SystemExit(f"git does not tell the time of the commit, so set SOURCE_DATE_EPOCH: {ran.stderr.strip()}")
+        said = ran.stdout
     return int(said)
