@@ -3,40 +3,57 @@ ghost use Rattle.std.specs.Prelude.{◌≡◌, None, IfOk};
 use crate::TcpLink;
 use crate::counted::counted;
 use outside::{Failed, Wire};
+use std::fs::File;
 use std::io;
 use std::io::ErrorKind;
 use std::net::{Net, TcpStream, ToSocketAddrs};
+use std::rt::Files;
 use std::time::{Clock, Duration};
 use wire_base::Host;
 
 /// After so many seconds a connecting gives up.
 const CONNECTING: u64 = 5;
 
+/// What is opened for the descriptor that it takes alone.
+const RESERVED_PATH: &str = "/dev/null";
+
 /// The way to peers over TCP. A connecting gives up 5 seconds after it began. It has the system look up a
 /// name, for as long as that takes, and tries the addresses in turn; each has an equal part of the time that
 /// is left.
+///
+/// While it has no link it keeps a descriptor in reserve, so that a connecting finds one also where files have
+/// taken all others.
 #[derive(Drop)]
 pub struct TcpWire<R> {
     rt: R,
+    reserve: Option<File>,
     open_links: u64,
     faults: u64,
     idles: u64,
 }
 
-impl<R: Net<Stream = TcpStream> + Clock> TcpWire<R> {
+impl<R: Net<Stream = TcpStream> + Clock + Files<File = File>> TcpWire<R> {
+    /// Where the system has no descriptor left, there is none in reserve.
     pub fn new(rt: R) -> TcpWire<R>
         ensures tells_nothing { ⟦<TcpWire<R> as Wire>⟧.outcomes result ≡ None }
         ensures no_open_link { ⟦<TcpWire<R> as Wire>⟧.open_links result ≡ 0 }
         ensures no_fault { ⟦<TcpWire<R> as Wire>⟧.faults result ≡ 0 }
         ensures no_idle { ⟦<TcpWire<R> as Wire>⟧.idles result ≡ 0 }
     {
+        let reserve = reserved(&rt);
         TcpWire {
             rt,
+            reserve,
             open_links: 0,
             faults: 0,
             idles: 0,
         }
     }
+}
+
+/// A descriptor to keep, where the system has one left.
+fn reserved(rt: &impl Files<File = File>) -> Option<File> {
+    File::open(rt, RESERVED_PATH).ok()
 }
 
 fn stream_to(rt: &(impl Net<Stream = TcpStream> + Clock), host: &Host) -> io::Result<TcpStream> {
@@ -69,7 +86,7 @@ fn link_to(rt: &(impl Net<Stream = TcpStream> + Clock), host: &Host) -> io::Resu
     TcpLink::new(stream_to(rt, host)?)
 }
 
-impl<R: Net<Stream = TcpStream> + Clock> Wire for TcpWire<R> {
+impl<R: Net<Stream = TcpStream> + Clock + Files<File = File>> Wire for TcpWire<R> {
     type Link = TcpLink;
 
     ghost outcomes = { λ _. None };
@@ -81,10 +98,18 @@ impl<R: Net<Stream = TcpStream> + Clock> Wire for TcpWire<R> {
     ghost idles = { λ w. w.idles };
 
     fn connect(&mut self, host: &Host) -> Result<TcpLink, Failed> {
+        self.reserve = None;
         let answer = link_to(&self.rt, host);
-        let link = counted(&mut self.faults, answer)?;
-        self.open_links = self.open_links.saturating_add(1);
-        Ok(link)
+        match counted(&mut self.faults, answer) {
+            Ok(link) => {
+                self.open_links = self.open_links.saturating_add(1);
+                Ok(link)
+            }
+            Err(failed) => {
+                self.reserve = reserved(&self.rt);
+                Err(failed)
+            }
+        }
     }
 
     fn finish(&mut self, link: TcpLink) {
@@ -92,5 +117,6 @@ impl<R: Net<Stream = TcpStream> + Clock> Wire for TcpWire<R> {
         self.faults = self.faults.saturating_add(link.faults);
         self.idles = self.idles.saturating_add(link.idles);
         link.shut();
+        self.reserve = reserved(&self.rt);
     }
 }
