@@ -16,12 +16,15 @@ mod Puttings
 mod Runs
 mod SendEnds
 mod Settlings
+mod Silences
 mod Sinks
 mod Standings
 mod Steps
 mod Talkings
 mod Texts
+mod Untroubled
 mod Walks
 mod Windows
 mod Worked
+mod WorkedSilence
 mod Writes

@@ -1,10 +1,9 @@
 -- A run that makes one link at most, and tidies the spool behind it.
-use Rattle.std.proofs.Common.{◌≡◌, ◌≢◌, ◌⊎◌, inl, inr, ℕ, ◌+◌, ◌≤◌, List, [], ◌∷◌, ◌++◌, length, take, drop, Option, Some, None, Ok, Err, Result, IfOk, refl, sym, ap, ◌∙◌, subst, arith, length-drop, codes}
+use Rattle.std.proofs.Common.{◌≡◌, inl, inr, ℕ, ◌+◌, ◌≤◌, List, [], length, take, drop, Option, Some, None, Ok, Err, Result, refl, sym, ◌∙◌, subst, arith, length-drop, codes}
 use Rattle.std.proofs.lemmas.List.{nil_from_length, take_all}
-use Rattle.outside.specs.Counts.{Rose}
 use Rattle.outside.specs.DiskImages.{LeavesOnly, Only}
 use Rattle.outside.specs.Talks.{Talk, no_talk}
-use Rattle.outside.specs.Wires.{Finished, Outcome, Refused, TellsConnecting, TellsFinishing}
+use Rattle.outside.specs.Wires.{Outcome, TellsConnecting, TellsFinishing}
 use Rattle.outside.specs.declared.disk.Disk.{Ghosts as DiskGhosts}
 use Rattle.outside.specs.declared.failed.Failed.{Failed}
 use Rattle.spool_queue.specs.declared.spool.Spool.{Spool}

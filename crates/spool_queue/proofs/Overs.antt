@@ -1,27 +1,21 @@
 -- Windows that are sent and settled one behind the other, and the run over one link.
-use Rattle.std.proofs.Common.{◌≡◌, ◌≢◌, ◌⊎◌, inl, inr, ℕ, zero, suc, ◌+◌, ◌-◌, ◌^◌, ◌<◌, ◌≤◌, List, [], ◌∷◌, ◌++◌, length, map, take, drop, Option, Some, None, Ok, Err, Result, refl, sym, ap, ◌∙◌, subst, append_assoc, append-nil, arith, length-drop, length-append}
-use Rattle.std.proofs.lemmas.List.{map-append, take_all, length-take}
+use Rattle.std.proofs.Common.{◌≡◌, ℕ, zero, suc, ◌+◌, ◌≤◌, List, [], ◌∷◌, ◌++◌, length, take, drop, Option, Some, None, Ok, Err, Result, refl, sym, ap, ◌∙◌, subst, arith}
+use Rattle.std.proofs.lemmas.List.{map-append, take_all}
 use Rattle.lumber_client.specs.Exchange.{Exchange, no_exchange, payloads_of, with_begun}
 use Rattle.lumber_client.specs.Standing.{StandsFor}
 use Rattle.lumber_frame.proofs.Settling.{nothing, settled_is}
 use Rattle.lumber_client.specs.Held.{Held}
-use Rattle.lumber_frame.specs.Acknowledged.{Acknowledges}
-use Rattle.outside.specs.DiskImages.{LeavesOnly, Only}
-use Rattle.outside.specs.Talks.{Talk, no_talk}
-use Rattle.outside.specs.Wires.{Finished, Outcome, Refused, TellsFinishing}
+use Rattle.outside.specs.Talks.{Talk}
 use Rattle.outside.specs.declared.disk.Disk.{Ghosts as DiskGhosts}
 use Rattle.wire_base.specs.declared.parcel.Parcel.{Parcel}
 use Rattle.spool_queue.specs.declared.spool.Spool.{Spool}
-use Rattle.spool_queue.specs.declared.spool_error.SpoolError.TheVariants.{DiskFault}
 use Rattle.spool_queue.specs.declared.stop.Stop.{Stop}
-use Rattle.spool_queue.specs.declared.stop.Stop.TheVariants as stop
 use Rattle.spool_queue.specs.declared.walk.Walk.{Walk}
-use Rattle.spool_queue.specs.Log.{Log, Empty, payloads}
+use Rattle.spool_queue.specs.Log.{Log, Empty}
 use Rattle.spool_queue.specs.OnlyRead.{IsOnlyRead}
-use Rattle.spool_queue.specs.SendSoFar.{GoesOut, HasPieces, IsDropped, IsFilledWith, SendsAll, SendsOver, Settles, SettlesWindow, TalkAcknowledges, Talks}
-use Rattle.spool_queue.specs.Sent.{AreAcknowledged}
-use Rattle.spool_queue.specs.Spool.{IsReadAs, Reaches}
-use Rattle.spool_queue.specs.Standing.{Holds, HoldsList, IsClosed, IsSpoolOf, KeepsPlaces, count_of}
+use Rattle.spool_queue.specs.SendSoFar.{GoesOut, HasPieces, IsDropped, IsFilledWith, SendsOver, Settles, SettlesWindow, TalkAcknowledges, Talks}
+use Rattle.spool_queue.specs.Spool.{Reaches}
+use Rattle.spool_queue.specs.Standing.{Holds, HoldsList, IsSpoolOf, KeepsPlaces}
 use Rattle.spool_queue.specs.Walking.{IsWalkOf}
 use Rattle.spool_queue.proofs.Crashes.{behind, weaker}
 use Rattle.spool_queue.proofs.Puttings.{held_reads}

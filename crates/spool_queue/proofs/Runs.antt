@@ -32,6 +32,9 @@ goes_on before after status bytes list Run spool contents holds gate run =
     let same : reserved spool ≡ spool.end + 34 * length list = omega (arith, held_count spool contents list holds) in
     inr (spool.end, gate, subst Run same run)
 
+pub reserved_by : (spool : Spool) (contents : Option (List ℕ)) (list : List (List ℕ)) → HoldsList spool list contents → reserved spool ≡ spool.end + 34 * length list
+reserved_by spool contents list holds = omega (arith, held_count spool contents list holds)
+
 all_lines : (source : Option (List ℕ)) → AreFirstLines source []
 all_lines None = tt
 all_lines (Some bytes) = (lines_of bytes, refl)

@@ -1,5 +1,5 @@
 -- A run that sends, from what was settled and what was printed.
-use Rattle.std.proofs.Common.{◌≡◌, ◌≢◌, ◌⊎◌, inl, inr, ℕ, zero, suc, ◌+◌, ◌-◌, ◌≤◌, min, List, [], ◌∷◌, ◌++◌, length, take, drop, Option, Some, None, Ok, Err, Result, IfErr, OnOk, refl, sym, ap, ◌∙◌, subst, arith, length-drop}
+use Rattle.std.proofs.Common.{◌≡◌, ◌≢◌, ◌⊎◌, inl, inr, ℕ, ◌+◌, ◌-◌, ◌≤◌, List, [], length, take, drop, Option, Ok, Err, Result, IfErr, OnOk, refl, sym, ap, ◌∙◌, subst, arith, length-drop}
 use Rattle.std.proofs.lemmas.List.{length-take, nil_from_length, take-append-drop}
 use Rattle.outside.specs.Counts.{Rose}
 use Rattle.outside.specs.DiskImages.{LeavesOnly, Only}
@@ -14,7 +14,7 @@ use Rattle.spool_queue.specs.declared.stop.Stop.TheVariants as stop
 use Rattle.spool_queue.specs.Printing.{HasTaken, IsSaid, sent_text}
 use Rattle.spool_queue.specs.Putting.{LeavesTheDisk}
 use Rattle.spool_queue.specs.SendSoFar.{IsDropped, IsSendingStop, SendsAll}
-use Rattle.spool_queue.specs.Sent.{AreAcknowledged, IsFrontOf, IsLeftOf, IsSendStatus, SendCall, Sends}
+use Rattle.spool_queue.specs.Sent.{IsFrontOf, IsLeftOf, IsSendStatus, Sends}
 use Rattle.spool_queue.specs.Spool.{IsReadAs}
 use Rattle.spool_queue.specs.Standing.{HoldsList, count_of}
 use Rattle.spool_queue.specs.Stopping.{status_after}

@@ -1,7 +1,6 @@
 -- Payloads that are settled, one call behind the other, and what a crash leaves of them.
-use Rattle.std.proofs.Common.{◌≡◌, ◌≢◌, ◌⊎◌, inl, inr, ℕ, zero, suc, ◌+◌, ◌-◌, ◌^◌, ◌<◌, ◌≤◌, List, [], ◌∷◌, ◌++◌, length, take, drop, Option, Some, None, refl, sym, ap, ◌∙◌, subst, arith, append_assoc, length-append}
+use Rattle.std.proofs.Common.{◌≡◌, inl, inr, ℕ, zero, suc, ◌+◌, ◌-◌, ◌^◌, ◌<◌, ◌≤◌, List, [], ◌∷◌, ◌++◌, length, take, drop, Option, Some, None, refl, sym, ap, ◌∙◌, subst, arith, append_assoc}
 use Rattle.std.proofs.lemmas.List.{drop-drop, drop_at}
-use Rattle.outside.specs.Counts.{Rose}
 use Rattle.outside.specs.DiskImages.{LeavesOnly, Only}
 use Rattle.outside.specs.Moments.{started}
 use Rattle.outside.specs.declared.disk.Disk.{Ghosts as DiskGhosts}

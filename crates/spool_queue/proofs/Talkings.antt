@@ -1,5 +1,5 @@
 -- What goes over a link, and what its talk acknowledges.
-use Rattle.std.proofs.Common.{◌≡◌, ℕ, zero, suc, ◌+◌, ◌<◌, ◌≤◌, Bool, true, false, List, [], ◌∷◌, ◌++◌, length, take, drop, Option, Some, None, Ok, Err, refl, sym, ap, ◌∙◌, subst, append_assoc, append-nil, arith}
+use Rattle.std.proofs.Common.{◌≡◌, ℕ, ◌<◌, Bool, true, false, List, [], ◌∷◌, ◌++◌, length, take, Option, Some, None, Ok, Err, refl, sym, ap, ◌∙◌, subst, append_assoc, arith}
 use Rattle.lumber_client.specs.Exchange.{Exchange, acknowledged_in, payloads_of, with_sent, with_talk}
 use Rattle.lumber_client.specs.Held.{Held}
 use Rattle.lumber_client.specs.Standing.{StandsFor}
@@ -16,7 +16,7 @@ use Rattle.outside.specs.declared.link.Recv.TheVariants.{Got, NotYet, Closed, Fa
 use Rattle.wire_base.specs.declared.parcel.Parcel.{Parcel}
 use Rattle.wire_base.specs.declared.talk.Piece.{Piece}
 use Rattle.wire_base.specs.declared.talk.Piece.TheVariants.{In, Out}
-use Rattle.spool_queue.specs.SendSoFar.{GoesOut, HasPieces, HearsFault, Hears, TalkAcknowledges, Talks, settled_in, with_all_handed, with_bytes}
+use Rattle.spool_queue.specs.SendSoFar.{GoesOut, HasPieces, HearsFault, Hears, TalkAcknowledges, settled_in, with_bytes}
 
 -- ---- pieces of a talk
 

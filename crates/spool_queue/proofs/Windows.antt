@@ -1,12 +1,11 @@
 -- A window that is settled piece by piece of what its peer gave.
-use Rattle.std.proofs.Common.{◌≡◌, ◌≢◌, ℕ, zero, suc, ◌+◌, ◌-◌, ◌<◌, ◌≤◌, Bool, true, false, List, [], ◌∷◌, ◌++◌, length, take, drop, Option, Some, None, Ok, Err, Result, refl, sym, ap, ◌∙◌, subst, append_assoc, append-nil, arith, length-drop}
+use Rattle.std.proofs.Common.{◌≡◌, ℕ, ◌+◌, ◌<◌, ◌≤◌, Bool, true, false, List, [], ◌∷◌, ◌++◌, length, take, drop, Option, Ok, Err, refl, sym, ap, ◌∙◌, subst, append_assoc, append-nil, arith, length-drop}
 use Rattle.std.proofs.lemmas.List.{drop-drop}
 use Rattle.lumber_client.specs.Exchange.{Exchange, payloads_of, with_talk}
 use Rattle.lumber_client.specs.Held.{Held}
 use Rattle.lumber_client.specs.Newly.{KeepsParcels}
 use Rattle.lumber_client.specs.Standing.{StandsFor}
 use Rattle.lumber_frame.specs.Acknowledged.{Acknowledges}
-use Rattle.lumber_frame.specs.PeerFault.{HasPeerFault}
 use Rattle.outside.specs.Talks.{Talk, TellsReceiving}
 use Rattle.outside.specs.declared.disk.Disk.{Ghosts as DiskGhosts}
 use Rattle.outside.specs.declared.link.Recv.TheVariants.{Got, NotYet}
@@ -17,7 +16,7 @@ use Rattle.spool_queue.specs.declared.spool.Spool.{Spool}
 use Rattle.spool_queue.specs.declared.spool_error.SpoolError.TheVariants.{DiskFault}
 use Rattle.spool_queue.specs.declared.stop.Stop.{Stop}
 use Rattle.spool_queue.specs.declared.stop.Stop.TheVariants as stop
-use Rattle.spool_queue.specs.SendSoFar.{HasPieces, Hears, HearsFault, Settles, SettlesSome, SettlesWindow, TalkAcknowledges, Talks, settled_in, with_all_handed, with_bytes}
+use Rattle.spool_queue.specs.SendSoFar.{HasPieces, Hears, Settles, SettlesSome, SettlesWindow, Talks, settled_in, with_all_handed, with_bytes}
 use Rattle.spool_queue.specs.Standing.{KeepsPlaces}
 use Rattle.spool_queue.proofs.Settlings.{settles_both, stay, stay_both, takes_both}
 use Rattle.spool_queue.proofs.Talkings.{all_handed, heard_acknowledges, heard_fault, pieces_acknowledge, receives_nothing, receives_piece, with_some}

@@ -4,6 +4,7 @@ pub mod Cited
 pub mod Codes
 pub mod Lines
 pub mod Log
+pub mod Lost
 pub mod OnlyRead
 pub mod Printing
 pub mod PutSoFar
@@ -13,8 +14,10 @@ pub mod Running
 pub mod SendSoFar
 pub mod Sending
 pub mod Sent
+pub mod Silence
 pub mod Spool
 pub mod Standing
 pub mod Stopping
+pub mod Untroubled
 pub mod Walking
 pub mod Words

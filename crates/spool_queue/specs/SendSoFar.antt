@@ -1,6 +1,6 @@
 -- For private clauses: payloads that are sent over one link, and settled as its talk acknowledges them.
-use Rattle.std.specs.Prelude.{◌≡◌, ◌≢◌, ◌⊎◌, ℕ, suc, ◌+◌, ◌^◌, ◌<◌, ◌≤◌, Bool, true, false, List, [], ◌∷◌, ◌++◌, length, take, drop, Option, Some, None, Err, Result, OnErr, OnOk}
-use Rattle.lumber_client.specs.Exchange.{Exchange, acknowledged_in, payloads_of, with_talk}
+use Rattle.std.specs.Prelude.{◌≡◌, ◌≢◌, ℕ, ◌+◌, ◌≤◌, Bool, true, false, List, [], ◌∷◌, ◌++◌, length, take, drop, Option, Some, None, Err, Result, OnErr, OnOk}
+use Rattle.lumber_client.specs.Exchange.{Exchange, payloads_of, with_talk}
 use Rattle.lumber_client.specs.Held.{Held}
 use Rattle.lumber_client.specs.Standing.{StandsFor}
 use Rattle.lumber_frame.specs.Acknowledged.{Acknowledges}
@@ -19,7 +19,8 @@ use Rattle.spool_queue.specs.declared.stop.Stop.{Stop}
 use Rattle.spool_queue.specs.declared.stop.Stop.TheVariants as stop
 use Rattle.spool_queue.specs.declared.walk.Walk.{Walk}
 use Rattle.spool_queue.specs.Log.{Log}
-use Rattle.spool_queue.specs.Sent.{AreAcknowledged}
+use Rattle.spool_queue.specs.Sent.{AreAcknowledged, HasFault}
+use Rattle.spool_queue.specs.Silence.{IsUnanswered, PassesTimeout, moments_since}
 use Rattle.spool_queue.specs.Spool.{IsReadAs}
 use Rattle.spool_queue.specs.Walking.{IsWalkOf}
 use Rattle.spool_queue.specs.Standing.{HoldsList, IsClosed, KeepsPlaces, count_of}
@@ -179,22 +180,34 @@ IsSendingStop before now (stop.Spool Full) = ⊥
 IsSendingStop before now (stop.Spool Closed) = ⊥
 IsSendingStop before now (stop.Spool NoMemory) = Unit {0}
 
--- the talk of a link that told as it was made has a fault of the peer
+-- the talk of a link that told as it was made is of this kind
+abbrev pub LinkTalkIs : (Talk → Type 0) → Option Talk → Option Talk → Type 0
+LinkTalkIs Is None told = Unit {0}
+LinkTalkIs Is (Some began) None = ⊥
+LinkTalkIs Is (Some began) (Some talk) = Is talk
+
+-- it has a fault of the peer
 abbrev pub HasTalkFault : Option Talk → Option Talk → Type 0
-HasTalkFault None told = Unit {0}
-HasTalkFault (Some began) None = ⊥
-HasTalkFault (Some began) (Some talk) = HasPeerFault talk.pieces
+HasTalkFault began told = LinkTalkIs HasFault began told
 
--- counts of a link before a call and behind it
-pub record LinkCounts : Type 0 where
-  pub faults_before : ℕ
-  pub faults_now : ℕ
-  pub idles_before : ℕ
-  pub idles_now : ℕ
+-- the peer did not answer over it, and the clock went on for so long
+abbrev pub IsSilentOver : Option Talk → Option Talk → Option (List ℕ) → Option (List ℕ) → Type 0
+IsSilentOver began told before after = LinkTalkIs IsUnanswered began told × PassesTimeout before after
 
-abbrev pub link_counts : ℕ → ℕ → ℕ → ℕ → LinkCounts
-link_counts faults_before faults_now idles_before idles_now = record { faults_before = faults_before; faults_now = faults_now; idles_before = idles_before; idles_now = idles_now }
+-- ---- a clock
 
--- a peer is not reached where the link failed, where it was idle, or where its talk has a fault of the peer
-abbrev pub IsLost : LinkCounts → Type 0 → Type 0
-IsLost counts Fault = Rose counts.faults_before counts.faults_now ⊎ (Rose counts.idles_before counts.idles_now ⊎ Fault)
+-- what it told stays in front of what it tells
+abbrev pub ClockGoesOn : Option (List ℕ) → Option (List ℕ) → Type 0
+ClockGoesOn None after = Unit {0}
+ClockGoesOn (Some before) after = (more : List ℕ) × (after ≡ Some (before ++ more))
+
+pub record StandsAmong (moments : List ℕ) (moment : ℕ) : Type 0 where
+  pub before : List ℕ
+  pub behind : List ℕ
+  pub are : moments ≡ before ++ moment ∷ behind
+
+-- the moment is one of those since, where the clock tells
+abbrev pub HasGiven : Option (List ℕ) → Option (List ℕ) → ℕ → Type 0
+HasGiven None after moment = Unit {0}
+HasGiven (Some before) None moment = ⊥
+HasGiven (Some before) (Some after) moment = StandsAmong (moments_since before after) moment

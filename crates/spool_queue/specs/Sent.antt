@@ -6,9 +6,10 @@ use Rattle.lumber_frame.specs.PeerFault.{HasPeerFault}
 use Rattle.outside.specs.Talks.{Talk}
 use Rattle.outside.specs.Wires.{Outcome, Refused, Finished}
 use Rattle.spool_queue.specs.declared.status.SpoolStatus.{SpoolStatus}
-use Rattle.spool_queue.specs.declared.status.SpoolStatus.TheVariants.{Done, Usage, SourceFault, SpoolBad, DiskFault, Full, Unreachable, OutFault, TooLong, NoMemory}
+use Rattle.spool_queue.specs.declared.status.SpoolStatus.TheVariants.{Done, Usage, SourceFault, Full, Unreachable, OutFault, TooLong}
 use Rattle.spool_queue.specs.Printing.{HasTaken, sent_text}
 use Rattle.spool_queue.specs.Putting.{LeavesTheDisk}
+use Rattle.spool_queue.specs.Silence.{IsUnanswered, PassesTimeout}
 use Rattle.spool_queue.specs.Spool.{IsReadAs}
 use Rattle.spool_queue.specs.Standing.{Holds}
 
@@ -61,18 +62,31 @@ pub record Sends (call : SendCall) (list acknowledged : List (List ℕ)) (status
 abbrev pub send_call : Option (List ℕ) → Option (List ℕ) → Option (List ℕ) → SendCall
 send_call contents before after = record { contents = contents; written_before = before; written_after = after }
 
--- the talk of the run's one link has a fault of the peer, where the wire tells
-pub record HasFaultyTalk (before after : List Outcome) : Type 0 where
+-- one link was made and finished, and its talk is of this kind
+pub record IsTalkOf (Is : Talk → Type 0) (before after : List Outcome) : Type 0 where
   pub talk : Talk
   pub faults : ℕ
   pub idles : ℕ
   pub finished : after ≡ before ++ Finished talk faults idles ∷ []
-  pub fault : HasPeerFault talk.pieces
+  pub is : Is talk
 
+-- the talk of the run's one link is of this kind, where the wire tells
+abbrev pub OneTalkIs : (Talk → Type 0) → Option (List Outcome) → Option (List Outcome) → Type 0
+OneTalkIs Is None after = Unit {0}
+OneTalkIs Is (Some before) None = ⊥
+OneTalkIs Is (Some before) (Some after) = IsTalkOf Is before after
+
+abbrev pub HasFault : Talk → Type 0
+HasFault talk = HasPeerFault talk.pieces
+
+-- it has a fault of the peer
 abbrev pub PeerFails : Option (List Outcome) → Option (List Outcome) → Type 0
-PeerFails None after = Unit {0}
-PeerFails (Some before) None = ⊥
-PeerFails (Some before) (Some after) = HasFaultyTalk before after
+PeerFails before after = OneTalkIs HasFault before after
+
+-- the peer did not answer over it, and the clock, by what it told before and tells now, went on for so long
+pub record PeerIsSilent (before after : Option (List Outcome)) (told tells : Option (List ℕ)) : Type 0 where
+  pub unanswered : OneTalkIs IsUnanswered before after
+  pub passed : PassesTimeout told tells
 
 -- how a run that sends may end behind its opening; `SpoolBad` only where the disk has changed by itself
 abbrev pub IsSendStatus : SpoolStatus → Type 0

@@ -25,7 +25,7 @@ mod walk;
 mod words;
 
 pub use laws::one_reading;
-pub use limits::{MAX_EVENT_BYTES, MAX_SPOOL_BYTES};
+pub use limits::{MAX_EVENT_BYTES, MAX_SPOOL_BYTES, TIMEOUT_MS};
 pub use run::spool_run;
 pub use spool::Spool;
 pub use spool_error::SpoolError;

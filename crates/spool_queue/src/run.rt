@@ -1,7 +1,7 @@
 ghost use Rattle.std.specs.Prelude.{◌≡◌, ◌≢◌, ◌≤◌, ◌↔◌, ◌-◌, ℕ, List, Some};
 ghost use Rattle.outside.specs.Counts.{Rose};
 ghost use Rattle.outside.specs.DiskImages.{LeavesOnly, Only};
-ghost use Rattle.spool_queue.specs.Cited.{AreAcknowledged, HoldsList, IsBad, IsClosed, IsCommand, IsLeftOf, IsLost, IsOnlyRead, IsPut, IsPutBehind, IsPutStatus, IsReadAs, IsSaid, IsSend, IsSendStatus, LeavesTheDisk, PeerFails, Puts, RunsOn, Sends, link_counts, others_of, put_call, reserved, send_call, sent_text, spooled_text, status_after};
+ghost use Rattle.spool_queue.specs.Cited.{AreAcknowledged, HoldsList, IsBad, IsClosed, IsCommand, IsLeftOf, IsLost, IsOnlyRead, IsPut, IsPutBehind, IsPutStatus, IsReadAs, IsRefusedAt, IsSaid, IsSend, IsSendStatus, IsUntroubled, IsUntroubledEnd, LeavesTheDisk, PeerFails, PeerIsSilent, Puts, RunsOn, Sends, link_counts, others_of, put_call, reserved, run_call, send_call, sent_text, signs_of, spooled_text, status_after};
 
 use crate::printing::{print_sent, print_spooled};
 use crate::putting::put_lines;
@@ -75,16 +75,28 @@ pub fn spool_run<X: Wait, R: Source, W: Wire, D: Disk, K: Clock, S: Sink>(
         IsBad bytes at × IsOnlyRead D.contents D.images D.moment D.images_since D.faults
         disk.old disk.new × (others_of source.new wire.new clock.new out.new
         ≡ others_of source.old wire.old clock.old out.old) }
+    ensures bad_spools_are_refused { IsCommand words.now → (bytes : List ℕ) (at : ℕ) →
+        D.contents disk.old ≡ Some bytes → IsBad bytes at → IsRefusedAt at result }
     ensures source_fault_only_where_faults_rose { result ≡ SpoolStatus.SourceFault →
         Rose (R.faults source.old) (R.faults source.new) }
     ensures disk_fault_only_where_faults_rose { result ≡ SpoolStatus.DiskFault →
         Rose (D.faults disk.old) (D.faults disk.new) }
     ensures out_fault_only_where_faults_rose { result ≡ SpoolStatus.OutFault →
         Rose (S.faults out.old) (S.faults out.new) }
-    // The peer was not reached, its link failed or was idle, or its talk has a fault of the peer.
+    // The peer was not reached, its link failed, its talk has a fault of the peer, or the peer was silent for 30 seconds.
     ensures unreachable_only_where_it_is_lost { result ≡ SpoolStatus.Unreachable →
         IsLost (link_counts (W.faults wire.old) (W.faults wire.new) (W.idles wire.old)
-        (W.idles wire.new)) (PeerFails (W.outcomes wire.old) (W.outcomes wire.new)) }
+        (W.idles wire.new)) (PeerFails (W.outcomes wire.old) (W.outcomes wire.new))
+        (PeerIsSilent (W.outcomes wire.old) (W.outcomes wire.new)
+        (K.moments clock.old) (K.moments clock.new)) }
+
+    // When it has to be done.
+    ensures what_an_untroubled_run_ends_with { let before = others_of source.old wire.old clock.old out.old in
+        let after = others_of source.new wire.new clock.new out.new in
+        IsUntroubled (run_call words.now (R.left source.old) (D.contents disk.old))
+        (signs_of R.Source W.Wire D.Disk K.Clock S.Sink before disk.old)
+        (signs_of R.Source W.Wire D.Disk K.Clock S.Sink after disk.new) →
+        IsUntroubledEnd result }
 {
     let Some(asked) = asked_of(alloc, words) else {
         return SpoolStatus::Usage;

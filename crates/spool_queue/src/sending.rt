@@ -5,13 +5,13 @@ ghost use Rattle.lumber_client.specs.Newly.{KeepsParcels};
 ghost use Rattle.lumber_client.specs.Standing.{StandsFor};
 ghost use Rattle.outside.specs.Counts.{Rose};
 ghost use Rattle.outside.specs.Talks.{Talk};
-ghost use Rattle.spool_queue.specs.Cited.{GoesOut, HasPieces, HasTalkFault, Hears, IsAwaited, IsClosed, IsFilledWith, IsIdle, IsLost, IsOnlyRead, IsReadStop, IsSendingStop, IsSettlingStop, IsSpoolOf, IsWalkOf, HoldsList, KeepsPlaces, Log, PeerFails, SendsAll, SendsOver, Settles, SettlesSome, SettlesWindow, Talks, count_of, link_counts, settled_in, with_all_handed};
+ghost use Rattle.spool_queue.specs.Cited.{ClockGoesOn, GoesOut, HasPieces, HasTalkFault, Hears, IsAwaited, IsClosed, IsFilledWith, IsIdle, IsLost, IsOnlyRead, IsReadStop, IsSendingStop, IsSettlingStop, IsSilentOver, IsSpoolOf, IsWalkOf, HoldsList, KeepsPlaces, Log, PeerFails, PeerIsSilent, SendsAll, SendsOver, Settles, SettlesSome, SettlesWindow, Talks, count_of, link_counts, settled_in, with_all_handed};
 ghost use Rattle.wire_base.specs.Ranges.{IsParcel};
 
 use crate::stop::Stop;
 use crate::walk::Walk;
 use crate::words::Target;
-use crate::{Spool, SpoolError};
+use crate::{Spool, SpoolError, TIMEOUT_MS};
 use lumber_client::{Heard, Window};
 use outside::{Clock, Disk, Link, Recv, Wire};
 use std::alloc::Global;
@@ -20,9 +20,6 @@ use wire_base::{Blob, Epoch, Moment, Parcel, Slot, Span};
 
 /// The most payloads of a window.
 const WINDOW_PAYLOADS: u32 = 2048;
-
-/// So long a peer may be silent.
-const TIMEOUT_MS: u64 = 30_000;
 
 /// So long the clock pauses where nothing has come.
 const PAUSE_MS: u64 = 10;
@@ -48,7 +45,9 @@ pub(crate) fn send<X: Wait, W: Wire, D: Disk, K: Clock>(
         (at : ℕ) → result ≢ Err (Stop.Spool (SpoolError.Bad at)) }
     ensures unreachable { result ≡ Err Stop.Unreachable →
         IsLost (link_counts (W.faults wire.old) (W.faults wire.new) (W.idles wire.old)
-        (W.idles wire.new)) (PeerFails (W.outcomes wire.old) (W.outcomes wire.new)) }
+        (W.idles wire.new)) (PeerFails (W.outcomes wire.old) (W.outcomes wire.new))
+        (PeerIsSilent (W.outcomes wire.old) (W.outcomes wire.new)
+        (K.moments clock.old) (K.moments clock.new)) }
 {
     if spool.outstanding() == 0 {
         spool.tidy(disk)?;
@@ -78,7 +77,9 @@ fn send_linked<X: Wait, W: Wire, D: Disk, K: Clock>(
         (at : ℕ) → result ≢ Err (Stop.Spool (SpoolError.Bad at)) }
     ensures unreachable { result ≡ Err Stop.Unreachable →
         IsLost (link_counts (W.faults wire.old) (W.faults wire.new) (W.idles wire.old)
-        (W.idles wire.new)) (PeerFails (W.outcomes wire.old) (W.outcomes wire.new)) }
+        (W.idles wire.new)) (PeerFails (W.outcomes wire.old) (W.outcomes wire.new))
+        (PeerIsSilent (W.outcomes wire.old) (W.outcomes wire.new)
+        (K.moments clock.old) (K.moments clock.new)) }
 {
     let host = target.host()?;
     let Ok(mut link) = wire.connect(&host) else {
@@ -109,7 +110,9 @@ fn send_over<X: Wait, L: Link, D: Disk, K: Clock>(
         (at : ℕ) → result ≢ Err (Stop.Spool (SpoolError.Bad at)) }
     ensures unreachable { result ≡ Err Stop.Unreachable →
         IsLost (link_counts (L.faults link.old) (L.faults link.new) (L.idles link.old)
-        (L.idles link.new)) (HasTalkFault (L.told link.old) (L.told link.new)) }
+        (L.idles link.new)) (HasTalkFault (L.told link.old) (L.told link.new))
+        (IsSilentOver (L.told link.old) (L.told link.new)
+        (K.moments clock.old) (K.moments clock.new)) }
 {
     let mut window = Window::new(alloc, WINDOW_PAYLOADS, 1)?;
     let mut walk = Walk::start();
@@ -218,7 +221,9 @@ fn settle_window<X: Wait, L: Link, D: Disk, K: Clock>(
     ensures unreachable { result ≡ Err Stop.Unreachable → (began : Option Talk) (e : Exchange) →
         Talks window.old began (L.told link.old) e →
         IsLost (link_counts (L.faults link.old) (L.faults link.new) (L.idles link.old)
-        (L.idles link.new)) (HasTalkFault began (L.told link.new)) }
+        (L.idles link.new)) (HasTalkFault began (L.told link.new))
+        (IsSilentOver began (L.told link.new) (K.moments clock.old) (K.moments clock.new)) }
+    ensures clock_goes_on { ClockGoesOn (K.moments clock.old) (K.moments clock.new) }
     ensures link_faults_never_fall { L.faults link.old ≤ L.faults link.new }
     ensures link_idles_never_fall { L.idles link.old ≤ L.idles link.new }
 {
@@ -320,7 +325,7 @@ fn settle<D: Disk>(spool: &mut Spool, disk: &mut D, window: &mut Window) -> Resu
 
 /// The peer was silent for too long.
 fn is_over(heard: Moment, now: Moment) -> bool
-    ensures over { OnTrue result (heard.0 + 30_000 ≤ now.0) }
+    ensures over { OnTrue result (heard.0 + TIMEOUT_MS ≤ now.0) }
 {
     heard.0 <= now.0 && TIMEOUT_MS <= now.0 - heard.0
 }

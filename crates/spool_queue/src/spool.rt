@@ -46,6 +46,9 @@ impl Spool {
             IfOk result (λ spool. IsLastGate bytes spool.end) }
         ensures bad { (bytes : List ℕ) (at : ℕ) → D.contents disk.old ≡ Some bytes →
             result ≡ Err (SpoolError.Bad at) → IsBad bytes at }
+        ensures refuses { (bytes : List ℕ) (at : ℕ) → D.contents disk.old ≡ Some bytes →
+            IsBad bytes at → MatchResult result (λ _. ⊥)
+            (λ error. (error ≡ SpoolError.DiskFault) ⊎ (error ≡ SpoolError.Bad at)) }
         ensures durable { Only (D.contents disk.old) (D.images disk.old) →
             OnOk result (Only (D.contents disk.new) (D.images disk.new)) }
 

@@ -1,4 +1,3 @@
-use Rattle.std.proofs.Common.{length}
 use Rattle.spool_queue.proofs.Hearings.{HearsOn}
 use Rattle.spool_queue.proofs.sending.hear.Given as goal
 

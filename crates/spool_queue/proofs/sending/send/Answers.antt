@@ -1,4 +1,4 @@
-use Rattle.std.proofs.Common.{◌≡◌, Ok, Err, Result, ⊎_elim, ap, arith, sym, subst}
+use Rattle.std.proofs.Common.{◌≡◌, Ok, Err, ⊎_elim, ap, arith, sym, subst}
 use Rattle.std.proofs.lemmas.Result.{err_from_is_err_and}
 use Rattle.spool_queue.specs.declared.spool_error.SpoolError.{SpoolError}
 use Rattle.spool_queue.specs.declared.spool_error.SpoolError.TheVariants.{Bad, DiskFault}

@@ -1,5 +1,7 @@
 use Rattle.std.proofs.Common.{inl}
-use Rattle.spool_queue.proofs.Causes.{link_faulty, lost_over}
+use Rattle.spool_queue.specs.Sent.{HasFault}
+use Rattle.spool_queue.specs.Silence.{IsUnanswered}
+use Rattle.spool_queue.proofs.Causes.{link_talk, lost_over}
 use Rattle.spool_queue.proofs.Links.{fresh_link, link_refused, no_link, sends_nothing, sends_over}
 use Rattle.spool_queue.proofs.Settlings.{settles_none}
 use Rattle.spool_queue.proofs.sending.send_linked.Goals as goal
@@ -24,5 +26,7 @@ returns-in_default-clause-unreachable g c = λ same. inl c.in_default.ensures.fa
 
 pub returns-clause-unreachable : goal.returns-clause-unreachable
 returns-clause-unreachable g c = λ same.
-    lost_over _ _ _ _ _ _ _ _ _ _ _ _ c.in-Ok.ensures.starts_with_no_count.faults c.in-Ok.ensures.starts_with_no_count.idles c.in-Ok.ensures.faults_never_fall c.in-Ok.ensures.idles_never_fall c.finish.ensures.counts_faults c.finish.ensures.counts_idles
-    (link_faulty g.W.Link.Link.told _ _ _ c.in-Ok.link _ _ _ _ c.in-Ok.ensures.told c.finish.ensures.told) (c.send_over-answer.ensures.unreachable same)
+    lost_over _ _ _ _ _ _ _ _ _ _ _ _ _ _ c.in-Ok.ensures.starts_with_no_count.faults c.in-Ok.ensures.starts_with_no_count.idles c.in-Ok.ensures.faults_never_fall c.in-Ok.ensures.idles_never_fall c.finish.ensures.counts_faults c.finish.ensures.counts_idles
+    (link_talk g.W.Link.Link.told HasFault _ _ _ c.in-Ok.link _ _ _ _ c.in-Ok.ensures.told c.finish.ensures.told)
+    (λ (unanswered, passed). record { unanswered = link_talk g.W.Link.Link.told IsUnanswered _ _ _ c.in-Ok.link _ _ _ _ c.in-Ok.ensures.told c.finish.ensures.told unanswered; passed = passed })
+    (c.send_over-answer.ensures.unreachable same)

@@ -7,6 +7,7 @@ use Rattle.spool_queue.specs.SendSoFar.{IsReadStop, IsSendingStop, IsSettlingSto
 use Rattle.spool_queue.proofs.Causes.{lost_behind, read_sends, rose_behind, settling_sends}
 use Rattle.spool_queue.proofs.Overs.{filled_well, fills, goes_on, none_sent, out_ends, over_ends, over_nothing, over_unfilled, sends, window_ends}
 use Rattle.spool_queue.proofs.Settlings.{settles_none}
+use Rattle.spool_queue.proofs.Silences.{goes_on_behind, passes_in, still_told}
 use Rattle.spool_queue.proofs.sending.send_over.Goals as goal
 
 pub loop-init : goal.loop-init
@@ -17,6 +18,7 @@ loop-init g c = record {
   sent = none_sent g.D.Disk _ _ _ _ c.start-walk.result (settles_none g.D.Disk _ _ (g.met.D.Disk.only_now c.args.disk.now)) c.in_ok-window.ensures.stands c.requires.fresh c.start-walk.ensures.place c.start-walk.ensures.events c.start-walk.ensures.settled;
   faults = omega arith;
   idles = omega arith;
+  clock = still_told _;
 }
 
 pub returns-then-outstanding-eq0-clause-sends : goal.returns-then-outstanding-eq0-clause-sends
@@ -51,6 +53,7 @@ loop-preserved g c =
       sent = goes_on g.D.Disk _ _ _ _ _ _ _ _ _ _ _ c.fill.new.walk o s;
       faults = omega (arith, c.loop.invariant.faults, c.send_out.ensures.link_faults_never_fall, c.settle_window.ensures.link_faults_never_fall);
       idles = omega (arith, c.loop.invariant.idles, c.send_out.ensures.link_idles_never_fall, c.settle_window.ensures.link_idles_never_fall);
+      clock = goes_on_behind _ _ _ c.loop.invariant.clock c.settle_window.ensures.clock_goes_on;
     }
 
 pub returns-in_err-settle_window-clause-sends : goal.returns-in_err-settle_window-clause-sends
@@ -112,5 +115,6 @@ returns-in_err-settle_window-clause-unreachable g c = λ same.
     let lost : stop ≡ Unreachable = cc (p.1, p.2, same) in
     let f = fills g.D.Disk _ _ _ _ _ c.loop.window c.fill.new.window _ _ c.loop.walk c.fill.new.walk c.loop.invariant.sent c.fill.ensures.only_read c.in_ok-fill.ensures.talks c.in_ok-fill.ensures.first in
     let o = sends g.D.Disk _ _ _ _ c.fill.new.window c.send_out.new.window _ _ _ c.fill.new.walk f c.send_out.ensures.parcels (c.send_out.ensures.goes_out (g.L.Link.told c.args.link.now)) in
-    lost_behind _ _ _ _ _ _ _ (omega (arith, c.loop.invariant.faults, c.send_out.ensures.link_faults_never_fall)) (omega (arith, c.loop.invariant.idles, c.send_out.ensures.link_idles_never_fall))
+    lost_behind _ _ _ _ _ _ _ _ _ (omega (arith, c.loop.invariant.faults, c.send_out.ensures.link_faults_never_fall)) (omega (arith, c.loop.invariant.idles, c.send_out.ensures.link_idles_never_fall))
+    (λ (unanswered, passed). (unanswered, passes_in _ _ _ c.loop.invariant.clock passed))
     (c.in_err-settle_window.ensures.unreachable (ap (λ (s : Stop). Err s) lost) (g.L.Link.told c.args.link.now) o.e o.talks)

@@ -1,4 +1,5 @@
 use Rattle.std.proofs.Common.{◌≤◌}
+use Rattle.spool_queue.specs.SendSoFar.{ClockGoesOn}
 use Rattle.spool_queue.specs.Sending.{IsIdle}
 use Rattle.spool_queue.specs.Standing.{IsClosed}
 use Rattle.spool_queue.proofs.Overs.{IsSentTo}
@@ -13,4 +14,5 @@ invariant-loop g l = record {
   sent : IsSentTo g.D.Disk l.initial.disk l.disk l.initial.spool l.spool l.window (g.L.Link.told l.initial.link) (g.L.Link.told l.link) l.walk;
   faults : g.L.Link.faults l.initial.link ≤ g.L.Link.faults l.link;
   idles : g.L.Link.idles l.initial.link ≤ g.L.Link.idles l.link;
+  clock : ClockGoesOn (g.K.Clock.moments l.initial.clock) (g.K.Clock.moments l.clock);
 }

@@ -1,4 +1,4 @@
-use Rattle.std.proofs.Common.{◌≡◌, ◌+◌, ℕ, List, Result, Err, take, drop, arith, refl, sym, ap, ⊎_elim, ◌∙◌}
+use Rattle.std.proofs.Common.{◌≡◌, ◌+◌, Result, Err, take, arith, refl, sym, ap, ⊎_elim, ◌∙◌}
 use Rattle.std.proofs.lemmas.Result.{err_from_is_err_and}
 use Rattle.lumber_client.specs.Held.{Held}
 use Rattle.spool_queue.specs.SendSoFar.{with_all_handed}

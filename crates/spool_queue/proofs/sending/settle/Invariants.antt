@@ -1,4 +1,4 @@
-use Rattle.std.proofs.Common.{◌≡◌, ◌+◌, length, take, drop}
+use Rattle.std.proofs.Common.{◌≡◌, ◌+◌, take, drop}
 use Rattle.lumber_client.specs.Exchange.{Exchange}
 use Rattle.lumber_client.specs.Standing.{StandsFor}
 use Rattle.spool_queue.specs.SendSoFar.{with_all_handed}

@@ -4,7 +4,7 @@ use Rattle.std.proofs.lemmas.Result.{err_from_is_err_and}
 use Rattle.outside.specs.DiskReads.{written}
 use Rattle.wire_base.specs.Ranges.{IsPlace}
 use Rattle.spool_queue.specs.Log.{Empty, outstanding}
-use Rattle.spool_queue.proofs.OneReading.{never_both, one_list}
+use Rattle.spool_queue.proofs.OneReading.{never_both, one_list, one_place}
 use Rattle.spool_queue.proofs.Standings.{empty_spool, holds_of, read_short, short_read}
 use Rattle.spool_queue.proofs.Walks.{at_front}
 use Rattle.spool_queue.proofs.Writes.{written_within}
@@ -93,3 +93,30 @@ returns-clause-at_its_last_gate g c = λ bytes told.
     let kept = c.in_ok-len.ensures.contents_kept ∙ told in
     let whole = c.in_ok-pass_all.ensures.told bytes Empty kept (at_front bytes c.start-walk.result c.start-walk.ensures.place c.start-walk.ensures.events c.start-walk.ensures.settled) in
     inr (long, (whole.0, whole.2))
+
+pub returns-then-branch-le1-clause-refuses : goal.returns-then-branch-le1-clause-refuses
+returns-then-branch-le1-clause-refuses g c = λ bytes at told bad.
+    let L : Option (List ℕ) → Type 0 = λ o. IfSome o (λ b. c.in_ok-len.field-0 ≡ length b) in
+    let sized = subst L told c.in_ok-len.ensures.told in
+    let short : length bytes ≤ 1 = omega arith in
+    absurd (omega (arith, short, bad.0))
+
+pub returns-in_err-pass_all-clause-refuses : goal.returns-in_err-pass_all-clause-refuses
+returns-in_err-pass_all-clause-refuses g c = λ bytes at told is.
+    let L : Option (List ℕ) → Type 0 = λ o. IfSome o (λ b. c.in_ok-len.field-0 ≡ length b) in
+    let sized = subst L told c.in_ok-len.ensures.told in
+    let long : 1 < length bytes = omega arith in
+    let small : IsPlace (length bytes) = omega (arith, c.in_ok-len.ensures.in_range) in
+    let p = err_from_is_err_and c.from_residual-in_err-pass_all.result c.from_residual-in_err-pass_all.ensures.1 in
+    let bad = c.in_err-pass_all.ensures.told bytes Empty (c.in_ok-len.ensures.contents_kept ∙ told) (at_front bytes c.start-walk.result c.start-walk.ensures.place c.start-walk.ensures.events c.start-walk.ensures.settled) in
+    rw (p.1) (⊎_elim (λ fault. inl (cc (p.2, fault))) (λ found. let same : found.0 ≡ at = one_place bytes found.0 at small (long, bad found.0 found.1) is in inr (cc (p.2, found.1, same))) c.in_err-pass_all.ensures.errors)
+
+pub returns-clause-refuses : goal.returns-clause-refuses
+returns-clause-refuses g c = λ bytes at told bad.
+    let L : Option (List ℕ) → Type 0 = λ o. IfSome o (λ b. c.in_ok-len.field-0 ≡ length b) in
+    let sized = subst L told c.in_ok-len.ensures.told in
+    let long : 1 < length bytes = omega arith in
+    let small : IsPlace (length bytes) = omega (arith, c.in_ok-len.ensures.in_range) in
+    let kept = c.in_ok-len.ensures.contents_kept ∙ told in
+    let whole = c.in_ok-pass_all.ensures.told bytes Empty kept (at_front bytes c.start-walk.result c.start-walk.ensures.place c.start-walk.ensures.events c.start-walk.ensures.settled) in
+    absurd (never_both bytes (outstanding whole.0) at small (inr (long, (whole.0, c.pass_all.new.self.place, whole.2, refl))) bad)
