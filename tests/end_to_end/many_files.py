@@ -19,6 +19,10 @@ EXAMPLE = {
 SMALL_FILES = 2_000
 # so many files may be open at once in a run that is to follow more of them
 OPEN_FILES = 64
+# so many descriptors a run has for itself, at most
+OTHER_DESCRIPTORS = 32
+# the status of a run that could not open a file
+FOLDER_FAULT = 6
 # seconds that a run over them may take
 PATIENCE = 120
 
@@ -95,6 +99,35 @@ class ManyFiles(Shipping):
             self.assert_wrote(program.run("sh", words, self.folder), "status 6 folder fault")
         self.assertEqual(peer.connections, 0)
         self.assertEqual({it["offset"] for it in self.stored_rows()}, {0})
+
+    def limited_run(self, host):
+        """One run that may have so many files open, over all in the folder `logs`."""
+        self.write_settings(program.settings_text(self.folder / "logs" / "*.log", host, "attempts = 1"))
+        words = ("-c", f'ulimit -n {OPEN_FILES} && exec "$0" "$@"', os.fspath(self.tested), *ONCE)
+        return program.run("sh", words, self.folder)
+
+    def append_to_logs(self, count, line):
+        for number in range(count):
+            with (self.folder / "logs" / f"{number}.log").open("a") as log:
+                log.write(line)
+
+    def test_files_that_take_every_other_descriptor(self):
+        """As many files as can be open leave the registry and the worker theirs: the first run over them, and one that goes
+        on from its rows, send all."""
+        for count in range(OPEN_FILES, 0, -1):
+            self.enter_new_folder()
+            (self.folder / "logs").mkdir()
+            self.append_to_logs(count, "one\n")
+            with Peer() as peer:
+                ran = self.limited_run(peer.host)
+            if ran.returncode != FOLDER_FAULT:
+                break
+        self.assertEqual((ran.returncode, len(peer.payloads)), (0, count), ran.stdout)
+        self.assertGreater(count, OPEN_FILES - OTHER_DESCRIPTORS)
+        self.append_to_logs(count, "two\n")
+        with Peer() as peer:
+            ran = self.limited_run(peer.host)
+        self.assertEqual((ran.returncode, len(peer.payloads)), (0, count), ran.stdout)
 
     def test_events_of_lines(self):
         """Lines that belong together, filters and processors, each over the file of one input."""

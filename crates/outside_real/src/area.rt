@@ -3,6 +3,7 @@ ghost use Rattle.outside.specs.DiskImages.{reach};
 ghost use Rattle.wire_base.specs.Ranges.{IsPlace};
 
 use crate::marks::size_of;
+use crate::reserve::Reserve;
 use crate::steady::read_some_at;
 use std::fs::{File, Metadata, OpenOptions};
 use std::io::ErrorKind;
@@ -21,6 +22,8 @@ pub(crate) struct Area {
     made_folders: usize,
     /// Whether the file's name in its folder outlasts a crash.
     name_synced: bool,
+    /// For the folder, which is opened to sync the name.
+    reserve: Reserve,
 }
 
 impl Area {
@@ -30,6 +33,7 @@ impl Area {
             file: None,
             made_folders: 0,
             name_synced: false,
+            reserve: Reserve::none(),
         }
     }
 
@@ -45,6 +49,7 @@ impl Area {
     fn file(&mut self, rt: &impl Files<File = File>) -> io::Result<&File> {
         if self.file.is_none() {
             self.file = Some(self.open(rt)?);
+            self.reserve.keep(rt);
         }
         match &self.file {
             Some(file) => Ok(file),
@@ -125,6 +130,7 @@ impl Area {
     pub(crate) fn sync(&mut self, rt: &impl Files<File = File>) -> io::Result<()> {
         self.file(rt)?.sync_all()?;
         if !self.name_synced {
+            self.reserve.release();
             self.sync_names(rt)?;
             self.name_synced = true;
         }

@@ -2,7 +2,8 @@
 //! and tell nothing of what they hold.
 //!
 //! Each opens at its first call, asks std again where a signal cut a call short, and counts a fault
-//! at each call of std that failed. What a file or a peer gives is known to no proof; ranges, counts
+//! at each call of std that failed. A wire without a link, and a disk whose name is not synced yet, each
+//! keep a descriptor in reserve for that. What a file or a peer gives is known to no proof; ranges, counts
 //! and causes are. An object keeps the handle it reaches the system by: any type with the bounds
 //! that its calls name, such as a reference to the program's runtime.
 #![tactic(auto)]
@@ -17,6 +18,7 @@ mod folder;
 mod link;
 mod marks;
 mod read_only;
+mod reserve;
 mod sink;
 mod source;
 mod steady;

@@ -2,6 +2,7 @@ ghost use Rattle.std.specs.Prelude.{◌≡◌, None, IfOk};
 
 use crate::TcpLink;
 use crate::counted::counted;
+use crate::reserve::Reserve;
 use outside::{Failed, Wire};
 use std::fs::File;
 use std::io;
@@ -14,9 +15,6 @@ use wire_base::Host;
 /// After so many seconds a connecting gives up.
 const CONNECTING: u64 = 5;
 
-/// What is opened for the descriptor that it takes alone.
-const RESERVED_PATH: &str = "/dev/null";
-
 /// The way to peers over TCP. A connecting gives up 5 seconds after it began. It has the system look up a
 /// name, for as long as that takes, and tries the addresses in turn; each has an equal part of the time that
 /// is left.
@@ -26,21 +24,22 @@ const RESERVED_PATH: &str = "/dev/null";
 #[derive(Drop)]
 pub struct TcpWire<R> {
     rt: R,
-    reserve: Option<File>,
+    reserve: Reserve,
     open_links: u64,
     faults: u64,
     idles: u64,
 }
 
 impl<R: Net<Stream = TcpStream> + Clock + Files<File = File>> TcpWire<R> {
-    /// Where the system has no descriptor left, there is none in reserve.
+    /// Takes the descriptor in reserve, if the system has one left.
     pub fn new(rt: R) -> TcpWire<R>
         ensures tells_nothing { ⟦<TcpWire<R> as Wire>⟧.outcomes result ≡ None }
         ensures no_open_link { ⟦<TcpWire<R> as Wire>⟧.open_links result ≡ 0 }
         ensures no_fault { ⟦<TcpWire<R> as Wire>⟧.faults result ≡ 0 }
         ensures no_idle { ⟦<TcpWire<R> as Wire>⟧.idles result ≡ 0 }
     {
-        let reserve = reserved(&rt);
+        let mut reserve = Reserve::none();
+        reserve.keep(&rt);
         TcpWire {
             rt,
             reserve,
@@ -49,11 +48,6 @@ impl<R: Net<Stream = TcpStream> + Clock + Files<File = File>> TcpWire<R> {
             idles: 0,
         }
     }
-}
-
-/// A descriptor to keep, where the system has one left.
-fn reserved(rt: &impl Files<File = File>) -> Option<File> {
-    File::open(rt, RESERVED_PATH).ok()
 }
 
 fn stream_to(rt: &(impl Net<Stream = TcpStream> + Clock), host: &Host) -> io::Result<TcpStream> {
@@ -98,7 +92,7 @@ impl<R: Net<Stream = TcpStream> + Clock + Files<File = File>> Wire for TcpWire<R
     ghost idles = { λ w. w.idles };
 
     fn connect(&mut self, host: &Host) -> Result<TcpLink, Failed> {
-        self.reserve = None;
+        self.reserve.release();
         let answer = link_to(&self.rt, host);
         match counted(&mut self.faults, answer) {
             Ok(link) => {
@@ -106,7 +100,7 @@ impl<R: Net<Stream = TcpStream> + Clock + Files<File = File>> Wire for TcpWire<R
                 Ok(link)
             }
             Err(failed) => {
-                self.reserve = reserved(&self.rt);
+                self.reserve.keep(&self.rt);
                 Err(failed)
             }
         }
@@ -117,6 +111,6 @@ impl<R: Net<Stream = TcpStream> + Clock + Files<File = File>> Wire for TcpWire<R
         self.faults = self.faults.saturating_add(link.faults);
         self.idles = self.idles.saturating_add(link.idles);
         link.shut();
-        self.reserve = reserved(&self.rt);
+        self.reserve.keep(&self.rt);
     }
 }

@@ -47,13 +47,13 @@ abbrev tail_of : List ℕ → List ℕ
 tail_of [] = []
 tail_of (m ∷ moments) = moments
 
-last_is : (some others : List ℕ) (x y : ℕ) → some ++ x ∷ [] ≡ others ++ y ∷ [] → x ≡ y
-last_is [] [] x y is = ap (λ (l : List ℕ). head_or l x) is
-last_is [] (o ∷ []) x y is = absurd (let q = ap length is in omega (arith, q))
-last_is [] (o ∷ p ∷ others) x y is = absurd (let q = ap length is in omega (arith, q))
-last_is (s ∷ []) [] x y is = absurd (let q = ap length is in omega (arith, q))
-last_is (s ∷ t ∷ some) [] x y is = absurd (let q = ap length is in omega (arith, q))
-last_is (s ∷ some) (o ∷ others) x y is = last_is some others x y (ap tail_of is)
+ends_alike : (some : List ℕ) (x : ℕ) (others : List ℕ) (y : ℕ) → some ++ x ∷ [] ≡ others ++ y ∷ [] → x ≡ y
+ends_alike [] x [] y is = ap (λ (l : List ℕ). head_or l x) is
+ends_alike [] x (o ∷ []) y is = absurd (let q = ap length is in omega (arith, q))
+ends_alike [] x (o ∷ p ∷ others) y is = absurd (let q = ap length is in omega (arith, q))
+ends_alike (s ∷ []) x [] y is = absurd (let q = ap length is in omega (arith, q))
+ends_alike (s ∷ t ∷ some) x [] y is = absurd (let q = ap length is in omega (arith, q))
+ends_alike (s ∷ some) x (o ∷ others) y is = ends_alike some x others y (ap tail_of is)
 
 few_dropped : (k : ℕ) (moments before behind : List ℕ) (moment : ℕ) → drop k moments ≡ before ++ moment ∷ behind → k < length moments
 few_dropped k moments before behind moment is = omega (arith, ap length is, length-drop k moments, length-append before (moment ∷ behind))
@@ -147,12 +147,12 @@ passes (Some first) (Some mid) after heard now given (inl (ends, same)) apart =
         sym (drop-append-le k snoc.0 (now ∷ []) (omega (arith, few, long))) ∙ ap (drop k) (sym snoc.1) ∙ are
 
     by_behind : (behind : List ℕ) → drop k mid ≡ given.before ++ heard ∷ behind → PassesTimeout (Some first) (Some mid)
-    by_behind [] are = absurd (let same = last_is given.before (drop k snoc.0) heard now (sym (cut given.before [] are)) in omega (arith, same, apart))
+    by_behind [] are = absurd (let same = ends_alike given.before heard (drop k snoc.0) now (sym (cut given.before [] are)) in omega (arith, same, apart))
     by_behind (b ∷ behind) are =
         let last = parted_last b behind in
         let ends_so : drop k snoc.0 ++ now ∷ [] ≡ (given.before ++ heard ∷ last.0) ++ last.1 ∷ [] =
         cut given.before (b ∷ behind) are ∙ ap (λ (l : List ℕ). given.before ++ heard ∷ l) last.2 ∙ sym (append_assoc given.before (heard ∷ last.0) (last.1 ∷ [])) in
-        let is_now : now ≡ last.1 = last_is (drop k snoc.0) (given.before ++ heard ∷ last.0) now last.1 ends_so in
+        let is_now : now ≡ last.1 = ends_alike (drop k snoc.0) now (given.before ++ heard ∷ last.0) last.1 ends_so in
         record {
           before = given.before;
           earlier = heard;

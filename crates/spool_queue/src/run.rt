@@ -83,7 +83,8 @@ pub fn spool_run<X: Wait, R: Source, W: Wire, D: Disk, K: Clock, S: Sink>(
         Rose (D.faults disk.old) (D.faults disk.new) }
     ensures out_fault_only_where_faults_rose { result ≡ SpoolStatus.OutFault →
         Rose (S.faults out.old) (S.faults out.new) }
-    // The peer was not reached, its link failed, its talk has a fault of the peer, or the peer was silent for 30 seconds.
+    // The peer was not reached, its link failed, its talk has a fault of the peer, or the peer was
+    // silent for 30 seconds.
     ensures unreachable_only_where_it_is_lost { result ≡ SpoolStatus.Unreachable →
         IsLost (link_counts (W.faults wire.old) (W.faults wire.new) (W.idles wire.old)
         (W.idles wire.new)) (PeerFails (W.outcomes wire.old) (W.outcomes wire.new))
@@ -91,7 +92,8 @@ pub fn spool_run<X: Wait, R: Source, W: Wire, D: Disk, K: Clock, S: Sink>(
         (K.moments clock.old) (K.moments clock.new)) }
 
     // When it has to be done.
-    ensures what_an_untroubled_run_ends_with { let before = others_of source.old wire.old clock.old out.old in
+    ensures what_an_untroubled_run_ends_with { let before =
+        others_of source.old wire.old clock.old out.old in
         let after = others_of source.new wire.new clock.new out.new in
         IsUntroubled (run_call words.now (R.left source.old) (D.contents disk.old))
         (signs_of R.Source W.Wire D.Disk K.Clock S.Sink before disk.old)
