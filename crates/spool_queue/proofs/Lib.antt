@@ -26,5 +26,6 @@ mod Untroubled
 mod Walks
 mod Windows
 mod Worked
+mod WorkedRuns
 mod WorkedSilence
 mod Writes
