@@ -111,23 +111,27 @@ class ManyFiles(Shipping):
             with (self.folder / "logs" / f"{number}.log").open("a") as log:
                 log.write(line)
 
-    def test_files_that_take_every_other_descriptor(self):
-        """As many files as can be open leave the registry and the worker theirs: the first run over them, and one that goes
-        on from its rows, send all."""
+    def most_files(self, again):
+        """As many files as a limited run can open; it sends a line of each, also where an earlier run has stored their rows."""
         for count in range(OPEN_FILES, 0, -1):
             self.enter_new_folder()
             (self.folder / "logs").mkdir()
             self.append_to_logs(count, "one\n")
             with Peer() as peer:
+                if again:
+                    self.run_settings(program.settings_text(self.folder / "logs" / "*.log", peer.host))
+                    self.append_to_logs(count, "two\n")
                 ran = self.limited_run(peer.host)
             if ran.returncode != FOLDER_FAULT:
-                break
-        self.assertEqual((ran.returncode, len(peer.payloads)), (0, count), ran.stdout)
-        self.assertGreater(count, OPEN_FILES - OTHER_DESCRIPTORS)
-        self.append_to_logs(count, "two\n")
-        with Peer() as peer:
-            ran = self.limited_run(peer.host)
-        self.assertEqual((ran.returncode, len(peer.payloads)), (0, count), ran.stdout)
+                self.assertEqual((ran.returncode, len(peer.payloads)), (0, count * (1 + again)), ran.stdout)
+                return count
+        return 0
+
+    def test_files_that_take_every_other_descriptor(self):
+        """They leave the registry and the worker theirs."""
+        for again in (False, True):
+            with self.subTest(again=again):
+                self.assertGreater(self.most_files(again), OPEN_FILES - OTHER_DESCRIPTORS)
 
     def test_events_of_lines(self):
         """Lines that belong together, filters and processors, each over the file of one input."""
