@@ -112,7 +112,7 @@ def make(packed, into):
         root = Path(room) / "root"
         laid_out({**files, **{f"DEBIAN/{name}": it for name, it in control_files(files)}}, root)
         into.mkdir(parents=True, exist_ok=True)
-        command = ("dpkg-deb", "--root-owner-group", "-Zgzip", "--build", os.fspath(root), os.fspath(into / NAME))
+        command = ("dpkg-deb", "--root-owner-group", "-Zgzip", f"-z{dist.LEVEL}", "--build", os.fspath(root), os.fspath(into / NAME))
         environment = {**os.environ, "SOURCE_DATE_EPOCH": str(products.moment())}
         subprocess.run(command, check=True, env=environment, stdout=subprocess.DEVNULL)
     return into / NAME

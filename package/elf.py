@@ -3,8 +3,8 @@
 import re
 import subprocess
 
-# what a program may need: nothing but the C library, by the version of its symbols
-C_LIBRARY = "libc.so.6"
+# the shared libraries that belong to the GNU C library
+C_LIBRARY = {"libc.so.6", "libm.so.6", "ld-linux-x86-64.so.2"}
 
 
 def shown(program, *options):
