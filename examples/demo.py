@@ -23,8 +23,7 @@ from area import rows_of  # noqa: E402
 from peer import GLANCE, Peer  # noqa: E402
 from receiver import free_port  # noqa: E402
 
-# seconds that building the program and running it usually takes, may take, and between two signs of life
-USUAL_SECONDS = 90
+# seconds that building the program and running it may take, and between two signs of life
 PATIENCE = 600
 SIGN_SECONDS = 10
 # so many lines make four events
@@ -75,7 +74,7 @@ def finish_with_signs(started):
             if seconds > PATIENCE:
                 program.end(started)
                 raise Unbuilt(f"rt try has not ended after {PATIENCE} seconds") from None
-            print(f"  {seconds:.0f} of about {USUAL_SECONDS} seconds", flush=True)
+            print(f"  {seconds:.0f} seconds so far", flush=True)
 
 
 def run_unproved(runs, folder):
@@ -99,7 +98,7 @@ def run_all(runs, folder):
         proved = program.proved_program()
     except program.Missing as why:
         print(f"Not proved: {why}.")
-        print(f"So rt try builds the program, with no proof, and runs it, in about {USUAL_SECONDS} seconds:", flush=True)
+        print("So rt try builds the program, with no proof, and runs it, in one to two minutes:", flush=True)
         return run_unproved(runs, folder)
     print(f"Proved: {proved.relative_to(program.ROOT)}, as rt ci built it.", flush=True)
     ran = [program.run(proved, words, folder) for words in runs]
