@@ -2,7 +2,7 @@
 
 PREFIX ?= /usr/local
 
-# what is built and installed: beat_main, beat_status, beat_sink, beat_container or beat_spool
+# what is built and installed: beat_main, beat_check, beat_status, beat_sink, beat_container or beat_spool
 PROGRAM ?= beat_main
 
 # prints this list

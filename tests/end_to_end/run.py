@@ -2,7 +2,7 @@
 """Runs the programs over real files, real sockets and a real registry area, and compares what they did.
 
     python3 tests/end_to_end/run.py [--program PATH] [--receiver PATH] [--container PATH] [--spool PATH] [--status PATH]
-                                   [--seed N] [NAME..]
+                                   [--check PATH] [--seed N] [NAME..]
 
 Names choose tests; without any, all are run.
 """
@@ -15,6 +15,7 @@ import unittest
 from pathlib import Path
 
 import program
+from check import Check
 from containers import Containers
 from generated import Generated
 from killed import Killed
@@ -76,7 +77,7 @@ def all_tests():
     """Each test, by its name."""
     tests = {}
     kinds = (Generated, OneFile, ManyFiles, Refusals, Peers, Surroundings)
-    kinds += (Receiver, Containers, Spool, Status, Killed, Restarts)
+    kinds += (Receiver, Containers, Spool, Status, Check, Killed, Restarts)
     for kind in kinds:
         tests.update({it[len(PREFIX) :]: kind(it) for it in vars(kind) if it.startswith(PREFIX)})
     return tests
@@ -101,6 +102,8 @@ def give_programs(given, chosen):
         Spool.sink = program_at(given.receiver, "beat_sink")
     if Status in kinds:
         Status.status = program_at(given.status, "beat_status")
+    if Check in kinds:
+        Check.checked = program_at(given.check, "beat_check")
 
 
 def main():
@@ -113,6 +116,7 @@ def main():
         ("--container", "beat_container"),
         ("--spool", "beat_spool"),
         ("--status", "beat_status"),
+        ("--check", "beat_check"),
     )
     for option, name in programs:
         words.add_argument(option, type=Path, help=f"the program {name} (default: the one that rt ci built)")

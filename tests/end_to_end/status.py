@@ -20,7 +20,7 @@ LINES = 3_000
 WINDOW = 20
 
 # so many looks at two areas that are written all the time, with so many rows, and so many commits between two checkpoints
-GLANCES = 200
+GLANCES = 1_000
 ROWS = 100
 COMMITS = 20
 

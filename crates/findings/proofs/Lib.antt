@@ -1,0 +1,7 @@
+mod Counts
+mod Eaches
+mod Findings
+mod GlobLists
+mod Sections
+mod Tries
+mod Unreads

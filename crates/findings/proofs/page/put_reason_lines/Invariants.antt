@@ -1,0 +1,6 @@
+use Rattle.std.proofs.Common.{◌≡◌, ◌++◌, flat_map, map, take}
+use Rattle.findings.specs.Texts.{reason_line}
+use Rattle.findings.proofs.page.put_reason_lines.Given as goal
+
+abbrev pub invariant-loop-one : goal.invariant-loop-one
+invariant-loop-one l = l.page.items ≡ l.initial.page.items ++ flat_map reason_line (map (λ one. one.now) (take l.one-index l.of))

@@ -1,0 +1,13 @@
+pub mod Checks
+pub mod Counting
+pub mod Each
+pub mod Ends
+pub mod Findings
+pub mod Globs
+pub mod Hosts
+pub mod Mem
+pub mod Page
+pub mod Scanning
+pub mod Seeing
+pub mod System
+pub mod Texts

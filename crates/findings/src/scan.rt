@@ -1,0 +1,90 @@
+ghost use Rattle.std.specs.Prelude.{◌≡◌, ◌<◌, ◌≤◌, ◌-◌, ◌^◌, IfErr, IfOk, IfSome, All, length, true, false, []};
+ghost use Rattle.findings.specs.Scanning.{ListsSo, ShowsEnd, IsScanEnd, TellsMarks};
+ghost use Rattle.outside.specs.Counts.{Rose};
+ghost use Rattle.prospect.specs.AskedFiles.{AreAskable};
+ghost use Rattle.prospect.specs.Members.{HaveGlobs};
+
+use event_tree::InputRule;
+use outside::{Folder, FolderError};
+use prospect::{Keyed, Listed, Parted, ScanError, ask_files, list_files, part_doubled};
+use report::Status;
+use std::alloc::Global;
+use wire_base::Full;
+
+/// The files that the inputs name now; `None` where a folder could not be listed.
+pub(crate) fn listed_files<F: Folder>(
+    alloc: Global,
+    folder: &mut F,
+    inputs: &[InputRule],
+) -> Result<Option<Vec<Listed>>, Status>
+    requires { HaveGlobs inputs.now }
+    ensures listed { IfOk result (λ listed. IfSome (F.told folder.old)
+        (λ told. ListsSo inputs.now told listed (F.told folder.new))) }
+    ensures shows { IfErr result (λ status. IfSome (F.told folder.old)
+        (λ told. ShowsEnd inputs.now told status (F.told folder.new))) }
+    ensures ends { IfErr result IsScanEnd }
+    ensures of_inputs { IfOk result (λ listed. IfSome listed
+        (λ files. All (λ one. one.input < length inputs.now) files.items)) }
+    ensures none_only_where_faults_rose { IfOk result (λ listed. listed ≡ None →
+        Rose (F.faults folder.old) (F.faults folder.new)) }
+    ensures open_tails_kept { F.open_tails folder.new ≡ F.open_tails folder.old }
+    ensures faults_never_fall { F.faults folder.old ≤ F.faults folder.new }
+{
+    match list_files(alloc, folder, inputs) {
+        Ok(listed) => Ok(Some(listed)),
+        Err(ScanError::Failed) => Ok(None),
+        Err(ScanError::NoMemory) => Err(Status::NoMemory),
+        Err(ScanError::NoNative { path }) => Err(Status::NoNative { path }),
+        Err(ScanError::TooMany { path }) => Err(Status::TooMany {
+            what: Full::Files,
+            path,
+        }),
+    }
+}
+
+/// Which of the listed files are not followed.
+#[derive(Drop)]
+pub struct Marks {
+    /// Those that are too small for their fingerprints.
+    pub small: Vec<Listed>,
+    /// Those with the key of a file before them.
+    pub doubled: Vec<Listed>,
+    /// Whether a file could not be read; then none is told.
+    pub failed: bool,
+}
+
+/// Asks the listed files for their keys, and tells which of them are not followed.
+pub(crate) fn marks_of<F: Folder>(
+    alloc: Global,
+    folder: &mut F,
+    inputs: &[InputRule],
+    listed: Vec<Listed>,
+) -> Result<Marks, Status>
+    requires askable { AreAskable inputs.now }
+    requires of_inputs { All (λ one. one.input < length inputs.now) listed.items }
+    ensures marked { IfOk result (λ marks. IfSome (F.told folder.old)
+        (λ told. TellsMarks inputs.now told listed.items marks (F.told folder.new))) }
+    ensures ends { IfErr result (λ status. status ≡ Status.NoMemory) }
+    ensures failed_only_where_faults_rose { IfOk result (λ marks. marks.failed ≡ true →
+        Rose (F.faults folder.old) (F.faults folder.new)) }
+    ensures open_tails_kept { F.open_tails folder.old < 2 ^ 64 - 1 →
+        F.open_tails folder.new ≡ F.open_tails folder.old }
+    ensures faults_never_fall { F.faults folder.old ≤ F.faults folder.new }
+{
+    match ask_files(alloc, folder, inputs, listed) {
+        Ok(Keyed { files, small, .. }) => match part_doubled(alloc, files) {
+            Ok(Parted { doubled, .. }) => Ok(Marks {
+                small,
+                doubled,
+                failed: false,
+            }),
+            Err(_) => Err(Status::NoMemory),
+        },
+        Err(FolderError::Failed) => Ok(Marks {
+            small: Vec::new(alloc),
+            doubled: Vec::new(alloc),
+            failed: true,
+        }),
+        Err(FolderError::NoMemory) => Err(Status::NoMemory),
+    }
+}

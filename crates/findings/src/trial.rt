@@ -1,0 +1,9 @@
+use wire_base::{Host, Text};
+
+/// A host that was tried.
+#[derive(Debug, Drop)]
+pub struct Trial {
+    pub host: Host,
+    /// Why no connection was made; `None` where one was.
+    pub refusal: Option<Text>,
+}
