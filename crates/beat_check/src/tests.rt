@@ -180,7 +180,7 @@ const CASES: &[Case] = &[
     Case {
         settings: "# nothing\n[output]\nhosts = \n",
         status: 3,
-        told: &["beat.toml:3: invalid string\nexpected `\"`, `'`\n"],
+        told: &["beat.toml:3: invalid value, expected a string, number, boolean, date-time, array or inline table\n"],
         ..REFUSED
     },
     Case {

@@ -44,7 +44,8 @@ pub fn check<R: Source, F: Folder, Y: System, H: Hosts, S: Sink, E: Sink>(
     // What is printed.
     ensures shown { IsShown result → Checks asked.now (R.left source.old)
         (told_by F.Folder Y.System H.Hosts outside.old outside.new) result
-        (streams_of (S.written out.old) (S.written out.new) (E.written err.old) (E.written err.new)) }
+        (streams_of (S.written out.old) (S.written out.new)
+        (E.written err.old) (E.written err.new)) }
     ensures nothing_printed_where_refused { (status : Status) → result ≡ Ending.Refused status →
         status ≢ Status.OutFault → S.written out.new ≡ S.written out.old }
 
@@ -191,7 +192,8 @@ fn tell<S: Sink, E: Sink>(
     err: &mut E,
 ) -> Ending
     ensures shown { IsShown result → Prints asked.now settings.now seen.now result
-        (streams_of (S.written out.old) (S.written out.new) (E.written err.old) (E.written err.new)) }
+        (streams_of (S.written out.old) (S.written out.new)
+        (E.written err.old) (E.written err.new)) }
     ensures nothing_printed_where_refused { (status : Status) → result ≡ Ending.Refused status →
         status ≢ Status.OutFault → S.written out.new ≡ S.written out.old }
     ensures ends { IsTellingEnd
