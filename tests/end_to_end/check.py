@@ -218,19 +218,20 @@ class Check(Shipping):
             port = closed.getsockname()[1]
         refused = f"127.0.0.1:{port}"
         with Peer() as one, Peer() as other:
-            self.write_inputs(("w", "path", self.logs / "*.log"), hosts=(one.host, other.host))
+            first, second = one.host, other.host
+            self.write_inputs(("w", "path", self.logs / "*.log"), hosts=(first, second))
             self.assertEqual(self.check().returncode, DONE)
             ran = self.check("--connect")
             self.assertEqual((ran.returncode, ran.stderr), (DONE, b""))
             _, found = self.sections(ran)
-            self.assertEqual(found["host that connects"], [text(one.host), text(other.host)])
-            self.write_inputs(("w", "path", self.logs / "*.log"), hosts=(one.host, refused, other.host))
+            self.assertEqual(found["host that connects"], [text(first), text(second)])
+            self.write_inputs(("w", "path", self.logs / "*.log"), hosts=(first, refused, second))
             ran = self.check("--connect")
         why = f"{text(refused)}: Connection refused (os error 111)"
         self.assertEqual((ran.returncode, ran.stderr.decode()), (UNREACHABLE, f"{why}\n"))
         _, found = self.sections(ran)
         self.assertEqual(found["host that does not connect"], [why])
-        self.assertEqual(found["host that connects"], [text(one.host), text(other.host)])
+        self.assertEqual(found["host that connects"], [text(first), text(second)])
         for peer in (one, other):
             self.assertEqual((peer.connections, peer.frames, peer.faults), (2, [], []))
 

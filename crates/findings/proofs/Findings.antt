@@ -1,5 +1,5 @@
 -- What is seen where files were listed, by its parts.
-use Rattle.std.proofs.Common.{◌≡◌, List, map, inl, Option, None, Some, IfSome, Result, Ok, Err, IfOk, Vec, sym, ap, subst}
+use Rattle.std.proofs.Common.{◌≡◌, List, map, inl, Option, None, Some, IfSome, Result, Ok, Err, IfOk, Vec, sym, subst}
 use Rattle.std.specs.declared.alloc.Global.{Global}
 use Rattle.event_tree.specs.declared.input_rule.InputRule.{InputRule}
 use Rattle.outside.specs.Folders.{FolderHistory}

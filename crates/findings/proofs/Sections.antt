@@ -1,5 +1,5 @@
 -- The text of a section, put piece by piece.
-use Rattle.std.proofs.Common.{◌≡◌, ◌≢◌, ℕ, List, [], ◌∷◌, ◌++◌, length, take, flat_map, refl, ap, ◌∙◌, append_assoc}
+use Rattle.std.proofs.Common.{◌≡◌, ℕ, List, [], ◌∷◌, ◌++◌, length, take, flat_map, ap, ◌∙◌, append_assoc}
 use Rattle.findings.specs.Page.{head_line, more_text, section_text}
 use Rattle.findings.specs.Texts.{finding_line}
 use Rattle.findings.specs.declared.finding.Finding.{Finding}

@@ -1,6 +1,6 @@
 -- A whole check (this project's profile): the settings that the source spells, what is seen of their files and of the hosts,
 -- and what is printed of that; or why there is nothing to check.
-use Rattle.std.specs.Prelude.{◌≡◌, ℕ, Bool, true, false, List, [], take, Option, Some, IfSome, Result, Ok}
+use Rattle.std.specs.Prelude.{◌≡◌, ℕ, Bool, true, false, List, [], take, Option, IfSome, Result, Ok}
 use Rattle.beat_config.specs.Document.{AreSettingsOf, IsFirstFault}
 use Rattle.event_tree.specs.declared.settings.Settings.{Settings}
 use Rattle.outside.specs.Counts.{Rose}

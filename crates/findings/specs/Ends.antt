@@ -1,5 +1,5 @@
 -- How a check may end (this project's profile).
-use Rattle.std.specs.Prelude.{◌≡◌, ℕ}
+use Rattle.std.specs.Prelude.{ℕ}
 use Rattle.outside.specs.Counts.{Rose}
 use Rattle.report.specs.ExitStatus.{code_of as status_code}
 use Rattle.report.specs.declared.status.Status.{Status}

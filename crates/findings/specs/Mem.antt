@@ -1,5 +1,5 @@
 -- What a system in memory tells (this project's profile): what its tables have.
-use Rattle.std.specs.Prelude.{ℕ, List, [], Option, None, Some, Vec}
+use Rattle.std.specs.Prelude.{List, [], Option, None, Some, Vec}
 use Rattle.std.specs.BTreeMap.{get}
 use Rattle.std.specs.declared.alloc.Global.{Global}
 use Rattle.glob_paths.specs.Root.{root_of}

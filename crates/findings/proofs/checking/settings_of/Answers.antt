@@ -1,4 +1,4 @@
-use Rattle.std.proofs.Common.{◌≡◌, ◌⊎◌, inl, inr}
+use Rattle.std.proofs.Common.{◌⊎◌, inl, inr}
 use Rattle.beat_config.specs.Document.{IsFirstFault}
 use Rattle.source_bytes.proofs.Spelled.{spelled}
 use Rattle.findings.specs.declared.settings.TheConstants.{LIMIT}

@@ -1,4 +1,4 @@
-use Rattle.std.proofs.Common.{◌≡◌, ℕ, ◌+◌, true, false, take, sym, ◌∙◌, subst, arith}
+use Rattle.std.proofs.Common.{◌≡◌, ℕ, ◌+◌, true, false, take, sym, subst, arith}
 use Rattle.findings.specs.Counting.{Counts, IsOf}
 use Rattle.findings.proofs.Counts.{counts_in, counts_out}
 use Rattle.findings.proofs.counting.count_of.Goals.{else-is_of, then-is_of}

@@ -1,4 +1,4 @@
-use Rattle.std.proofs.Common.{inl, refl, sym}
+use Rattle.std.proofs.Common.{inl, refl}
 use Rattle.std.proofs.lemmas.Option.{IfSome_then}
 use Rattle.findings.proofs.scan.marks_of.Goals as goal
 
