@@ -2,6 +2,7 @@
 -- line feed. Numbers that are not known are null. Times are in milliseconds.
 use Rattle.std.specs.Prelude.{◌≡◌, ℕ, ◌-◌, List, [], ◌∷◌, ◌++◌, codes, map, Option, None, Some}
 use Rattle.serde_json.specs.Data.{Data, Items, Members, array, member, no_members, null, number, object, string, unsigned}
+use Rattle.serde_json.specs.Read.{read}
 use Rattle.serde_json.specs.View.{items_of}
 use Rattle.serde_json.specs.Written.{compact_text}
 use Rattle.wire_base.specs.declared.numbers.Moment.{Moment}
@@ -65,3 +66,8 @@ overview_data overview =
 
 unfoldable pub json_text : Overview → List ℕ
 json_text overview = compact_text (overview_data overview) ++ codes "\n"
+
+-- the text of the look; without its line feed a reader of JSON makes the same data of it
+pub record IsJson (overview : Overview) (text : List ℕ) : Type 0 where
+  pub spelled : text ≡ json_text overview
+  pub read_back : read (compact_text (overview_data overview)) ≡ Some (overview_data overview)

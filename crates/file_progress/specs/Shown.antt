@@ -2,7 +2,7 @@
 use Rattle.std.specs.Prelude.{◌≡◌, ℕ, List, Option, Ok}
 use Rattle.report.specs.Writing.{WritesAll}
 use Rattle.wire_base.specs.declared.numbers.Moment.{Moment}
-use Rattle.file_progress.specs.Json.{json_text}
+use Rattle.file_progress.specs.Json.{IsJson}
 use Rattle.file_progress.specs.Looks.{Looks, Told}
 use Rattle.file_progress.specs.Prometheus.{prometheus_text}
 use Rattle.file_progress.specs.Table.{IsTable}
@@ -12,7 +12,7 @@ use Rattle.file_progress.specs.declared.showing.Format.TheVariants.{Json, Promet
 
 abbrev pub IsTextOf : Format → Overview → List ℕ → Type 0
 IsTextOf Table overview text = IsTable overview text
-IsTextOf Json overview text = text ≡ json_text overview
+IsTextOf Json overview text = IsJson overview text
 IsTextOf Prometheus overview text = text ≡ prometheus_text overview
 
 -- the sink was given the text of a look that shows what the objects told

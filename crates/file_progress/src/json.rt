@@ -1,5 +1,5 @@
 ghost use Rattle.std.specs.Prelude.{◌≡◌, IfOk, map};
-ghost use Rattle.file_progress.specs.Json.{age_data, file_data, json_text, moment_data, number_data, overview_data, text_data, totals_data};
+ghost use Rattle.file_progress.specs.Json.{IsJson, age_data, file_data, moment_data, number_data, overview_data, text_data, totals_data};
 ghost use Rattle.serde_json.specs.View.{view};
 
 use crate::overview::Overview;
@@ -11,7 +11,7 @@ use wire_base::{Moment, NoMemory, Text};
 
 /// The JSON text of a look: one object, and a line feed.
 pub(crate) fn json_text(alloc: Global, overview: &Overview) -> Result<Vec<u8>, NoMemory>
-    ensures { IfOk result (λ text. text.items ≡ json_text overview.now) }
+    ensures { IfOk result (λ text. IsJson overview.now text.items) }
 {
     let value = overview_value(alloc, overview)?;
     let mut text = value.to_string(alloc)?.into_bytes();
