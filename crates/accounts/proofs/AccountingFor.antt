@@ -1,35 +1,43 @@
 -- A run is accounted for by what is known of it as it ends.
-use Rattle.std.proofs.Common.{List, [], ◌∷◌, ◌++◌, Option}
+use Rattle.std.proofs.Common.{◌≡◌, ℕ, ◌<◌, Contains, List, [], ◌∷◌, ◌++◌, Option, refl}
 use Rattle.std.specs.List.{AllByRecursion}
-use Rattle.kept_rows.specs.Account.{Place}
+use Rattle.kept_rows.proofs.Showing.{both}
+use Rattle.kept_rows.specs.Account.{Place, SlotAccount, slot_of}
 use Rattle.kept_rows.specs.Backed.{AreBacked, AreBegun, AreInRows}
 use Rattle.kept_rows.specs.Epochs.{AreNumbered}
 use Rattle.kept_rows.specs.Run.{Run, Scan}
+use Rattle.ship_core.proofs.Members.{given_there}
+use Rattle.ship_core.specs.RowsOver.{slot_for, slots_for}
+use Rattle.wire_base.proofs.ByteOrder.{compare_same}
 use Rattle.wire_base.specs.declared.note.Note.{Note}
 use Rattle.wire_base.specs.declared.parcel.Parcel.{Parcel}
 use Rattle.slot_parts.specs.Tellings.{tellings_in}
 use Rattle.accounts.specs.AccountedFor.{AccountsFor}
 use Rattle.accounts.specs.Filed.{Filed, accounts_of, turned_in, turned_of}
 use Rattle.accounts.specs.FollowedFile.{IsFollowedFile}
+use Rattle.accounts.specs.Hidden.{Hidden, hidden_account, hidden_accounts, hidden_begin, hidden_key, hidden_slot, with_hidden}
 use Rattle.accounts.specs.Places.{ArePlaces}
-use Rattle.accounts.specs.RunTold.{RunTold}
+use Rattle.accounts.specs.RunTold.{RunNotes, RunTold}
 use Rattle.accounts.specs.Taken.{Taken, acknowledged_in}
 use Rattle.accounts.proofs.Accounts.{are_filed, are_in_epochs, have_slots, is_account, told_once}
 use Rattle.accounts.proofs.Acknowledged.{acknowledged_once}
 use Rattle.accounts.proofs.Apart.{EachAdjoins}
-use Rattle.accounts.proofs.Backed.{are_backed, are_noted}
-use Rattle.accounts.proofs.BegunRows.{begun_keys_have_rows, have_ground, notes_are_orderly}
+use Rattle.accounts.proofs.Backed.{are_backed}
+use Rattle.accounts.proofs.BegunRows.{are_notes, begun_keys_have_rows, files_apart}
 use Rattle.accounts.proofs.Beginning.{are_begun}
 use Rattle.accounts.proofs.Following.{are_followed}
+use Rattle.accounts.proofs.HiddenAccounts.{account_with_hidden, in_rows_with_hidden, sent_with_hidden}
+use Rattle.accounts.proofs.HiddenFollowed.{followed_with_hidden, premises_before}
+use Rattle.accounts.proofs.HiddenSlots.{accounts_below, has_with_hidden}
 use Rattle.accounts.proofs.Keeping.{images_hold_kept_rows, rows_are_kept}
 use Rattle.accounts.proofs.OneSlot.{slot_is_numbered}
 use Rattle.accounts.proofs.Openings.{file_in_epochs}
 use Rattle.accounts.proofs.Ordered.{slots_apart, turned_apart}
-use Rattle.accounts.proofs.Orderly.{are_in_rows}
+use Rattle.accounts.proofs.Orderly.{are_in_rows, member_is}
 use Rattle.accounts.proofs.Places.{have_places}
 use Rattle.accounts.proofs.Sending.{sent_only}
 
-module _ (run : Run) (scan : Scan) (files : List Filed) (workers : List Taken) (first collected : List Note) (told : RunTold run scan files workers first collected) where
+module _ (run : Run) (scan : Scan) (files : List Filed) (hiddens : List Hidden) (workers : List Taken) (notes : RunNotes) (told : RunTold run scan files hiddens workers notes) where
   each_adjoins : (some : List Filed) → AllByRecursion (IsFollowedFile run scan) some → AllByRecursion (λ (file : Filed). EachAdjoins (tellings_in (turned_in file).history)) some
   each_adjoins [] each = tt
   each_adjoins (file ∷ some) each = ((file_in_epochs run scan file each.0).adjoin, each_adjoins some each.1)
@@ -39,39 +47,56 @@ module _ (run : Run) (scan : Scan) (files : List Filed) (workers : List Taken) (
   each_is_numbered placed (file ∷ some) each = (slot_is_numbered run scan told.by placed file each.0, each_is_numbered placed some each.1)
 
   module _ (placed : Parcel → Option Place) (places : ArePlaces placed workers run.trace.wires) where
-    pub in_rows : AreInRows (accounts_of placed files)
-    in_rows = are_in_rows placed files (are_filed run scan files told.followed.each) (each_adjoins files told.followed.each)
-        (each_is_numbered placed files told.followed.each)
+    abbrev account : List SlotAccount
+    account = with_hidden (accounts_of placed files) hiddens
 
-    pub backed : AreBacked (accounts_of placed files) run.trace.wires (first ++ collected)
+    pub in_rows : AreInRows account
+    in_rows = in_rows_with_hidden (accounts_of placed files) hiddens (are_in_rows placed files (are_filed run scan files told.followed.each) (each_adjoins files told.followed.each)
+        (each_is_numbered placed files told.followed.each))
+
+    pub backed : AreBacked account run.trace.wires notes.all
     backed =
         are_backed placed run.trace.wires files (slots_apart 0 files told.followed.slots) (are_filed run scan files told.followed.each) (acknowledged_in workers) places.well
-        first collected told.noted (have_ground run scan files workers first collected told)
+        hiddens told.behind notes.all (are_notes run scan files hiddens workers notes told).each
 
-    pub begun : AreBegun (accounts_of placed files) (first ++ collected)
-    begun = are_begun placed (first ++ collected) files (are_noted files first collected told.noted)
+    hidden_is_begun : (hidden : Hidden) → Contains notes.all (hidden_begin hidden) → Contains (slots_for (hidden_key hidden) notes.all) (hidden_slot hidden)
+    hidden_is_begun hidden there =
+        given_there (slot_for (hidden_key hidden)) notes.all (hidden_begin hidden) (hidden_slot hidden) there (rw (compare_same (hidden_key hidden) (hidden_key hidden) refl) refl)
 
-    pub accounts_for : AccountsFor run (accounts_of placed files) (first ++ collected)
+    pub begun : AreBegun account notes.all
+    begun =
+        let are = are_notes run scan files hiddens workers notes told in
+        has_with_hidden (λ (one : SlotAccount). Contains (slots_for one.following.key notes.all) (slot_of one)) (accounts_of placed files) hiddens
+        (are_begun placed notes.all files are.begun)
+        (λ hidden there. hidden_is_begun hidden (member_is (λ (h : Hidden). Contains notes.all (hidden_begin h)) hiddens hidden are.hidden_begun there))
+
+    below : AllByRecursion (λ (one : SlotAccount). slot_of one < told.behind.least) (accounts_of placed files)
+    below = accounts_below placed told.behind.least files told.behind.files_below
+
+    pub accounts_for : AccountsFor run account notes.all
     accounts_for = record {
-      followed = are_followed run scan told.by placed files told.followed;
-      is = is_account run scan told.by placed files told.followed places.one_each;
-      sent = sent_only placed run.trace.wires files (slots_apart 0 files told.followed.slots) (are_filed run scan files told.followed.each)
+      followed = followed_with_hidden run scan hiddens told.may_go (accounts_of placed files) told.behind.least below told.behind.slots (files_apart run scan files hiddens workers notes told placed)
+          (are_followed run scan told.by placed files told.followed);
+      is = λ premises. account_with_hidden run scan hiddens told.may_go (accounts_of placed files) told.behind.least below told.behind.slots (files_apart run scan files hiddens workers notes told placed)
+          (is_account run scan told.by placed files told.followed places.one_each (premises_before run scan hiddens told.may_go (accounts_of placed files) premises));
+      sent = sent_with_hidden (accounts_of placed files) hiddens run.trace.wires
+          (sent_only placed run.trace.wires files (slots_apart 0 files told.followed.slots) (are_filed run scan files told.followed.each)
           (turned_apart files told.followed.slots (have_slots run scan files told.followed.each)) (are_in_epochs run scan files told.followed.each)
-          workers collected told.talks told.fits (told_once run scan files told.followed);
-      orderly = notes_are_orderly run scan files workers first collected told;
-      ends = rows_are_kept (accounts_of placed files) run.opening run.trace.wires (first ++ collected) in_rows backed begun;
-      begun = begun_keys_have_rows run scan files workers first collected told placed;
-      images = images_hold_kept_rows (accounts_of placed files) run.opening run.trace.wires (first ++ collected) in_rows backed;
+          workers notes.collected told.talks told.fits (told_once run scan files told.followed));
+      orderly = told.mixed.orderly;
+      ends = rows_are_kept account run.opening run.trace.wires notes.all in_rows backed begun;
+      begun = λ rows over. begun_keys_have_rows run scan files hiddens workers notes told placed rows over;
+      images = images_hold_kept_rows account run.opening run.trace.wires notes.all in_rows backed;
     }
 
   -- by the places that its workers' talks give
   pub record IsAccountedFor : Type 0 where
     pub placed : Parcel → Option Place
     pub places : ArePlaces placed workers run.trace.wires
-    pub accounts : AccountsFor run (accounts_of placed files) (first ++ collected)
+    pub accounts : AccountsFor run (with_hidden (accounts_of placed files) hiddens) notes.all
 
   pub is_accounted_for : IsAccountedFor
   is_accounted_for =
-      let once = acknowledged_once (turned_of files) workers collected told.fits (told_once run scan files told.followed) in
+      let once = acknowledged_once (turned_of files) workers notes.collected told.fits (told_once run scan files told.followed) in
       let have = have_places workers run.trace.wires told.talks once in
       record { placed = have.placed; places = have.are; accounts = accounts_for have.placed have.are }

@@ -15,7 +15,7 @@ slot_of_begin : (file : Filed) (notes : List Note) (noted : IsNoted notes file) 
     slot_for file.opened.begin.key (Begin file.opened.begin.slot file.opened.begin.key noted.path file.opened.begin.epoch file.opened.begin.base noted.changed) ≡ Some (slot_in file)
 slot_of_begin file notes noted = rw (compare_same file.opened.begin.key file.opened.begin.key refl) refl
 
-slot_there : (notes : List Note) (file : Filed) → IsNoted notes file → Contains (slots_for file.opened.begin.key notes) (slot_in file)
+pub slot_there : (notes : List Note) (file : Filed) → IsNoted notes file → Contains (slots_for file.opened.begin.key notes) (slot_in file)
 slot_there notes file noted =
     let begin = file.opened.begin in
     let note = Begin begin.slot begin.key noted.path begin.epoch begin.base noted.changed in

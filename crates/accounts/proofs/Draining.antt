@@ -26,16 +26,16 @@ use Rattle.wire_base.specs.declared.parcel.Parcel.{Parcel}
 use Rattle.wire_base.specs.declared.row.Row.{Row}
 use Rattle.accounts.specs.RunDone.{IsAmongFiles, IsFullScan, RunDone, IsToldWhole}
 use Rattle.accounts.specs.Accounted.{followed_tail}
-use Rattle.accounts.specs.Filed.{Filed, IsNoted, Opening, account_of, accounts_of, following_of, slot_in, tail_by, told_over, turned_in}
+use Rattle.accounts.specs.Filed.{Filed, Opening, account_of, accounts_of, following_of, slot_in, tail_by, told_over, turned_in}
 use Rattle.accounts.specs.FollowedFile.{IsFollowedFile, key_in, tail_of}
+use Rattle.accounts.specs.Hidden.{Hidden, with_hidden}
 use Rattle.accounts.specs.OneScan.{IsByOneScan}
 use Rattle.accounts.specs.Parted.{kept_looks}
-use Rattle.accounts.specs.RunTold.{RunTold}
+use Rattle.accounts.specs.RunTold.{RunNotes, RunTold}
 use Rattle.accounts.specs.Taken.{Taken, acknowledged_in}
 use Rattle.accounts.specs.ToldFile.{IsReadThrough, IsToldToItsEnd}
 use Rattle.accounts.proofs.Accounts.{are_in_epochs, have_slots}
-use Rattle.accounts.proofs.Backed.{are_noted}
-use Rattle.accounts.proofs.BegunRows.{begun_row, have_ground}
+use Rattle.accounts.proofs.BegunRows.{are_notes, begun_row, collected_in_all}
 use Rattle.accounts.proofs.Backing.{mapped_there, slot_found}
 use Rattle.accounts.proofs.Ends.{is_read_to_its_end}
 use Rattle.accounts.proofs.Following.{followings_of}
@@ -43,7 +43,8 @@ use Rattle.accounts.proofs.LastEpoch.{epoch_is, offset_is}
 use Rattle.accounts.proofs.LastNotes.{moment_is}
 use Rattle.accounts.proofs.Lists.{last_of_each}
 use Rattle.accounts.proofs.Openings.{file_epochs, file_in_epochs}
-use Rattle.accounts.proofs.Ordered.{first_notes_settle_nothing, slots_apart, turned_apart}
+use Rattle.accounts.proofs.HiddenSlots.{found_with_hidden}
+use Rattle.accounts.proofs.Ordered.{slots_apart, turned_apart}
 use Rattle.accounts.proofs.Orderly.{member_is}
 use Rattle.accounts.proofs.Segmented.{is_lost}
 use Rattle.accounts.proofs.Slots.{tells_both}
@@ -68,12 +69,9 @@ same_rule rules input other rule another is and same =
 no_look : (fall : Look) (later : List Look) → fall ∷ later ≡ [] → ⊥
 no_look fall later none = cc
 
-module _ (run : Run) (scan : Scan) (files : List Filed) (workers : List Taken) (first collected : List Note) (told : RunTold run scan files workers first collected)
-    (done : RunDone run scan files workers first collected) (placed : Parcel → Option Place) (premises : Premises run (followings_of placed files))
-    (rows : List Row) (over : AreRowsOver run.opening (first ++ collected) rows) where
-  abbrev notes : List Note
-  notes = first ++ collected
-
+module _ (run : Run) (scan : Scan) (files : List Filed) (hiddens : List Hidden) (workers : List Taken) (notes : RunNotes) (told : RunTold run scan files hiddens workers notes)
+    (done : RunDone run scan files workers notes) (placed : Parcel → Option Place) (premises : Premises run (followings_of placed files))
+    (rows : List Row) (over : AreRowsOver run.opening notes.all rows) where
   is_whole : IsWhole run scan
   is_whole = whole_by_entries run scan told.by done.full
 
@@ -81,11 +79,8 @@ module _ (run : Run) (scan : Scan) (files : List Filed) (workers : List Taken) (
     followed : IsFollowedFile run scan file
     followed = member_is (IsFollowedFile run scan) files file told.followed.each among
 
-    whole : IsToldWhole run scan first file
-    whole = member_is (IsToldWhole run scan first) files file done.whole among
-
-    noted : IsNoted notes file
-    noted = member_is (IsNoted notes) files file (are_noted files first collected told.noted) among
+    whole : IsToldWhole run scan notes.all file
+    whole = member_is (IsToldWhole run scan notes.all) files file done.whole among
 
     sees : SeesTruncationsOf (account_of placed file).following
     sees =
@@ -108,22 +103,22 @@ module _ (run : Run) (scan : Scan) (files : List Filed) (workers : List Taken) (
     has_its_row =
         let numbered = file_epochs run scan file followed in
         let apart = slots_apart 0 files told.followed.slots in
-        let ground = have_ground run scan files workers first collected told in
         let slots = have_slots run scan files told.followed.each in
-        let begun = begun_row run scan files workers first collected told file among rows over in
+        let are = are_notes run scan files hiddens workers notes told in
+        let within = collected_in_all run scan files hiddens workers notes told in
+        let begun = begun_row run scan files hiddens workers notes told file among rows over in
         let epochs = are_in_epochs run scan files told.followed.each in
-        let epoch = epoch_is files workers first collected apart (turned_apart files told.followed.slots slots) epochs slots told.noted ground done.settled file among
-        numbered noted in
+        let epoch = epoch_is files hiddens workers notes.all notes.collected apart told.behind (turned_apart files told.followed.slots slots) epochs slots are within done.settled file among numbered in
         let in_epochs = file_in_epochs run scan file followed in
         let adjoin : Adjoin present.start (spans_of present.told) =
         last_of_each (λ (t : Telling). Adjoin t.start (spans_of t.told)) (turned_in file).history.past present in_epochs.adjoin in
-        let offset = offset_is files workers first collected apart (turned_apart files told.followed.slots slots) epochs slots told.noted ground done.settled file among
-        begun.start begun.epoch_is begun.base_is numbered epoch (first_notes_settle_nothing files first told.noted) adjoin in (
-          standing_row (notes_of (slot_in file) notes) begun.start,
+        let offset = offset_is files hiddens workers notes.all notes.collected apart told.behind (turned_apart files told.followed.slots slots) epochs slots are within done.settled file among
+        begun.start begun.epoch_is begun.base_is numbered epoch adjoin in (
+          standing_row (notes_of (slot_in file) notes.all) begun.start,
           record {
             of_rows = begun.of_rows;
             key_is = begun.key_is;
-            moment_so = moment_is files (acknowledged_in workers) first collected apart told.noted ground file among
+            moment_so = moment_is files hiddens (acknowledged_in workers) notes.all apart told.behind are file among
                 whole.moment.note whole.moment.among whole.moment.slot_is whole.moment.carries;
             epoch_so = epoch;
             offset_so = offset;
@@ -199,8 +194,8 @@ module _ (run : Run) (scan : Scan) (files : List Filed) (workers : List Taken) (
 
   -- ---- all entries
 
-  pub is_drained : IsDrained run (accounts_of placed files) rows
-  is_drained = record {
+  files_drained : IsDrained run (accounts_of placed files) rows
+  files_drained = record {
     scan = scan;
     first = ap (λ (l : List Scan). slice_get l 0) told.by.only;
     whole = is_whole;
@@ -212,3 +207,76 @@ module _ (run : Run) (scan : Scan) (files : List Filed) (workers : List Taken) (
       by_case shown input rule entry rule_is covered (inr passed) = inl passed
       by_case shown input rule entry rule_is covered (inl here) =
           is_done_with here.file here.of_files shown input rule rule_is here.input_is here.path_is here.number here.shows (whole here.file here.of_files).read_through
+
+  -- ---- with the slots of hidden rows
+
+  abbrev account : List SlotAccount
+  account = with_hidden (accounts_of placed files) hiddens
+
+  module _ (rule : InputRule) (shown : Shown) (input : ℕ) where
+    changed_with_hidden : IsChanged run rule (accounts_of placed files) scan shown input → IsChanged run rule account scan shown input
+    changed_with_hidden changed = record {
+      key = changed.key;
+      number = changed.number;
+      shows = changed.shows;
+      slot = changed.slot;
+      one = changed.one;
+      slot_is = found_with_hidden (accounts_of placed files) hiddens changed.slot changed.one changed.slot_is;
+      key_is = changed.key_is;
+      tail = changed.tail;
+      of_slot = changed.of_slot;
+      lost = changed.lost;
+      path = changed.path;
+      file = changed.file;
+      file_is = changed.file_is;
+      fall = changed.fall;
+      later = changed.later;
+      told = changed.told;
+      other_key = changed.other_key;
+    }
+
+    read_with_hidden : (row : Row) → IsReadToItsEnd run rule (accounts_of placed files) row → IsReadToItsEnd run rule account row
+    read_with_hidden row read = record {
+      slot = read.slot;
+      one = read.one;
+      slot_is = found_with_hidden (accounts_of placed files) hiddens read.slot read.one read.slot_is;
+      key_is = read.key_is;
+      epoch = read.epoch;
+      epoch_is = read.epoch_is;
+      reading = read.reading;
+      of_epoch = read.of_epoch;
+      place = read.place;
+      found = read.found;
+      file = read.file;
+      file_is = read.file_is;
+      offset_is = read.offset_is;
+    }
+
+    row_with_hidden : HasRow run rule (accounts_of placed files) rows scan shown input → HasRow run rule account rows scan shown input
+    row_with_hidden has = record {
+      key = has.key;
+      number = has.number;
+      shows = has.shows;
+      row = has.row;
+      of_rows = has.of_rows;
+      key_is = has.key_is;
+      listed = has.listed;
+      lists = has.lists;
+      same_path = has.same_path;
+      moment_is = has.moment_is;
+      read = read_with_hidden has.row has.read;
+    }
+
+    done_with_hidden : IsDoneWith run (accounts_of placed files) rows rule scan shown input → IsDoneWith run account rows rule scan shown input
+    done_with_hidden (inl passed) = inl passed
+    done_with_hidden (inr (inl changed)) = inr (inl (changed_with_hidden changed))
+    done_with_hidden (inr (inr has)) = inr (inr (row_with_hidden has))
+
+  pub is_drained : IsDrained run account rows
+  unfolding files_drained
+  is_drained = record {
+    scan = scan;
+    first = files_drained.first;
+    whole = is_whole;
+    each = λ shown input rule entry rule_is covered. done_with_hidden rule shown input (files_drained.each shown input rule entry rule_is covered);
+  }

@@ -17,7 +17,7 @@ use Rattle.accounts.specs.Same.{TellsSame}
 use Rattle.accounts.specs.ToldFile.{IsToldFile}
 use Rattle.accounts.specs.Turned.{Turned}
 use Rattle.accounts.proofs.Grounded.{of_map}
-use Rattle.accounts.proofs.LastNotes.{parts_at}
+use Rattle.accounts.proofs.Parts.{parts_at}
 use Rattle.accounts.proofs.Often.{often_contains}
 
 abbrev pub slots_of : List Turned → List Slot

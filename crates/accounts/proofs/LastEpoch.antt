@@ -24,18 +24,19 @@ use Rattle.wire_base.specs.declared.parcel.Parcel.{Parcel}
 use Rattle.slot_parts.specs.Tellings.{tellings_in}
 use Rattle.accounts.specs.RunDone.{AreAllCollected}
 use Rattle.accounts.specs.Filed.{Filed, HasItsSlot, IsNoted, slot_in, turned_in, turned_of}
-use Rattle.accounts.specs.FirstNotes.{AreFirstNotes}
 use Rattle.accounts.specs.Ground.{HasGround, IsEpochOf, IsNoteBy}
+use Rattle.accounts.specs.Hidden.{AreBehind, Hidden}
+use Rattle.accounts.specs.ToldNotes.{AreNotesOf}
 use Rattle.accounts.specs.Same.{same_note, same_parcel}
 use Rattle.accounts.specs.Taken.{Taken, acknowledged_in}
 use Rattle.accounts.specs.ToldFile.{AreEpochsFrom}
 use Rattle.accounts.specs.Turned.{Turned, notes_told, parcels_by, parcels_in, parcels_told, settlements_by}
 use Rattle.accounts.proofs.Apart.{IsInEpochs}
 use Rattle.accounts.proofs.Backing.{mapped_there}
-use Rattle.accounts.proofs.LastNotes.{epochs_within, first_note, first_within, flat_there, last_there, numbered_to_last, present_is_named, settlement_there, starts_at_none}
+use Rattle.accounts.proofs.LastNotes.{epochs_within, first_within, flat_there, last_there, numbered_to_last, own_note, present_is_named, settlement_there, starts_at_none}
 use Rattle.accounts.proofs.Lists.{last_of_each}
 use Rattle.accounts.proofs.Often.{often_back, often_contains}
-use Rattle.accounts.proofs.Ordered.{SettlesNothing, settled_span}
+use Rattle.accounts.proofs.Ordered.{settled_span}
 use Rattle.accounts.proofs.Orderly.{member_is, one_epoch, same_item}
 use Rattle.accounts.proofs.Same.{tells_notes, tells_parcels}
 
@@ -73,13 +74,10 @@ present_begins start epoch base (first ∷ past) present number place are =
     ap (λ (b : Bool). if b then start.base else 0) (ne_eqb present.epoch start.epoch (λ same. omega (arith, later, same, number)))
     ∙ sym (last_of_each (λ (t : Telling). t.start ≡ 0) past present (starts_at_none epoch (past ++ present ∷ []) are.2))
 
-module _ (files : List Filed) (workers : List Taken) (first collected : List Note) (apart : AreDistinct (map slot_in files))
+module _ (files : List Filed) (hiddens : List Hidden) (workers : List Taken) (notes collected : List Note) (apart : AreDistinct (map slot_in files)) (behind : AreBehind files hiddens)
     (turned_apart : AreDistinct (map (λ (turned : Turned). turned.slot.0) (turned_of files))) (epochs : AllByRecursion IsInEpochs (turned_of files))
-    (own : AllByRecursion HasItsSlot files) (are : AreFirstNotes files first) (ground : AllByRecursion (HasGround (turned_of files) (acknowledged_in workers)) collected)
+    (own : AllByRecursion HasItsSlot files) (are : AreNotesOf files hiddens (acknowledged_in workers) notes) (within : (note : Note) → Contains collected note → Contains notes note)
     (settled : AreAllCollected (turned_of files) workers collected) where
-  abbrev notes : List Note
-  notes = first ++ collected
-
   -- ---- what was told is collected
 
   told_is_collected : (turned : Turned) (note : Note) → Contains (turned_of files) turned → Contains (notes_told turned) note → Contains collected note
@@ -161,7 +159,7 @@ module _ (files : List Filed) (workers : List Taken) (first collected : List Not
 
     collected_own : (note : Note) → Contains collected note → slot_of note ≡ slot_in file → Contains own_notes note
     collected_own note there same =
-        passed_there (λ (n : Note). slot_of n == slot_in file) notes note (Contains-append_right first collected note there) (eq-eqb (slot_of note) (slot_in file) same)
+        passed_there (λ (n : Note). slot_of n == slot_in file) notes note (within note there) (eq-eqb (slot_of note) (slot_in file) same)
 
     -- ---- the greatest epoch
 
@@ -170,24 +168,21 @@ module _ (files : List Filed) (workers : List Taken) (first collected : List Not
       some_is given epoch e = cc
 
       epoch_within : (note : Note) (epoch : ℕ) → Contains notes note → slot_of note ≡ slot_in file → epoch_of note ≡ Some epoch → epoch ≤ present.epoch
-      epoch_within note epoch there slot names = by_part (Contains-append_cases first collected note there)
-        where
-          by_part : Contains first note ⊎ Contains collected note → epoch ≤ present.epoch
-          by_part (inl here) =
-              first_note files (acknowledged_in workers) first collected apart are ground file among (λ (n : Note). epoch_of n ≡ Some epoch → epoch ≤ present.epoch)
-              (λ n begin e.
-              let is = some_is file.opened.begin.epoch.0 epoch (sym (ap epoch_of begin.is) ∙ e) in
-              let least = first_within file.opened.begin.epoch.0 file.opened.begin.base (turned_in file).history.past present numbered in
-              omega (arith, is, least))
-              (λ n seen same e. absurd (let q : None ≡ Some epoch = sym (ap epoch_of seen.is) ∙ e in cc))
-              note here slot names
-          by_part (inr here) =
-              let of = of_epoch (turned_of files) (acknowledged_in workers) note (member_is (HasGround (turned_of files) (acknowledged_in workers)) collected note ground here) in
-              let same = of_its_slot of.turned of.of.of_files (sym of.slot_is ∙ slot) in
-              let is = some_is of.telling.epoch epoch (sym of.epoch_is ∙ names) in
-              let most = epochs_within file.opened.begin.epoch.0 file.opened.begin.base (turned_in file).history.past present of.telling numbered
-              (subst (λ (t : Turned). Contains (tellings_in t.history) of.telling) same of.of.of_file) in
-              omega (arith, is, most)
+      epoch_within note epoch there slot names =
+          own_note files hiddens (acknowledged_in workers) notes apart behind are file among (λ (n : Note). epoch_of n ≡ Some epoch → slot_of n ≡ slot_in file → epoch ≤ present.epoch)
+          (λ n begin e of_slot.
+          let is = some_is file.opened.begin.epoch.0 epoch (sym (ap epoch_of begin.is) ∙ e) in
+          let least = first_within file.opened.begin.epoch.0 file.opened.begin.base (turned_in file).history.past present numbered in
+          omega (arith, is, least))
+          (λ n seen same e of_slot. absurd (let q : None ≡ Some epoch = sym (ap epoch_of seen.is) ∙ e in cc))
+          (λ n ground e of_slot.
+          let of = of_epoch (turned_of files) (acknowledged_in workers) n ground in
+          let same = of_its_slot of.turned of.of.of_files (sym of.slot_is ∙ of_slot) in
+          let is = some_is of.telling.epoch epoch (sym of.epoch_is ∙ e) in
+          let most = epochs_within file.opened.begin.epoch.0 file.opened.begin.base (turned_in file).history.past present of.telling numbered
+          (subst (λ (t : Turned). Contains (tellings_in t.history) of.telling) same of.of.of_file) in
+          omega (arith, is, most))
+          note there slot names slot
 
       present_named : (noted : IsNoted notes file) → Contains (filter_map epoch_of own_notes) present.epoch
       present_named noted = by_case (present_is_named (turned_in file).slot file.opened.begin.epoch.0 file.opened.begin.base (turned_in file).history.past present numbered)
@@ -202,13 +197,13 @@ module _ (files : List Filed) (workers : List Taken) (first collected : List Not
               let note = Announce (turned_in file).slot (record { 0 = present.epoch }) in
               given_there epoch_of own_notes note present.epoch (collected_own note (told_is_collected (turned_in file) note turned_there announced) slot_is) refl
 
-      pub epoch_is : IsNoted notes file → greatest_epoch own_notes ≡ present.epoch
-      epoch_is noted =
+      pub epoch_is : greatest_epoch own_notes ≡ present.epoch
+      epoch_is =
           let most = greatest_least 0 present.epoch (filter_map epoch_of own_notes) (omega arith) (λ epoch given.
           let found = there_given epoch_of own_notes epoch given in
           let passed = there_passed (λ (n : Note). slot_of n == slot_in file) notes found.0 found.1 in
           epoch_within found.0 epoch passed.0 (eqb-true (slot_of found.0) (slot_in file) passed.1) found.2) in
-          let least = member_within 0 (filter_map epoch_of own_notes) present.epoch (present_named noted) in
+          let least = member_within 0 (filter_map epoch_of own_notes) present.epoch (present_named (member_is (IsNoted notes) files file are.begun among)) in
           omega (arith, most, least)
 
     -- ---- its offset
@@ -223,27 +218,28 @@ module _ (files : List Filed) (workers : List Taken) (first collected : List Not
         given_there (span_in present.epoch) own_notes note event.span (collected_own note is.there (is.slot_is ∙ slot_is))
         (ap (λ (b : Bool). if b then Some event.span else None) (eq-eqb is.of_epoch.0 present.epoch is.epoch_is))
 
-    span_known : (none : AllByRecursion SettlesNothing first) (span : Extent) → Contains (spans_in present.epoch own_notes) span → Contains (spans_of present.told) span
-    span_known none span there =
+    span_known : (span : Extent) → Contains (spans_in present.epoch own_notes) span → Contains (spans_of present.told) span
+    span_known span there =
         let found = there_given (span_in present.epoch) own_notes span there in
         let passed = there_passed (λ (n : Note). slot_of n == slot_in file) notes found.0 found.1 in
-        by_part found.0 (eqb-true (slot_of found.0) (slot_in file) passed.1) found.2 (Contains-append_cases first collected found.0 passed.0)
-      where
-        by_part : (note : Note) → slot_of note ≡ slot_in file → span_in present.epoch note ≡ Some span → Contains first note ⊎ Contains collected note → Contains (spans_of present.told) span
-        by_part note slot is (inl here) = absurd (let q : None ≡ Some span = sym (member_is SettlesNothing first note none here present.epoch) ∙ is in cc)
-        by_part note slot is (inr here) =
-            let of = settled_span files turned_apart epochs own (acknowledged_in workers) (slot_in file) present.epoch span note
-            (member_is (HasGround (turned_of files) (acknowledged_in workers)) collected note ground here) slot is in
-            let telling : of.telling ≡ present =
-            one_epoch (turned_of files) turned_apart epochs of.turned (turned_in file) of.telling present of.of (record { of_files = turned_there; of_file = present_there })
-            (of.slot_is ∙ sym slot_is) of.epoch_is in
-            subst (λ (e : Extent). Contains (spans_of present.told) e) of.span_is
-            (mapped_there (λ (one : ToldEvent). one.span) present.told of.event (subst (λ (t : Telling). Contains t.told of.event) telling of.told))
+        let slot = eqb-true (slot_of found.0) (slot_in file) passed.1 in
+        own_note files hiddens (acknowledged_in workers) notes apart behind are file among
+        (λ (n : Note). span_in present.epoch n ≡ Some span → slot_of n ≡ slot_in file → Contains (spans_of present.told) span)
+        (λ n begin is of_slot. absurd (let q : None ≡ Some span = sym (ap (span_in present.epoch) begin.is) ∙ is in cc))
+        (λ n seen same is of_slot. absurd (let q : None ≡ Some span = sym (ap (span_in present.epoch) seen.is) ∙ is in cc))
+        (λ n ground is of_slot.
+        let of = settled_span (turned_of files) turned_apart epochs (acknowledged_in workers) (slot_in file) present.epoch span n ground of_slot is in
+        let telling : of.telling ≡ present =
+        one_epoch (turned_of files) turned_apart epochs of.turned (turned_in file) of.telling present of.of (record { of_files = turned_there; of_file = present_there })
+        (of.slot_is ∙ sym slot_is) of.epoch_is in
+        subst (λ (e : Extent). Contains (spans_of present.told) e) of.span_is
+        (mapped_there (λ (one : ToldEvent). one.span) present.told of.event (subst (λ (t : Telling). Contains t.told of.event) telling of.told)))
+        found.0 passed.0 slot found.2 slot
 
     -- the covered end of what its notes settle is where the last event ends
-    pub covers_all : AllByRecursion SettlesNothing first → Adjoin present.start (spans_of present.told) → covered_end (spans_in present.epoch own_notes) present.start ≡ told_to present
-    covers_all none adjoin =
-        closes_all (spans_of present.told) (spans_in present.epoch own_notes) present.start adjoin (λ span there from some. span_known none span there)
+    pub covers_all : Adjoin present.start (spans_of present.told) → covered_end (spans_in present.epoch own_notes) present.start ≡ told_to present
+    covers_all adjoin =
+        closes_all (spans_of present.told) (spans_in present.epoch own_notes) present.start adjoin (λ span there from some. span_known span there)
         (All-from_recursion (Contains (spans_in present.epoch own_notes)) (spans_of present.told) (all_known present.told event_known))
       where
         all_known : (told : List ToldEvent) → ((event : ToldEvent) → Contains told event → Contains (spans_in present.epoch own_notes) event.span) →
@@ -254,10 +250,10 @@ module _ (files : List Filed) (workers : List Taken) (first collected : List Not
     -- it begins at the base of its Begin, or at the first byte
     pub offset_is : (start : Start) → start.epoch ≡ file.opened.begin.epoch.0 → start.base ≡ file.opened.begin.base →
         AreEpochsFrom file.opened.begin.epoch.0 file.opened.begin.base (tellings_in (turned_in file).history) → greatest_epoch own_notes ≡ present.epoch →
-        AllByRecursion SettlesNothing first → Adjoin present.start (spans_of present.told) → offset_over start own_notes ≡ told_to present
-    offset_is start number base numbered epoch none adjoin =
+        Adjoin present.start (spans_of present.told) → offset_over start own_notes ≡ told_to present
+    offset_is start number base numbered epoch adjoin =
         let base_is : base_in start (greatest_epoch own_notes) ≡ present.start =
         ap (base_in start) epoch ∙ present_begins start file.opened.begin.epoch.0 file.opened.begin.base (turned_in file).history.past present number base numbered in
         ap (covered_end (spans_in (greatest_epoch own_notes) own_notes)) base_is
         ∙ ap (λ (n : ℕ). covered_end (spans_in n own_notes) present.start) epoch
-        ∙ covers_all none adjoin
+        ∙ covers_all adjoin

@@ -9,7 +9,6 @@ use Rattle.std.proofs.lemmas.Bool.{eq-eqb, eqb-true}
 use Rattle.std.proofs.lemmas.List.Elements.{Contains-append_cases, Contains-append_left, Contains-append_right, filter-append, filter_map-append}
 use Rattle.harvester.specs.History.{Telling}
 use Rattle.kept_rows.proofs.Begun.{ForgetNone, IsNoForget}
-use Rattle.kept_rows.proofs.Showing.{both}
 use Rattle.kept_rows.specs.Scans.{AreDistinct}
 use Rattle.ship_core.proofs.Members.{first_there, given_there, greatest_least, later_there, member_within, none_there, passed_there, there_cases, there_given, there_passed}
 use Rattle.ship_core.specs.Orderly.{AreOrderly}
@@ -22,14 +21,18 @@ use Rattle.wire_base.specs.declared.note.Note.TheVariants.{Announce, Begin, Forg
 use Rattle.wire_base.specs.declared.numbers.Slot.{Slot}
 use Rattle.wire_base.specs.declared.parcel.Parcel.{Parcel}
 use Rattle.accounts.specs.Filed.{Filed, IsNoted, slot_in, turned_of}
-use Rattle.accounts.specs.FirstNotes.{AreFirstNotes, IsBeginOf, IsMomentOfOne}
+use Rattle.accounts.specs.Hidden.{AreBehind, Hidden, hidden_begin, hidden_forget, hidden_key, hidden_slot}
+use Rattle.accounts.specs.ToldNotes.{AreNotesOf, IsBeginOf, IsKnownNote, IsMomentOfOne, IsOfHidden}
 use Rattle.accounts.specs.FollowedFile.{key_in}
 use Rattle.accounts.specs.Ground.{HasGround}
 use Rattle.slot_parts.specs.Tellings.{AreNumberedFrom}
 use Rattle.accounts.specs.ToldFile.{AreEpochsFrom}
 use Rattle.accounts.specs.Turned.{announced_in, notes_in, settlements_in}
-use Rattle.accounts.specs.Turning.{Pairs}
-use Rattle.accounts.proofs.Backing.{mapped_there}
+use Rattle.accounts.proofs.Beginning.{slot_there}
+use Rattle.accounts.proofs.Grounded.{each_member}
+use Rattle.accounts.proofs.HiddenSlots.{hidden_from}
+use Rattle.accounts.proofs.OwnNotes.{only_slot, slot_begun, slots_begin_once}
+use Rattle.accounts.proofs.Parts.{parts_at}
 use Rattle.accounts.proofs.Ordered.{IsCollectable, is_collectable}
 use Rattle.accounts.proofs.Orderly.{member_is, same_item}
 
@@ -43,39 +46,9 @@ flat_there f (first ∷ xs) x y among there = by_case (there_cases first x xs am
     by_case (inl same) others = Contains-append_left (f first) (flat_map f xs) y (subst (λ z. Contains (f z) y) (sym same) there)
     by_case (inr later) others = Contains-append_right (f first) (flat_map f xs) y (others later)
 
--- parted before an item that stands there
-pub parts_at : {A : Type 0} (xs : List A) (x : A) → Contains xs x → (front : List A) × (behind : List A) × (xs ≡ front ++ x ∷ behind)
-parts_at [] x there = absurd (none_there x there)
-parts_at (first ∷ xs) x there = by_case (there_cases first x xs there) (parts_at xs x)
-  where
-    by_case : (first ≡ x) ⊎ Contains xs x → (Contains xs x → (front : List _) × (behind : List _) × (xs ≡ front ++ x ∷ behind)) →
-        (front : List _) × (behind : List _) × (first ∷ xs ≡ front ++ x ∷ behind)
-    by_case (inl same) later = ([], xs, λ k. same k ∷ xs)
-    by_case (inr behind) later = let parts = later behind in (first ∷ parts.0, parts.1, ap (λ l. first ∷ l) parts.2)
-
-none_given : {A B : Type 0} (h : A → Option B) (xs : List A) → AllByRecursion (λ x. h x ≡ None) xs → filter_map h xs ≡ []
-none_given h [] none = refl
-none_given h (x ∷ xs) none = ap (λ o. cons_option o (filter_map h xs)) none.0 ∙ none_given h xs none.1
-
--- the item of the first that stands beside it
-record IsBeside {A B : Type 0} (R : A → B → Type 0) (xs : List A) (y : B) : Type 0 where
-  item : A
-  among : Contains xs item
-  is : R item y
-
-beside : {A B : Type 0} (R : A → B → Type 0) (xs : List A) (ys : List B) (y : B) → Pairs R xs ys → Contains ys y → IsBeside R xs y
-beside R [] [] y all there = absurd (none_there y there)
-beside R [] (first ∷ ys) y all there = absurd all
-beside R (x ∷ xs) [] y all there = absurd all
-beside R (x ∷ xs) (first ∷ ys) y all there = by_case (there_cases first y ys there) (beside R xs ys y all.1)
-  where
-    by_case : (first ≡ y) ⊎ Contains ys y → (Contains ys y → IsBeside R xs y) → IsBeside R (x ∷ xs) y
-    by_case (inl same) later = record { item = x; among = first_there x xs; is = subst (R x) same all.0 }
-    by_case (inr behind) later = let of = later behind in record { item = of.item; among = later_there x of.item xs of.among; is = of.is }
-
 -- ---- which slot a key has
 
-not_equal : (key other : List ℕ) → (key ≡ other → ⊥) → is_eq (compare key other) ≡ false
+pub not_equal : (key other : List ℕ) → (key ≡ other → ⊥) → is_eq (compare key other) ≡ false
 not_equal key other apart = by_case (compare key other) refl
   where
     by_case : (o : Ordering) → compare key other ≡ o → is_eq o ≡ false
@@ -83,46 +56,21 @@ not_equal key other apart = by_case (compare key other) refl
     by_case Greater e = refl
     by_case Equal e = absurd (apart (same_key key other e))
 
-begin_gives : (file : Filed) (note : Note) → IsBeginOf file note → slot_for (key_in file) note ≡ Some (slot_in file)
-begin_gives file note is =
-    ap (slot_for (key_in file)) is.is
-    ∙ ap (λ (b : Bool). if b then Some (slot_in file) else None) (ap is_eq (compare_same (key_in file) (key_in file) refl))
+same_key_or_not : (key other : List ℕ) → (key ≡ other) ⊎ (key ≡ other → ⊥)
+same_key_or_not key other = by_case (compare key other) refl
+  where
+    by_case : (o : Ordering) → compare key other ≡ o → (key ≡ other) ⊎ (key ≡ other → ⊥)
+    by_case Less e = inr (λ same. let q : Less ≡ Equal = sym e ∙ compare_same key other same in cc)
+    by_case Greater e = inr (λ same. let q : Greater ≡ Equal = sym e ∙ compare_same key other same in cc)
+    by_case Equal e = inl (same_key key other e)
 
-begin_of_other : (key : List ℕ) (file : Filed) (note : Note) → (key ≡ key_in file → ⊥) → IsBeginOf file note → slot_for key note ≡ None
+pub begin_of_other : (key : List ℕ) (file : Filed) (note : Note) → (key ≡ key_in file → ⊥) → IsBeginOf file note → slot_for key note ≡ None
 begin_of_other key file note apart is =
     ap (slot_for key) is.is ∙ ap (λ (b : Bool). if b then Some (slot_in file) else None) (not_equal key (key_in file) apart)
 
-no_slot_given : (key : List ℕ) (files : List Filed) (begins : List Note) → (Contains (map key_in files) key → ⊥) → Pairs IsBeginOf files begins → slots_for key begins ≡ []
-no_slot_given key [] [] apart are = refl
-no_slot_given key [] (note ∷ begins) apart are = absurd are
-no_slot_given key (file ∷ files) [] apart are = absurd are
-no_slot_given key (file ∷ files) (note ∷ begins) apart are =
-    ap (λ (o : Option ℕ). cons_option o (slots_for key begins))
-    (begin_of_other key file note (λ same. apart (subst (λ (k : List ℕ). Contains (map key_in (file ∷ files)) k) (sym same) (first_there (key_in file) (map key_in files)))) are.0)
-    ∙ no_slot_given key files begins (λ there. apart (later_there (key_in file) key (map key_in files) there)) are.1
-
-one_slot_given : (file : Filed) (files : List Filed) (begins : List Note) → Contains files file → AreDistinct (map key_in files) → Pairs IsBeginOf files begins →
-    slots_for (key_in file) begins ≡ slot_in file ∷ []
-one_slot_given file [] begins there apart are = absurd (none_there file there)
-one_slot_given file (first ∷ files) [] there apart are = absurd are
-one_slot_given file (first ∷ files) (note ∷ begins) there apart are =
-    by_case (there_cases first file files there) (λ later. one_slot_given file files begins later apart.1 are.1)
-  where
-    by_case : (first ≡ file) ⊎ Contains files file → (Contains files file → slots_for (key_in file) begins ≡ slot_in file ∷ []) →
-        cons_option (slot_for (key_in file) note) (slots_for (key_in file) begins) ≡ slot_in file ∷ []
-    by_case (inl same) later =
-        subst (λ (f : Filed). cons_option (slot_for (key_in f) note) (slots_for (key_in f) begins) ≡ slot_in f ∷ []) same
-        (ap (λ (o : Option ℕ). cons_option o (slots_for (key_in first) begins)) (begin_gives first note are.0)
-        ∙ ap (λ (l : List ℕ). slot_in first ∷ l) (no_slot_given (key_in first) files begins apart.0 are.1))
-    by_case (inr behind) later =
-        ap (λ (o : Option ℕ). cons_option o (slots_for (key_in file) begins))
-        (begin_of_other (key_in file) first note
-        (λ same. apart.0 (subst (λ (k : List ℕ). Contains (map key_in files) k) same (mapped_there key_in files file behind))) are.0)
-        ∙ later behind
-
 -- ---- kinds of notes
 
-collectable_gives_none : (key : List ℕ) (note : Note) → IsCollectable note → slot_for key note ≡ None
+pub collectable_gives_none : (key : List ℕ) (note : Note) → IsCollectable note → slot_for key note ≡ None
 collectable_gives_none key (Begin slot named path epoch base changed) is = absurd is
 collectable_gives_none key (Announce slot epoch) is = refl
 collectable_gives_none key (Settle slot epoch span cause) is = refl
@@ -138,7 +86,7 @@ no_moment (Rename slot scan path) is = absurd is
 no_moment (Seen slot changed) is = absurd is
 no_moment (Forget slot epoch end) is = absurd is
 
-no_forget : (note : Note) → IsCollectable note → IsNoForget note
+pub no_forget : (note : Note) → IsCollectable note → IsNoForget note
 no_forget (Begin slot named path epoch base changed) is = absurd is
 no_forget (Announce slot epoch) is = tt
 no_forget (Settle slot epoch span cause) is = tt
@@ -224,77 +172,84 @@ settlement_there slot (first ∷ later) telling note among there = by_case (ther
 
 -- ---- of a run
 
-module _ (files : List Filed) (acknowledged : List Parcel) (first collected : List Note) (apart : AreDistinct (map slot_in files)) (are : AreFirstNotes files first)
-    (ground : AllByRecursion (HasGround (turned_of files) acknowledged) collected) where
-  abbrev notes : List Note
-  notes = first ++ collected
-
-  -- ---- nothing is forgotten
-
-  pub none_forgotten : ForgetNone notes
-  none_forgotten =
-      both IsNoForget first collected
-      (subst ForgetNone (sym are.notes_are) (both IsNoForget are.begins are.seens (no_begin files are.begins are.each_begin) (no_seen are.seens are.each_seen)))
-      (no_collected collected ground)
-    where
-      no_begin : (some : List Filed) (begins : List Note) → Pairs IsBeginOf some begins → ForgetNone begins
-      no_begin [] [] all = tt
-      no_begin [] (note ∷ begins) all = absurd all
-      no_begin (one ∷ some) [] all = absurd all
-      no_begin (one ∷ some) (note ∷ begins) all = (subst IsNoForget (sym all.0.is) tt, no_begin some begins all.1)
-
-      no_seen : (some : List Note) → AllByRecursion (IsMomentOfOne files) some → ForgetNone some
-      no_seen [] all = tt
-      no_seen (note ∷ some) all = (subst IsNoForget (sym all.0.is) tt, no_seen some all.1)
-
-      no_collected : (some : List Note) → AllByRecursion (HasGround (turned_of files) acknowledged) some → ForgetNone some
-      no_collected [] all = tt
-      no_collected (note ∷ some) all = (no_forget note (is_collectable (turned_of files) acknowledged note all.0), no_collected some all.1)
-
+module _ (files : List Filed) (hiddens : List Hidden) (acknowledged : List Parcel) (notes : List Note) (apart : AreDistinct (map slot_in files)) (behind : AreBehind files hiddens)
+    (are : AreNotesOf files hiddens acknowledged notes) where
   -- where a note of them stands, and whose it is
   module _ (file : Filed) (among : Contains files file) where
+    abbrev own_notes : List Note
+    own_notes = notes_of (slot_in file) notes
+
     slot_names : (other : Filed) → Contains files other → slot_in other ≡ slot_in file → other ≡ file
     slot_names other there same = same_item slot_in files other file apart there among same
 
-    -- a first note of the file
-    pub first_note : (P : Note → Type 0) →
+    -- no hidden row has its slot
+    not_hidden : (hidden : Hidden) → Contains hiddens hidden → hidden_slot hidden ≡ slot_in file → ⊥
+    not_hidden hidden there same =
+        let less = member_is (λ (f : Filed). slot_in f < behind.least) files file behind.files_below among in
+        let from = hidden_from behind.least hiddens hidden behind.slots there in
+        omega (arith, less, from, same)
+
+    -- a note of the file: its Begin, a moment of it, or one that has its ground in what files told
+    pub own_note : (P : Note → Type 0) →
         ((note : Note) → IsBeginOf file note → P note) → ((note : Note) (seen : IsMomentOfOne files note) → seen.file ≡ file → P note) →
-        (note : Note) → Contains first note → slot_of note ≡ slot_in file → P note
-    first_note P begin seen note there slot =
-        by_part (Contains-append_cases are.begins are.seens note (subst (λ (l : List Note). Contains l note) are.notes_are there))
+        ((note : Note) → HasGround (turned_of files) acknowledged note → P note) →
+        (note : Note) → Contains notes note → slot_of note ≡ slot_in file → P note
+    own_note P begin seen ground note there slot = by_kind (member_is (IsKnownNote files hiddens acknowledged) notes note are.each there)
       where
-        by_part : Contains are.begins note ⊎ Contains are.seens note → P note
-        by_part (inl here) =
-            let of = beside IsBeginOf files are.begins note are.each_begin here in
-            let same : of.item ≡ file = slot_names of.item of.among (ap slot_of (sym of.is.is) ∙ slot) in
-            begin note (subst (λ (f : Filed). IsBeginOf f note) same of.is)
-        by_part (inr here) =
-            let of = member_is (IsMomentOfOne files) are.seens note are.each_seen here in
-            seen note of (slot_names of.file of.of_files (ap slot_of (sym of.is) ∙ slot))
+        of_hidden : (of : IsOfHidden hiddens note) → (note ≡ hidden_begin of.hidden) ⊎ (note ≡ hidden_forget of.hidden) → P note
+        of_hidden of (inl is) = absurd (not_hidden of.hidden of.of_hiddens (ap slot_of (sym is) ∙ slot))
+        of_hidden of (inr is) = absurd (not_hidden of.hidden of.of_hiddens (ap slot_of (sym is) ∙ slot))
+
+        by_kind : IsKnownNote files hiddens acknowledged note → P note
+        by_kind (inl (inl of)) =
+            let same : of.file ≡ file = slot_names of.file of.of_files (ap slot_of (sym of.begins.is) ∙ slot) in
+            begin note (subst (λ (f : Filed). IsBeginOf f note) same of.begins)
+        by_kind (inl (inr (inl of))) = seen note of (slot_names of.file of.of_files (ap slot_of (sym of.is) ∙ slot))
+        by_kind (inl (inr (inr of))) = of_hidden of of.is
+        by_kind (inr has) = ground note has
+
+    -- ---- nothing of it is forgotten
+
+    pub none_forgotten : ForgetNone own_notes
+    none_forgotten = each_member IsNoForget own_notes (λ note there.
+        let passed = there_passed (λ (n : Note). slot_of n == slot_in file) notes note there in
+        own_note IsNoForget (λ n begin. subst IsNoForget (sym begin.is) tt) (λ n seen same. subst IsNoForget (sym seen.is) tt)
+        (λ n ground. no_forget n (is_collectable (turned_of files) acknowledged n ground)) note passed.0 (eqb-true (slot_of note) (slot_in file) passed.1))
 
     -- ---- its slot
 
-    pub one_slot : AreDistinct (map key_in files) → slots_for (key_in file) notes ≡ slot_in file ∷ []
-    one_slot keys =
-        filter_map-append (slot_for (key_in file)) first collected
-        ∙ ap (λ (l : List ℕ). l ++ slots_for (key_in file) collected) own
-        ∙ ap (λ (l : List ℕ). slot_in file ∷ l) (none_given (slot_for (key_in file)) collected (none_collected collected ground))
+    pub one_slot : AreDistinct (map key_in files) → ((hidden : Hidden) → Contains hiddens hidden → key_in file ≡ hidden_key hidden → ⊥) → slots_for (key_in file) notes ≡ slot_in file ∷ []
+    one_slot keys others = only_slot (slot_in file) (slots_for (key_in file) notes) (slots_begin_once (key_in file) notes are.orderly)
+        (each_member (λ (one : ℕ). one ≡ slot_in file) (slots_for (key_in file) notes) each_is) (slot_there notes file (member_is (IsNoted notes) files file are.begun among))
       where
-        none_collected : (some : List Note) → AllByRecursion (HasGround (turned_of files) acknowledged) some → AllByRecursion (λ (note : Note). slot_for (key_in file) note ≡ None) some
-        none_collected [] all = tt
-        none_collected (note ∷ some) all =
-            (collectable_gives_none (key_in file) note (is_collectable (turned_of files) acknowledged note all.0), none_collected some all.1)
+        none_is_some : (o : Option ℕ) (one : ℕ) → o ≡ None → o ≡ Some one → one ≡ slot_in file
+        none_is_some o one none some = absurd (let q : None ≡ Some one = sym none ∙ some in cc)
 
-        none_seen : (some : List Note) → AllByRecursion (IsMomentOfOne files) some → AllByRecursion (λ (note : Note). slot_for (key_in file) note ≡ None) some
-        none_seen [] all = tt
-        none_seen (note ∷ some) all = (ap (slot_for (key_in file)) all.0.is, none_seen some all.1)
+        each_is : (one : ℕ) → Contains (slots_for (key_in file) notes) one → one ≡ slot_in file
+        each_is one there =
+            let of = there_given (slot_for (key_in file)) notes one there in
+            by_kind of.0 of.2 (member_is (IsKnownNote files hiddens acknowledged) notes of.0 are.each of.1)
+          where
+            other_begin : (key : List ℕ) (note : Note) (other : Filed) → Contains files other → IsBeginOf other note → (b : (key_in file ≡ key_in other) ⊎ (key_in file ≡ key_in other → ⊥)) →
+                slot_for (key_in file) note ≡ Some one → one ≡ slot_in file
+            other_begin key note other there begins (inl same) is =
+                let file_is : other ≡ file = same_item key_in files other file keys there among (sym same) in
+                let begun = slot_begun (key_in file) one note is in
+                sym begun ∙ ap slot_of begins.is ∙ ap slot_in file_is
+            other_begin key note other there begins (inr differ) is =
+                none_is_some (slot_for (key_in file) note) one (begin_of_other (key_in file) other note differ begins) is
 
-        own : slots_for (key_in file) first ≡ slot_in file ∷ []
-        own =
-            ap (slots_for (key_in file)) are.notes_are
-            ∙ filter_map-append (slot_for (key_in file)) are.begins are.seens
-            ∙ ap (λ (l : List ℕ). l ++ slots_for (key_in file) are.seens) (one_slot_given file files are.begins among keys are.each_begin)
-            ∙ ap (λ (l : List ℕ). slot_in file ∷ l) (none_given (slot_for (key_in file)) are.seens (none_seen are.seens are.each_seen))
+            of_hidden : (note : Note) (of : IsOfHidden hiddens note) → (note ≡ hidden_begin of.hidden) ⊎ (note ≡ hidden_forget of.hidden) → slot_for (key_in file) note ≡ Some one → one ≡ slot_in file
+            of_hidden note of (inl is) begun =
+                none_is_some (slot_for (key_in file) note) one
+                (ap (slot_for (key_in file)) is ∙ ap (λ (b : Bool). if b then Some (hidden_slot of.hidden) else None) (not_equal (key_in file) (hidden_key of.hidden) (others of.hidden of.of_hiddens))) begun
+            of_hidden note of (inr is) begun = none_is_some (slot_for (key_in file) note) one (ap (slot_for (key_in file)) is) begun
+
+            by_kind : (note : Note) → slot_for (key_in file) note ≡ Some one → IsKnownNote files hiddens acknowledged note → one ≡ slot_in file
+            by_kind note is (inl (inl of)) = other_begin (key_in file) note of.file of.of_files of.begins (same_key_or_not (key_in file) (key_in of.file)) is
+            by_kind note is (inl (inr (inl of))) = none_is_some (slot_for (key_in file) note) one (ap (slot_for (key_in file)) of.is) is
+            by_kind note is (inl (inr (inr of))) = of_hidden note of of.is is
+            by_kind note is (inr has) = none_is_some (slot_for (key_in file) note) one (collectable_gives_none (key_in file) note (is_collectable (turned_of files) acknowledged note has)) is
 
     -- ---- its Begin
 
@@ -303,15 +258,16 @@ module _ (files : List Filed) (acknowledged : List Parcel) (first collected : Li
 
     pub record IsStarted : Type 0 where
       pub path : List ℕ
-      pub is : start_over (notes_of (slot_in file) notes) ≡ Some (start_with path)
+      pub is : start_over own_notes ≡ Some (start_with path)
 
-    pub is_started : AreOrderly notes → (noted : IsNoted notes file) → IsStarted
-    is_started orderly noted =
+    pub is_started : IsStarted
+    is_started =
+        let noted = member_is (IsNoted notes) files file are.begun among in
         let begin = Begin file.opened.begin.slot (key_in file) noted.path file.opened.begin.epoch file.opened.begin.base noted.changed in
         let parts = parts_at notes begin noted.there in
-        let none : notes_of (slot_in file) parts.0 ≡ [] = orderly.each parts.0 begin parts.1 parts.2 in
+        let none : notes_of (slot_in file) parts.0 ≡ [] = are.orderly.each parts.0 begin parts.1 parts.2 in
         let p = λ (note : Note). slot_of note == slot_in file in
-        let own : notes_of (slot_in file) notes ≡ begin ∷ notes_of (slot_in file) parts.1 =
+        let own : own_notes ≡ begin ∷ notes_of (slot_in file) parts.1 =
         ap (notes_of (slot_in file)) parts.2
         ∙ filter-append p parts.0 (begin ∷ parts.1)
         ∙ ap (λ (l : List Note). l ++ notes_of (slot_in file) (begin ∷ parts.1)) none
@@ -321,34 +277,27 @@ module _ (files : List Filed) (acknowledged : List Parcel) (first collected : Li
     -- ---- its moment
 
     moment_within : (note : Note) (moment : ℕ) → Contains notes note → slot_of note ≡ slot_in file → moment_of note ≡ Some moment → moment ≤ file.changed
-    moment_within note moment there slot carries = by_part (Contains-append_cases first collected note there)
+    moment_within note moment there slot carries =
+        own_note (λ (n : Note). moment_of n ≡ Some moment → moment ≤ file.changed)
+        (λ n begin e. let is = some_is begin.changed.0 (sym (ap moment_of begin.is) ∙ e) in let within = begin.within in omega (arith, is, within))
+        (λ n seen same e.
+        let is = some_is seen.changed.0 (sym (ap moment_of seen.is) ∙ e) in
+        let within = seen.within in
+        let changed : seen.file.changed ≡ file.changed = ap (λ (f : Filed). f.changed) same in
+        omega (arith, is, within, changed))
+        (λ n ground e. absurd (let q : None ≡ Some moment = sym (no_moment n (is_collectable (turned_of files) acknowledged n ground)) ∙ e in cc))
+        note there slot carries
       where
         some_is : (given : ℕ) → Some given ≡ Some moment → given ≡ moment
         some_is given e = cc
 
-        by_part : Contains first note ⊎ Contains collected note → moment ≤ file.changed
-        by_part (inl here) =
-            first_note (λ (n : Note). moment_of n ≡ Some moment → moment ≤ file.changed)
-            (λ n begin e. let is = some_is begin.changed.0 (sym (ap moment_of begin.is) ∙ e) in let within = begin.within in omega (arith, is, within))
-            (λ n seen same e.
-            let is = some_is seen.changed.0 (sym (ap moment_of seen.is) ∙ e) in
-            let within = seen.within in
-            let changed : seen.file.changed ≡ file.changed = ap (λ (f : Filed). f.changed) same in
-            omega (arith, is, within, changed))
-            note here slot carries
-        by_part (inr here) =
-            absurd (let q : None ≡ Some moment =
-            sym (no_moment note (is_collectable (turned_of files) acknowledged note (member_is (HasGround (turned_of files) acknowledged) collected note ground here))) ∙ carries in cc)
-
-    -- the greatest is one that some first note carries
-    pub moment_is : (note : Note) → Contains first note → slot_of note ≡ slot_in file → moment_of note ≡ Some file.changed →
-        greatest_moment (notes_of (slot_in file) notes) ≡ file.changed
+    -- the greatest is one that some note of it carries
+    pub moment_is : (note : Note) → Contains notes note → slot_of note ≡ slot_in file → moment_of note ≡ Some file.changed → greatest_moment own_notes ≡ file.changed
     moment_is note there slot carries =
-        let own = notes_of (slot_in file) notes in
-        let most = greatest_least 0 file.changed (filter_map moment_of own) (omega arith) (λ moment given.
-        let found = there_given moment_of own moment given in
+        let most = greatest_least 0 file.changed (filter_map moment_of own_notes) (omega arith) (λ moment given.
+        let found = there_given moment_of own_notes moment given in
         let passed = there_passed (λ (n : Note). slot_of n == slot_in file) notes found.0 found.1 in
         moment_within found.0 moment passed.0 (eqb-true (slot_of found.0) (slot_in file) passed.1) found.2) in
-        let own_note = passed_there (λ (n : Note). slot_of n == slot_in file) notes note (Contains-append_left first collected note there) (eq-eqb (slot_of note) (slot_in file) slot) in
-        let least = member_within 0 (filter_map moment_of own) file.changed (given_there moment_of own note file.changed own_note carries) in
+        let own_one = passed_there (λ (n : Note). slot_of n == slot_in file) notes note there (eq-eqb (slot_of note) (slot_in file) slot) in
+        let least = member_within 0 (filter_map moment_of own_notes) file.changed (given_there moment_of own_notes note file.changed own_one carries) in
         omega (arith, most, least)

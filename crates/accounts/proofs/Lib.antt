@@ -6,6 +6,7 @@ pub mod Askings
 pub mod Backed
 pub mod Backing
 pub mod Beginning
+pub mod Begins
 pub mod BegunRows
 pub mod Draining
 pub mod Ends
@@ -16,6 +17,10 @@ pub mod Following
 pub mod Given
 pub mod Ground
 pub mod Grounded
+pub mod HiddenAccounts
+pub mod HiddenFollowed
+pub mod HiddenLost
+pub mod HiddenSlots
 pub mod Histories
 pub mod InARow
 pub mod Joined
@@ -35,7 +40,9 @@ pub mod Onward
 pub mod Openings
 pub mod Ordered
 pub mod Orderly
+pub mod OwnNotes
 pub mod Parting
+pub mod Parts
 pub mod Placed
 pub mod Places
 pub mod Placing
@@ -52,6 +59,7 @@ pub mod Turning
 pub mod Unscanned
 pub mod Worked
 pub mod WorkedFingerprint
+pub mod WorkedHidden
 pub mod WorkedInARow
 pub mod WorkedNative
 pub mod WorkedNumbers

@@ -27,12 +27,14 @@ use Rattle.slot_parts.specs.Parts.{EpochParts, Part, epochs_of, told_in}
 use Rattle.slot_parts.specs.Tellings.{tellings_in}
 use Rattle.accounts.specs.Accounted.{place_by, place_in}
 use Rattle.accounts.specs.Filed.{Filed, IsFiled, TellEpochs, account_of, accounts_of, parts_told, turned_in, turned_of}
+use Rattle.accounts.specs.Hidden.{Hidden, with_hidden}
 use Rattle.accounts.specs.Places.{ArePlaces}
 use Rattle.accounts.specs.Same.{same_note}
 use Rattle.accounts.specs.Taken.{Taken, acknowledged_in}
 use Rattle.accounts.specs.Turned.{Turned, notes_told, settlements_by, settlements_in, settlements_of}
 use Rattle.accounts.proofs.Backing.{mapped_there}
 use Rattle.accounts.proofs.Grounded.{each_member}
+use Rattle.accounts.proofs.HiddenSlots.{has_with_hidden}
 use Rattle.accounts.proofs.Keeping.{closes_by}
 use Rattle.accounts.proofs.LastNotes.{flat_there, settlement_there}
 use Rattle.accounts.proofs.Lists.{flat_map_both}
@@ -116,26 +118,32 @@ module _ (placed : Parcel → Option Place) (workers : List Taken) (wires : List
   )
 
 module _ (covers : Covers) (placed : Parcel → Option Place) (workers : List Taken) (wires : List WireTold) (places : ArePlaces placed workers wires) (files : List Filed)
-    (filed : AllByRecursion IsFiled files) (first collected : List Note) (noted : AreAllNoted (turned_of files) workers collected) where
+    (filed : AllByRecursion IsFiled files) (hiddens : List Hidden) (notes collected : List Note) (within : (note : Note) → Contains collected note → Contains notes note)
+    (noted : AreAllNoted (turned_of files) workers collected) where
   abbrev told_notes : List Note
   told_notes = flat_map notes_told (turned_of files)
 
-  in_notes : (note : Note) → Contains (told_notes ++ notes_of (acknowledged_in workers)) note → Contains (first ++ collected) note
+  abbrev account : List SlotAccount
+  account = with_hidden (accounts_of placed files) hiddens
+
+  in_notes : (note : Note) → Contains (told_notes ++ notes_of (acknowledged_in workers)) note → Contains notes note
   in_notes note there =
-      Contains-append_right first collected note
+      within note
       (often_contains same_note tells_notes collected (told_notes ++ notes_of (acknowledged_in workers)) note
       (often_back (told_notes ++ notes_of (acknowledged_in workers)) collected noted.notes_are) there)
 
-  settled_by_notes : IsAllSettledBy (first ++ collected) wires (accounts_of placed files)
+  settled_by_notes : IsAllSettledBy notes wires account
   settled_by_notes =
-      all_are_noted placed workers wires places (first ++ collected)
+      has_with_hidden (λ (one : SlotAccount). AllByRecursion (AreAllSettledIn notes wires one) one.epochs) (accounts_of placed files) hiddens
+      (all_are_noted placed workers wires places notes
       (λ parcel there. in_notes (note_of parcel) (Contains-append_right told_notes (notes_of (acknowledged_in workers)) (note_of parcel) (mapped_there note_of (acknowledged_in workers) parcel there)))
       files filed
-      (λ turned among note there. in_notes note (Contains-append_left told_notes (notes_of (acknowledged_in workers)) note (flat_there notes_told (turned_of files) turned note among there)))
+      (λ turned among note there. in_notes note (Contains-append_left told_notes (notes_of (acknowledged_in workers)) note (flat_there notes_told (turned_of files) turned note among there))))
+      (λ hidden there. (tt, tt))
 
-  pub rows_are_stored : AreInRows (accounts_of placed files) → AreBacked (accounts_of placed files) wires (first ++ collected) → AreBegun (accounts_of placed files) (first ++ collected) →
-      (opening rows : List Row) → AreRowsOver opening (first ++ collected) rows → AllByRecursion (IsStored (accounts_of placed files) wires) rows
+  pub rows_are_stored : AreInRows account → AreBacked account wires notes → AreBegun account notes →
+      (opening rows : List Row) → AreRowsOver opening notes rows → AllByRecursion (IsStored account wires) rows
   rows_are_stored in_rows backed begun opening rows over =
-      each_member (IsStored (accounts_of placed files) wires) rows
-      (λ row there. stored_at_the_end (accounts_of placed files) wires (first ++ collected) settled_by_notes covers closes_by in_rows backed opening rows begun over row.key row
+      each_member (IsStored account wires) rows
+      (λ row there. stored_at_the_end account wires notes settled_by_notes covers closes_by in_rows backed opening rows begun over row.key row
       (found_by_its_key rows row over.in_order there))

@@ -31,7 +31,7 @@ use Rattle.accounts.specs.Parted.{kept_looks, lost_looks}
 use Rattle.accounts.specs.RunDone.{IsAmongFiles, RunDone}
 use Rattle.accounts.specs.RunTold.{RunTold}
 use Rattle.accounts.proofs.WorkedNative.{depth_in, entries_in, root_in}
-use Rattle.accounts.proofs.WorkedRun.{collected, file_by, first_by, has_talks, is_look, own_looks, parcels, told_file, worker}
+use Rattle.accounts.proofs.WorkedRun.{file_by, has_talks, in_order_by, is_look, notes_by, own_looks, parcels, told_file, worker}
 
 -- ---- the run
 
@@ -207,7 +207,7 @@ asked_apart there = elim (there_cases 3 1 [] there) [
 
 -- ---- all of it
 
-pub has_told : RunTold run scan (file ∷ []) (worker ∷ []) (first_by key) collected
+pub has_told : RunTold run scan (file ∷ []) [] (worker ∷ []) (notes_by key)
 has_told = record {
   by = by_one_scan;
   followed = record {
@@ -218,13 +218,17 @@ has_told = record {
     openings_serve = each_opening;
   };
   talks = (record { most = 2048; talks = has_talks 0 0; none_open = refl }, tt);
-  noted = record {
-    begins = first_by key;
-    seens = [];
-    notes_are = refl;
-    each_begin = (record { path = a_log; changed = record { 0 = 0 }; is = refl; within = omega arith }, tt);
-    each_seen = tt;
+  may_go = record { only = refl; each = tt; apart = tt };
+  behind = record { least = 1; files_below = (omega arith, tt); slots = tt };
+  told = record {
+    each = (
+      inl (record { file = file; of_files = (0, omega arith, refl); begins = record { path = a_log; changed = record { 0 = 0 }; is = refl; within = omega arith } }),
+      tt,
+    );
+    begun = (record { path = a_log; changed = record { 0 = 0 }; there = (0, omega arith, refl) }, tt);
+    hidden_begun = tt;
   };
+  mixed = record { often = λ h. refl; orderly = in_order_by key };
   fits = record {
     issued = parcels;
     noted = [];
@@ -237,7 +241,7 @@ has_told = record {
   };
 }
 
-pub is_done : RunDone run scan (file ∷ []) (worker ∷ []) (first_by key) collected
+pub is_done : RunDone run scan (file ∷ []) (worker ∷ []) (notes_by key)
 is_done = record {
   full = record {
     not_cut_off = refl;

@@ -1,5 +1,5 @@
 -- All that is asked of a run that is done holds of one at once: two plain lines that were read to their end, acknowledged in one talk.
-use Rattle.std.proofs.Common.{◌≡◌, ◌≢◌, ◌⊎◌, inl, ℕ, zero, suc, List, [], ◌∷◌, ◌++◌, length, Option, Some, None, refl, sym, ap, subst, append-nil, arith, lit≤, codes, length-append}
+use Rattle.std.proofs.Common.{◌≡◌, ◌≢◌, ◌⊎◌, inl, inr, ℕ, zero, suc, List, [], ◌∷◌, ◌++◌, length, Option, Some, None, refl, sym, ap, subst, append-nil, arith, lit≤, codes, length-append}
 use Rattle.std.specs.Prelude.{slice_get}
 use Rattle.batch_worker.specs.Ending.{HasTalks}
 use Rattle.event_tree.specs.declared.group_rule.GroupRule.TheVariants.{Single}
@@ -23,6 +23,10 @@ use Rattle.outside.specs.declared.history.Question.TheVariants.{Length, ReadAt}
 use Rattle.outside.specs.declared.history.Shown.{Shown}
 use Rattle.outside.specs.Wires.{Finished}
 use Rattle.ship_core.proofs.Members.{none_there}
+use Rattle.ship_core.specs.CoveredEnd.{AreEqualOrApart}
+use Rattle.ship_core.specs.Orderly.{AreOrderly, MayFollow}
+use Rattle.std.proofs.lemmas.List.Elements.{All-from_recursion}
+use Rattle.accounts.proofs.Ordered.{none_orderly, one_more_orderly}
 use Rattle.told_events.proofs.Worked.{a_log, both_events, event_of, first_fate, first_line, life, lines, payload, plain, second_fate, second_line}
 use Rattle.told_events.specs.Fate.{ShippedAs, fate_of}
 use Rattle.told_events.specs.Told.{AreTold, HasFate}
@@ -33,7 +37,7 @@ use Rattle.wire_base.specs.declared.parcel.Parcel.{Parcel}
 use Rattle.accounts.specs.RunDone.{IsAmongFiles, RunDone}
 use Rattle.accounts.specs.Filed.{Filed}
 use Rattle.accounts.specs.FollowedFile.{IsFollowedFile, tail_of}
-use Rattle.accounts.specs.RunTold.{RunTold}
+use Rattle.accounts.specs.RunTold.{RunNotes, RunTold}
 use Rattle.accounts.specs.Taken.{Taken}
 use Rattle.accounts.specs.ToldFile.{IsToldFile}
 use Rattle.accounts.proofs.Worked.{begin, history, opened, telling}
@@ -185,9 +189,6 @@ worker = record { acknowledged = parcels; carried = [] }
 abbrev pub first_by : List ℕ → List Note
 first_by key = Begin (record { 0 = 0 }) key a_log (record { 0 = 0 }) 0 (record { 0 = 0 }) ∷ []
 
-abbrev first : List Note
-first = first_by worked.key
-
 abbrev pub collected : List Note
 collected =
     Settle (record { 0 = 0 }) (record { 0 = 0 }) (record { start = 0; end = 2 }) Acked
@@ -219,9 +220,31 @@ has_talks idles faults = record {
   );
 }
 
+-- the keeper was told the Begin, and then collected the settlements
+abbrev pub notes_by : List ℕ → RunNotes
+notes_by key = record { told = first_by key; collected = collected; all = first_by key ++ collected }
+
+pub in_order_by : (key : List ℕ) → AreOrderly (first_by key ++ collected)
+in_order_by key = one_more_orderly (begins ∷ first_settled ∷ []) second_settled (one_more_orderly (begins ∷ []) first_settled (one_more_orderly [] begins none_orderly refl) first_may) second_may
+  where
+    begins : Note
+    begins = Begin (record { 0 = 0 }) key a_log (record { 0 = 0 }) 0 (record { 0 = 0 })
+
+    first_settled : Note
+    first_settled = Settle (record { 0 = 0 }) (record { 0 = 0 }) (record { start = 0; end = 2 }) Acked
+
+    second_settled : Note
+    second_settled = Settle (record { 0 = 0 }) (record { 0 = 0 }) (record { start = 2; end = 4 }) Acked
+
+    first_may : MayFollow (begins ∷ []) first_settled
+    first_may = (refl, All-from_recursion (AreEqualOrApart (record { start = 0; end = 2 })) [] tt)
+
+    second_may : MayFollow (begins ∷ first_settled ∷ []) second_settled
+    second_may = (refl, All-from_recursion (AreEqualOrApart (record { start = 2; end = 4 })) (record { start = 0; end = 2 } ∷ []) (inr (inr (omega arith)), tt))
+
 -- ---- all of it
 
-pub has_told : RunTold worked.run worked.scan (file ∷ []) (worker ∷ []) first collected
+pub has_told : RunTold worked.run worked.scan (file ∷ []) [] (worker ∷ []) (notes_by worked.key)
 has_told = record {
   by = record {
     once = refl;
@@ -239,13 +262,17 @@ has_told = record {
     openings_serve = worked.is_account.followed.openings_serve;
   };
   talks = (record { most = 2048; talks = has_talks 0 0; none_open = refl }, tt);
-  noted = record {
-    begins = first;
-    seens = [];
-    notes_are = refl;
-    each_begin = (record { path = a_log; changed = record { 0 = 0 }; is = refl; within = omega arith }, tt);
-    each_seen = tt;
+  may_go = record { only = refl; each = tt; apart = tt };
+  behind = record { least = 1; files_below = (omega arith, tt); slots = tt };
+  told = record {
+    each = (
+      inl (record { file = file; of_files = (0, omega arith, refl); begins = record { path = a_log; changed = record { 0 = 0 }; is = refl; within = omega arith } }),
+      tt,
+    );
+    begun = (record { path = a_log; changed = record { 0 = 0 }; there = (0, omega arith, refl) }, tt);
+    hidden_begun = tt;
   };
+  mixed = record { often = λ h. refl; orderly = in_order_by worked.key };
   fits = record {
     issued = parcels;
     noted = [];
@@ -258,7 +285,7 @@ has_told = record {
   };
 }
 
-pub is_done : RunDone worked.run worked.scan (file ∷ []) (worker ∷ []) first collected
+pub is_done : RunDone worked.run worked.scan (file ∷ []) (worker ∷ []) (notes_by worked.key)
 is_done = record {
   full = record { not_cut_off = refl; none_failed = worked.whole.none_failed; each_asked = worked.whole.each_asked };
   served = served;

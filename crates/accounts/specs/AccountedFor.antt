@@ -1,12 +1,13 @@
 -- A run that an account accounts for (this project's profile): its files are followed so, the account is one of the run where files
 -- keep their identities and truncations are seen, only told events were sent, and rows over its notes are kept, one for each key that
--- was begun. The notes are those of its keeper.
-use Rattle.std.specs.Prelude.{◌≡◌, Contains, List, map}
+-- was begun and has not lost it rightly. The notes are those of its keeper.
+use Rattle.std.specs.Prelude.{◌≡◌, ◌⊎◌, Contains, List, map}
 use Rattle.std.specs.List.{AllByRecursion}
 use Rattle.kept_rows.specs.Account.{Following, SlotAccount, key_of}
 use Rattle.kept_rows.specs.Backed.{AreRowsOverFronts}
 use Rattle.kept_rows.specs.Followed.{AreFollowed}
 use Rattle.kept_rows.specs.Kept.{IsKept, IsKeptInImage}
+use Rattle.kept_rows.specs.Lost.{IsRightlyLost}
 use Rattle.kept_rows.specs.Premises.{Premises}
 use Rattle.kept_rows.specs.Run.{Run}
 use Rattle.kept_rows.specs.Sent.{SendOnlyTold}
@@ -32,6 +33,7 @@ pub record AccountsFor (run : Run) (account : List SlotAccount) (notes : List No
   pub orderly : AreOrderly notes
   -- rows over all the notes, with which a run ends
   pub ends : (rows : List Row) → AreRowsOver run.opening notes rows → AllByRecursion (IsKept account run.opening run.trace.wires) rows
-  pub begun : (rows : List Row) → AreRowsOver run.opening notes rows → AllByRecursion (HasItsRow rows) account
+  pub begun : (rows : List Row) → AreRowsOver run.opening notes rows →
+      AllByRecursion (λ one. HasItsRow rows one ⊎ IsRightlyLost run account run.trace.wires (key_of one)) account
   -- rows over some first of them, key by key, which an image may hold
   pub images : (rows : List Row) → AreRowsOverFronts run.opening notes rows → AllByRecursion (IsKeptInImage account run.opening run.trace.wires) rows

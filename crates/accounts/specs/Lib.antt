@@ -2,9 +2,9 @@ pub mod Accounted
 pub mod AccountedFor
 pub mod Failing
 pub mod Filed
-pub mod FirstNotes
 pub mod FollowedFile
 pub mod Ground
+pub mod Hidden
 pub mod Numbers
 pub mod Once
 pub mod OneScan
@@ -17,6 +17,7 @@ pub mod RunsInARow
 pub mod Same
 pub mod Taken
 pub mod ToldFile
+pub mod ToldNotes
 pub mod Turned
 pub mod Turning
 pub mod Unscanned

@@ -13,6 +13,7 @@ use Rattle.ship_core.specs.RowOver.{moment_of, slot_of}
 use Rattle.wire_base.specs.declared.note.Note.{Note}
 use Rattle.accounts.specs.Filed.{Filed, slot_in, turned_of}
 use Rattle.accounts.specs.FollowedFile.{key_in, moment_by}
+use Rattle.accounts.specs.RunTold.{RunNotes}
 use Rattle.accounts.specs.Taken.{Taken, acknowledged_in}
 use Rattle.accounts.specs.ToldFile.{IsReadThrough}
 use Rattle.accounts.specs.Turned.{Turned, notes_told, parcels_told}
@@ -43,23 +44,23 @@ EachEntryIsServed run scan files = (shown : Shown) (input : ℕ) (rule : InputRu
 -- ---- its files
 
 -- the greatest moment that was noted of it is that of the entry from which it was listed, or of its opening row where that is
--- greater; some first note of it carries this moment, its Begin or a Seen
-pub record HasItsMoment (run : Run) (scan : Scan) (first : List Note) (file : Filed) : Type 0 where
+-- greater; some note of it carries this moment, its Begin or a Seen
+pub record HasItsMoment (run : Run) (scan : Scan) (notes : List Note) (file : Filed) : Type 0 where
   pub shown : Shown
   pub entry : ShowsEntry run.trace scan shown
   pub path_is : shown.entry.path ≡ file.opened.begin.path
   pub changed_is : file.changed ≡ moment_by run file shown
   pub note : Note
-  pub among : Contains first note
+  pub among : Contains notes note
   pub slot_is : slot_of note ≡ slot_in file
   pub carries : moment_of note ≡ Some file.changed
 
 -- it was opened once, and told to its end or found with another key; where its harvester rests, this is known of it, and stays so once its
 -- tail is closed
-pub record IsToldWhole (run : Run) (scan : Scan) (first : List Note) (file : Filed) : Type 0 where
+pub record IsToldWhole (run : Run) (scan : Scan) (notes : List Note) (file : Filed) : Type 0 where
   pub alone : file.later ≡ []
   pub read_through : IsReadThrough file.turned.history
-  pub moment : HasItsMoment run scan first file
+  pub moment : HasItsMoment run scan notes file
 
 -- ---- what was told
 
@@ -71,8 +72,8 @@ pub record AreAllCollected (files : List Turned) (workers : List Taken) (collect
 
 -- ---- together
 
-pub record RunDone (run : Run) (scan : Scan) (files : List Filed) (workers : List Taken) (first collected : List Note) : Type 0 where
+pub record RunDone (run : Run) (scan : Scan) (files : List Filed) (workers : List Taken) (notes : RunNotes) : Type 0 where
   pub full : IsFullScan run scan
   pub served : EachEntryIsServed run scan files
-  pub whole : AllByRecursion (IsToldWhole run scan first) files
-  pub settled : AreAllCollected (turned_of files) workers collected
+  pub whole : AllByRecursion (IsToldWhole run scan notes.all) files
+  pub settled : AreAllCollected (turned_of files) workers notes.collected

@@ -1,0 +1,102 @@
+-- What a run tells its keeper (this project's profile): how each file begins, and moments of the last changes of files; and how each slot of a
+-- hidden row begins, and that its row goes. Nothing is said of their order but that all notes, told and collected, are orderly.
+use Rattle.std.specs.Prelude.{◌≡◌, ◌⊎◌, ℕ, ◌≤◌, List, ◌++◌, Contains}
+use Rattle.std.specs.List.{AllByRecursion}
+use Rattle.pass_sums.specs.Weight.{AsOften}
+use Rattle.ship_core.specs.Orderly.{AreOrderly}
+use Rattle.wire_base.specs.declared.note.Note.{Note}
+use Rattle.wire_base.specs.declared.note.Note.TheVariants.{Begin, Seen}
+use Rattle.wire_base.specs.declared.numbers.Moment.{Moment}
+use Rattle.wire_base.specs.declared.parcel.Parcel.{Parcel}
+use Rattle.accounts.specs.Filed.{Filed, IsNoted, turned_of}
+use Rattle.accounts.specs.Ground.{HasGround}
+use Rattle.accounts.specs.Hidden.{Hidden, hidden_begin, hidden_forget}
+use Rattle.accounts.specs.Opened.{Opened}
+
+-- the Begin of the file, with no greater moment than was noted of it
+pub record IsBeginOf (file : Filed) (note : Note) : Type 0 where
+  pub path : List ℕ
+  pub changed : Moment
+  pub is : note ≡ Begin file.opened.begin.slot file.opened.begin.key path file.opened.begin.epoch file.opened.begin.base changed
+  pub within : changed.0 ≤ file.changed
+
+-- that of one of the files
+pub record IsBeginOfOne (files : List Filed) (note : Note) : Type 0 where
+  pub file : Filed
+  pub of_files : Contains files file
+  pub begins : IsBeginOf file note
+
+-- a moment of one of the files
+pub record IsMomentOfOne (files : List Filed) (note : Note) : Type 0 where
+  pub file : Filed
+  pub of_files : Contains files file
+  pub changed : Moment
+  pub is : note ≡ Seen file.opened.begin.slot changed
+  pub within : changed.0 ≤ file.changed
+
+-- the Begin of one of the hidden rows, or its Forget
+pub record IsOfHidden (hiddens : List Hidden) (note : Note) : Type 0 where
+  pub hidden : Hidden
+  pub of_hiddens : Contains hiddens hidden
+  pub is : (note ≡ hidden_begin hidden) ⊎ (note ≡ hidden_forget hidden)
+
+-- what the run may tell
+abbrev pub MayTell : List Filed → List Hidden → Note → Type 0
+MayTell files hiddens note = IsBeginOfOne files note ⊎ (IsMomentOfOne files note ⊎ IsOfHidden hiddens note)
+
+-- each may be told, and the Begin of each file and of each hidden row is among them
+pub record AreToldNotes (files : List Filed) (hiddens : List Hidden) (told : List Note) : Type 0 where
+  pub each : AllByRecursion (MayTell files hiddens) told
+  pub begun : AllByRecursion (IsNoted told) files
+  pub hidden_begun : AllByRecursion (λ hidden. Contains told (hidden_begin hidden)) hiddens
+
+-- these notes are, as often, those that were told and those that were collected, and they are orderly
+pub record AreMixed (told collected notes : List Note) : Type 0 where
+  pub often : AsOften notes (told ++ collected)
+  pub orderly : AreOrderly notes
+
+-- ---- all of them
+
+-- the note was told by the run, or has its ground in what files told
+abbrev pub IsKnownNote : List Filed → List Hidden → List Parcel → Note → Type 0
+IsKnownNote files hiddens acknowledged note = MayTell files hiddens note ⊎ HasGround (turned_of files) acknowledged note
+
+pub record AreNotesOf (files : List Filed) (hiddens : List Hidden) (acknowledged : List Parcel) (notes : List Note) : Type 0 where
+  pub each : AllByRecursion (IsKnownNote files hiddens acknowledged) notes
+  pub begun : AllByRecursion (IsNoted notes) files
+  pub hidden_begun : AllByRecursion (λ hidden. Contains notes (hidden_begin hidden)) hiddens
+  pub orderly : AreOrderly notes
+
+-- ---- the same by files as they were opened, with the greatest moment that was noted of each
+
+pub record IsBeginAs (changed : Opened → ℕ) (opened : Opened) (note : Note) : Type 0 where
+  pub path : List ℕ
+  pub moment : Moment
+  pub is : note ≡ Begin opened.begin.slot opened.begin.key path opened.begin.epoch opened.begin.base moment
+  pub within : moment.0 ≤ changed opened
+
+pub record IsBeginAsOne (changed : Opened → ℕ) (files : List Opened) (note : Note) : Type 0 where
+  pub opened : Opened
+  pub of_files : Contains files opened
+  pub begins : IsBeginAs changed opened note
+
+pub record IsMomentAs (changed : Opened → ℕ) (files : List Opened) (note : Note) : Type 0 where
+  pub opened : Opened
+  pub of_files : Contains files opened
+  pub moment : Moment
+  pub is : note ≡ Seen opened.begin.slot moment
+  pub within : moment.0 ≤ changed opened
+
+abbrev pub MayTellAs : (Opened → ℕ) → List Opened → List Hidden → Note → Type 0
+MayTellAs changed files hiddens note = IsBeginAsOne changed files note ⊎ (IsMomentAs changed files note ⊎ IsOfHidden hiddens note)
+
+-- its Begin is among the notes
+pub record IsNotedAs (notes : List Note) (opened : Opened) : Type 0 where
+  pub path : List ℕ
+  pub moment : Moment
+  pub there : Contains notes (Begin opened.begin.slot opened.begin.key path opened.begin.epoch opened.begin.base moment)
+
+pub record AreToldNotesAs (changed : Opened → ℕ) (files : List Opened) (hiddens : List Hidden) (told : List Note) : Type 0 where
+  pub each : AllByRecursion (MayTellAs changed files hiddens) told
+  pub begun : AllByRecursion (IsNotedAs told) files
+  pub hidden_begun : AllByRecursion (λ hidden. Contains told (hidden_begin hidden)) hiddens
