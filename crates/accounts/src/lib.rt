@@ -8,6 +8,9 @@
 //! epoch. What was told of a file outlives its harvester, and from it and from the looks of its tail its account is made:
 //! those by which it was asked for its key stand first, and where it lost its key the account keeps the looks before that.
 //!
+//! A row of the registry that a whole scan hides, of an input that cleans the rows of removed files, has a slot of its own
+//! without a tail (`Hidden`): it begins where the row is, and the scan is why it goes.
+//!
 //! Of a run as it ends `RunTold` says what was told of its files, where that went and what the talks of its wires
 //! acknowledged; then its account is one of the run, rows over its notes are kept, also those that images hold, and only
 //! told events were sent. With `RunDone` it drained its folder.

@@ -1,8 +1,9 @@
 -- Beginning all listed files keeps what stands of a run in which none was begun yet.
-use Rattle.std.proofs.Common.{◌≡◌, inl, inr, ℕ, zero, suc, ◌+◌, ◌≤◌, List, [], ◌∷◌, ◌++◌, Contains, length, map, take, append-nil, append_assoc, Option, Some, None, IfSome, Result, Ok, Err, IfOk, IfErr, Vec, Global, refl, sym, ap, subst, ◌∙◌, arith}
+use Rattle.std.proofs.Common.{◌≡◌, inl, inr, ℕ, zero, suc, ◌+◌, ◌≤◌, List, [], ◌∷◌, ◌++◌, length, map, take, append_assoc, Option, Some, None, IfSome, Result, Ok, Err, IfOk, IfErr, Vec, Global, refl, sym, ap, subst, ◌∙◌, arith}
 use Rattle.std.proofs.lemmas.List.{length-append}
 use Rattle.std.specs.Prelude.{slice_get}
 use Rattle.std.specs.List.{AllByRecursion, flat_map}
+use Rattle.accounts.specs.Hidden.{Hidden}
 use Rattle.accounts.specs.Opened.{Opened}
 use Rattle.accounts.specs.Turned.{Turned, notes_told, parcels_told}
 use Rattle.accounts.proofs.Often.{often_counted}
@@ -22,7 +23,8 @@ use Rattle.wire_base.specs.declared.parcel.Parcel.{Parcel}
 use Rattle.run_steps.specs.Began.{Began}
 use Rattle.run_steps.specs.Beginning.{Beginning}
 use Rattle.run_steps.specs.BeginsAll.{BeginsAll, BeginsFrom, BeginsSome, IsOfRuledInput}
-use Rattle.run_steps.specs.Begun.{AreAllSeen, IsSeenOf, noted_begin}
+use Rattle.run_steps.specs.Begun.{AreAllSeen, MayBegin, noted_begin}
+use Rattle.run_steps.specs.HiddenRows.{HidesBegun}
 use Rattle.run_steps.specs.RunState.{Finished, Leaving, Reading}
 use Rattle.run_steps.specs.SoFar.{SoFar, files_in}
 use Rattle.run_steps.specs.Stands.{Further, Stands}
@@ -31,6 +33,7 @@ use Rattle.run_steps.specs.Worked.{phase_begun}
 use Rattle.run_steps.specs.declared.begin_error.BeginError.{BeginError}
 use Rattle.run_steps.proofs.BeginningFiles.{BeginsBelow, IsToBegin, Leaves, leaves, one_ends, one_more}
 use Rattle.run_steps.proofs.BeginningOne.{AreBelow, Begins, at_phase, stands_at}
+use Rattle.run_steps.proofs.HiddenStands.{hides, hides_some}
 use Rattle.run_steps.proofs.Openings.{got_at_end}
 use Rattle.run_steps.proofs.SeenMoments.{are_all_seen}
 use Rattle.run_steps.proofs.ToldMoments.{AreListedFrom, StandsUncollected, all_seen}
@@ -45,7 +48,7 @@ none_behind xs ys long = let both = length-append xs ys in omega (arith, long, b
 -- ---- where nothing was begun, nothing was noted
 
 module _ {T W L D : Type 0} (words : Words T W L D) (start : Began D) (moments : Option (List ℕ)) (a b : D) (now : Moment) (old : Beginning T W L) (so_far : SoFar)
-    (stands : Stands words start (at_phase words start moments a b old.folder.told old.crew old.keeper Reading) so_far) (none_opened : so_far.opened ≡ []) where
+    (stands : Stands words start (at_phase words start moments a b old.folder.told old.crew old.keeper Reading) so_far) (none_opened : so_far.opened ≡ []) (none_hidden : so_far.hidden ≡ []) where
   no_files : files_in so_far ≡ []
   no_files = nil_by (files_in so_far) (let long = often_counted (map (λ (t : Turned). t.slot) (files_in so_far)) (map (λ (o : Opened). o.begin.slot) so_far.opened) stands.files.each_once.are in
       let none = ap (λ (l : List Opened). length (map (λ (o : Opened). o.begin.slot) l)) none_opened in
@@ -82,21 +85,34 @@ module _ {T W L D : Type 0} (words : Words T W L D) (start : Began D) (moments :
   none_collected : so_far.collected ≡ []
   none_collected = none_in_front so_far.collected (held_in old.keeper.held) (ap (λ (l : List Note). length l) (sym stands.notes.noted.got ∙ none_got))
 
-  none_begun : so_far.begun ≡ map (λ (o : Opened). noted_begin o.begin) so_far.opened
-  none_begun = stands.notes.begun.are ∙ ap (λ (l : List Note). map (λ (o : Opened). noted_begin o.begin) so_far.opened ++ l) (none_seen stands.notes.begun.seen stands.notes.begun.seen_are)
-      ∙ append-nil (map (λ (o : Opened). noted_begin o.begin) so_far.opened)
+  none_begun : so_far.begun ≡ []
+  none_begun = nothing_told so_far.begun
+      (subst (λ (l : List Hidden). AllByRecursion (MayBegin start.opening start.listed [] l) so_far.begun) none_hidden
+      (subst (λ (l : List Opened). AllByRecursion (MayBegin start.opening start.listed l so_far.hidden) so_far.begun) none_opened stands.notes.begun.each))
     where
-      none_seen : (seen : List Note) → AllByRecursion (IsSeenOf start.opening start.listed so_far.opened) seen → seen ≡ []
-      none_seen [] are = refl
-      none_seen (note ∷ seen) are = absurd (none_there are.0.file (subst (λ (l : List Opened). Contains l are.0.file) none_opened are.0.among))
+      nothing_told : (notes : List Note) → AllByRecursion (MayBegin start.opening start.listed [] []) notes → notes ≡ []
+      nothing_told [] are = refl
+      nothing_told (note ∷ notes) are = absurd (by_kind are.0)
+        where
+          by_kind : MayBegin start.opening start.listed [] [] note → ⊥
+          by_kind (inl of) = none_there of.file of.among
+          by_kind (inr (inl of)) = none_there of.file of.among
+          by_kind (inr (inr of)) = none_there of.hidden of.of_hiddens
+
+  none_noted_yet : old.keeper.tracked.notes ≡ []
+  none_noted_yet =
+      nil_by old.keeper.tracked.notes
+      (often_counted old.keeper.tracked.notes (so_far.begun ++ so_far.collected) stands.notes.noted.mixed.often
+      ∙ ap (λ (l : List Note). length (l ++ so_far.collected)) none_begun ∙ ap (λ (l : List Note). length l) none_collected)
 
   pub nothing_begun : EndsAt so_far.moments now.0 → Begins words start moments a b now old.folder.told old.crew old.keeper 0
   nothing_begun ends = record {
     so_far = so_far;
     stands = stands;
     below = subst (AreBelow 0) (sym none_opened) tt;
-    begun_are = none_begun;
-    none_collected = none_collected;
+    begun_are = none_begun ∙ sym (ap (map (λ (o : Opened). noted_begin o.begin)) none_opened);
+    notes_are = none_noted_yet ∙ sym none_begun;
+    none_hidden = none_hidden;
     ends = ends;
   }
 
@@ -166,12 +182,12 @@ module _ {T W L D : Type 0} (words : Words T W L D) (reads : (disk : D) → IfSo
   front_listed count slot listed to = listed_from slot (take count listed) (front_to_begin count slot listed to)
 
   module _ (old : Beginning T W L) (so_far : SoFar) (stands : Stands words start (at_phase words start moments a b old.folder.told old.crew old.keeper Reading) so_far)
-      (none_opened : so_far.opened ≡ []) (ends : EndsAt so_far.moments now.0) (of_inputs : AllByRecursion (IsOfRuledInput start.settings) start.listed) where
+      (none_opened : so_far.opened ≡ []) (none_hidden : so_far.hidden ≡ []) (ends : EndsAt so_far.moments now.0) (of_inputs : AllByRecursion (IsOfRuledInput start.settings) start.listed) where
     to_begin : AreToBegin 0 start.listed
     to_begin = are_to_begin [] start.listed refl of_inputs
 
     at_first : BeginsBelow words reads counts start moments a b now 0 old
-    at_first = nothing_begun words start moments a b now old so_far stands none_opened ends
+    at_first = nothing_begun words start moments a b now old so_far stands none_opened none_hidden ends
 
     behind_some : (count : ℕ) (passed : List Passing) (mid : Beginning T W L) → BeginsFrom words.tails start.settings start.opening now 0 (take count start.listed) passed old mid →
         BeginsBelow words reads counts start moments a b now (length (take count start.listed) + 0) mid
@@ -181,21 +197,19 @@ module _ {T W L D : Type 0} (words : Words T W L D) (reads : (disk : D) → IfSo
         BeginsBelow words reads counts start moments a b now (length start.listed + 0) mid
     behind_all passed mid is = begins_from 0 start.listed passed old mid to_begin is at_first
 
-    told_then : (slot : ℕ) (listed : List Listed) (mid : Beginning T W L) (keeper : Keeping) → BeginsBelow words reads counts start moments a b now slot mid → AreListedFrom start.listed 0 listed →
-        TellMoments start.opening 0 listed mid.keeper keeper →
-        (begins : SoFar) × Stands words start (at_phase words start moments a b mid.folder.told mid.crew keeper Reading) begins
+    told_then : (slot : ℕ) (listed : List Listed) (mid : Beginning T W L) (keeper : Keeping) → (begins : BeginsBelow words reads counts start moments a b now slot mid) → AreListedFrom start.listed 0 listed →
+        TellMoments start.opening 0 listed mid.keeper keeper → StandsUncollected words reads counts start moments a b mid.folder.told mid.crew Reading begins.so_far.opened keeper
     told_then slot listed mid keeper begins there tell =
-        let is = all_seen words reads counts start moments a b mid.folder.told mid.crew Reading begins.so_far.opened 0 listed mid.keeper keeper there tell
-        (record { so_far = begins.so_far; opened_are = refl; stands = begins.stands; none_collected = begins.none_collected }) in
-        (is.so_far, is.stands)
+        all_seen words reads counts start moments a b mid.folder.told mid.crew Reading begins.so_far.opened 0 listed mid.keeper keeper there tell
+        (record { so_far = begins.so_far; opened_are = refl; stands = begins.stands; notes_are = begins.notes_are; none_hidden = begins.none_hidden })
 
     -- files are read on
     pub all_begun : (passed : List Passing) (new : Beginning T W L) → BeginsAll words.tails start.settings start.opening now start.listed passed old new →
-        Further words start (at_phase words start moments a b new.folder.told new.crew new.keeper Reading)
+        (opened : List Opened) × StandsUncollected words reads counts start moments a b new.folder.told new.crew Reading opened new.keeper
     all_begun passed new is =
-        let told = told_then (length start.listed + 0) start.listed is.mid new.keeper (behind_all passed is.mid is.begins) (listed_from 0 start.listed to_begin) is.tell in
-        subst (λ (s : Beginning T W L). Further words start (at_phase words start moments a b s.folder.told s.crew s.keeper Reading)) (sym is.others)
-        (record { so_far = told.0; stands = told.1 })
+        let begins = behind_all passed is.mid is.begins in
+        let told = told_then (length start.listed + 0) start.listed is.mid new.keeper begins (listed_from 0 start.listed to_begin) is.tell in
+        subst (λ (s : Beginning T W L). (opened : List Opened) × StandsUncollected words reads counts start moments a b s.folder.told s.crew Reading opened s.keeper) (sym is.others) (begins.so_far.opened, told)
 
     -- the keeper was told when each file was changed that was begun
     pub all_are_seen : (passed : List Passing) (new : Beginning T W L) → BeginsAll words.tails start.settings start.opening now start.listed passed old new → AreAllSeen start.opening start.listed new.keeper.tracked.notes
@@ -203,7 +217,7 @@ module _ {T W L D : Type 0} (words : Words T W L D) (reads : (disk : D) → IfSo
         let begins = behind_all passed is.mid is.begins in
         let there = listed_from 0 start.listed to_begin in
         let before : StandsUncollected words reads counts start moments a b is.mid.folder.told is.mid.crew Reading begins.so_far.opened is.mid.keeper =
-        record { so_far = begins.so_far; opened_are = refl; stands = begins.stands; none_collected = begins.none_collected } in
+        record { so_far = begins.so_far; opened_are = refl; stands = begins.stands; notes_are = begins.notes_are; none_hidden = begins.none_hidden } in
         are_all_seen words reads counts start moments a b is.mid.folder.told is.mid.crew Reading begins.so_far.opened is.mid.keeper new.keeper there is.tell before
         (all_seen words reads counts start moments a b is.mid.folder.told is.mid.crew Reading begins.so_far.opened 0 start.listed is.mid.keeper new.keeper there is.tell before)
 
@@ -223,13 +237,23 @@ module _ {T W L D : Type 0} (words : Words T W L D) (reads : (disk : D) → IfSo
         let told = told_then (length start.listed + 0) (take is.tell.count start.listed) is.mid new.keeper (behind_all is.passed is.mid is.begins) (front_listed is.tell.count 0 start.listed to_begin) is.tell.tell in
         subst (λ (s : Beginning T W L). Further words start (at_phase words start moments a b s.folder.told s.crew s.keeper Leaving)) (sym is.others)
         (record {
-          so_far = told.0;
-          stands = stands_at words start moments a b is.mid.folder.told is.mid.folder.told is.mid.crew new.keeper Leaving told.0 (λ e. let no : Leaving ≡ Finished = e in cc) tt told.1.files.shown told.1;
+          so_far = told.so_far;
+          stands = stands_at words start moments a b is.mid.folder.told is.mid.folder.told is.mid.crew new.keeper Leaving told.so_far (λ e. let no : Leaving ≡ Finished = e in cc) tt told.stands.files.shown told.stands;
         })
 
-    -- by what beginning them answered
-    pub stands_begun : (result : Result (Vec Passing Global) BeginError) (new : Beginning T W L) → IfOk result (λ passed. BeginsAll words.tails start.settings start.opening now start.listed passed.items old new) →
-        IfErr result (λ what. BeginsSome words.tails start.settings start.opening now start.listed what old new) →
-        Further words start (at_phase words start moments a b new.folder.told new.crew new.keeper (phase_begun result))
-    stands_begun (Ok passed) new begun ended = all_begun passed.items new begun
-    stands_begun (Err what) new begun ended = some_begun what new ended
+    -- by what beginning them answered, and then telling of hidden rows
+    pub stands_begun : (result hid : Result (Vec Passing Global) BeginError) (new : Beginning T W L) (keeper : Keeping) → IfOk result (λ passed. BeginsAll words.tails start.settings start.opening now start.listed passed.items old new) →
+        IfErr result (λ what. BeginsSome words.tails start.settings start.opening now start.listed what old new) → new.keeper.store.rows ≡ start.opening →
+        HidesBegun start.settings.inputs start.listed result hid new.keeper keeper → Further words start (at_phase words start moments a b new.folder.told new.crew keeper (phase_begun hid))
+    stands_begun (Ok passed) (Ok same) new keeper begun ended rows hidden =
+        let all = all_begun passed.items new begun in hides words reads counts start moments a b new.folder.told new.crew Reading all.0 new.keeper keeper all.1 rows hidden.1
+    stands_begun (Ok passed) (Err what) new keeper begun ended rows hidden =
+        let all = all_begun passed.items new begun in
+        let some = hides_some words reads counts start moments a b new.folder.told new.crew Reading all.0 new.keeper keeper all.1 rows hidden.1 in
+        record {
+          so_far = some.so_far;
+          stands = stands_at words start moments a b new.folder.told new.folder.told new.crew keeper Leaving some.so_far (λ e. let no : Leaving ≡ Finished = e in cc) tt some.stands.files.shown some.stands;
+        }
+    stands_begun (Err what) (Ok same) new keeper begun ended rows hidden = absurd hidden
+    stands_begun (Err what) (Err other) new keeper begun ended rows hidden =
+        subst (λ (k : Keeping). Further words start (at_phase words start moments a b new.folder.told new.crew k Leaving)) (sym hidden.1) (some_begun what new ended)

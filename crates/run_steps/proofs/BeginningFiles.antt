@@ -85,7 +85,8 @@ module _ {T W L D : Type 0} (words : Words T W L D) (reads : (disk : D) → IfSo
     stands = begins.stands;
     below = each_then (λ (o : Opened). o.begin.slot.0 < slot) (λ (o : Opened). o.begin.slot.0 < suc slot) begins.so_far.opened (λ o less. omega (arith, less)) begins.below;
     begun_are = begins.begun_are;
-    none_collected = begins.none_collected;
+    notes_are = begins.notes_are;
+    none_hidden = begins.none_hidden;
     ends = begins.ends;
   }
 
@@ -97,7 +98,8 @@ module _ {T W L D : Type 0} (words : Words T W L D) (reads : (disk : D) → IfSo
       stands = stands_at words start moments a b old.folder.told later old.crew old.keeper Reading begins.so_far (λ is. let no : Reading ≡ Finished = is in cc) tt has begins.stands;
       below = begins.below;
       begun_are = begins.begun_are;
-      none_collected = begins.none_collected;
+      notes_are = begins.notes_are;
+      none_hidden = begins.none_hidden;
       ends = begins.ends;
     }
 

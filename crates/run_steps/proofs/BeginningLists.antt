@@ -1,5 +1,5 @@
 -- Files begun one behind the other, in the order of their slots: one more, and what stays over all of them.
-use Rattle.std.proofs.Common.{◌≡◌, ◌⊎◌, inl, inr, ⊎_elim, ℕ, zero, suc, ◌+◌, ◌-◌, ◌^◌, ◌≤◌, ◌<◌, List, [], ◌∷◌, ◌++◌, length, take, append-nil, append_assoc, Option, None, Some, Result, Ok, Err, IfErr, IsErrAnd, refl, sym, ap, subst, ◌∙◌, arith}
+use Rattle.std.proofs.Common.{◌≡◌, ◌⊎◌, inl, inr, ⊎_elim, ℕ, zero, suc, ◌+◌, ◌-◌, ◌^◌, ◌≤◌, ◌<◌, List, [], ◌∷◌, ◌++◌, length, take, append-nil, append_assoc, Some, Result, Ok, Err, IfErr, IsErrAnd, refl, sym, ap, subst, ◌∙◌, arith}
 use Rattle.std.proofs.lemmas.Bool.{cases_lt}
 use Rattle.std.proofs.lemmas.Option.{slice_get_within}
 use Rattle.std.specs.List.{AllByRecursion}
@@ -9,7 +9,6 @@ use Rattle.keeper.specs.Keeping.{Keeping}
 use Rattle.outside.specs.Counts.{Rose, added_counts}
 use Rattle.prospect.specs.declared.listed.Listed.{Listed}
 use Rattle.report.specs.declared.passing.Passing.{Passing}
-use Rattle.report.specs.declared.passing.Why.{Why}
 use Rattle.rounds.specs.Crewed.{lanings}
 use Rattle.rounds.specs.Words.{TailWords}
 use Rattle.wire_base.specs.declared.note.Begin.{Begin}
@@ -161,7 +160,7 @@ module _ {T W L : Type 0} (tails : TailWords T) (settings : Settings) (rows : Li
       (λ tells. told_knows keys (record { 0 = slot }) listed (start_among rows listed) old.keeper new.keeper of tells knows)
       (begin_keeps tails settings (file_at rows slot listed now) result old new is).keeper
 
-  from_knows : (keys : List (List ℕ)) (slot : ℕ) (listed : List Listed) (passed : List Passing) (old new : Beginning T W L) → AllByRecursion (IsOfKeys keys) listed →
+  pub from_knows : (keys : List (List ℕ)) (slot : ℕ) (listed : List Listed) (passed : List Passing) (old new : Beginning T W L) → AllByRecursion (IsOfKeys keys) listed →
       BeginsFrom tails settings rows now slot listed passed old new → KnowsAmong keys old.keeper → KnowsAmong keys new.keeper
   from_knows keys slot [] passed old new of is knows = subst (λ (s : Beginning T W L). KnowsAmong keys s.keeper) (sym is.1) knows
   from_knows keys slot (one ∷ listed) passed old new of is knows =

@@ -2,7 +2,13 @@
 use Rattle.std.proofs.Common.{◌≡◌, ◌≢◌, ◌⊎◌, inl, inr, ℕ, suc, ◌+◌, ◌<◌, ◌≤◌, List, [], ◌∷◌, ◌++◌, Contains, map, append-nil, Option, IsSome, refl, sym, ap, subst, ◌∙◌, arith}
 use Rattle.std.proofs.lemmas.List.{map-append}
 use Rattle.std.specs.List.{AllByRecursion, flat_map}
+use Rattle.accounts.proofs.Ordered.{HasSlotBelow, none_of_slot, one_more_orderly}
+use Rattle.accounts.specs.Hidden.{Hidden, hidden_begin}
 use Rattle.accounts.specs.Opened.{Opened}
+use Rattle.prospect.specs.declared.listed.Listed.{Listed}
+use Rattle.ship_core.specs.Orderly.{AreOrderly}
+use Rattle.std.proofs.lemmas.List.Elements.{Contains-append_left, Contains-append_right}
+use Rattle.wire_base.specs.declared.row.Row.{Row}
 use Rattle.accounts.specs.Turned.{Turned, notes_told, parcels_told, spans_in}
 use Rattle.accounts.proofs.Lists.{each_last, each_then}
 use Rattle.accounts.proofs.Often.{often_back, often_contains, often_then}
@@ -16,13 +22,13 @@ use Rattle.rounds.specs.Crewed.{lanings}
 use Rattle.rounds.specs.Words.{Words}
 use Rattle.rounds.specs.declared.crew.Crew.{Crew}
 use Rattle.settle_box.specs.Senders.{notes}
-use Rattle.ship_core.proofs.Members.{first_there, later_there, none_there, there_cases}
+use Rattle.ship_core.proofs.Members.{first_there, none_there, there_cases}
 use Rattle.wire_base.specs.declared.note.Note.{Note}
 use Rattle.wire_base.specs.declared.numbers.Moment.{Moment}
 use Rattle.wire_base.specs.declared.numbers.Slot.{Slot}
 use Rattle.run_steps.specs.Began.{Began}
 use Rattle.run_steps.specs.Beginning.{SameLanes}
-use Rattle.run_steps.specs.Begun.{AreBeginNotes, AreSlotsFrom, IsKeyed, IsOpenedAsListed, noted_begin}
+use Rattle.run_steps.specs.Begun.{AreBeginNotes, AreSlotsFrom, IsKeyed, IsOpenedAsListed, MayBegin, noted_begin}
 use Rattle.run_steps.specs.LastEpoch.{HaveOneOver}
 use Rattle.run_steps.specs.RunState.{Finished, Phase, Reading, RunState}
 use Rattle.run_steps.specs.Shown.{HasShown, IsTurnedIn}
@@ -56,6 +62,19 @@ slots_below slot (one ∷ opened) below other there = from (there_cases one.begi
     from : (one.begin.slot ≡ other) ⊎ Contains (slots_in opened) other → (Contains (slots_in opened) other → other.0 < slot) → other.0 < slot
     from (inl same) later = subst (λ (s : Slot). s.0 < slot) same below.0
     from (inr behind) later = later behind
+
+notes_below : (slot : ℕ) (opened : List Opened) → AreBelow slot opened → AllByRecursion (HasSlotBelow slot) (map (λ (one : Opened). noted_begin one.begin) opened)
+notes_below slot [] below = tt
+notes_below slot (one ∷ opened) below = (below.0, notes_below slot opened below.1)
+
+-- what the run might tell of some it may tell of more
+pub may_still : (rows : List Row) (listed : List Listed) (opened more : List Opened) (hiddens others : List Hidden) (note : Note) → MayBegin rows listed opened hiddens note →
+    MayBegin rows listed (opened ++ more) (hiddens ++ others) note
+may_still rows listed opened more hiddens others note (inl of) = inl (record { file = of.file; among = Contains-append_left opened more of.file of.among; is = of.is })
+may_still rows listed opened more hiddens others note (inr (inl of)) =
+    inr (inl (record { file = of.file; among = Contains-append_left opened more of.file of.among; one = of.one; listed_there = of.listed_there; is = of.is }))
+may_still rows listed opened more hiddens others note (inr (inr of)) =
+    inr (inr (record { hidden = of.hidden; of_hiddens = Contains-append_left hiddens others of.hidden of.of_hiddens; is = of.is }))
 
 -- ---- a state with this crew and this keeper
 
@@ -111,7 +130,9 @@ module _ {T W L D : Type 0} (words : Words T W L D) (start : Began D) (moments :
     pub stands : Stands words start (at_phase shown crew keeper Reading) so_far
     pub below : AreBelow slot so_far.opened
     pub begun_are : so_far.begun ≡ map (λ (one : Opened). noted_begin one.begin) so_far.opened
-    pub none_collected : so_far.collected ≡ []
+    -- and the keeper has noted nothing else
+    pub notes_are : keeper.tracked.notes ≡ so_far.begun
+    pub none_hidden : so_far.hidden ≡ []
     pub ends : EndsAt so_far.moments now.0
 
   -- the file of this slot, as it is opened by the rule of its input
@@ -164,8 +185,26 @@ module _ {T W L D : Type 0} (words : Words T W L D) (start : Began D) (moments :
       pub begun_next : was.begun ++ noted_begin one.begin ∷ [] ≡ map (λ (o : Opened). noted_begin o.begin) more
       begun_next = ap (λ (l : List Note). l ++ noted_begin one.begin ∷ []) begins.begun_are ∙ sym (map-append (λ (o : Opened). noted_begin o.begin) was.opened (one ∷ []))
 
-      pub begun : AreBeginNotes start.opening start.listed more (was.begun ++ noted_begin one.begin ∷ [])
-      begun = record { seen = []; are = begun_next ∙ sym (append-nil (map (λ (o : Opened). noted_begin o.begin) more)); seen_are = tt }
+      pub begun : AreBeginNotes start.opening start.listed more was.hidden (was.begun ++ noted_begin one.begin ∷ [])
+      begun = record {
+        each = each_last (MayBegin start.opening start.listed more was.hidden) was.begun (noted_begin one.begin)
+            (each_then (MayBegin start.opening start.listed was.opened was.hidden) (MayBegin start.opening start.listed more was.hidden) was.begun (λ note may. subst (λ (l : List Hidden). MayBegin start.opening start.listed more l note) (append-nil was.hidden) (may_still start.opening start.listed was.opened (one ∷ []) was.hidden [] note may))
+            begins.stands.notes.begun.each)
+            (inl (record { file = one; among = Contains-append_right was.opened (one ∷ []) one (first_there one []); is = refl }));
+        begun = each_last (λ (o : Opened). Contains (was.begun ++ noted_begin one.begin ∷ []) (noted_begin o.begin)) was.opened one
+            (each_then (λ (o : Opened). Contains was.begun (noted_begin o.begin)) (λ (o : Opened). Contains (was.begun ++ noted_begin one.begin ∷ []) (noted_begin o.begin)) was.opened
+            (λ o there. Contains-append_left was.begun (noted_begin one.begin ∷ []) (noted_begin o.begin) there) begins.stands.notes.begun.begun)
+            (Contains-append_right was.begun (noted_begin one.begin ∷ []) (noted_begin one.begin) (first_there (noted_begin one.begin) []));
+        hidden_begun = each_then (λ (h : Hidden). Contains was.begun (hidden_begin h)) (λ (h : Hidden). Contains (was.begun ++ noted_begin one.begin ∷ []) (hidden_begin h)) was.hidden
+            (λ h there. Contains-append_left was.begun (noted_begin one.begin ∷ []) (hidden_begin h) there) begins.stands.notes.begun.hidden_begun;
+      }
+
+      -- no note of its slot stands before its Begin
+      pub orderly_next : AreOrderly (keeper.tracked.notes ++ noted_begin one.begin ∷ [])
+      orderly_next = one_more_orderly keeper.tracked.notes (noted_begin one.begin) begins.stands.notes.noted.mixed.orderly
+          (none_of_slot one.begin.slot.0 keeper.tracked.notes
+          (subst (AllByRecursion (HasSlotBelow one.begin.slot.0)) (sym (begins.notes_are ∙ begins.begun_are))
+          (notes_below one.begin.slot.0 was.opened (subst (λ (n : ℕ). AreBelow n was.opened) (sym so.slot_is) begins.below))))
 
       module _ (files : List Turned) (often : AsOften files (turned ∷ files_in was)) where
         pub each_once : AreEachOnce more files

@@ -1,5 +1,5 @@
 -- Once files were begun, rounds may follow as before, and the areas are at rest still.
-use Rattle.std.proofs.Common.{◌≡◌, ◌⊎◌, inl, inr, ℕ, suc, List, [], ◌∷◌, ◌++◌, take, Vec, Global, Option, Result, Ok, Err, IfOk, IfErr, sym, ap, subst, ◌∙◌, append_assoc}
+use Rattle.std.proofs.Common.{◌≡◌, ◌⊎◌, inl, inr, ℕ, suc, List, [], ◌∷◌, ◌++◌, take, Vec, Global, Result, Ok, Err, IfOk, IfErr, sym, ap, subst, ◌∙◌, append_assoc}
 use Rattle.std.specs.Borrow.{MutBor}
 use Rattle.atomic_table.specs.Seated.{TableId}
 use Rattle.event_tree.specs.declared.settings.Settings.{Settings}
@@ -8,7 +8,6 @@ use Rattle.prospect.specs.declared.listed.Listed.{Listed}
 use Rattle.registry_store.specs.Settled.{AreSettled}
 use Rattle.registry_store.specs.Standing.{chosen_by}
 use Rattle.report.specs.declared.passing.Passing.{Passing}
-use Rattle.report.specs.declared.passing.Why.{Why}
 use Rattle.rounds.specs.Crewing.{crewing}
 use Rattle.rounds.specs.Rounds.{IsReady}
 use Rattle.rounds.specs.Words.{DiskWords, TailWords}
@@ -27,7 +26,7 @@ use Rattle.run_steps.proofs.Keeps.{begin_keeps, keeper_others}
 use Rattle.run_steps.proofs.Notes.{moments_are_told}
 use Rattle.run_steps.specs.declared.begin.Admission.{Admission}
 
-rests_on : {D : Type 0} (disks : DiskWords D) (a b : D) (more : List Note) (old new : Keeping) → TellsNotes more old new → IsAtRest disks old a b → IsAtRest disks new a b
+pub rests_on : {D : Type 0} (disks : DiskWords D) (a b : D) (more : List Note) (old new : Keeping) → TellsNotes more old new → IsAtRest disks old a b → IsAtRest disks new a b
 rests_on disks a b more old new tells rests = record {
   settled = subst (λ (k : Keeping). AreSettled disks.contents disks.images a b (chosen_by k.store)) (sym tells.others_stay) rests.settled;
   committed = record {
@@ -73,7 +72,7 @@ module _ {T W L : Type 0} (tails : TailWords T) (settings : Settings) (rows : Li
           is_open = ap (λ (k : Keeping). k.store.closed) others ∙ ready.is_open;
         }
 
-    told_runs : (mid new : Beginning T W L) (more : List Note) → TellsNotes more mid.keeper new.keeper → new ≡ record mid { keeper = new.keeper } → MayRun mid → MayRun new
+    pub told_runs : (mid new : Beginning T W L) (more : List Note) → TellsNotes more mid.keeper new.keeper → new ≡ record mid { keeper = new.keeper } → MayRun mid → MayRun new
     told_runs mid new more tells others ready = subst MayRun (sym others) (record {
       able = record {
         some_lanes = ready.able.some_lanes;

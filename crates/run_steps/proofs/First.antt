@@ -3,6 +3,7 @@ use Rattle.std.proofs.Common.{◌≡◌, ◌≢◌, ℕ, zero, suc, ◌-◌, ◌
 use Rattle.std.specs.Prelude.{count_by, slice_get}
 use Rattle.std.specs.List.{AllByRecursion, flat_map}
 use Rattle.accounts.specs.Opened.{Opened as OpenedFile}
+use Rattle.accounts.proofs.Ordered.{none_orderly}
 use Rattle.accounts.specs.Turned.{Turned, notes_told, parcels_told, spans_in}
 use Rattle.accounts.specs.Turning.{IsTurnedSo, Pairs}
 use Rattle.batch_worker.specs.Held.{carried_in, notes_of, owed_by}
@@ -160,6 +161,7 @@ module _ {T W L D : Type 0} (words : Words T W L D) (start : Began D) (crew : Cr
     so_far = record {
       moments = given.since;
       opened = [];
+      hidden = [];
       lanes = none_in (lanings crew.lanes.items);
       left = [];
       told = record { issued = []; noted = []; acknowledged = heard_by words.wires crew.carriers.items };
@@ -275,8 +277,9 @@ module _ {T W L D : Type 0} (words : Words T W L D) (start : Began D) (crew : Cr
       };
       notes = record {
         counted = counted;
-        begun = record { seen = []; are = refl; seen_are = tt };
-        noted = record { opening_is = made.opening_is; are = refl; got = ap notes made.none_got };
+        begun = record { each = tt; begun = tt; hidden_begun = tt };
+        hidden = record { ordered = subst IsInOrder made.opening_is made.in_order; count = 0; are = refl };
+        noted = record { opening_is = made.opening_is; mixed = record { often = λ h. refl; orderly = none_orderly }; got = ap notes made.none_got };
         stores = λ orderly opened. record { in_order = made.in_order; each = λ key. refl };
       };
       areas = made.areas;

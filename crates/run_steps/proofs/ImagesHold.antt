@@ -13,7 +13,7 @@ use Rattle.wire_base.specs.declared.limits.Which.{Which}
 use Rattle.wire_base.specs.declared.limits.Which.TheVariants.{A, B}
 use Rattle.wire_base.specs.declared.note.Note.{Note}
 use Rattle.wire_base.specs.declared.row.Row.{Row}
-use Rattle.run_steps.specs.AccountedFor.{Absences, AreImageRows, GiveImageRows, ImagesHoldKeptRows, RunObjects, TogetherHoldKeptRows, WereAtRest, areas_of}
+use Rattle.run_steps.specs.AccountedFor.{AreImageRows, GiveImageRows, ImagesHoldKeptRows, LostInImage, RunObjects, TogetherHoldKeptRows, WereAtRest, areas_of}
 use Rattle.run_steps.specs.Areas.{GiveTheRows, HaveHeldFronts, HeldOnlyFronts}
 use Rattle.run_steps.specs.Together.{area_in}
 use Rattle.run_steps.specs.UnusedArea.{IsOfUnusedArea}
@@ -29,27 +29,27 @@ ordered_at_rest disks a b rows rest gave =
     let (second, b_is) = some_of (disks.contents b) rest.b_told in
     rows_in_order first second rows (gave first second a_is b_is)
 
-module _ (one : OneChoice) (Absent : Absences) (run : Run) (account : List SlotAccount) {D : Type 0} (disks : DiskWords D) (objects : RunObjects D) (rest : WereAtRest disks objects) (opening : List Row)
+module _ (one : OneChoice) (run : Run) (account : List SlotAccount) {D : Type 0} (disks : DiskWords D) (objects : RunObjects D) (rest : WereAtRest disks objects) (opening : List Row)
     (gave : GiveTheRows disks objects.before.a objects.before.b opening) (notes : List Note)
     (held : HaveHeldFronts disks opening notes objects.before.a objects.before.b objects.after.a objects.after.b)
-    (are : (rows : List Row) → AreRowsOverFronts opening notes rows → AreImageRows Absent run account rows) where
+    (are : (rows : List Row) → AreRowsOverFronts opening notes rows → AreImageRows run account LostInImage rows) where
   -- an area that was used as the run began has the opening rows where it is as it was
   as_before : (area : Which) (image : List ℕ) (generation : ℕ) (rows : List Row) (end : ℕ) → disks.contents (area_in (areas_of objects.before) area) ≡ Some image → IsOpened image generation rows end →
-      IsOfUnusedArea disks (areas_of objects.before) area image generation ⊎ AreImageRows Absent run account rows
+      IsOfUnusedArea disks (areas_of objects.before) area image generation ⊎ AreImageRows run account LostInImage rows
   as_before area image generation rows end told opened =
-      ⊎_elim inl (λ same. inr (subst (AreImageRows Absent run account) (sym same) (are opening (over_none notes opening (ordered_at_rest disks objects.before.a objects.before.b opening rest gave)))))
+      ⊎_elim inl (λ same. inr (subst (AreImageRows run account LostInImage) (sym same) (are opening (over_none notes opening (ordered_at_rest disks objects.before.a objects.before.b opening rest gave)))))
       (unused_or_opening one disks (areas_of objects.before) rest opening gave area image generation rows end told opened)
 
   of_each : (area : Which) → HeldOnlyFronts disks opening notes (area_in (areas_of objects.before) area) (area_in (areas_of objects.after) area)
   of_each A = held.of_a
   of_each B = held.of_b
 
-  pub images_hold : (area : Which) → ImagesHoldKeptRows Absent disks objects run account area
+  pub images_hold : (area : Which) → ImagesHoldKeptRows disks objects run account area
   images_hold area image generation rows end since opened =
       ⊎_elim (λ told. as_before area image generation rows end told opened) (λ over. inr (are rows over))
       (opened_over_fronts one opening notes (disks.contents (area_in (areas_of objects.before) area)) image generation rows end ((of_each area).each image since) opened)
 
-  pub together_hold : TogetherHoldKeptRows Absent disks objects run account
+  pub together_hold : TogetherHoldKeptRows disks objects run account
   together_hold =
-      give_others disks (GivesFronts opening notes) (GiveImageRows Absent run account) (λ first second gives. record { rows = gives.rows; given = gives.given; are = are gives.rows gives.fronts })
+      give_others disks (GivesFronts opening notes) (GiveImageRows run account) (λ first second gives. record { rows = gives.rows; given = gives.given; are = are gives.rows gives.fronts })
       (areas_of objects.before) (areas_of objects.after) held.together

@@ -1,12 +1,13 @@
 -- Keys that a keeper knows: those of the rows of a registry, and of the files of a scan that have none.
 use Rattle.std.proofs.Common.{◌≡◌, ⊎_elim, ℕ, zero, suc, ◌≤◌, ◌==◌, All, Contains, List, [], ◌∷◌, ◌++◌, length, map, take, Option, None, Some, IfSome, is_none, true, false, Bool, refl, sym, ap, subst, arith}
 use Rattle.std.proofs.lemmas.List.{length-append, length-map}
-use Rattle.std.proofs.lemmas.List.Elements.{All-from_recursion, All-weaker, Contains-append_left, Contains-append_right}
+use Rattle.std.proofs.lemmas.List.Elements.{All-contains, All-from_recursion, All-weaker, Contains-append_left, Contains-append_right}
 use Rattle.std.specs.Prelude.{if◌then◌else◌}
 use Rattle.std.specs.List.{AllByRecursion, cons_option, filter, filter_map}
 use Rattle.accounts.proofs.Lists.{each_last}
 use Rattle.keeper.specs.FewKeys.{HasRoomFor}
 use Rattle.keeper.specs.Keeping.{Keeping}
+use Rattle.kept_rows.proofs.Showing.{both}
 use Rattle.prospect.specs.declared.listed.Listed.{Listed}
 use Rattle.restart_join.specs.declared.start.Start.{Start}
 use Rattle.ship_core.proofs.Members.{first_there, later_there, none_there, there_cases, there_given, there_passed}
@@ -14,12 +15,14 @@ use Rattle.ship_core.specs.RowOver.{Start as Begun, first_start, notes_of, slot_
 use Rattle.ship_core.specs.Rows.{find, key_of}
 use Rattle.wire_base.specs.declared.note.Note.{Note}
 use Rattle.wire_base.specs.declared.note.Note.TheVariants.{Announce, Begin, Forget, Rename, Seen, Settle}
+use Rattle.wire_base.specs.declared.numbers.Epoch.{Epoch}
+use Rattle.wire_base.specs.declared.numbers.Moment.{Moment}
 use Rattle.wire_base.specs.declared.numbers.Slot.{Slot}
 use Rattle.wire_base.specs.declared.row.Row.{Row}
 use Rattle.run_steps.specs.BeginFor.{row_of}
 use Rattle.run_steps.specs.KnownKeys.{BeginsAmong, HasRoomToBegin, KnowsAmong}
 use Rattle.run_steps.specs.Starting.{AreFewFiles, new_files}
-use Rattle.run_steps.specs.Telling.{TellsBegin, begin_note}
+use Rattle.run_steps.specs.Telling.{TellsBegin, TellsNotes, begin_note}
 use Rattle.run_steps.proofs.RowsFound.{found_key, found_there}
 use Rattle.accounts.proofs.Orderly.{member_is}
 
@@ -78,6 +81,29 @@ room_to_begin slot listed key start keeper key_is room = record {
   of_rows = room.knows.of_rows;
   of_begins = λ number begun is stands. known_start room.keys (keeper.tracked.notes ++ begin_note slot listed key start ∷ []) number begun
       (each_last (BeginsAmong room.keys) keeper.tracked.notes (begin_note slot listed key start) room.knows.of_begins (some_key room.keys listed.key key key_is room.of_listed)) is;
+}
+
+-- ---- and of rows
+
+pub row_known : (keys : List (List ℕ)) (keeper : Keeping) (row : Row) → KnowsAmong keys keeper → Contains keeper.store.rows row → Contains keys row.key
+row_known keys keeper row knows there = All-contains (λ (r : Row). Contains keys r.key) keeper.store.rows row knows.of_rows there
+
+pub room_for_begin : (keys : List (List ℕ)) (slot : Slot) (key path : List ℕ) (epoch : Epoch) (base : ℕ) (changed : Moment) (keeper : Keeping) → KnowsAmong keys keeper → Contains keys key →
+    HasRoomFor keeper.store.rows keeper.tracked (Begin slot key path epoch base changed)
+room_for_begin keys slot key path epoch base changed keeper knows of = record {
+  keys = keys;
+  few = knows.few;
+  of_rows = knows.of_rows;
+  of_begins = λ number begun is stands. known_start keys (keeper.tracked.notes ++ Begin slot key path epoch base changed ∷ []) number begun
+      (each_last (BeginsAmong keys) keeper.tracked.notes (Begin slot key path epoch base changed) knows.of_begins of) is;
+}
+
+-- whatever it was told of which each Begin is of one of them
+pub more_known : (keys : List (List ℕ)) (more : List Note) (old new : Keeping) → TellsNotes more old new → AllByRecursion (BeginsAmong keys) more → KnowsAmong keys old → KnowsAmong keys new
+more_known keys more old new tells of knows = record {
+  few = knows.few;
+  of_rows = subst (λ (k : Keeping). All (λ (row : Row). Contains keys row.key) k.store.rows) (sym tells.others_stay) knows.of_rows;
+  of_begins = subst (AllByRecursion (BeginsAmong keys)) (sym tells.told) (both (BeginsAmong keys) old.tracked.notes more knows.of_begins of);
 }
 
 -- ---- the keys of rows and of files without one

@@ -2,6 +2,7 @@
 use Rattle.std.proofs.Common.{inl, inr, ℕ, suc, ◌≤◌, All, Contains, List, [], ◌∷◌, ◌++◌, length, refl, sym, ap, subst, ◌∙◌, arith}
 use Rattle.std.proofs.lemmas.List.{append_assoc, append-nil, length-append}
 use Rattle.std.proofs.lemmas.List.Elements.{All-append, All-cons, All-contains, All-contains_itself, All-nil}
+use Rattle.std.specs.List.{AllByRecursion}
 use Rattle.keeper.specs.Keeping.{Keeping}
 use Rattle.prospect.specs.declared.listed.Listed.{Listed}
 use Rattle.wire_base.specs.declared.note.Note.{Note}
@@ -10,6 +11,10 @@ use Rattle.wire_base.specs.declared.numbers.Moment.{Moment}
 use Rattle.wire_base.specs.declared.numbers.Slot.{Slot}
 use Rattle.wire_base.specs.declared.row.Row.{Row}
 use Rattle.run_steps.specs.Telling.{TellMoments, TellsMoment, TellsNotes, seen_note, moment_noted}
+
+pub front_of_both : (P : Note → Type 0) (first second : List Note) → AllByRecursion P (first ++ second) → AllByRecursion P first
+front_of_both P [] second each = tt
+front_of_both P (note ∷ first) second each = (each.0, front_of_both P first second each.1)
 
 -- ---- in a row
 

@@ -1,13 +1,16 @@
 -- What the keeper notes and counts as it collects.
-use Rattle.std.proofs.Common.{◌≡◌, ℕ, ◌+◌, ◌^◌, ◌-◌, Bool, cond, min, List, [], ◌∷◌, ◌++◌, length, refl, sym, ap, ◌∙◌, arith}
+use Rattle.std.proofs.Common.{◌≡◌, ℕ, ◌+◌, ◌^◌, ◌-◌, Bool, cond, min, List, [], ◌∷◌, ◌++◌, length, refl, sym, ap, subst, ◌∙◌, arith}
 use Rattle.std.proofs.lemmas.List.{append_assoc, length-append, map-append}
 use Rattle.std.specs.List.{count_by, fold}
 use Rattle.keeper.specs.Collecting.{Collects, is_dropped, is_shipped}
 use Rattle.keeper.specs.Keeping.{Keeping, held_in}
 use Rattle.outside.specs.Counts.{added_counts}
+use Rattle.pass_sums.proofs.Weights.{weigh-append}
+use Rattle.pass_sums.specs.Weight.{weigh}
 use Rattle.settle_box.specs.Collector.{Collector}
 use Rattle.settle_box.specs.Senders.{notes}
 use Rattle.settle_box.specs.declared.sender.Sent.{Sent}
+use Rattle.ship_core.specs.Orderly.{AreOrderly}
 use Rattle.wire_base.specs.declared.note.Note.{Note}
 use Rattle.wire_base.specs.declared.row.Row.{Row}
 use Rattle.run_steps.specs.Stands.{AreNoted}
@@ -50,10 +53,26 @@ module _ (old new : Keeping) (collects : Collects old new) where
   collected_on was = still_on old.collected new.collected (length old.pass.got) (length collects.sent) (length new.pass.got) was collects.collected
       (ap (λ (c : Collector). length c.got) collects.pass ∙ length-append old.pass.got collects.sent)
 
-  pub noted_on : (opening : List Row) (begun collected : List Note) → AreNoted opening old begun collected → AreNoted opening new begun (collected ++ collects.more)
-  noted_on opening begun collected noted = record {
+  pub got_on : (opening : List Row) (begun collected : List Note) → AreNoted opening old begun collected → notes new.pass.got ≡ (collected ++ collects.more) ++ held_in new.held
+  got_on opening begun collected noted =
+      got_is ∙ ap (λ (l : List Note). l ++ notes collects.sent) noted.got ∙ append_assoc collected (held_in old.held) (notes collects.sent)
+      ∙ ap (λ (l : List Note). collected ++ l) collects.notes_are ∙ sym (append_assoc collected collects.more (held_in new.held))
+
+  -- where its notes are orderly still
+  pub noted_on : (opening : List Row) (begun collected : List Note) → AreNoted opening old begun collected → AreOrderly (old.tracked.notes ++ collects.more) → AreNoted opening new begun (collected ++ collects.more)
+  noted_on opening begun collected noted orderly = record {
     opening_is = collects.opening ∙ noted.opening_is;
-    are = collects.noted ∙ ap (λ (l : List Note). l ++ collects.more) noted.are ∙ append_assoc begun collected collects.more;
-    got = got_is ∙ ap (λ (l : List Note). l ++ notes collects.sent) noted.got ∙ append_assoc collected (held_in old.held) (notes collects.sent)
-        ∙ ap (λ (l : List Note). collected ++ l) collects.notes_are ∙ sym (append_assoc collected collects.more (held_in new.held));
+    mixed = record {
+      often = λ h. omega (
+        arith,
+        ap (weigh h) collects.noted,
+        weigh-append h old.tracked.notes collects.more,
+        noted.mixed.often h,
+        weigh-append h begun collected,
+        weigh-append h begun (collected ++ collects.more),
+        weigh-append h collected collects.more,
+      );
+      orderly = subst AreOrderly (sym collects.noted) orderly;
+    };
+    got = got_on opening begun collected noted;
   }

@@ -1,138 +1,50 @@
--- The notes of a run are orderly: each was told by the run itself before its first round, or has its ground in what was told of the
--- files.
-use Rattle.std.proofs.Common.{◌≡◌, ◌⊎◌, inl, inr, ℕ, ◌+◌, ◌≤◌, List, [], ◌∷◌, ◌++◌, Contains, map, Option, Some, refl, sym, ap, subst, ◌∙◌, arith}
-use Rattle.std.specs.Prelude.{slice_get}
+-- The notes of a run stay orderly as more are collected, in whichever order they were told and collected: each was told by the run itself, or
+-- has its ground in what was told of the files.
+use Rattle.std.proofs.Common.{◌≡◌, ◌⊎◌, inl, inr, ⊎_elim, ℕ, ◌+◌, ◌≤◌, List, [], ◌∷◌, ◌++◌, Contains, map, refl, sym, ap, subst, ◌∙◌, arith}
+use Rattle.std.proofs.lemmas.List.Elements.{Contains-append_cases, Contains-append_left}
 use Rattle.std.specs.List.{AllByRecursion, flat_map}
-use Rattle.std.specs.Option.{option_map_or}
-use Rattle.accounts.specs.Filed.{Filed, HasItsSlot, turned_of}
-use Rattle.accounts.specs.FirstNotes.{AreFirstNotes, IsBeginOf, IsMomentOfOne}
-use Rattle.accounts.specs.FollowedFile.{AreInSlots}
 use Rattle.accounts.specs.Ground.{HasGround}
+use Rattle.accounts.specs.Hidden.{Hidden, hidden_begin, hidden_forget}
 use Rattle.accounts.specs.Opened.{Opened}
+use Rattle.accounts.specs.Same.{same_note}
+use Rattle.accounts.specs.ToldNotes.{AreMixed}
 use Rattle.accounts.specs.Turned.{Turned}
 use Rattle.accounts.specs.Turning.{IsTurnedSo, Pairs}
 use Rattle.accounts.proofs.Apart.{IsInEpochs}
+use Rattle.accounts.proofs.Backing.{mapped_there}
+use Rattle.accounts.proofs.Begins.{HasItsBegin}
 use Rattle.accounts.proofs.Ends.{is_in_epochs}
-use Rattle.accounts.proofs.Ordered.{are_orderly}
+use Rattle.accounts.proofs.Grounded.{IsMapped, each_member, of_map}
+use Rattle.accounts.proofs.Often.{often_back, often_contains}
+use Rattle.accounts.proofs.Ordered.{SettlesNothing, SettlesSo, orderly_more}
+use Rattle.accounts.proofs.Same.{tells_notes}
 use Rattle.harvester.specs.declared.harvester.Harvester.{Harvester}
+use Rattle.kept_rows.specs.Scans.{AreDistinct}
 use Rattle.lanes.specs.Laning.{Laning}
-use Rattle.outside.specs.declared.history.Look.{Look}
 use Rattle.pass_sums.specs.Weight.{AsOften}
 use Rattle.rounds.specs.Words.{TailWords}
 use Rattle.ship_core.proofs.Members.{first_there, later_there, none_there, there_cases}
 use Rattle.ship_core.specs.Orderly.{AreOrderly}
+use Rattle.ship_core.specs.RowOver.{span_in}
 use Rattle.wire_base.specs.declared.numbers.Slot.{Slot}
 use Rattle.wire_base.specs.declared.note.Note.{Note}
-use Rattle.wire_base.specs.declared.note.Note.TheVariants.{Seen}
 use Rattle.wire_base.specs.declared.parcel.Parcel.{Parcel}
 use Rattle.event_tree.specs.declared.processor_rule.ProcessorRule.{ProcessorRule}
 use Rattle.event_tree.specs.declared.settings.Settings.{Settings}
 use Rattle.prospect.specs.declared.listed.Listed.{Listed}
 use Rattle.wire_base.specs.declared.row.Row.{Row}
-use Rattle.run_steps.specs.Telling.{moment_noted}
-use Rattle.run_steps.specs.Begun.{AreBeginNotes, AreSlotsFrom, IsOpenedAsListed, IsSeenOf, noted_begin}
+use Rattle.run_steps.specs.Begun.{AreBeginNotes, AreSlotsFrom, IsOpenedAsListed, MayBegin, noted_begin}
 use Rattle.run_steps.specs.SoFar.{Left}
 use Rattle.run_steps.specs.Stands.{AreEachOnce, AreTurnedIn, IsLeftSo}
 use Rattle.run_steps.proofs.Filing.{Arranged, arranged}
+use Rattle.run_steps.proofs.Notes.{front_of_both}
 use Rattle.accounts.proofs.Orderly.{member_is}
-
--- ---- with what was opened
-
--- `changed` is the greatest moment that was noted of it, `looks` what its tail told
-pub zipped : (looks : Opened → List Look) (changed : Opened → ℕ) → List Opened → List Turned → List Filed
-zipped looks changed [] turned = []
-zipped looks changed (one ∷ opened) [] = []
-zipped looks changed (one ∷ opened) (first ∷ turned) = record { opened = one; turned = first; looks = looks one; changed = changed one; later = [] } ∷ zipped looks changed opened turned
 
 abbrev slots_in : List Opened → List Slot
 slots_in opened = map (λ (one : Opened). one.begin.slot) opened
 
 abbrev slots_of : List Turned → List Slot
 slots_of files = map (λ (turned : Turned). turned.slot) files
-
-module _ (looks : Opened → List Look) (changed : Opened → ℕ) where
-  pub turned_are : (opened : List Opened) (turned : List Turned) → slots_of turned ≡ slots_in opened → turned_of (zipped looks changed opened turned) ≡ turned
-  unfolding zipped
-  turned_are [] [] same = refl
-  turned_are [] (first ∷ turned) same = absurd cc
-  turned_are (one ∷ opened) [] same = absurd cc
-  turned_are (one ∷ opened) (first ∷ turned) same = let later : slots_of turned ≡ slots_in opened = cc in ap (λ (l : List Turned). first ∷ l) (turned_are opened turned later)
-
-  pub have_slots : (opened : List Opened) (turned : List Turned) → slots_of turned ≡ slots_in opened → AllByRecursion HasItsSlot (zipped looks changed opened turned)
-  unfolding zipped
-  have_slots [] turned same = tt
-  have_slots (one ∷ opened) [] same = tt
-  have_slots (one ∷ opened) (first ∷ turned) same =
-      let here : first.slot ≡ one.begin.slot = cc in
-      let later : slots_of turned ≡ slots_in opened = cc in
-      (here, have_slots opened turned later)
-
-  pub in_slots : (least : ℕ) (opened : List Opened) (turned : List Turned) → slots_of turned ≡ slots_in opened → AreSlotsFrom least opened → AreInSlots least (zipped looks changed opened turned)
-  unfolding zipped
-  in_slots least [] turned same rise = tt
-  in_slots least (one ∷ opened) [] same rise = absurd cc
-  in_slots least (one ∷ opened) (first ∷ turned) same rise =
-      let later : slots_of turned ≡ slots_in opened = cc in
-      (rise.0, in_slots (one.begin.slot.0 + 1) opened turned later rise.1)
-
-  -- the one that was opened so
-  pub record ZippedWith (files : List Filed) (one : Opened) : Type 0 where
-    pub file : Filed
-    pub among : Contains files file
-    pub opened_is : file.opened ≡ one
-    pub changed_is : file.changed ≡ changed one
-
-  pub zipped_there : (opened : List Opened) (turned : List Turned) (one : Opened) → slots_of turned ≡ slots_in opened → Contains opened one → ZippedWith (zipped looks changed opened turned) one
-  unfolding zipped
-  zipped_there [] turned one same there = absurd (none_there one there)
-  zipped_there (first ∷ opened) [] one same there = absurd cc
-  zipped_there (first ∷ opened) (t ∷ turned) one same there = by_case (there_cases first one opened there) (zipped_there opened turned one (let later : slots_of turned ≡ slots_in opened = cc in later))
-    where
-      head : Filed
-      head = record { opened = first; turned = t; looks = looks first; changed = changed first; later = [] }
-
-      by_case : (first ≡ one) ⊎ Contains opened one → (Contains opened one → ZippedWith (zipped looks changed opened turned) one) →
-          ZippedWith (zipped looks changed (first ∷ opened) (t ∷ turned)) one
-      by_case (inl is) later = record { file = head; among = first_there head (zipped looks changed opened turned); opened_is = is; changed_is = ap changed is }
-      by_case (inr behind) later =
-          let of = later behind in
-          record { file = of.file; among = later_there head of.file (zipped looks changed opened turned) of.among; opened_is = of.opened_is; changed_is = of.changed_is }
-
-  -- ---- the first notes
-
-  begins_are : (opened : List Opened) (turned : List Turned) → slots_of turned ≡ slots_in opened →
-      Pairs IsBeginOf (zipped looks changed opened turned) (map (λ (one : Opened). noted_begin one.begin) opened)
-  unfolding zipped
-  begins_are [] turned same = tt
-  begins_are (one ∷ opened) [] same = absurd cc
-  begins_are (one ∷ opened) (first ∷ turned) same =
-      let later : slots_of turned ≡ slots_in opened = cc in
-      (record { path = one.begin.path; changed = record { 0 = 0 }; is = refl; within = omega arith }, begins_are opened turned later)
-
-  module _ (rows : List Row) (listed : List Listed) (opened : List Opened) (turned : List Turned) (same : slots_of turned ≡ slots_in opened)
-      (within : (one : Opened) (entry : Listed) → slice_get listed one.begin.slot.0 ≡ Some entry → (moment_noted rows entry).0 ≤ changed one) where
-    seens_are : (seens : List Note) → AllByRecursion (IsSeenOf rows listed opened) seens → AllByRecursion (IsMomentOfOne (zipped looks changed opened turned)) seens
-    seens_are [] are = tt
-    seens_are (note ∷ seens) are =
-        let of = zipped_there opened turned are.0.file same are.0.among in (
-          record {
-            file = of.file;
-            of_files = of.among;
-            changed = moment_noted rows are.0.one;
-            is = are.0.is ∙ ap (λ (o : Opened). Seen o.begin.slot (moment_noted rows are.0.one)) (sym of.opened_is);
-            within = subst (λ (n : ℕ). (moment_noted rows are.0.one).0 ≤ n) (sym of.changed_is) (within are.0.file are.0.one are.0.listed_there);
-          },
-          seens_are seens are.1,
-        )
-
-    pub are_first : (notes : List Note) → AreBeginNotes rows listed opened notes → AreFirstNotes (zipped looks changed opened turned) notes
-    are_first notes are = record {
-      begins = map (λ (one : Opened). noted_begin one.begin) opened;
-      seens = are.seen;
-      notes_are = are.are;
-      each_begin = begins_are opened turned same;
-      each_seen = seens_are are.seen are.seen_are;
-    }
 
 -- ---- epochs
 
@@ -173,34 +85,90 @@ module _ {T : Type 0} (tails : TailWords T) (settings : Settings) (rows : List R
 
 -- ---- together
 
-module _ (rows : List Row) (listed : List Listed) (opened : List Opened) (files : List Turned) (once : AreEachOnce opened files) (epochs : AllByRecursion IsInEpochs files) where
+-- a note that the run told itself settles nothing
+told_settles_none : (rows : List Row) (listed : List Listed) (opened : List Opened) (hiddens : List Hidden) (note : Note) → MayBegin rows listed opened hiddens note → SettlesNothing note
+told_settles_none rows listed opened hiddens note (inl of) = λ epoch. ap (span_in epoch) of.is
+told_settles_none rows listed opened hiddens note (inr (inl of)) = λ epoch. ap (span_in epoch) of.is
+told_settles_none rows listed opened hiddens note (inr (inr of)) = by_kind of.is
+  where
+    by_kind : (note ≡ hidden_begin of.hidden) ⊎ (note ≡ hidden_forget of.hidden) → SettlesNothing note
+    by_kind (inl is) = λ epoch. ap (span_in epoch) is
+    by_kind (inr is) = λ epoch. ap (span_in epoch) is
+
+distinct_slots : (least : ℕ) (opened : List Opened) → AreSlotsFrom least opened → AreDistinct (map (λ (one : Opened). one.begin.slot.0) opened)
+distinct_slots least [] rise = tt
+distinct_slots least (one ∷ opened) rise = (
+  λ there. let later = slot_from (one.begin.slot.0 + 1) opened one.begin.slot.0 rise.1 there in omega (arith, later),
+  distinct_slots (one.begin.slot.0 + 1) opened rise.1,
+)
+  where
+    slot_from : (from : ℕ) (some : List Opened) (slot : ℕ) → AreSlotsFrom from some → Contains (map (λ (o : Opened). o.begin.slot.0) some) slot → from ≤ slot
+    slot_from from [] slot rise there = absurd (none_there slot there)
+    slot_from from (first ∷ some) slot rise there = by_case (there_cases first.begin.slot.0 slot (map (λ (o : Opened). o.begin.slot.0) some) there) (slot_from (first.begin.slot.0 + 1) some slot rise.1)
+      where
+        by_case : (first.begin.slot.0 ≡ slot) ⊎ Contains (map (λ (o : Opened). o.begin.slot.0) some) slot → (Contains (map (λ (o : Opened). o.begin.slot.0) some) slot → first.begin.slot.0 + 1 ≤ slot) → from ≤ slot
+        by_case (inl same) later = let le = rise.0 in omega (arith, le, same)
+        by_case (inr behind) later = let le = rise.0 in let more = later behind in omega (arith, le, more)
+
+number_of_slots : (slots : List Slot) (opened : List Opened) → slots ≡ slots_in opened → map (λ (s : Slot). s.0) slots ≡ map (λ (one : Opened). one.begin.slot.0) opened
+number_of_slots slots opened same = ap (map (λ (s : Slot). s.0)) same ∙ numbers opened
+  where
+    numbers : (some : List Opened) → map (λ (s : Slot). s.0) (slots_in some) ≡ map (λ (one : Opened). one.begin.slot.0) some
+    numbers [] = refl
+    numbers (one ∷ some) = ap (λ (l : List ℕ). one.begin.slot.0 ∷ l) (numbers some)
+
+numbers_turned : (turned : List Turned) → map (λ (s : Slot). s.0) (slots_of turned) ≡ map (λ (t : Turned). t.slot.0) turned
+numbers_turned [] = refl
+numbers_turned (t ∷ turned) = ap (λ (l : List ℕ). t.slot.0 ∷ l) (numbers_turned turned)
+
+module _ (rows : List Row) (listed : List Listed) (opened : List Opened) (hiddens : List Hidden) (files : List Turned) (once : AreEachOnce opened files) (epochs : AllByRecursion IsInEpochs files)
+    (notes begun collected : List Note) (mixed : AreMixed begun collected notes) (are : AreBeginNotes rows listed opened hiddens begun) where
   in_order : Arranged IsInEpochs files (slots_in opened)
   in_order = arranged IsInEpochs (slots_in opened) files once.are epochs
 
-  -- the moment with which it was listed
-  moment_of : Opened → ℕ
-  moment_of one = option_map_or (λ (entry : Listed). (moment_noted rows entry).0) (slice_get listed one.begin.slot.0) 0
+  abbrev turned : List Turned
+  turned = in_order.turned
 
-  abbrev filed : List Filed
-  filed = zipped (λ _. []) moment_of opened in_order.turned
+  apart : AreDistinct (map (λ (t : Turned). t.slot.0) turned)
+  apart = subst AreDistinct (sym (number_of_slots (slots_of turned) opened in_order.slots_are) ∙ numbers_turned turned) (distinct_slots 0 opened once.rise)
 
-  turned_same : turned_of filed ≡ in_order.turned
-  turned_same = turned_are (λ _. []) moment_of opened in_order.turned in_order.slots_are
+  pub told_there : (note : Note) → Contains begun note → Contains notes note
+  told_there note there = often_contains same_note tells_notes notes (begun ++ collected) note mixed.often (Contains-append_left begun collected note there)
 
-  slots_of_files : AllByRecursion HasItsSlot filed
-  slots_of_files = have_slots (λ _. []) moment_of opened in_order.turned in_order.slots_are
+  -- each turned file's Begin was told
+  begun_in : (some : List Turned) → ((t : Turned) → Contains some t → Contains turned t) → AllByRecursion (λ (t : Turned). HasItsBegin notes t.slot) some
+  begun_in [] within = tt
+  begun_in (t ∷ some) within = (has_begin, begun_in some (λ other there. within other (later_there t other some there)))
+    where
+      of : IsMapped (λ (one : Opened). one.begin.slot) opened t.slot
+      of = of_map (λ (one : Opened). one.begin.slot) opened t.slot
+          (subst (λ (l : List Slot). Contains l t.slot) in_order.slots_are (mapped_there (λ (x : Turned). x.slot) turned t (within t (first_there t some))))
 
-  rising : AreInSlots 0 filed
-  rising = in_slots (λ _. []) moment_of 0 opened in_order.turned in_order.slots_are once.rise
+      has_begin : HasItsBegin notes t.slot
+      has_begin = subst (HasItsBegin notes) of.is (record {
+        key = of.item.begin.key;
+        path = of.item.begin.path;
+        epoch = of.item.begin.epoch;
+        base = of.item.begin.base;
+        changed = record { 0 = 0 };
+        there = told_there (noted_begin of.item.begin) (member_is (λ (one : Opened). Contains begun (noted_begin one.begin)) opened of.item are.begun of.among);
+      })
 
-  within : (one : Opened) (entry : Listed) → slice_get listed one.begin.slot.0 ≡ Some entry → (moment_noted rows entry).0 ≤ moment_of one
-  unfolding moment_of
-  within one entry is = subst (λ (o : Option Listed). (moment_noted rows entry).0 ≤ option_map_or (λ (e : Listed). (moment_noted rows e).0) o 0) (sym is) (omega arith)
+  -- where each collected note has its ground in the files as they are, more of them may follow
+  pub notes_are_orderly : (more : List Note) (acknowledged : List Parcel) →
+      ((some : List Turned) → AsOften files some → AllByRecursion (HasGround some acknowledged) (collected ++ more)) → AreOrderly (notes ++ more)
+  notes_are_orderly more acknowledged ground =
+      let all = ground turned in_order.same in
+      orderly_more turned apart in_order.each acknowledged notes more mixed.orderly
+      (each_member (SettlesSo turned apart in_order.each acknowledged) notes (each_settles (front_of_both (HasGround turned acknowledged) collected more all)))
+      (begun_in turned (λ t there. there)) (all_behind collected more all)
+    where
+      all_behind : (front rest : List Note) → AllByRecursion (HasGround turned acknowledged) (front ++ rest) → AllByRecursion (HasGround turned acknowledged) rest
+      all_behind [] rest each = each
+      all_behind (note ∷ front) rest each = all_behind front rest each.1
 
-  -- where each collected note has its ground in the files as they are
-  pub notes_are_orderly : (begun collected : List Note) (acknowledged : List Parcel) → AreBeginNotes rows listed opened begun →
-      ((turned : List Turned) → AsOften files turned → AllByRecursion (HasGround turned acknowledged) collected) → AreOrderly (begun ++ collected)
-  notes_are_orderly begun collected acknowledged are ground =
-      are_orderly filed acknowledged begun collected rising slots_of_files (subst (AllByRecursion IsInEpochs) (sym turned_same) in_order.each)
-      (are_first (λ _. []) moment_of rows listed opened in_order.turned in_order.slots_are within begun are)
-      (subst (λ (l : List Turned). AllByRecursion (HasGround l acknowledged) collected) (sym turned_same) (ground in_order.turned in_order.same))
+      each_settles : AllByRecursion (HasGround turned acknowledged) collected → (note : Note) → Contains notes note → SettlesNothing note ⊎ HasGround turned acknowledged note
+      each_settles grounded note there =
+          ⊎_elim (λ here. inl (told_settles_none rows listed opened hiddens note (member_is (MayBegin rows listed opened hiddens) begun note are.each here)))
+          (λ later. inr (member_is (HasGround turned acknowledged) collected note grounded later))
+          (Contains-append_cases begun collected note (often_contains same_note tells_notes (begun ++ collected) notes note (often_back notes (begun ++ collected) mixed.often) there))

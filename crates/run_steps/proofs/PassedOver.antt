@@ -1,5 +1,5 @@
 -- Which paths were skipped as files were begun.
-use Rattle.std.proofs.Common.{ℕ, suc, List, [], ◌∷◌, ◌++◌, IfOk, Result, Ok, Err, Vec, Global, sym, ap, subst, ◌∙◌}
+use Rattle.std.proofs.Common.{◌≡◌, ◌⊎◌, inl, inr, ℕ, suc, List, [], ◌∷◌, ◌++◌, IfOk, Result, Ok, Err, Vec, Global, sym, ap, subst, ◌∙◌}
 use Rattle.event_tree.specs.declared.settings.Settings.{Settings}
 use Rattle.prospect.specs.declared.listed.Listed.{Listed}
 use Rattle.report.specs.declared.passing.Passing.{Passing}
@@ -19,6 +19,7 @@ module _ {T W L : Type 0} (tails : TailWords T) (settings : Settings) (rows : Li
       let rest = passed_from (suc slot) listed begins.later begins.mid new begins.rest in
       record { begun = begins.begun ∷ rest.begun; are = begins.passed_are ∙ ap (λ (l : List Passing). passed_by begins.begun one ++ l) rest.are }
 
-  pub passed_over : (listed : List Listed) (old new : Beginning T W L) (result : Result (Vec Passing Global) BeginError) (after : List Passing) → IfOk result (λ passed. BeginsAll tails settings rows now listed passed.items old new) → HasPassed result after → ArePassedOver listed after
-  passed_over listed old new (Ok passed) after begins is = subst (ArePassedOver listed) (sym is) (passed_from 0 listed passed.items old begins.mid begins.begins)
-  passed_over listed old new (Err met) after begins is = record { begun = []; are = is }
+  pub passed_over : (listed : List Listed) (old new : Beginning T W L) (result : Result (Vec Passing Global) BeginError) (after : List Passing) → IfOk result (λ passed. BeginsAll tails settings rows now listed passed.items old new) → HasPassed result after ⊎ (after ≡ []) → ArePassedOver listed after
+  passed_over listed old new (Ok passed) after begins (inl is) = subst (ArePassedOver listed) (sym is) (passed_from 0 listed passed.items old begins.mid begins.begins)
+  passed_over listed old new (Err met) after begins (inl is) = record { begun = []; are = is }
+  passed_over listed old new result after begins (inr none) = record { begun = []; are = none }

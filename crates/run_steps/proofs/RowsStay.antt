@@ -2,12 +2,13 @@
 -- newest slot that was begun for it.
 use Rattle.std.proofs.Common.{◌≡◌, ◌⊎◌, inl, inr, ℕ, ◌<◌, ◌≤◌, Bool, true, false, List, [], ◌∷◌, ◌++◌, max, Contains, Option, None, Some, IsSome, ◌==◌, if◌then◌else◌, refl, sym, ap, subst, ◌∙◌, arith}
 use Rattle.std.proofs.lemmas.Bool.{cases_lt, eq-eqb}
+use Rattle.std.proofs.lemmas.List.Elements.{Contains-append_left, filter-append, filter_map-append}
 use Rattle.std.specs.List.{AllByRecursion, filter, filter_map, fold}
 use Rattle.std.specs.Option.{is_some}
 use Rattle.std.specs.Ordering.{is_eq}
 use Rattle.std.specs.declared.cmp.Ordering.{Ordering}
 use Rattle.std.specs.declared.cmp.Ordering.TheVariants.{Equal, Greater, Less}
-use Rattle.kept_rows.proofs.Begun.{ForgetNone, slot_stands}
+use Rattle.kept_rows.proofs.Begun.{ForgetNone}
 use Rattle.kept_rows.proofs.Images.{found_by_its_key}
 use Rattle.kept_rows.specs.Backed.{AreRowsOverFronts, IsRowOverAFront}
 use Rattle.ship_core.proofs.Members.{first_there, given_there, later_there, none_there, passed_there, there_given}
@@ -18,7 +19,8 @@ use Rattle.wire_base.specs.KeyOrder.{compare}
 use Rattle.wire_base.specs.declared.note.Note.{Note}
 use Rattle.wire_base.specs.declared.note.Note.TheVariants.{Announce, Begin, Forget, Rename, Seen, Settle}
 use Rattle.wire_base.specs.declared.row.Row.{Row}
-use Rattle.accounts.proofs.Lists.{each_then}
+use Rattle.accounts.proofs.Grounded.{each_member}
+use Rattle.accounts.proofs.OwnNotes.{own_row_stands}
 use Rattle.kept_rows.specs.Account.{SlotAccount}
 use Rattle.kept_rows.specs.Run.{Run}
 use Rattle.run_steps.specs.AccountedFor.{Absences, HasRowOf}
@@ -51,18 +53,22 @@ first_is_some : (starts : List Start) (start : Start) → Contains starts start 
 first_is_some [] start there = absurd (none_there start there)
 first_is_some (first ∷ starts) start there = refl
 
-module _ (notes : List Note) (none : ForgetNone notes) where
+-- no note of a slot that is begun for the key forgets it
+abbrev pub KeepsItsSlots : List Note → List ℕ → Type 0
+KeepsItsSlots notes key = (slot : ℕ) → Contains (slots_for key notes) slot → ForgetNone (notes_of slot notes)
+
+module _ (notes : List Note) where
   abbrev stands : ℕ → Bool
   stands slot = is_some (row_over slot notes)
 
-  begun_stands : (key : List ℕ) (slot : ℕ) → Contains (slots_for key notes) slot → stands slot ≡ true
-  begun_stands key slot there =
+  begun_stands : (key : List ℕ) → KeepsItsSlots notes key → (slot : ℕ) → Contains (slots_for key notes) slot → stands slot ≡ true
+  begun_stands key none slot there =
       let of = there_given (slot_for key) notes slot there in
       let begins = begins_slot key slot of.0 of.2 in
       let own = passed_there (λ (note : Note). slot_of note == slot) notes of.0 of.1 (eq-eqb (slot_of of.0) slot begins.slot_is) in
       let some = first_is_some (filter_map start_of (notes_of slot notes)) begins.start (given_there start_of (notes_of slot notes) of.0 begins.start own begins.start_is) in
       let begun = some_of (start_over (notes_of slot notes)) some in
-      ap (λ (o : Option Row). is_some o) (slot_stands slot notes begun.0 none begun.1)
+      ap (λ (o : Option Row). is_some o) (own_row_stands slot notes begun.0 (none slot there) begun.1)
 
   -- ---- the greatest of them
 
@@ -92,17 +98,28 @@ front_forgets_none : (front rest : List Note) → ForgetNone (front ++ rest) →
 front_forgets_none [] rest all = tt
 front_forgets_none (note ∷ front) rest all = (all.0, front_forgets_none front rest all.1)
 
+keeps_in_front : (key : List ℕ) (front rest : List Note) → KeepsItsSlots (front ++ rest) key → KeepsItsSlots front key
+keeps_in_front key front rest none slot there =
+    front_forgets_none (notes_of slot front) (notes_of slot rest)
+    (subst ForgetNone (filter-append (λ (note : Note). slot_of note == slot) front rest)
+    (none slot (subst (λ (l : List ℕ). Contains l slot) (sym (filter_map-append (slot_for key) front rest)) (Contains-append_left (slots_for key front) (slots_for key rest) slot there))))
+
 -- ---- each key
 
-module _ (opening : List Row) (notes : List Note) (rows : List Row) (ordered : IsInOrder opening) (over : AreRowsOverFronts opening notes rows) (none : ForgetNone notes) where
-  one_stays : (row : Row) → Contains opening row → HasRowOf rows row.key
-  one_stays row there = by_slots (slots_for row.key of.front) refl
+module _ (opening : List Row) (notes : List Note) (rows : List Row) (ordered : IsInOrder opening) (over : AreRowsOverFronts opening notes rows) where
+  one_stays : (row : Row) → Contains opening row → KeepsItsSlots notes row.key → HasRowOf rows row.key
+  one_stays row there none = by_slots (slots_for row.key of.front) refl
     where
       of : IsRowOverAFront opening notes rows row.key
       of = over.each row.key
 
-      front_none : ForgetNone of.front
-      front_none = front_forgets_none of.front of.rest (subst ForgetNone of.notes_are none)
+      front_none : KeepsItsSlots of.front row.key
+      front_none = keeps_in_front row.key of.front of.rest (subst (λ (l : List Note). KeepsItsSlots l row.key) of.notes_are none)
+
+      stand : (slots : List ℕ) → ((slot : ℕ) → Contains slots slot → Contains (slots_for row.key of.front) slot) → AllByRecursion (λ (one : ℕ). stands of.front one ≡ true) slots
+      stand [] within = tt
+      stand (slot ∷ slots) within =
+          (begun_stands of.front row.key front_none slot (within slot (first_there slot slots)), stand slots (λ other later. within other (later_there slot other slots later)))
 
       by_slots : (slots : List ℕ) → slots_for row.key of.front ≡ slots → HasRowOf rows row.key
       by_slots [] not_begun = record {
@@ -111,16 +128,19 @@ module _ (opening : List Row) (notes : List Note) (rows : List Row) (ordered : I
         key_is = refl;
       }
       by_slots (slot ∷ slots) begun =
-          let stands_so = begun_stands of.front front_none row.key slot (subst (λ (l : List ℕ). Contains l slot) (sym begun) (first_there slot slots)) in
-          let found = some_of (row_among opening of.front row.key (slot ∷ slots)) (row_is_some of.front front_none slot slots stands_so) in
+          let all = stand (slot ∷ slots) (λ one among. subst (λ (l : List ℕ). Contains l one) (sym begun) among) in
+          let found = some_of (row_among opening of.front row.key (slot ∷ slots)) (row_is_some of.front slot slots all.0) in
           let is : find row.key rows ≡ Some found.0 = of.is ∙ ap (row_among opening of.front row.key) begun ∙ found.1 in
           record { row = found.0; of_rows = found_there row.key rows found.0 is; key_is = found_key row.key rows found.0 is }
 
-  each_stays : (some : List Row) → ((row : Row) → Contains some row → Contains opening row) → AllByRecursion (λ (row : Row). HasRowOf rows row.key) some
-  each_stays [] within = tt
-  each_stays (row ∷ some) within = (one_stays row (within row (first_there row some)), each_stays some (λ other there. within other (later_there row other some there)))
-
   -- whichever keys may be without a row
-  pub rows_stay : (Absent : Absences) (run : Run) (account : List SlotAccount) → AllByRecursion (λ (row : Row). HasRowOf rows row.key ⊎ Absent run account row.key) opening
-  rows_stay Absent run account =
-      each_then (λ (row : Row). HasRowOf rows row.key) (λ (row : Row). HasRowOf rows row.key ⊎ Absent run account row.key) opening (λ row has. inl has) (each_stays opening (λ row there. there))
+  module _ (Absent : Absences) (run : Run) (account : List SlotAccount) (keeps : (row : Row) → Contains opening row → KeepsItsSlots notes row.key ⊎ Absent run account row.key) where
+    stays_or_not : (row : Row) → Contains opening row → HasRowOf rows row.key ⊎ Absent run account row.key
+    stays_or_not row there = by_case (keeps row there)
+      where
+        by_case : KeepsItsSlots notes row.key ⊎ Absent run account row.key → HasRowOf rows row.key ⊎ Absent run account row.key
+        by_case (inl none) = inl (one_stays row there none)
+        by_case (inr absent) = inr absent
+
+    pub rows_stay : AllByRecursion (λ (row : Row). HasRowOf rows row.key ⊎ Absent run account row.key) opening
+    rows_stay = each_member (λ (row : Row). HasRowOf rows row.key ⊎ Absent run account row.key) opening stays_or_not

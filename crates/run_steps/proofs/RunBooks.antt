@@ -1,11 +1,11 @@
--- The first notes of a run, by its files, and how the books of its rounds fit what files told.
-use Rattle.std.proofs.Common.{◌≡◌, ℕ, ◌+◌, ◌≤◌, List, [], ◌∷◌, ◌++◌, map, append_assoc, Option, refl, sym, ap, subst, ◌∙◌, arith}
-use Rattle.std.specs.List.{AllByRecursion}
+-- The notes that a run told, by its files and hidden rows, and how the books of its rounds fit what files told.
+use Rattle.std.proofs.Common.{◌≡◌, inl, inr, ℕ, ◌≤◌, Contains, List, ◌++◌, append_assoc, Option, refl, sym, ap, subst, ◌∙◌, arith}
 use Rattle.std.specs.Option.{option_map_or}
-use Rattle.accounts.specs.FirstNotes.{AreFirstNotesAs, IsBeginAs, IsMomentAs}
+use Rattle.accounts.proofs.Lists.{each_then}
+use Rattle.accounts.specs.Hidden.{Hidden}
+use Rattle.accounts.specs.ToldNotes.{AreToldNotesAs, IsNotedAs, MayTellAs}
 use Rattle.accounts.specs.Opened.{Opened}
-use Rattle.accounts.specs.Taken.{FitBooks, Taken, acknowledged_in, carried_in, taken_by, taken_in}
-use Rattle.accounts.specs.Turning.{Pairs}
+use Rattle.accounts.specs.Taken.{FitBooks, Taken, acknowledged_in, carried_in, taken_in}
 use Rattle.batch_worker.specs.Held.{notes_of}
 use Rattle.keeper.specs.Keeping.{Keeping, held_in}
 use Rattle.lanes.specs.Laning.{Laning}
@@ -19,46 +19,40 @@ use Rattle.wire_base.specs.declared.note.Note.{Note}
 use Rattle.wire_base.specs.declared.parcel.Parcel.{Parcel}
 use Rattle.wire_base.specs.declared.row.Row.{Row}
 use Rattle.run_steps.specs.Telling.{moment_noted}
-use Rattle.run_steps.specs.Begun.{AreBeginNotes, IsSeenOf, noted_begin}
+use Rattle.run_steps.specs.Begun.{AreBeginNotes, MayBegin, noted_begin}
 use Rattle.run_steps.specs.SoFar.{SoFar, files_in}
 use Rattle.run_steps.specs.Stands.{AreNoted, HaveGiven}
 use Rattle.run_steps.proofs.RunFiles.{moment_listed}
 use Rattle.accounts.proofs.Settling.{taken_weighs}
 
--- ---- first notes
+-- ---- notes that it told
 
 module _ (rows : List Row) (listed : List Listed) where
   abbrev changed : Opened → ℕ
   changed = moment_listed rows listed
 
-  begins_as : (opened : List Opened) → Pairs (IsBeginAs changed) opened (map (λ (one : Opened). noted_begin one.begin) opened)
-  begins_as [] = tt
-  begins_as (one ∷ opened) = (record { path = one.begin.path; moment = record { 0 = 0 }; is = refl; within = omega arith }, begins_as opened)
+  module _ (opened : List Opened) (hiddens : List Hidden) (begun : List Note) (are : AreBeginNotes rows listed opened hiddens begun) where
+    may_tell : (note : Note) → MayBegin rows listed opened hiddens note → MayTellAs changed opened hiddens note
+    may_tell note (inl of) =
+        inl (record { opened = of.file; of_files = of.among; begins = record { path = of.file.begin.path; moment = record { 0 = 0 }; is = of.is; within = omega arith } })
+    may_tell note (inr (inl of)) = inr (inl (record {
+      opened = of.file;
+      of_files = of.among;
+      moment = moment_noted rows of.one;
+      is = of.is;
+      within = within (ap (λ (o : Option Listed). option_map_or (λ (entry : Listed). (moment_noted rows entry).0) o 0) of.listed_there);
+    }))
+      where
+        within : changed of.file ≡ (moment_noted rows of.one).0 → (moment_noted rows of.one).0 ≤ changed of.file
+        within is = omega (arith, is)
+    may_tell note (inr (inr of)) = inr (inr of)
 
-  seens_as : (opened : List Opened) (seens : List Note) → AllByRecursion (IsSeenOf rows listed opened) seens → AllByRecursion (IsMomentAs changed opened) seens
-  seens_as opened [] are = tt
-  seens_as opened (note ∷ seens) are = (
-    record {
-      opened = are.0.file;
-      of_files = are.0.among;
-      moment = moment_noted rows are.0.one;
-      is = are.0.is;
-      within = within (ap (λ (o : Option Listed). option_map_or (λ (entry : Listed). (moment_noted rows entry).0) o 0) are.0.listed_there);
-    },
-    seens_as opened seens are.1,
-  )
-    where
-      within : changed are.0.file ≡ (moment_noted rows are.0.one).0 → (moment_noted rows are.0.one).0 ≤ changed are.0.file
-      within is = omega (arith, is)
-
-  pub first_notes : (opened : List Opened) (begun : List Note) → AreBeginNotes rows listed opened begun → AreFirstNotesAs changed opened begun
-  first_notes opened begun are = record {
-    begins = map (λ (one : Opened). noted_begin one.begin) opened;
-    seens = are.seen;
-    notes_are = are.are;
-    each_begin = begins_as opened;
-    each_seen = seens_as opened are.seen are.seen_are;
-  }
+    pub told_notes : AreToldNotesAs changed opened hiddens begun
+    told_notes = record {
+      each = each_then (MayBegin rows listed opened hiddens) (MayTellAs changed opened hiddens) begun may_tell are.each;
+      begun = each_then (λ (one : Opened). Contains begun (noted_begin one.begin)) (IsNotedAs begun) opened (λ one there. record { path = one.begin.path; moment = record { 0 = 0 }; there = there }) are.begun;
+      hidden_begun = are.hidden_begun;
+    }
 
 -- ---- the books
 

@@ -1,18 +1,19 @@
 -- A run that ended before it followed a file is accounted for, too: what it opened it only asked for keys, it sent nothing, and its areas
 -- give the rows that they gave before.
-use Rattle.std.proofs.Common.{◌≡◌, ◌≢◌, ◌⊎◌, inl, inr, ℕ, zero, suc, ◌-◌, ◌≤◌, ◌<◌, true, List, [], ◌∷◌, ◌++◌, Contains, drop, length, map, append_assoc, append-nil, Option, Some, None, IsSome, refl, sym, ap, subst, ◌∙◌, arith}
+use Rattle.std.proofs.Common.{◌≡◌, ◌≢◌, ◌⊎◌, inl, inr, ℕ, zero, suc, ◌≤◌, ◌<◌, true, List, [], ◌∷◌, ◌++◌, Contains, drop, length, map, append_assoc, append-nil, Option, Some, None, IsSome, refl, sym, ap, subst, ◌∙◌, arith}
 use Rattle.std.proofs.Math.Seq.{drop-append_seam, drop-length}
 use Rattle.std.proofs.lemmas.Bool.{cases_lt}
 use Rattle.std.proofs.lemmas.Option.{slice_get_past}
 use Rattle.std.specs.Prelude.{option_map, slice_get}
 use Rattle.std.specs.List.{AllByRecursion}
 use Rattle.accounts.proofs.AccountingFor.{is_accounted_for}
+use Rattle.accounts.proofs.Ordered.{none_orderly}
 use Rattle.accounts.proofs.Unscanned.{unscanned_is_accounted_for}
 use Rattle.accounts.specs.AccountedFor.{AccountsFor}
 use Rattle.accounts.specs.FollowedFile.{EachOpeningIsOne}
 use Rattle.accounts.specs.OneScan.{IsByOneScan}
 use Rattle.accounts.specs.Places.{AreOfWorkers}
-use Rattle.accounts.specs.RunTold.{RunTold}
+use Rattle.accounts.specs.RunTold.{RunNotes, RunTold}
 use Rattle.accounts.specs.Taken.{taken_in}
 use Rattle.accounts.specs.Unscanned.{IsSilent, IsUnscanned}
 use Rattle.batch_worker.specs.Held.{notes_of}
@@ -43,11 +44,12 @@ use Rattle.registry_store.specs.Choice.{GivesRows}
 use Rattle.registry_store.specs.Settled.{AreAtRest}
 use Rattle.rounds.specs.Images.{GivesFronts}
 use Rattle.rounds.specs.Words.{DiskWords}
+use Rattle.ship_core.proofs.Members.{none_there}
 use Rattle.ship_core.specs.Rows.{IsInOrder}
 use Rattle.ship_core.specs.RowsOver.{AreRowsOver, row_for}
 use Rattle.wire_base.specs.declared.note.Note.{Note}
 use Rattle.wire_base.specs.declared.row.Row.{Row}
-use Rattle.run_steps.specs.AccountedFor.{AccountedFor, AreImageRows, LostKey, RowsBy, RunObjects}
+use Rattle.run_steps.specs.AccountedFor.{Absences, AccountedFor, AreImageRows, LostInImage, LostKey, RowsBy, RunObjects}
 use Rattle.run_steps.specs.Areas.{BeganAtRest, GaveRows, GiveTheRows, HaveHeldFronts}
 use Rattle.run_steps.specs.Began.{Began}
 use Rattle.run_steps.specs.FolderOn.{FolderGoesOn}
@@ -60,7 +62,7 @@ use Rattle.run_steps.proofs.AskedEvents.{all_asked, asked_none, event_was, goes_
 use Rattle.run_steps.proofs.NamedInputs.{inputs_have_own_ids}
 use Rattle.run_steps.proofs.ImagesHold.{images_hold, ordered_at_rest, together_hold}
 use Rattle.run_steps.proofs.Members.{some_is}
-use Rattle.run_steps.proofs.RowsStay.{rows_stay}
+use Rattle.run_steps.proofs.RowsStay.{KeepsItsSlots, rows_stay}
 use Rattle.run_steps.proofs.RunFits.{first_since, moments_since}
 use Rattle.run_steps.proofs.RunRows.{OneChoice, given_over_fronts}
 use Rattle.run_steps.proofs.RunWires.{acknowledged_none, of_no_worker, took_none}
@@ -185,6 +187,10 @@ scanned_some start = record start { listed = []; doubled = [] }
 abbrev pub folder_scanned : FolderTold → FolderTold
 folder_scanned folder = record folder { ended = folder.scanned; asked = [] }
 
+-- without notes no slot is begun
+none_begins : (key : List ℕ) → KeepsItsSlots [] key
+none_begins key slot there = absurd (none_there slot there)
+
 module _ {D : Type 0} (disks : DiskWords D) (start : Began D) (folder : FolderTold) (has : HasScannedSome start.settings folder) (moments : List ℕ) (later : Option (List ℕ))
     (given : HasGiven start.moments later start.moment moments) (clock_tells : IsSome later) (outcomes : List (Option (List Outcome))) where
   abbrev wires : List WireTold
@@ -260,12 +266,18 @@ module _ {D : Type 0} (disks : DiskWords D) (start : Began D) (folder : FolderTo
             none_at_length = was.reads;
           })
 
-  early_told : RunTold early_run early_scan [] (took_none outcomes) [] []
+  abbrev no_notes : RunNotes
+  no_notes = record { told = []; collected = []; all = [] }
+
+  early_told : RunTold early_run early_scan [] [] (took_none outcomes) no_notes
   early_told = record {
     by = by_one_scan;
     followed = record { each = tt; slots = tt; keys_apart = tt; openings_apart = tt; openings_serve = no_opening };
     talks = silent_wires outcomes;
-    noted = record { begins = []; seens = []; notes_are = refl; each_begin = tt; each_seen = tt };
+    may_go = record { only = refl; each = tt; apart = tt };
+    behind = record { least = 0; files_below = tt; slots = tt };
+    told = record { each = tt; begun = tt; hidden_begun = tt };
+    mixed = record { often = λ h. refl; orderly = none_orderly };
     fits = record {
       issued = [];
       noted = [];
@@ -279,7 +291,7 @@ module _ {D : Type 0} (disks : DiskWords D) (start : Began D) (folder : FolderTo
   }
 
   early_accounts : AccountsFor early_run [] []
-  early_accounts = (is_accounted_for early_run early_scan [] (took_none outcomes) [] [] early_told).accounts
+  early_accounts = (is_accounted_for early_run early_scan [] [] (took_none outcomes) no_notes early_told).accounts
 
   module _ (a b : D) (one : OneChoice) (gave : GaveRows disks start) (areas : BeganAtRest disks start → HaveHeldFronts disks start.opening [] start.a start.b a b) where
     abbrev pub early_objects : RunObjects D
@@ -288,16 +300,16 @@ module _ {D : Type 0} (disks : DiskWords D) (start : Began D) (folder : FolderTo
       after = record { folder = Some folder.scanned; moments = later; outcomes = outcomes; a = a; b = b };
     }
 
-    image_rows : IsInOrder start.opening → (rows : List Row) → AreRowsOverFronts start.opening [] rows → AreImageRows LostKey early_run [] rows
-    image_rows ordered rows over = record {
+    image_rows : (Absent : Absences) → IsInOrder start.opening → (rows : List Row) → AreRowsOverFronts start.opening [] rows → AreImageRows early_run [] Absent rows
+    image_rows Absent ordered rows over = record {
       kept = early_accounts.images rows over;
-      stay = rows_stay start.opening [] rows ordered over tt LostKey early_run [];
+      stay = rows_stay start.opening [] rows ordered over Absent early_run [] (λ row there. inl (none_begins row.key));
       unbegun = unbegun_stand start.opening [] rows ordered over [] (λ key none. refl);
     }
 
-    rows_by : IsInOrder start.opening → (met : Met) (rows : List Row) → AreRowsOverFronts start.opening [] rows → RowsBy LostKey early_run [] met rows
+    rows_by : IsInOrder start.opening → (met : Met) (rows : List Row) → AreRowsOverFronts start.opening [] rows → RowsBy early_run [] met rows
     rows_by ordered met rows over = record {
-      in_image = image_rows ordered rows over;
+      in_image = image_rows LostKey ordered rows over;
       kept = λ left. early_accounts.ends rows (over_no_notes start.opening rows over);
       begun = λ left. tt;
       stored = λ left. none_begun early_run.trace.wires rows;
@@ -322,8 +334,8 @@ module _ {D : Type 0} (disks : DiskWords D) (start : Began D) (folder : FolderTo
       opened = gave;
       given = λ at_rest first second a_is b_is. given_by ((areas at_rest).both first second a_is b_is);
       rows = λ at_rest first second rows a_is b_is gives. rows_by (ordered_at_rest disks start.a start.b start.opening at_rest gave) met rows (given_over_fronts one start.opening [] first second rows ((areas at_rest).both first second a_is b_is) gives);
-      images = λ at_rest. images_hold one LostKey early_run [] disks early_objects at_rest start.opening gave [] (areas at_rest) (image_rows (ordered_at_rest disks start.a start.b start.opening at_rest gave));
-      together = λ at_rest. together_hold one LostKey early_run [] disks early_objects at_rest start.opening gave [] (areas at_rest) (image_rows (ordered_at_rest disks start.a start.b start.opening at_rest gave));
+      images = λ at_rest. images_hold one early_run [] disks early_objects at_rest start.opening gave [] (areas at_rest) (image_rows LostInImage (ordered_at_rest disks start.a start.b start.opening at_rest gave));
+      together = λ at_rest. together_hold one early_run [] disks early_objects at_rest start.opening gave [] (areas at_rest) (image_rows LostInImage (ordered_at_rest disks start.a start.b start.opening at_rest gave));
       supposing = λ premises. record { is = early_accounts.is premises; drained = λ at_rest is_done. absurd (not_done is_done) };
     }
 
@@ -374,16 +386,16 @@ module _ {D : Type 0} (disks : DiskWords D) (settings : Settings) (opening : Lis
       after = record { folder = Some told; moments = Some before; outcomes = outcomes; a = a; b = b };
     }
 
-    still_image_rows : IsInOrder opening → (rows : List Row) → AreRowsOverFronts opening [] rows → AreImageRows LostKey still_run [] rows
-    still_image_rows ordered rows over = record {
+    still_image_rows : (Absent : Absences) → IsInOrder opening → (rows : List Row) → AreRowsOverFronts opening [] rows → AreImageRows still_run [] Absent rows
+    still_image_rows Absent ordered rows over = record {
       kept = still_accounts.images rows over;
-      stay = rows_stay opening [] rows ordered over tt LostKey still_run [];
+      stay = rows_stay opening [] rows ordered over Absent still_run [] (λ row there. inl (none_begins row.key));
       unbegun = unbegun_stand opening [] rows ordered over [] (λ key none. refl);
     }
 
-    still_rows : IsInOrder opening → (met : Met) (rows : List Row) → AreRowsOverFronts opening [] rows → RowsBy LostKey still_run [] met rows
+    still_rows : IsInOrder opening → (met : Met) (rows : List Row) → AreRowsOverFronts opening [] rows → RowsBy still_run [] met rows
     still_rows ordered met rows over = record {
-      in_image = still_image_rows ordered rows over;
+      in_image = still_image_rows LostKey ordered rows over;
       kept = λ left. still_accounts.ends rows (over_no_notes opening rows over);
       begun = λ left. tt;
       stored = λ left. none_begun still_run.trace.wires rows;
@@ -408,7 +420,7 @@ module _ {D : Type 0} (disks : DiskWords D) (settings : Settings) (opening : Lis
       opened = gave;
       given = λ at_rest first second a_is b_is. given_by ((areas at_rest).both first second a_is b_is);
       rows = λ at_rest first second rows a_is b_is gives. still_rows (ordered_at_rest disks from_a from_b opening at_rest gave) met rows (given_over_fronts one opening [] first second rows ((areas at_rest).both first second a_is b_is) gives);
-      images = λ at_rest. images_hold one LostKey still_run [] disks still_objects at_rest opening gave [] (areas at_rest) (still_image_rows (ordered_at_rest disks from_a from_b opening at_rest gave));
-      together = λ at_rest. together_hold one LostKey still_run [] disks still_objects at_rest opening gave [] (areas at_rest) (still_image_rows (ordered_at_rest disks from_a from_b opening at_rest gave));
+      images = λ at_rest. images_hold one still_run [] disks still_objects at_rest opening gave [] (areas at_rest) (still_image_rows LostInImage (ordered_at_rest disks from_a from_b opening at_rest gave));
+      together = λ at_rest. together_hold one still_run [] disks still_objects at_rest opening gave [] (areas at_rest) (still_image_rows LostInImage (ordered_at_rest disks from_a from_b opening at_rest gave));
       supposing = λ premises. record { is = still_accounts.is premises; drained = λ at_rest is_done. absurd (not_done is_done) };
     }

@@ -1,7 +1,7 @@
 -- The run that is made of what objects told fits them.
 use Rattle.std.proofs.Common.{◌≡◌, ◌⊎◌, inl, inr, ℕ, List, ◌∷◌, ◌++◌, Option, Some, None, IsSome, refl}
 use Rattle.outside.specs.Times.{EndsWith}
-use Rattle.run_steps.specs.AccountedFor.{AreGivenSince, AreMomentsSince, BeginWith}
+use Rattle.run_steps.specs.AccountedFor.{AreMomentsSince, BeginWith}
 use Rattle.run_steps.specs.Shown.{GaveSince, HasGiven}
 use Rattle.run_steps.proofs.Members.{some_is}
 

@@ -1,9 +1,9 @@
 -- Of a run that is done each entry that an input covers was followed or skipped for its reason, and each file that was begun is read
 -- through, with the moment of its change.
-use Rattle.std.proofs.Common.{◌≡◌, ◌⊎◌, inl, inr, ⊎_elim, ℕ, ◌+◌, ◌<◌, ◌≤◌, All, List, [], Contains, append-nil, length, Option, Some, None, IfSome, refl, sym, ap, subst, ◌∙◌, arith}
+use Rattle.std.proofs.Common.{◌≡◌, ◌⊎◌, inl, inr, ⊎_elim, ℕ, ◌+◌, ◌<◌, ◌≤◌, All, List, [], Contains, append-nil, length, take, Option, Some, None, IfSome, refl, sym, ap, subst, ◌∙◌, arith}
 use Rattle.std.proofs.lemmas.Bool.{cases_lt}
 use Rattle.std.proofs.lemmas.List.Elements.{Contains-append_cases, Contains-append_left}
-use Rattle.std.proofs.lemmas.Option.{slice_get-get_or}
+use Rattle.std.proofs.lemmas.Option.{slice_get-get_or, slice_get_within}
 use Rattle.std.specs.Prelude.{slice_get}
 use Rattle.std.specs.List.{AllByRecursion}
 use Rattle.std.specs.declared.cmp.Ordering.TheVariants.{Less}
@@ -52,10 +52,11 @@ use Rattle.run_steps.specs.Stands.{Stands}
 use Rattle.run_steps.proofs.AskedEvents.{AnswerStands, HasAsked, HasMissed}
 use Rattle.run_steps.proofs.FirstPaths.{double_has_earlier}
 use Rattle.run_steps.proofs.FollowedOrSkipped.{IsSkippedSince, came_so}
+use Rattle.run_steps.proofs.HiddenAmong.{hidden_slots}
 use Rattle.run_steps.proofs.KeyedFiles.{KeepsEntry, keeps_entry}
 use Rattle.run_steps.proofs.Members.{some_is}
 use Rattle.run_steps.proofs.RunFiles.{as_listed, done, files, is_joined, joined, moment_is, moment_noted_is, of_entry, path_is, input_is, was_opened}
-use Rattle.run_steps.proofs.RunNotes.{begin_opened, opened_is_in_notes, opened_is_noted, own_seen}
+use Rattle.run_steps.proofs.RunNotes.{begin_opened, opened_is_in_notes}
 use Rattle.run_steps.proofs.ScanAsked.{asks_for, in_this_run, of_its_input, of_no_asking}
 use Rattle.run_steps.proofs.ScanList.{answered, entry_of, everyone, in_parts, is_before, shows_entry, since_listed}
 use Rattle.run_steps.proofs.ScanOf.{IsListedFor, ShowsSome, answer_by, gave_there, is_listed_for, key_is_told, rule_of, shows_asked, shows_file}
@@ -94,10 +95,12 @@ module _ {T W L D : Type 0} (words : Words T W L D) (start : Began D) (state : R
     pub among : Contains run_files file
     pub slot_is : slot_in file ≡ slot
 
-  pub file_of_begin : (slot : ℕ) → HasBegin notes slot → HasFileAt slot
-  file_of_begin slot begun =
+  pub file_of_begin : (slot : ℕ) → slot < length start.listed → HasBegin notes slot → HasFileAt slot
+  file_of_begin slot less begun =
       let opened =
-      begin_opened (files_in so_far) (acknowledged_in workers) so_far.begun so_far.collected notes stands.notes.noted.are ground start.opening start.listed so_far.opened stands.notes.begun begun.begin begun.noted in
+      begin_opened (files_in so_far) (acknowledged_in workers) so_far.begun so_far.collected notes stands.notes.noted.mixed ground start.opening start.listed so_far.opened so_far.hidden stands.notes.begun
+      (hidden_slots start.settings.inputs start.listed (length start.listed) (take stands.notes.hidden.count start.opening) so_far.hidden stands.notes.hidden.are)
+      begun.begin (let is = begun.slot_is in omega (arith, is, less)) begun.noted in
       let of =
       of_map (λ (file : Filed). file.opened) run_files opened.one
       (subst (λ (l : List Opened). Contains l opened.one) (sym (joined words start state so_far stands released folder has shown wires).opened_are) opened.among) in
@@ -283,7 +286,7 @@ module _ {T W L D : Type 0} (words : Words T W L D) (start : Began D) (state : R
           by_slot : Contains start.listed one → IsAmongFiles run scan run_files shown_entry input ⊎ IsPassedOver run rule scan shown_entry input
           by_slot file =
               let at = slice_get-get_or start.listed file.0 one file.1 ∙ ap (λ (l : Listed). Some l) file.2 in
-              ⊎_elim (λ begun. inl (among_files file.0 at (file_of_begin file.0 begun))) (λ skipped. inr (is_passed_over skipped.why skipped.opening skipped.since skipped.skips.reason)) (came_of file.0 one at)
+              ⊎_elim (λ begun. inl (among_files file.0 at (file_of_begin file.0 (slice_get_within start.listed file.0 one at) begun))) (λ skipped. inr (is_passed_over skipped.why skipped.opening skipped.since skipped.skips.reason)) (came_of file.0 one at)
 
     -- ---- by what was answered
 
@@ -311,12 +314,17 @@ module _ {T W L D : Type 0} (words : Words T W L D) (start : Began D) (state : R
     opened_there : Contains so_far.opened one
     opened_there = was_opened words start state so_far stands released folder has shown wires file among
 
-    -- the first note that carries its moment
+    -- a note that carries its moment
     record CarriesMoment : Type 0 where
       note : Note
-      of_first : Contains so_far.begun note
+      of_notes : Contains notes note
       slot_is : slot_of note ≡ slot_in file
       carries : moment_of note ≡ Some file.changed
+
+    opened_noted : Contains notes (noted_begin one.begin)
+    opened_noted =
+        opened_is_in_notes (files_in so_far) (acknowledged_in workers) so_far.begun so_far.collected notes stands.notes.noted.mixed ground start.opening start.listed so_far.opened so_far.hidden
+        stands.notes.begun one opened_there
 
     abbrev its_entry : Listed
     its_entry = (as_listed words start state so_far stands released folder has shown wires file among).one
@@ -325,22 +333,14 @@ module _ {T W L D : Type 0} (words : Words T W L D) (start : Began D) (state : R
     changed_is = moment_is words start state so_far stands released folder has shown wires file among
 
     begin_carries : file.changed ≡ 0 → CarriesMoment
-    begin_carries none = record {
-      note = noted_begin one.begin;
-      of_first = opened_is_noted (files_in so_far) (acknowledged_in workers) so_far.begun so_far.collected notes stands.notes.noted.are ground start.opening start.listed so_far.opened stands.notes.begun one opened_there;
-      slot_is = refl;
-      carries = ap (λ (n : ℕ). Some n) (sym none);
-    }
+    begin_carries none = record { note = noted_begin one.begin; of_notes = opened_noted; slot_is = refl; carries = ap (λ (n : ℕ). Some n) (sym none) }
 
     seen_carries : 0 < (moment_noted start.opening its_entry).0 → CarriesMoment
     seen_carries later = record {
       note = Seen one.begin.slot (moment_noted start.opening its_entry);
-      of_first =
-          own_seen (files_in so_far) (acknowledged_in workers) so_far.begun so_far.collected notes stands.notes.noted.are ground one.begin.slot (moment_noted start.opening its_entry)
-          (got_some (λ (entry : Listed). 0 < (moment_noted start.opening entry).0 → Contains notes (Seen one.begin.slot (moment_noted start.opening entry))) (slice_get start.listed one.begin.slot.0) its_entry
-          (as_listed words start state so_far stands released folder has shown wires file among).listed_there
-          (served.seen one.begin
-          (opened_is_in_notes (files_in so_far) (acknowledged_in workers) so_far.begun so_far.collected notes stands.notes.noted.are ground start.opening start.listed so_far.opened stands.notes.begun one opened_there)) later);
+      of_notes =
+          got_some (λ (entry : Listed). 0 < (moment_noted start.opening entry).0 → Contains notes (Seen one.begin.slot (moment_noted start.opening entry))) (slice_get start.listed one.begin.slot.0) its_entry
+          (as_listed words start state so_far stands released folder has shown wires file among).listed_there (served.seen one.begin opened_noted) later;
       slot_is = refl;
       carries = ap (λ (n : ℕ). Some n) (sym changed_is);
     }
@@ -348,7 +348,7 @@ module _ {T W L D : Type 0} (words : Words T W L D) (start : Began D) (state : R
     carries_moment : CarriesMoment
     carries_moment = ⊎_elim seen_carries (λ none. begin_carries (changed_is ∙ omega (arith, none))) (cases_lt 0 (moment_noted start.opening its_entry).0)
 
-    pub told_whole : IsToldWhole run scan so_far.begun file
+    pub told_whole : IsToldWhole run scan notes file
     told_whole = record {
       alone = (is_joined words start state so_far stands released folder has shown wires file among).alone;
       read_through = member_is (λ (turned : Turned). IsReadThrough turned.history) (files_in so_far) file.turned finished
@@ -361,11 +361,11 @@ module _ {T W L D : Type 0} (words : Words T W L D) (start : Began D) (state : R
             ∙ sym (path_is words start state so_far stands released folder has shown wires file among);
         changed_is = moment_noted_is words start state so_far stands released folder has shown wires file among;
         note = carries_moment.note;
-        among = carries_moment.of_first;
+        among = carries_moment.of_notes;
         slot_is = carries_moment.slot_is;
         carries = carries_moment.carries;
       };
     }
 
-  pub each_whole : AllByRecursion (λ (turned : Turned). IsReadThrough turned.history) (files_in so_far) → AllByRecursion (IsToldWhole run scan so_far.begun) run_files
-  each_whole finished = each_member (IsToldWhole run scan so_far.begun) run_files (told_whole finished)
+  pub each_whole : AllByRecursion (λ (turned : Turned). IsReadThrough turned.history) (files_in so_far) → AllByRecursion (IsToldWhole run scan notes) run_files
+  each_whole finished = each_member (IsToldWhole run scan notes) run_files (told_whole finished)

@@ -1,11 +1,15 @@
 -- Each listed file of a run whose files were all begun is followed by the account, or was skipped for its reason.
-use Rattle.std.proofs.Common.{◌≡◌, ⊎_elim, ℕ, ◌+◌, All, List, [], append-nil, length, map, Option, Some, refl, sym, ap, subst, ◌∙◌, arith}
+use Rattle.std.proofs.Common.{◌≡◌, ◌≢◌, ⊎_elim, ℕ, zero, suc, ◌+◌, All, List, [], ◌∷◌, append-nil, Contains, length, map, take, Option, Some, refl, sym, ap, subst, ◌∙◌, arith}
 use Rattle.std.proofs.lemmas.Bool.{cases_lt}
+use Rattle.std.proofs.lemmas.List.Elements.{Contains-append_cases, Contains-append_left}
+use Rattle.std.proofs.lemmas.Option.{slice_get_within}
 use Rattle.std.specs.Prelude.{flat_map, slice_get}
 use Rattle.accounts.proofs.Backing.{mapped_there}
 use Rattle.accounts.proofs.Grounded.{each_has_ground, of_map}
 use Rattle.accounts.specs.Accounted.{followed_tail}
 use Rattle.accounts.specs.Filed.{Filed, account_of, accounts_of, slot_in, tail_by}
+use Rattle.accounts.specs.Hidden.{Hidden, hidden_accounts, hidden_key, with_hidden}
+use Rattle.accounts.proofs.HiddenSlots.{each_hidden}
 use Rattle.accounts.specs.Taken.{FitBooks, Taken, acknowledged_in}
 use Rattle.kept_rows.specs.Account.{Place, SlotAccount, key_of}
 use Rattle.kept_rows.specs.Run.{Run}
@@ -18,7 +22,7 @@ use Rattle.prospect.specs.declared.listed.Listed.{Listed}
 use Rattle.report.specs.declared.passing.Passing.{Passing}
 use Rattle.rounds.specs.Crewed.{lanings}
 use Rattle.rounds.specs.Words.{Words}
-use Rattle.ship_core.proofs.Members.{first_there}
+use Rattle.ship_core.proofs.Members.{first_there, later_there}
 use Rattle.slot_parts.specs.Tails.{tails_of}
 use Rattle.wire_base.specs.declared.note.Note.{Note}
 use Rattle.wire_base.specs.declared.parcel.Parcel.{Parcel}
@@ -33,6 +37,7 @@ use Rattle.run_steps.specs.Shown.{WasOpenedSince}
 use Rattle.run_steps.specs.SoFar.{SoFar, files_in}
 use Rattle.run_steps.specs.Stands.{Stands}
 use Rattle.run_steps.proofs.FollowedOrSkipped.{each_then_so}
+use Rattle.run_steps.proofs.HiddenAmong.{each_is_hidden_of}
 use Rattle.run_steps.proofs.Members.{some_is}
 use Rattle.run_steps.proofs.Named.{later_has_other}
 use Rattle.run_steps.proofs.RunFiles.{as_listed, done, files, input_is, path_is, was_opened}
@@ -40,6 +45,11 @@ use Rattle.run_steps.proofs.RunNotes.{opened_is_in_notes}
 use Rattle.run_steps.proofs.RunServed.{file_of_begin}
 use Rattle.run_steps.proofs.SkippedFor.{skipped_still}
 use Rattle.accounts.proofs.Orderly.{member_is}
+
+pub listed_there : (listed : List Listed) (slot : ℕ) (one : Listed) → slice_get listed slot ≡ Some one → Contains listed one
+listed_there [] slot one at = absurd cc
+listed_there (first ∷ listed) zero one at = let same : first ≡ one = cc in subst (λ (l : Listed). Contains (first ∷ listed) l) same (first_there first listed)
+listed_there (first ∷ listed) (suc slot) one at = later_there first one listed (listed_there listed slot one at)
 
 -- files of one key stand at one place
 same_place_by_key : (listed : List Listed) (place other : ℕ) (one later : Listed) (key : List ℕ) → AreKeysApart listed → slice_get listed place ≡ Some one → slice_get listed other ≡ Some later →
@@ -59,8 +69,11 @@ module _ {T W L D : Type 0} (words : Words T W L D) (start : Began D) (state : R
   abbrev run_files : List Filed
   run_files = files words start state so_far stands released folder has shown wires
 
+  abbrev file_accounts : List SlotAccount
+  file_accounts = accounts_of placed run_files
+
   abbrev account : List SlotAccount
-  account = accounts_of placed run_files
+  account = with_hidden file_accounts so_far.hidden
 
   abbrev notes : List Note
   notes = state.keeper.tracked.notes
@@ -74,7 +87,7 @@ module _ {T W L D : Type 0} (words : Words T W L D) (start : Began D) (state : R
   -- a file that was begun
   followed_in_slot : (slot : ℕ) (one : Listed) → slice_get start.listed slot ≡ Some one → HasBegin notes slot → IsFollowedInSlot run account scanned slot one
   followed_in_slot slot one at begun =
-      let there = file_of_begin words start state so_far stands released folder has shown wires workers fits passed served slot begun in
+      let there = file_of_begin words start state so_far stands released folder has shown wires workers fits passed served slot (slice_get_within start.listed slot one at) begun in
       let file = there.file in
       let listed = as_listed words start state so_far stands released folder has shown wires file there.among in
       let same : listed.one ≡ one = some_is listed.one one (sym listed.listed_there ∙ ap (slice_get start.listed) there.slot_is ∙ at) in
@@ -83,7 +96,7 @@ module _ {T W L D : Type 0} (words : Words T W L D) (start : Began D) (state : R
       let its_path = path_is words start state so_far stands released folder has shown wires file there.among ∙ ap (λ (l : Listed). l.path) same in
       record {
         slot = account_of placed file;
-        of_account = mapped_there (account_of placed) run_files file there.among;
+        of_account = Contains-append_left file_accounts (hidden_accounts so_far.hidden) (account_of placed file) (mapped_there (account_of placed) run_files file there.among);
         number_is = there.slot_is;
         key_is = ap (λ (l : Listed). l.key) (sym same) ∙ listed.keyed;
         input_is = input_is words start state so_far stands released folder has shown wires file there.among ∙ ap (λ (l : Listed). l.input) same;
@@ -94,8 +107,22 @@ module _ {T W L D : Type 0} (words : Words T W L D) (start : Began D) (state : R
         opened = since.stands ∙ ap (λ (path : List ℕ). Some (OpenedAs path file.opened.number file.opened.begun)) its_path;
       }
 
-  -- each slot is of a file that was begun
-  begun_where_in_account : (slot : ℕ) (one : Listed) → slice_get start.listed slot ≡ Some one → IsInAccount account one → HasBegin notes slot
+  -- no hidden row has the key of a listed file
+  not_hidden : (slot : ℕ) (one : Listed) → slice_get start.listed slot ≡ Some one → (hidden : Hidden) → Contains so_far.hidden hidden → one.key ≢ Some (hidden_key hidden)
+  not_hidden slot one at hidden there keyed =
+      let of = each_is_hidden_of start.settings.inputs start.listed (length start.listed) (take stands.notes.hidden.count start.opening) so_far.hidden hidden stands.notes.hidden.are there in
+      let got = listed_there start.listed slot one at in of.removed.unlisted (got.0, one, got.1, got.2, keyed)
+
+  -- each slot of its key is of a file that was begun
+  of_files : (slot : ℕ) (one : Listed) → slice_get start.listed slot ≡ Some one → IsInAccount account one → IsInAccount file_accounts one
+  of_files slot one at any =
+      ⊎_elim (λ here. (here.0, any.1, here.1, here.2, any.4))
+      (λ later. absurd
+      (member_is (λ (s : SlotAccount). one.key ≢ Some (key_of s)) (hidden_accounts so_far.hidden) any.1
+      (each_hidden (λ (s : SlotAccount). one.key ≢ Some (key_of s)) so_far.hidden (λ hidden there. not_hidden slot one at hidden there)) later any.4))
+      (Contains-append_cases file_accounts (hidden_accounts so_far.hidden) any.1 (any.0, any.2, any.3))
+
+  begun_where_in_account : (slot : ℕ) (one : Listed) → slice_get start.listed slot ≡ Some one → IsInAccount file_accounts one → HasBegin notes slot
   begun_where_in_account slot one at in_account =
       let of = of_map (account_of placed) run_files in_account.1 (in_account.0, in_account.2, in_account.3) in
       let listed = as_listed words start state so_far stands released folder has shown wires of.item of.among in
@@ -107,8 +134,8 @@ module _ {T W L D : Type 0} (words : Words T W L D) (start : Began D) (state : R
         begin = of.item.opened.begin;
         slot_is = same_slot;
         noted =
-            opened_is_in_notes (files_in so_far) (acknowledged_in workers) so_far.begun so_far.collected notes stands.notes.noted.are (each_has_ground (files_in so_far) workers so_far.collected fits)
-            start.opening start.listed so_far.opened stands.notes.begun of.item.opened (was_opened words start state so_far stands released folder has shown wires of.item of.among);
+            opened_is_in_notes (files_in so_far) (acknowledged_in workers) so_far.begun so_far.collected notes stands.notes.noted.mixed (each_has_ground (files_in so_far) workers so_far.collected fits)
+            start.opening start.listed so_far.opened so_far.hidden stands.notes.begun of.item.opened (was_opened words start state so_far stands released folder has shown wires of.item of.among);
       }
 
   pub followed_or_skipped : AreFollowedOrSkipped run account scanned start.listed passed
@@ -116,7 +143,7 @@ module _ {T W L D : Type 0} (words : Words T W L D) (start : Began D) (state : R
       each_then_so (λ slot one. HasBegin notes slot) (WasSkippedBy start.settings.inputs notes told_trace) (IsFollowedInSlot run account scanned) (IsSkippedBy run account scanned)
       (λ slot one. slice_get start.listed slot ≡ Some one) scanned followed_in_slot
       (λ slot one opening why at since was. record {
-        not_followed = λ in_account. was.not_begun (begun_where_in_account slot one at in_account);
+        not_followed = λ in_account. was.not_begun (begun_where_in_account slot one at (of_files slot one at in_account));
         reason = skipped_still told_trace run.trace [] refl (sym (append-nil folder.ended.events)) (omega arith) refl start.settings.inputs one opening why was.reason;
       })
       0 scanned start.listed passed (omega arith) (λ k one at. let same : k ≡ 0 + k = omega arith in subst (λ (n : ℕ). slice_get start.listed n ≡ Some one) same at) served.each

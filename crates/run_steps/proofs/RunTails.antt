@@ -1,11 +1,10 @@
 -- As many tails are open as there are harvesters of a crew, whose slots stay, and as many wires come back as its workers had.
-use Rattle.std.proofs.Common.{◌≡◌, ℕ, ◌+◌, List, [], ◌∷◌, length, sym, ap, refl, ◌∙◌, arith, suc}
+use Rattle.std.proofs.Common.{◌≡◌, ℕ, ◌+◌, List, [], ◌∷◌, length, sym, ap, refl, ◌∙◌, arith}
 use Rattle.std.specs.List.{AllByRecursion}
 use Rattle.std.proofs.lemmas.List.{length-append, length-map}
 use Rattle.harvester.specs.HasTold.{begin_of}
 use Rattle.lanes.specs.Laning.{Laning}
 use Rattle.rounds.specs.Making.{IsBegunLane}
-use Rattle.rounds.specs.Pairs.{Pairs}
 use Rattle.rounds.specs.Staying.{begins_in, begins_of}
 use Rattle.rounds.specs.Words.{LinkWords, WireWords}
 use Rattle.rounds.specs.declared.carrier.Carrier.{Carrier}

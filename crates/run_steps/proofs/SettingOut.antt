@@ -30,12 +30,14 @@ use Rattle.rounds.specs.declared.carrier.Carrier.{Carrier}
 use Rattle.rounds.specs.declared.crew.Crew.{Crew}
 use Rattle.rounds.specs.declared.storing.Storing.{Storing}
 use Rattle.wire_base.specs.declared.numbers.Moment.{Moment}
+use Rattle.wire_base.specs.declared.row.Row.{Row}
 use Rattle.run_steps.specs.AccountedOver.{AccountedOver}
 use Rattle.run_steps.specs.Areas.{BeganAtRest, IsAtRest}
 use Rattle.run_steps.specs.Began.{Began}
 use Rattle.run_steps.specs.Beginning.{Beginning}
 use Rattle.run_steps.specs.BeginsAll.{BeginsAll, BeginsSome}
 use Rattle.run_steps.specs.BegunCrew.{IsBegunCrew}
+use Rattle.run_steps.specs.HiddenRows.{HidesBegun, TellsHidden}
 use Rattle.run_steps.specs.Met.{IsTelling}
 use Rattle.run_steps.specs.Outset.{Earlier, IsFirstKeeper, Outset, SetsOut, began_with}
 use Rattle.run_steps.specs.Ends.{Ending}
@@ -51,7 +53,8 @@ use Rattle.run_steps.specs.declared.begin_error.BeginError.{BeginError}
 use Rattle.run_steps.specs.declared.met.Met.{Met}
 use Rattle.run_steps.proofs.AllBegun.{all_are_seen, stands_begun}
 use Rattle.run_steps.proofs.BeginningOne.{at_phase}
-use Rattle.run_steps.proofs.BegunReady.{rest_begun}
+use Rattle.run_steps.proofs.BegunReady.{rest_begun, rests_on}
+use Rattle.run_steps.proofs.HiddenBegun.{hides_tell}
 use Rattle.run_steps.proofs.First.{IsMade, given, so_far, stands_first}
 use Rattle.run_steps.proofs.RunEnded.{ended_is_accounted_for, ended_objects}
 use Rattle.run_steps.proofs.RunRows.{OneChoice}
@@ -153,15 +156,19 @@ module _ {T W L D : Type 0} (words : Words T W L D) (reads : (disk : D) → IfSo
     stands_out = subst (λ (k : Keeping). Stands words start (at_phase words start moments a b old.folder.told old.crew k Reading) (so_far words start old.crew first.store first.pass a b moments settings.output made))
         (sym first.is) (stands_first words start old.crew first.store first.pass a b moments settings.output made)
 
-    -- once files are begun
-    module _ (result : Result (Vec Passing Global) BeginError) (new : Beginning T W L) (begins : IfOk result (λ passed. BeginsAll words.tails settings old.keeper.store.rows now listed passed.items old new))
-        (ended : IfErr result (λ what. BeginsSome words.tails settings old.keeper.store.rows now listed what old new)) where
-      pub further : Further words start (at_phase words start moments a b new.folder.told new.crew new.keeper (phase_begun result))
-      further = stands_begun words reads counts start moments a b now old (so_far words start old.crew first.store first.pass a b moments settings.output made) stands_out refl
-          (given words start old.crew first.store first.pass a b moments settings.output made).ends sets.of_inputs result new begins ended
+    -- once files are begun, and the keeper was told of hidden rows
+    module _ (begun_so : Result (Vec Passing Global) BeginError) (new : Beginning T W L) (begins : IfOk begun_so (λ passed. BeginsAll words.tails settings old.keeper.store.rows now listed passed.items old new))
+        (ended : IfErr begun_so (λ what. BeginsSome words.tails settings old.keeper.store.rows now listed what old new))
+        (rows_same : new.keeper.store.rows ≡ old.keeper.store.rows)
+        (result : Result (Vec Passing Global) BeginError) (hid : Keeping) (hides : HidesBegun settings.inputs listed begun_so result new.keeper hid) where
+      pub further : Further words start (at_phase words start moments a b new.folder.told new.crew hid (phase_begun result))
+      further = stands_begun words reads counts start moments a b now old (so_far words start old.crew first.store first.pass a b moments settings.output made) stands_out refl refl
+          (given words start old.crew first.store first.pass a b moments settings.output made).ends sets.of_inputs begun_so result new hid begins ended rows_same hides
 
-      pub rests : BeganAtRest words.disks start → IsAtRest words.disks new.keeper a b
-      rests began = rest_begun words.tails settings old.keeper.store.rows now words.disks a b listed result old new begins ended (sets.at_rest began)
+      pub rests : BeganAtRest words.disks start → IsAtRest words.disks hid a b
+      rests began =
+          let more = hides_tell settings.inputs listed begun_so result new.keeper hid hides in
+          rests_on words.disks a b more.more new.keeper hid more.tells (rest_begun words.tails settings old.keeper.store.rows now words.disks a b listed begun_so old new begins ended (sets.at_rest began))
 
       -- ---- at the end
 
@@ -174,21 +181,25 @@ module _ {T W L D : Type 0} (words : Words T W L D) (reads : (disk : D) → IfSo
         starts = map_twice length_of words.wires.outcomes wires ∙ ap (map (λ (w : W). length_of (words.wires.outcomes w))) parted
             ∙ map_both (λ (w : W). length_of (words.wires.outcomes w)) (take settings.output.workers wires) left
 
-        served : (passed : List Passing) → HasPassed result passed → IsTelling met → IfErr result (λ _. ¬ (IsTelling met)) → Collects new.keeper ending.keeper → new.keeper.held ≡ None →
+        pub served : (passed : List Passing) → HasPassed result passed → IsTelling met → IfErr result (λ _. ¬ (IsTelling met)) → Collects hid ending.keeper → hid.held ≡ None →
             (events : List Event) → ending.shown ≡ with_events events new.folder.told → IsServedAtEnd settings old.keeper.store.rows listed passed ending.keeper.tracked.notes folder ending.shown
-        served passed has_passed telling untold collects none_held events then = by_result result begins has_passed untold
+        served passed has_passed telling untold collects none_held events then = by_result begun_so result begins hides has_passed untold
           where
-            by_result : (r : Result (Vec Passing Global) BeginError) → IfOk r (λ all. BeginsAll words.tails settings old.keeper.store.rows now listed all.items old new) → HasPassed r passed →
+            by_result : (b r : Result (Vec Passing Global) BeginError) → IfOk b (λ all. BeginsAll words.tails settings old.keeper.store.rows now listed all.items old new) → HidesBegun settings.inputs listed b r new.keeper hid → HasPassed r passed →
                 IfErr r (λ _. ¬ (IsTelling met)) → IsServedAtEnd settings old.keeper.store.rows listed passed ending.keeper.tracked.notes folder ending.shown
-            by_result (Ok paths) all are not = subst (λ (l : List Passing). IsServedAtEnd settings old.keeper.store.rows listed l ending.keeper.tracked.notes folder ending.shown) (sym are)
+            by_result (Ok paths) (Ok same) all hides_all are not =
+                subst (λ (l : List Passing). IsServedAtEnd settings old.keeper.store.rows listed l ending.keeper.tracked.notes folder ending.shown) (sym (are ∙ ap (λ (v : Vec Passing Global). v.items) hides_all.0))
                 (served_at_end words.tails settings old.keeper.store.rows now listed paths.items folder old new has.shown (since_earlier start folder has)
                 (ap (λ (k : Keeping). k.tracked.notes) first.is) all
-                (all_are_seen words reads counts start moments a b now old (so_far words start old.crew first.store first.pass a b moments settings.output made) stands_out refl
+                (all_are_seen words reads counts start moments a b now old (so_far words start old.crew first.store first.pass a b moments settings.output made) stands_out refl refl
                 (given words start old.crew first.store first.pass a b moments settings.output made).ends sets.of_inputs paths.items new all)
+                hid (subst (λ (l : List Row). TellsHidden settings.inputs listed l new.keeper hid) rows_same hides_all.1)
                 ending.keeper collects none_held events ending.shown then)
-            by_result (Err what) all are not = absurd (not telling)
+            by_result (Ok paths) (Err what) all hides_some are not = absurd (not telling)
+            by_result (Err what) (Ok paths) all never are not = absurd never
+            by_result (Err what) (Err other) all same are not = absurd (not telling)
 
-        pub accounted : OneChoice → Covers → (passed : List Passing) → HasPassed result passed → IfErr result (λ _. ¬ (IsTelling met)) → Collects new.keeper ending.keeper → new.keeper.held ≡ None →
+        pub accounted : OneChoice → Covers → (passed : List Passing) → HasPassed result passed → IfErr result (λ _. ¬ (IsTelling met)) → Collects hid ending.keeper → hid.held ≡ None →
             (events : List Event) → ending.shown ≡ with_events events new.folder.told → Pairs OutcomesGoOn (map words.wires.outcomes wires) (map words.wires.outcomes after) →
             AccountedOver words.disks settings old.keeper.store.rows listed (length folder.scanned.events)
             (ended_objects words start ending met left after has_ended folder has clock_tells wires_tell (map words.wires.outcomes wires) starts) met passed ending.keeper.shipped ending.keeper.dropped

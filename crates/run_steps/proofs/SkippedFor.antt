@@ -1,10 +1,10 @@
 -- The reason for which a file was skipped as it was opened stands however the folder's list goes on.
-use Rattle.std.proofs.Common.{◌≡◌, ℕ, zero, suc, ◌≤◌, drop, List, [], ◌∷◌, ◌++◌, Option, Some, None, refl, sym, ap, subst, ◌∙◌, arith}
+use Rattle.std.proofs.Common.{◌≡◌, ℕ, suc, ◌≤◌, drop, List, [], ◌++◌, Option, Some, None, refl, sym, ap, subst, ◌∙◌, arith}
 use Rattle.std.proofs.lemmas.List.{drop-append-le}
 use Rattle.std.proofs.lemmas.Option.{slice_get_within}
 use Rattle.std.specs.Prelude.{option_map, slice_get}
 use Rattle.event_tree.specs.declared.input_rule.InputRule.{InputRule}
-use Rattle.kept_rows.specs.Trace.{Closing, Trace, closing_by, closing_in, closing_of, first_of_two, looks_of, open_looks_in}
+use Rattle.kept_rows.specs.Trace.{Closing, Trace, closing_in, closing_of, first_of_two, looks_of, open_looks_in}
 use Rattle.outside.specs.Files.{File}
 use Rattle.outside.specs.Folders.{Event, NotThere, Opened}
 use Rattle.outside.specs.declared.history.Look.{Look}

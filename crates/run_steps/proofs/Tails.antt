@@ -1,5 +1,5 @@
 -- How many tails are open: one for each harvester more.
-use Rattle.std.proofs.Common.{◌≡◌, inl, inr, ℕ, ◌+◌, ◌-◌, ◌^◌, ◌<◌, List, [], ◌∷◌, ◌++◌, length, Option, None, Some, Result, Ok, Err, ap, arith}
+use Rattle.std.proofs.Common.{◌≡◌, inl, inr, ℕ, ◌+◌, ◌-◌, ◌^◌, ◌<◌, List, [], ◌∷◌, ◌++◌, length, Result, Ok, Err, ap, arith}
 use Rattle.std.proofs.lemmas.List.{length-append}
 use Rattle.event_tree.specs.declared.settings.Settings.{Settings}
 use Rattle.harvester.specs.declared.harvester.Harvester.{Harvester}

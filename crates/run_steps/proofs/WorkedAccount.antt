@@ -25,7 +25,7 @@ use Rattle.wire_base.specs.declared.limits.Which.TheVariants.{A, B}
 use Rattle.wire_base.specs.declared.row.Op.TheVariants.{Set}
 use Rattle.wire_base.specs.declared.row.Row.{Row}
 use Rattle.accounts.specs.AccountedFor.{followings_in}
-use Rattle.run_steps.specs.AccountedFor.{AccountedFor, AreImageRows, GiveImageRows, ImagesHoldKeptRows, LostKey, RowsBy, RunObjects, TogetherHoldKeptRows, WereAtRest, areas_of}
+use Rattle.run_steps.specs.AccountedFor.{Absences, AccountedFor, AreImageRows, GiveImageRows, ImagesHoldKeptRows, LostInImage, LostKey, RowsBy, RunObjects, TogetherHoldKeptRows, WereAtRest, areas_of}
 use Rattle.run_steps.specs.declared.met.Met.TheVariants.{Done}
 use Rattle.run_steps.proofs.Members.{some_is}
 use Rattle.run_steps.proofs.RunRows.{OneChoice}
@@ -140,11 +140,11 @@ kept_in_image : (row : Row) → IsKept account [] worked.wires row → IsKeptInI
 kept_in_image row (inl told) = inl told
 kept_in_image row (inr stands) = inr stands.1
 
-none_are : AreImageRows LostKey worked.run account []
-none_are = record { kept = tt; stay = tt; unbegun = tt }
+none_are : (Absent : Absences) → AreImageRows worked.run account Absent []
+none_are Absent = record { kept = tt; stay = tt; unbegun = tt }
 
-row_is : AreImageRows LostKey worked.run account (worked.row ∷ [])
-row_is = record { kept = (kept_in_image worked.row worked.both_lines_are_kept, tt); stay = tt; unbegun = tt }
+row_is : (Absent : Absences) → AreImageRows worked.run account Absent (worked.row ∷ [])
+row_is Absent = record { kept = (kept_in_image worked.row worked.both_lines_are_kept, tt); stay = tt; unbegun = tt }
 
 -- nothing begins behind both lines
 none_waits : AllByRecursion (WaitsAt worked.wires 4) worked.epoch_account.told
@@ -166,9 +166,9 @@ is_stored : IsKept account [] worked.wires worked.row → IsStored account worke
 is_stored (inl told) = inl (record { told = told; next = told_so_far told })
 is_stored (inr stands) = inr stands.0
 
-pub rows_are : RowsBy LostKey worked.run account Done (worked.row ∷ [])
+pub rows_are : RowsBy worked.run account Done (worked.row ∷ [])
 rows_are = record {
-  in_image = row_is;
+  in_image = row_is LostKey;
   kept = λ left. (worked.both_lines_are_kept, tt);
   begun = λ left. (inl (record { row = worked.row; of_rows = (0, omega arith, refl); key_is = refl }), tt);
   stored = λ left. (is_stored worked.both_lines_are_kept, tt);
@@ -177,16 +177,16 @@ rows_are = record {
 -- ---- whatever a crash leaves
 
 abbrev GivesKept : List ℕ → List ℕ → Type 0
-GivesKept = GiveImageRows LostKey worked.run account
+GivesKept = GiveImageRows worked.run account
 
 gives_kept : (image : List ℕ) → IsAmong ([] ∷ closed_area ∷ first_area ∷ stored_area ∷ []) image → (other : List ℕ) → other ≡ [] → GivesKept image other
 gives_kept image among other same = subst (GivesKept image) (sym same) (by_image among)
   where
     by_image : IsAmong ([] ∷ closed_area ∷ first_area ∷ stored_area ∷ []) image → GivesKept image []
-    by_image (inl is) = subst (λ (l : List ℕ). GivesKept l []) (sym is) (record { rows = []; given = gives_nothing; are = none_are })
-    by_image (inr (inl is)) = subst (λ (l : List ℕ). GivesKept l []) (sym is) (record { rows = []; given = closed_gives_nothing; are = none_are })
-    by_image (inr (inr (inl is))) = subst (λ (l : List ℕ). GivesKept l []) (sym is) (record { rows = []; given = beside_blank; are = none_are })
-    by_image (inr (inr (inr (inl is)))) = subst (λ (l : List ℕ). GivesKept l []) (sym is) (record { rows = worked.row ∷ []; given = gives_the_row; are = row_is })
+    by_image (inl is) = subst (λ (l : List ℕ). GivesKept l []) (sym is) (record { rows = []; given = gives_nothing; are = none_are LostInImage })
+    by_image (inr (inl is)) = subst (λ (l : List ℕ). GivesKept l []) (sym is) (record { rows = []; given = closed_gives_nothing; are = none_are LostInImage })
+    by_image (inr (inr (inl is))) = subst (λ (l : List ℕ). GivesKept l []) (sym is) (record { rows = []; given = beside_blank; are = none_are LostInImage })
+    by_image (inr (inr (inr (inl is)))) = subst (λ (l : List ℕ). GivesKept l []) (sym is) (record { rows = worked.row ∷ []; given = gives_the_row; are = row_is LostInImage })
     by_image (inr (inr (inr (inr never)))) = absurd never
 
 from_start : (start : ℕ) (image : List ℕ) → start ≤ 0 → IsAmong (drop start ([] ∷ closed_area ∷ first_area ∷ stored_area ∷ [])) image →
@@ -195,7 +195,7 @@ from_start start image le since =
     let zero : start ≡ 0 = omega (arith, le) in
     subst (λ (n : ℕ). IsAmong (drop n ([] ∷ closed_area ∷ first_area ∷ stored_area ∷ [])) image) zero since
 
-pub together : TogetherHoldKeptRows LostKey disks objects worked.run account
+pub together : TogetherHoldKeptRows disks objects worked.run account
 together = record {
   writes = record { area = A; after = areas_of objects.after } ∷ [];
   lead = (
@@ -210,19 +210,19 @@ together = record {
 
 module _ (one : OneChoice) where
   opened_rows : (image : List ℕ) → IsAmong ([] ∷ closed_area ∷ first_area ∷ stored_area ∷ []) image → (generation : ℕ) (rows : List Row) (end : ℕ) → IsOpened image generation rows end →
-      AreImageRows LostKey worked.run account rows
+      AreImageRows worked.run account LostInImage rows
   opened_rows image (inl is) generation rows end opened =
-      subst (AreImageRows LostKey worked.run account) (opened_with one [] [] gives_nothing generation rows end (subst (λ (l : List ℕ). IsOpened l generation rows end) is opened)) none_are
+      subst (AreImageRows worked.run account LostInImage) (opened_with one [] [] gives_nothing generation rows end (subst (λ (l : List ℕ). IsOpened l generation rows end) is opened)) (none_are LostInImage)
   opened_rows image (inr (inl is)) generation rows end opened =
-      subst (AreImageRows LostKey worked.run account) (opened_with one closed_area [] closed_gives_nothing generation rows end (subst (λ (l : List ℕ). IsOpened l generation rows end) is opened)) none_are
+      subst (AreImageRows worked.run account LostInImage) (opened_with one closed_area [] closed_gives_nothing generation rows end (subst (λ (l : List ℕ). IsOpened l generation rows end) is opened)) (none_are LostInImage)
   opened_rows image (inr (inr (inl is))) generation rows end opened =
-      subst (AreImageRows LostKey worked.run account) (opened_with one first_area [] beside_blank generation rows end (subst (λ (l : List ℕ). IsOpened l generation rows end) is opened)) none_are
+      subst (AreImageRows worked.run account LostInImage) (opened_with one first_area [] beside_blank generation rows end (subst (λ (l : List ℕ). IsOpened l generation rows end) is opened)) (none_are LostInImage)
   opened_rows image (inr (inr (inr (inl is)))) generation rows end opened =
-      subst (AreImageRows LostKey worked.run account)
-      (opened_with one stored_area (worked.row ∷ []) gives_the_row generation rows end (subst (λ (l : List ℕ). IsOpened l generation rows end) is opened)) row_is
+      subst (AreImageRows worked.run account LostInImage)
+      (opened_with one stored_area (worked.row ∷ []) gives_the_row generation rows end (subst (λ (l : List ℕ). IsOpened l generation rows end) is opened)) (row_is LostInImage)
   opened_rows image (inr (inr (inr (inr never)))) generation rows end opened = absurd never
 
-  pub images : (area : Which) → ImagesHoldKeptRows LostKey disks objects worked.run account area
+  pub images : (area : Which) → ImagesHoldKeptRows disks objects worked.run account area
   images A image generation rows end since opened = inr (opened_rows image since generation rows end opened)
   images B image generation rows end (inl is) opened = inr (opened_rows image (inl is) generation rows end opened)
   images B image generation rows end (inr never) opened = absurd never
@@ -252,7 +252,7 @@ module _ (one : OneChoice) where
       subst (λ (l : List ℕ). GivesRows l second (worked.row ∷ [])) (some_is stored_area first a_is)
           (subst (λ (l : List ℕ). GivesRows stored_area l (worked.row ∷ [])) (some_is [] second b_is) gives_the_row),
     );
-    rows = λ at_rest first second rows a_is b_is gives. subst (RowsBy LostKey worked.run account Done) (rows_at_end one first second rows a_is b_is gives) rows_are;
+    rows = λ at_rest first second rows a_is b_is gives. subst (RowsBy worked.run account Done) (rows_at_end one first second rows a_is b_is gives) rows_are;
     images = λ at_rest. images;
     together = λ at_rest. together;
     supposing = λ premises. record {

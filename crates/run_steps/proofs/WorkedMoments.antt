@@ -1,6 +1,6 @@
 -- A clock that was asked long before a run and gives the run one later moment: this is the only one of the run, so that nothing of it lies
 -- apart. Where the run's first moment is the one that the clock had given last, the clock told nothing then, and both are of the run.
-use Rattle.std.proofs.Common.{◌≡◌, inl, inr, ℕ, List, [], ◌∷◌, ◌++◌, None, Some, refl, arith}
+use Rattle.std.proofs.Common.{◌≡◌, inl, inr, ℕ, List, [], ◌∷◌, Some, refl}
 use Rattle.outside.specs.Times.{EndsWith}
 use Rattle.run_steps.specs.AccountedFor.{AreMomentsSince, BeginWith}
 

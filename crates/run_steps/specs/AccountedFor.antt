@@ -13,7 +13,7 @@ use Rattle.kept_rows.specs.Account.{SlotAccount, key_of}
 use Rattle.kept_rows.specs.Drained.{IsDrained}
 use Rattle.kept_rows.specs.Followed.{AreFollowed}
 use Rattle.kept_rows.specs.Kept.{IsKept, IsKeptInImage, IsUnbegun}
-use Rattle.kept_rows.specs.Lost.{IsRightlyLost}
+use Rattle.kept_rows.specs.Lost.{IsRightlyLost, IsRightlyLostInImage}
 use Rattle.kept_rows.specs.Premises.{Premises}
 use Rattle.kept_rows.specs.Run.{Run}
 use Rattle.kept_rows.specs.Sent.{SendOnlyTold}
@@ -107,13 +107,13 @@ pub record FitsObjects {D : Type 0} (objects : RunObjects D) (run : Run) : Type 
 abbrev pub Absences : Type 1
 Absences = Run → List SlotAccount → List ℕ → Type 0
 
--- none
-abbrev pub NoKey : Absences
-NoKey run account key = ⊥
-
--- those that lost it rightly
+-- at the end: those whose newest slot lost it rightly
 abbrev pub LostKey : Absences
 LostKey run account key = IsRightlyLost run account run.trace.wires key
+
+-- in an image: those of which a slot lost it rightly
+abbrev pub LostInImage : Absences
+LostInImage run account key = IsRightlyLostInImage run account run.trace.wires key
 
 -- the key has one of these
 pub record HasRowOf (rows : List Row) (key : List ℕ) : Type 0 where
@@ -121,10 +121,10 @@ pub record HasRowOf (rows : List Row) (key : List ℕ) : Type 0 where
   pub of_rows : Contains rows row
   pub key_is : row.key ≡ key
 
-module _ (Absent : Absences) (run : Run) (account : List SlotAccount) where
-  -- the rows of an image: each is kept as images keep them, and each key that had one before has one, or may be without; one of a key that
-  -- was not begun is as it was
-  pub record AreImageRows (rows : List Row) : Type 0 where
+module _ (run : Run) (account : List SlotAccount) where
+  -- the rows of an image, or with which a run ends: each is kept as images keep them, and each key that had one before has one, or may be
+  -- without; one of a key that was not begun is as it was
+  pub record AreImageRows (Absent : Absences) (rows : List Row) : Type 0 where
     pub kept : AllByRecursion (IsKeptInImage account run.opening run.trace.wires) rows
     pub stay : AllByRecursion (λ row. HasRowOf rows row.key ⊎ Absent run account row.key) run.opening
     pub unbegun : AllByRecursion (λ row. IsUnbegun account row.key → Contains rows row) run.opening
@@ -133,14 +133,15 @@ module _ (Absent : Absences) (run : Run) (account : List SlotAccount) where
   pub record GiveImageRows (first second : List ℕ) : Type 0 where
     pub rows : List Row
     pub given : GivesRows first second rows
-    pub are : AreImageRows rows
+    pub are : AreImageRows LostInImage rows
 
-  -- the rows that the bytes of both areas give: as those of an image, whatever was met; where the last steps were made, kept as a run
-  -- ends with them, one for each key that was begun, or may be without, and stored as far as events are settled
+  -- the rows that the bytes of both areas give: as those of an image, whatever was met, but that keys without a row have lost it for good;
+  -- where the last steps were made, kept as a run ends with them, one for each key that was begun, or rightly lost, and stored as far as
+  -- events are settled
   pub record RowsBy (met : Met) (rows : List Row) : Type 0 where
-    pub in_image : AreImageRows rows
+    pub in_image : AreImageRows LostKey rows
     pub kept : AreLeft met → AllByRecursion (IsKept account run.opening run.trace.wires) rows
-    pub begun : AreLeft met → AllByRecursion (λ one. HasItsRow rows one ⊎ Absent run account (key_of one)) account
+    pub begun : AreLeft met → AllByRecursion (λ one. HasItsRow rows one ⊎ LostKey run account (key_of one)) account
     pub stored : AreLeft met → AllByRecursion (IsStored account run.trace.wires) rows
 
 -- what both areas hold now gives rows
@@ -153,14 +154,14 @@ AreRowsBy disks objects P = (first second : List ℕ) (rows : List Row) → disk
     GivesRows first second rows → P rows
 
 -- each image of an area since the run began that is opened has such rows, or the run did not use the area, and it is as it was before
-abbrev pub ImagesHoldKeptRows : Absences → {D : Type 0} → DiskWords D → RunObjects D → Run → List SlotAccount → Which → Type 0
-ImagesHoldKeptRows Absent disks objects run account area = (image : List ℕ) (generation : ℕ) (rows : List Row) (end : ℕ) →
+abbrev pub ImagesHoldKeptRows : {D : Type 0} → DiskWords D → RunObjects D → Run → List SlotAccount → Which → Type 0
+ImagesHoldKeptRows disks objects run account area = (image : List ℕ) (generation : ℕ) (rows : List Row) (end : ℕ) →
     disks.images_since (area_in (areas_of objects.after) area) (disks.moment (area_in (areas_of objects.before) area)) image → IsOpened image generation rows end →
-    IsOfUnusedArea disks (areas_of objects.before) area image generation ⊎ AreImageRows Absent run account rows
+    IsOfUnusedArea disks (areas_of objects.before) area image generation ⊎ AreImageRows run account LostInImage rows
 
 -- and both areas gave such rows together since then
-abbrev pub TogetherHoldKeptRows : Absences → {D : Type 0} → DiskWords D → RunObjects D → Run → List SlotAccount → Type 0
-TogetherHoldKeptRows Absent disks objects run account = GiveThroughout disks (GiveImageRows Absent run account) (areas_of objects.before) (areas_of objects.after)
+abbrev pub TogetherHoldKeptRows : {D : Type 0} → DiskWords D → RunObjects D → Run → List SlotAccount → Type 0
+TogetherHoldKeptRows disks objects run account = GiveThroughout disks (GiveImageRows run account) (areas_of objects.before) (areas_of objects.after)
 
 -- as the run began, both areas told what they held, and nothing was pending on them
 abbrev pub WereAtRest : {D : Type 0} → DiskWords D → RunObjects D → Type 0
@@ -176,7 +177,7 @@ pub record AreAccounted {D : Type 0} (disks : DiskWords D) (objects : RunObjects
 
 -- ---- together
 
-pub record AccountedWith (Absent : Absences) {D : Type 0} (disks : DiskWords D) (settings : Settings) (objects : RunObjects D) (met : Met) : Type 0 where
+pub record AccountedFor {D : Type 0} (disks : DiskWords D) (settings : Settings) (objects : RunObjects D) (met : Met) : Type 0 where
   pub run : Run
   pub by_settings : run.settings ≡ settings
   pub account : List SlotAccount
@@ -185,10 +186,7 @@ pub record AccountedWith (Absent : Absences) {D : Type 0} (disks : DiskWords D) 
   pub sent : SendOnlyTold account run.trace.wires
   pub opened : GiveTheRows disks objects.before.a objects.before.b run.opening
   pub given : WereAtRest disks objects → GiveRows disks objects.after
-  pub rows : WereAtRest disks objects → AreRowsBy disks objects.after (RowsBy Absent run account met)
-  pub images : WereAtRest disks objects → (area : Which) → ImagesHoldKeptRows Absent disks objects run account area
-  pub together : WereAtRest disks objects → TogetherHoldKeptRows Absent disks objects run account
+  pub rows : WereAtRest disks objects → AreRowsBy disks objects.after (RowsBy run account met)
+  pub images : WereAtRest disks objects → (area : Which) → ImagesHoldKeptRows disks objects run account area
+  pub together : WereAtRest disks objects → TogetherHoldKeptRows disks objects run account
   pub supposing : Premises run (followings_in account) → AreAccounted disks objects met run account
-
-abbrev pub AccountedFor : {D : Type 0} → DiskWords D → Settings → RunObjects D → Met → Type 0
-AccountedFor = AccountedWith LostKey

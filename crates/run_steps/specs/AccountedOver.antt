@@ -1,6 +1,5 @@
--- A run over listed files that is accounted for (this project's profile), before rows of removed files go: each key that had a row, or
--- was begun where the last steps were made, has one. It began with the rows of its store; its one scan was whole, and showed the keys of the
--- listed files, that of each slot among them, and no other. Its events are placed as its wires
+-- A run over listed files that is accounted for (this project's profile). It began with the rows of its store; its one scan was whole, and showed
+-- the keys of the listed files, and no other. Where it tells a report, no row of a removed file is left. Its events are placed as its wires
 -- acknowledge their payloads. Where the last steps were made, the numbers of shipped and of dropped events are those of the account;
 -- where it is done, these are all of its events. Where it tells a report, each listed file is followed, or skipped for its reason behind the
 -- scan; `scanned` is how many things the folder had told by the end of that.
@@ -8,7 +7,6 @@ use Rattle.std.specs.Prelude.{◌≡◌, ℕ, List, [], ◌∷◌, Contains, Som
 use Rattle.std.specs.List.{AllByRecursion}
 use Rattle.accounts.specs.Numbers.{AreAllCounted, AreNumbersOf, ArePlacedIn}
 use Rattle.event_tree.specs.declared.settings.Settings.{Settings}
-use Rattle.kept_rows.specs.Account.{key_of}
 use Rattle.kept_rows.specs.Run.{Scan}
 use Rattle.kept_rows.specs.Scans.{IsWhole, ShowsKey}
 use Rattle.prospect.specs.Doubled.{HaveKey}
@@ -16,21 +14,22 @@ use Rattle.prospect.specs.declared.listed.Listed.{Listed}
 use Rattle.report.specs.declared.passing.Passing.{Passing}
 use Rattle.rounds.specs.Words.{DiskWords}
 use Rattle.wire_base.specs.declared.row.Row.{Row}
-use Rattle.run_steps.specs.AccountedFor.{AccountedWith, NoKey, RunObjects}
+use Rattle.run_steps.specs.AccountedFor.{AccountedFor, AreRowsBy, RunObjects, WereAtRest}
 use Rattle.run_steps.specs.FollowedOrSkipped.{AreFollowedOrSkipped}
 use Rattle.run_steps.specs.Met.{AreLeft, IsTelling}
+use Rattle.run_steps.specs.Removed.{IsRemoved}
 use Rattle.run_steps.specs.declared.met.Met.{Met}
 use Rattle.run_steps.specs.declared.met.Met.TheVariants.{Done}
 
 pub record AccountedOver {D : Type 0} (disks : DiskWords D) (settings : Settings) (opening : List Row) (listed : List Listed) (scanned : ℕ) (objects : RunObjects D) (met : Met) (passed : List Passing) (shipped dropped : ℕ) : Type 0 where
-  pub accounted : AccountedWith NoKey disks settings objects met
+  pub accounted : AccountedFor disks settings objects met
   pub opening_is : accounted.run.opening ≡ opening
   pub scan : Scan
   pub only : accounted.run.scans ≡ scan ∷ []
   pub whole : IsWhole accounted.run scan
   pub only_listed : (key : List ℕ) → ShowsKey accounted.run scan key → HaveKey listed (Some key)
   pub lists : (one : Listed) (key : List ℕ) → Contains listed one → one.key ≡ Some key → ShowsKey accounted.run scan key
-  pub shown : AllByRecursion (λ one. ShowsKey accounted.run scan (key_of one)) accounted.account
+  pub cleaned : WereAtRest disks objects → IsTelling met → AreRowsBy disks objects.after (λ rows. AllByRecursion (λ row. ¬ (IsRemoved settings.inputs listed row.key)) rows)
   pub placed : ArePlacedIn accounted.account accounted.run.trace.wires
   pub numbers : AreLeft met → AreNumbersOf accounted.account shipped dropped
   pub counted : met ≡ Done → AreAllCounted accounted.account

@@ -1,8 +1,11 @@
 -- How files are begun in a run that reads them once (this project's profile): the one of a slot is the one that was
 -- listed at its place, from where its row stood on. Its Begin is the keeper's first note of it, and then comes the moment of its change.
-use Rattle.std.specs.Prelude.{◌≡◌, ℕ, ◌+◌, ◌≤◌, ◌<◌, List, [], ◌∷◌, ◌++◌, Contains, map, slice_get, Some, IfSome}
+-- Slots of hidden rows stand behind those of the files.
+use Rattle.std.specs.Prelude.{◌≡◌, ◌⊎◌, ℕ, ◌+◌, ◌≤◌, ◌<◌, List, [], ◌∷◌, Contains, slice_get, Some, IfSome}
 use Rattle.std.specs.List.{AllByRecursion}
+use Rattle.accounts.specs.Hidden.{Hidden, hidden_begin}
 use Rattle.accounts.specs.Opened.{Opened}
+use Rattle.accounts.specs.ToldNotes.{IsOfHidden}
 use Rattle.event_tree.specs.declared.settings.Settings.{Settings}
 use Rattle.file_identity.specs.AskedAgain.{GivesKey}
 use Rattle.multiline_core.specs.Rule.{IsGroupRule}
@@ -44,11 +47,21 @@ pub record IsSeenOf (rows : List Row) (listed : List Listed) (opened : List Open
   pub listed_there : slice_get listed file.begin.slot.0 ≡ Some one
   pub is : note ≡ Seen file.begin.slot (moment_noted rows one)
 
--- the notes that the run told the keeper itself: a Begin of each, slot by slot, and then when some were changed
-pub record AreBeginNotes (rows : List Row) (listed : List Listed) (opened : List Opened) (notes : List Note) : Type 0 where
-  pub seen : List Note
-  pub are : notes ≡ map (λ one. noted_begin one.begin) opened ++ seen
-  pub seen_are : AllByRecursion (IsSeenOf rows listed opened) seen
+-- the note is the Begin of one of these
+pub record IsBeginOfFile (opened : List Opened) (note : Note) : Type 0 where
+  pub file : Opened
+  pub among : Contains opened file
+  pub is : note ≡ noted_begin file.begin
+
+-- what the run may tell the keeper itself: the Begin of one of these, when one of them was changed, and of hidden rows
+abbrev pub MayBegin : List Row → List Listed → List Opened → List Hidden → Note → Type 0
+MayBegin rows listed opened hiddens note = IsBeginOfFile opened note ⊎ (IsSeenOf rows listed opened note ⊎ IsOfHidden hiddens note)
+
+-- the notes that it told, in whichever order: the Begin of each is among them
+pub record AreBeginNotes (rows : List Row) (listed : List Listed) (opened : List Opened) (hiddens : List Hidden) (notes : List Note) : Type 0 where
+  pub each : AllByRecursion (MayBegin rows listed opened hiddens) notes
+  pub begun : AllByRecursion (λ one. Contains notes (noted_begin one.begin)) opened
+  pub hidden_begun : AllByRecursion (λ hidden. Contains notes (hidden_begin hidden)) hiddens
 
 -- the keeper was told when each file was changed that was begun; a moment of 0 need not be told
 abbrev pub AreAllSeen : List Row → List Listed → List Note → Type 0

@@ -18,6 +18,7 @@ pub mod FolderOn
 pub mod FolderSeen
 pub mod FollowedOrSkipped
 pub mod Goes
+pub mod HiddenRows
 pub mod KnownKeys
 pub mod LastEpoch
 pub mod LastSteps
@@ -33,6 +34,7 @@ pub mod Readiness
 pub mod Registry
 pub mod RegistryErrors
 pub mod Releasing
+pub mod Removed
 pub mod RunEnds
 pub mod RunOf
 pub mod RunState

@@ -1,6 +1,6 @@
 -- What is known besides of a run that was through with beginning its files (this project's profile), by what its keeper noted and what its
 -- folder told behind the scan: each listed file was begun, or skipped for its reason, and of each that was begun the moment of its change is
--- noted.
+-- noted; and of each row that is removed how its slot begins, and that it goes.
 use Rattle.std.specs.Prelude.{◌≡◌, ℕ, List, [], Contains, length}
 use Rattle.event_tree.specs.declared.input_rule.InputRule.{InputRule}
 use Rattle.event_tree.specs.declared.settings.Settings.{Settings}
@@ -14,6 +14,7 @@ use Rattle.wire_base.specs.declared.note.Note.{Note}
 use Rattle.wire_base.specs.declared.row.Row.{Row}
 use Rattle.run_steps.specs.Begun.{AreAllSeen, noted_begin}
 use Rattle.run_steps.specs.FollowedOrSkipped.{FollowsOrSkips}
+use Rattle.run_steps.specs.HiddenRows.{AreAllForgotten}
 use Rattle.run_steps.specs.RunOf.{FolderTold}
 use Rattle.run_steps.specs.SkippedFor.{IsSkippedFor}
 
@@ -40,3 +41,4 @@ module _ (inputs : List InputRule) (notes : List Note) (trace : Trace) where
 pub record AreServed (settings : Settings) (rows : List Row) (listed : List Listed) (passed : List Passing) (notes : List Note) (folder : FolderTold) : Type 0 where
   pub each : AreServedFrom settings.inputs notes (folder_trace (length folder.earlier.events) folder.ended) 0 (length folder.scanned.events) listed passed
   pub seen : AreAllSeen rows listed notes
+  pub forgotten : AreAllForgotten settings.inputs listed rows notes

@@ -2,6 +2,7 @@
 -- and where that went.
 use Rattle.std.specs.Prelude.{ℕ, List, ◌++◌, map, Option}
 use Rattle.std.specs.List.{flat_map}
+use Rattle.accounts.specs.Hidden.{Hidden}
 use Rattle.accounts.specs.Opened.{Opened}
 use Rattle.accounts.specs.Turned.{Turned}
 use Rattle.outside.specs.Tails.{TailHistory}
@@ -19,6 +20,8 @@ pub record SoFar : Type 0 where
   pub moments : List ℕ
   -- the files of which the keeper was told, by their slots
   pub opened : List Opened
+  -- and the hidden rows of which it was told, by their slots behind those
+  pub hidden : List Hidden
   -- those that harvesters turn, lane by lane, and those whose tails were closed
   pub lanes : List (List Turned)
   pub left : List Left
@@ -63,8 +66,9 @@ books_of so_far = record { files = files_in so_far; told = so_far.told; queued =
 -- the notes
 pub record NotesSoFar : Type 0 where
   pub opened : List Opened
+  pub hidden : List Hidden
   pub begun : List Note
   pub collected : List Note
 
 abbrev pub notes_of : SoFar → NotesSoFar
-notes_of so_far = record { opened = so_far.opened; begun = so_far.begun; collected = so_far.collected }
+notes_of so_far = record { opened = so_far.opened; hidden = so_far.hidden; begun = so_far.begun; collected = so_far.collected }

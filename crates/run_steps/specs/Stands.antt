@@ -4,6 +4,7 @@ use Rattle.std.specs.Prelude.{◌≡◌, ◌≢◌, ℕ, ◌^◌, ◌-◌, ◌<�
 use Rattle.std.specs.List.{AllByRecursion, flat_map}
 use Rattle.accounts.specs.Opened.{Opened}
 use Rattle.accounts.specs.ToldFile.{IsReadThrough, IsToldFile}
+use Rattle.accounts.specs.ToldNotes.{AreMixed}
 use Rattle.accounts.specs.Turned.{Turned, notes_told, parcels_told, spans_in}
 use Rattle.accounts.specs.Turning.{IsTurnedSo, Pairs}
 use Rattle.event_tree.specs.declared.processor_rule.ProcessorRule.{ProcessorRule}
@@ -25,6 +26,7 @@ use Rattle.wire_base.specs.declared.row.Row.{Row}
 use Rattle.run_steps.specs.Areas.{BeganAtRest, HaveHeldFronts}
 use Rattle.run_steps.specs.Began.{Began}
 use Rattle.run_steps.specs.Begun.{AreBeginNotes, AreSlotsFrom, IsKeyed, IsOpenedAsListed}
+use Rattle.run_steps.specs.HiddenRows.{AreHiddenSoFar}
 use Rattle.run_steps.specs.LastEpoch.{HaveOneOver}
 use Rattle.run_steps.specs.RunState.{Finished, Phase, Reading, RunState}
 use Rattle.run_steps.specs.Shown.{HasGiven, HasShown}
@@ -70,10 +72,10 @@ pub record AreCounted (keeper : Keeping) : Type 0 where
   pub dropped : keeper.dropped ≡ min (count_by is_dropped (notes keeper.pass.got)) (2 ^ 64 - 1)
   pub collected : keeper.collected ≡ min (length keeper.pass.got) (2 ^ 64 - 1)
 
--- the keeper's notes are those that the run told it and those that it collected, over the rows that the registry gave
+-- the keeper's notes are, as often, those that the run told it and those that it collected, and orderly, over the rows that the registry gave
 pub record AreNoted (opening : List Row) (keeper : Keeping) (begun collected : List Note) : Type 0 where
   pub opening_is : keeper.tracked.opening ≡ opening
-  pub are : keeper.tracked.notes ≡ begun ++ collected
+  pub mixed : AreMixed begun collected keeper.tracked.notes
   pub got : notes keeper.pass.got ≡ collected ++ held_in keeper.held
 
 -- ---- all of it, in parts: a step that leaves what a part reads as it was keeps the part
@@ -118,7 +120,8 @@ pub record Books {T W L : Type 0} (links : LinkWords L) (wires : WireWords W) (s
 -- what is noted and stored
 pub record Notes {D : Type 0} (start : Began D) (keeper : Keeping) (so_far : NotesSoFar) : Type 0 where
   pub counted : AreCounted keeper
-  pub begun : AreBeginNotes start.opening start.listed so_far.opened so_far.begun
+  pub begun : AreBeginNotes start.opening start.listed so_far.opened so_far.hidden so_far.begun
+  pub hidden : AreHiddenSoFar start.settings.inputs start.listed start.opening so_far.hidden
   pub noted : AreNoted start.opening keeper so_far.begun so_far.collected
   pub stores : Stores keeper.tracked keeper.store
 

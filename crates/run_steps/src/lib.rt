@@ -1,5 +1,5 @@
 //! The steps of a run over rounds: its registry and its files are opened, files are turned until nothing more is found, all is let
-//! go, and what was settled is stored.
+//! go, and what was settled is stored. Rows of removed files go by notes, which the keeper is told once all files are begun.
 //!
 //! Each step says what it changed. Rounds, the last steps and what lets go keep one relation: what was told of each file, where
 //! each event of it is, what the keeper noted, and what the areas may hold at any moment.
@@ -11,6 +11,8 @@ mod beginning;
 mod context;
 mod crew;
 mod follow;
+mod hidden;
+mod keys;
 mod laws;
 mod leave;
 mod met;
@@ -30,6 +32,7 @@ pub use beginning::{Scanned, begin_all};
 pub use context::{Context, Surroundings};
 pub use crew::{BOX_NOTES, Passes, crew_of};
 pub use follow::{PAUSE_MS, met_in, pause_where_still};
+pub use hidden::{hide_begun, tell_hidden};
 pub use laws::disk_images_are_counted;
 pub use leave::{end_crew, end_lanes, release_all};
 pub use met::Met;

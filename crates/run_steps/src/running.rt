@@ -27,6 +27,7 @@ ghost use Rattle.run_steps.specs.Worked.{IsMetByRun};
 use crate::beginning::{Scanned, begin_all};
 use crate::context::{Context, Surroundings};
 use crate::crew::{Passes, crew_of};
+use crate::hidden::hide_begun;
 use crate::laws::disk_images_are_counted;
 use crate::working::{Worked, work};
 use outside::{Bell, Clock, Disk, Folder, Link, Wire};
@@ -149,5 +150,6 @@ where
     covered_end_by_steps();
     let mut crew = crew_of(context, passes, around.wires)?;
     let begun = begin_all(context, scanned, around.folder, &mut crew, storing.keeper);
+    let begun = hide_begun(context, scanned, begun, storing.keeper);
     Ok(work(rt, context, begun, crew, storing, around))
 }

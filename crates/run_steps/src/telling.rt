@@ -44,7 +44,7 @@ pub(crate) fn tell_begin(
     )
 }
 
-fn tell(alloc: Global, note: Note, keeper: &mut Keeper) -> Result<(), NoMemory>
+pub(crate) fn tell(alloc: Global, note: Note, keeper: &mut Keeper) -> Result<(), NoMemory>
     requires range { IsNote note }
     requires few { HasRoomFor keeper.old.store.rows keeper.old.tracked note }
     ensures told { OnOk result (TellsNotes (note ∷ []) keeper.old keeper.new) }

@@ -1,10 +1,13 @@
-use Rattle.std.proofs.Common.{List, length, Vec, Global, subst, sym, ap, arith, ◌∙◌}
+use Rattle.std.proofs.Common.{List, length, Vec, Global, refl, subst, sym, ap, arith, ◌∙◌}
 use Rattle.std.proofs.lemmas.List.Elements.{recursion_from_All}
 use Rattle.keeper.specs.Keeping.{Keeping}
 use Rattle.rounds.specs.Crewed.{lanings}
 use Rattle.rounds.specs.Making.{IsBegunLane}
 use Rattle.rounds.specs.declared.carrier.Carrier.{Carrier}
+use Rattle.run_steps.specs.BeginErrors.{met_of}
 use Rattle.run_steps.specs.Beginning.{beginning}
+use Rattle.run_steps.specs.BeginsAll.{EndsBeginning}
+use Rattle.run_steps.specs.Unnumbered.{IsMetUnnumbered}
 use Rattle.run_steps.specs.CarriersFail.{counts_told}
 use Rattle.run_steps.specs.CarriersGoOn.{WiresReturn}
 use Rattle.run_steps.specs.Outset.{began_with}
@@ -12,8 +15,9 @@ use Rattle.run_steps.specs.RunEnds.{HasEnded}
 use Rattle.run_steps.specs.RunState.{Phase}
 use Rattle.run_steps.specs.Questions.{questions_of}
 use Rattle.rounds.specs.WordsOf.{links_of, tails_of, wires_of, words_of}
-use Rattle.run_steps.proofs.BegunReady.{ready_begun}
+use Rattle.run_steps.proofs.BegunReady.{ready_begun, told_runs}
 use Rattle.run_steps.proofs.CarriersGoOn.{links_finished, open_links_seen, outcomes_go_on}
+use Rattle.run_steps.proofs.HiddenBegun.{begun_knows, errors_still, hides_tell, passed_or_none}
 use Rattle.run_steps.proofs.PassedOver.{passed_over}
 use Rattle.run_steps.proofs.Questions.{asks_nothing}
 use Rattle.run_steps.proofs.RunCauses.{met_by_run, no_slots}
@@ -32,9 +36,12 @@ work-requires-clause-ready g c κs within =
     let new = beginning g.F.Folder c.begin_all-begun.new.folder c.begin_all-begun.new.crew c.begin_all-begun.new.keeper in
     let first = first_ready g.L.Link.told queue desk c.args.context.settings.now c.args.around.now.wires.now.items c.crew_of.new.wires.items c.in_ok-crew.crew c.in_ok-crew.ensures.begun
     tails c.args.storing.now c.requires.settings c.requires.keeper in
-    let ready = ready_begun tails c.args.context.settings.now c.args.storing.now.keeper.now.store.rows c.args.scanned.now.now queue desk c.args.storing.now.keeper c.args.storing.now.a c.args.storing.now.b c.args.scanned.now.listed.items c.begin_all-begun.result old new
+    let hidden = hides_tell c.args.context.settings.now.inputs c.args.scanned.now.listed.items c.begin_all-begun.result c.hide_begun-begun.result c.begin_all-begun.new.keeper c.hide_begun-begun.new.keeper c.hide_begun-begun.ensures in
+    let ready = told_runs tails c.args.context.settings.now c.args.storing.now.keeper.now.store.rows c.args.scanned.now.now queue desk c.args.storing.now.keeper c.args.storing.now.a c.args.storing.now.b
+    new (beginning g.F.Folder c.begin_all-begun.new.folder c.begin_all-begun.new.crew c.hide_begun-begun.new.keeper) hidden.more hidden.tells refl
+    (ready_begun tails c.args.context.settings.now c.args.storing.now.keeper.now.store.rows c.args.scanned.now.now queue desk c.args.storing.now.keeper c.args.storing.now.a c.args.storing.now.b c.args.scanned.now.listed.items c.begin_all-begun.result old new
     c.begin_all-begun.ensures.begun c.begin_all-begun.ensures.ended
-    (record { able = record { some_lanes = first.able.some_lanes; some_carriers = first.able.some_carriers; have = first.able.have; lanes = first.able.lanes; pass = first.able.pass }; is_open = first.is_open }) in
+    (record { able = record { some_lanes = first.able.some_lanes; some_carriers = first.able.some_carriers; have = first.able.have; lanes = first.able.lanes; pass = first.able.pass }; is_open = first.is_open })) in
     record {
       able = record { some_lanes = ready.able.some_lanes; some_carriers = ready.able.some_carriers; have = ready.able.have; lanes = ready.able.lanes; pass = ready.able.pass };
       is_open = ready.is_open;
@@ -56,10 +63,12 @@ returns-clause-ends g c earlier sets =
     let new = beginning g.F.Folder c.begin_all-begun.new.folder c.begin_all-begun.new.crew c.begin_all-begun.new.keeper in
     let stood = further all c.disk_images_are_counted.ensures.reads c.disk_images_are_counted.ensures.counts queue desk c.args.context.settings.now c.args.scanned.now.listed.items c.args.scanned.now.doubled.items c.args.scanned.now.now
     (g.K.Clock.moments c.args.around.now.clock.now) c.args.around.now.wires.now.items c.crew_of.new.wires.items c.args.storing.now.a.now c.args.storing.now.b.now old earlier
-    c.in_ok-crew.ensures.begun c.requires.keeper sets c.begin_all-begun.result new c.begin_all-begun.ensures.begun c.begin_all-begun.ensures.ended in
+    c.in_ok-crew.ensures.begun c.requires.keeper sets c.begin_all-begun.result new c.begin_all-begun.ensures.begun c.begin_all-begun.ensures.ended
+    (ap (λ (k : Keeping). k.store.rows) c.begin_all-begun.ensures.kept.keeper) c.hide_begun-begun.result c.hide_begun-begun.new.keeper c.hide_begun-begun.ensures in
     let at_rest = rests all c.disk_images_are_counted.ensures.reads c.disk_images_are_counted.ensures.counts queue desk c.args.context.settings.now c.args.scanned.now.listed.items c.args.scanned.now.doubled.items c.args.scanned.now.now
     (g.K.Clock.moments c.args.around.now.clock.now) c.args.around.now.wires.now.items c.crew_of.new.wires.items c.args.storing.now.a.now c.args.storing.now.b.now old earlier
-    c.in_ok-crew.ensures.begun c.requires.keeper sets c.begin_all-begun.result new c.begin_all-begun.ensures.begun c.begin_all-begun.ensures.ended in
+    c.in_ok-crew.ensures.begun c.requires.keeper sets c.begin_all-begun.result new c.begin_all-begun.ensures.begun c.begin_all-begun.ensures.ended
+    (ap (λ (k : Keeping). k.store.rows) c.begin_all-begun.ensures.kept.keeper) c.hide_begun-begun.result c.hide_begun-begun.new.keeper c.hide_begun-begun.ensures in
     let left = wires_left g.L.Link.told queue desk c.args.context.settings.now c.args.around.now.wires.now.items c.crew_of.new.wires.items c.in_ok-crew.crew c.in_ok-crew.ensures.begun in
     let start = began_with all.wires (record {
       settings = c.args.context.settings.now;
@@ -95,10 +104,12 @@ returns-clause-accounted g c earlier folder sets has clock_tells wires_tell =
     let new = beginning g.F.Folder c.begin_all-begun.new.folder c.begin_all-begun.new.crew c.begin_all-begun.new.keeper in
     let stood = further all c.disk_images_are_counted.ensures.reads c.disk_images_are_counted.ensures.counts queue desk c.args.context.settings.now c.args.scanned.now.listed.items c.args.scanned.now.doubled.items c.args.scanned.now.now
     (g.K.Clock.moments c.args.around.now.clock.now) c.args.around.now.wires.now.items c.crew_of.new.wires.items c.args.storing.now.a.now c.args.storing.now.b.now old earlier
-    c.in_ok-crew.ensures.begun c.requires.keeper sets c.begin_all-begun.result new c.begin_all-begun.ensures.begun c.begin_all-begun.ensures.ended in
+    c.in_ok-crew.ensures.begun c.requires.keeper sets c.begin_all-begun.result new c.begin_all-begun.ensures.begun c.begin_all-begun.ensures.ended
+    (ap (λ (k : Keeping). k.store.rows) c.begin_all-begun.ensures.kept.keeper) c.hide_begun-begun.result c.hide_begun-begun.new.keeper c.hide_begun-begun.ensures in
     let at_rest = rests all c.disk_images_are_counted.ensures.reads c.disk_images_are_counted.ensures.counts queue desk c.args.context.settings.now c.args.scanned.now.listed.items c.args.scanned.now.doubled.items c.args.scanned.now.now
     (g.K.Clock.moments c.args.around.now.clock.now) c.args.around.now.wires.now.items c.crew_of.new.wires.items c.args.storing.now.a.now c.args.storing.now.b.now old earlier
-    c.in_ok-crew.ensures.begun c.requires.keeper sets c.begin_all-begun.result new c.begin_all-begun.ensures.begun c.begin_all-begun.ensures.ended in
+    c.in_ok-crew.ensures.begun c.requires.keeper sets c.begin_all-begun.result new c.begin_all-begun.ensures.begun c.begin_all-begun.ensures.ended
+    (ap (λ (k : Keeping). k.store.rows) c.begin_all-begun.ensures.kept.keeper) c.hide_begun-begun.result c.hide_begun-begun.new.keeper c.hide_begun-begun.ensures in
     let start = began_with all.wires (record {
       settings = c.args.context.settings.now;
       listed = c.args.scanned.now.listed.items;
@@ -115,6 +126,7 @@ returns-clause-accounted g c earlier folder sets has clock_tells wires_tell =
     accounted all c.disk_images_are_counted.ensures.reads c.disk_images_are_counted.ensures.counts queue desk c.args.context.settings.now c.args.scanned.now.listed.items c.args.scanned.now.doubled.items c.args.scanned.now.now
     (g.K.Clock.moments c.args.around.now.clock.now) c.args.around.now.wires.now.items c.crew_of.new.wires.items c.args.storing.now.a.now c.args.storing.now.b.now old earlier
     c.in_ok-crew.ensures.begun c.requires.keeper sets c.begin_all-begun.result new c.begin_all-begun.ensures.begun c.begin_all-begun.ensures.ended
+    (ap (λ (k : Keeping). k.store.rows) c.begin_all-begun.ensures.kept.keeper) c.hide_begun-begun.result c.hide_begun-begun.new.keeper c.hide_begun-begun.ensures
     (record {
       shown = g.F.Folder.told c.work.new.around.folder.now;
       moments = g.K.Clock.moments c.work.new.around.clock.now;
@@ -126,7 +138,8 @@ returns-clause-accounted g c earlier folder sets has clock_tells wires_tell =
     c.work.result.met c.work.new.around.wires.now.items is.1 folder has clock_tells wires_tell c.one_choice.ensures
     (record { none = c.covered_end_by_steps.ensures.none; some = c.covered_end_by_steps.ensures.some }) c.work.result.passed.items c.work.ensures.passed c.work.ensures.told_only_where_begun
     c.work.ensures.collects
-    (ap (λ (k : Keeping). k.held) c.begin_all-begun.ensures.kept.keeper ∙ ap (λ (k : Keeping). k.held) c.requires.keeper.is) c.work.ensures.told.0 c.work.ensures.told.1
+    (ap (λ (k : Keeping). k.held) (hides_tell c.args.context.settings.now.inputs c.args.scanned.now.listed.items c.begin_all-begun.result c.hide_begun-begun.result c.begin_all-begun.new.keeper c.hide_begun-begun.new.keeper c.hide_begun-begun.ensures).tells.others_stay
+    ∙ ap (λ (k : Keeping). k.held) c.begin_all-begun.ensures.kept.keeper ∙ ap (λ (k : Keeping). k.held) c.requires.keeper.is) c.work.ensures.told.0 c.work.ensures.told.1
     (outcomes_go_on g.L.Link.told queue desk c.args.context.settings.now c.args.around.now.wires.now.items c.crew_of.new.wires.items c.in_ok-crew.crew c.in_ok-crew.ensures.begun all.wires
     c.work.new.around.wires.now.items
     (subst (λ (v : Vec (Carrier g.row.W.Denot g.row.L.Denot) Global). WiresReturn all.wires v.items c.crew_of.new.wires.items c.work.new.around.wires.now.items) c.begin_all-begun.ensures.kept.carriers
@@ -149,7 +162,9 @@ returns-clause-cause g c =
     })
     kept.faults_never_fall (carriers ∙ begun.many_carriers)
     (kept.slots (no_slots (length c.args.scanned.now.listed.items) (lanings c.in_ok-crew.crew.lanes.items) (recursion_from_All IsBegunLane (lanings c.in_ok-crew.crew.lanes.items) begun.lanes)))
-    c.begin_all-begun.result c.work.result.met c.begin_all-begun.ensures.ends c.work.ensures.never_fall.folder_faults c.work.ensures.cause
+    c.hide_begun-begun.result c.work.result.met
+    (errors_still (λ error. EndsBeginning (length c.args.scanned.now.listed.items) error old new) c.args.context.settings.now.inputs c.args.scanned.now.listed.items c.begin_all-begun.result c.hide_begun-begun.result c.begin_all-begun.new.keeper c.hide_begun-begun.new.keeper tt c.hide_begun-begun.ensures
+    c.begin_all-begun.ensures.ends) c.work.ensures.never_fall.folder_faults c.work.ensures.cause
 
 pub returns-clause-tails_closed : goal.returns-clause-tails_closed
 returns-clause-tails_closed g c few =
@@ -201,7 +216,8 @@ returns-clause-passed_over g c =
     passed_over (tails_of g.F.Tail.Tail) c.args.context.settings.now c.args.storing.now.keeper.now.store.rows c.args.scanned.now.now c.args.scanned.now.listed.items
     (beginning g.F.Folder c.args.around.now.folder.now c.in_ok-crew.crew c.args.storing.now.keeper.now)
     (beginning g.F.Folder c.begin_all-begun.new.folder c.begin_all-begun.new.crew c.begin_all-begun.new.keeper)
-    c.begin_all-begun.result c.work.result.passed.items c.begin_all-begun.ensures.begun c.work.ensures.passed
+    c.begin_all-begun.result c.work.result.passed.items c.begin_all-begun.ensures.begun
+    (passed_or_none c.args.context.settings.now.inputs c.args.scanned.now.listed.items c.begin_all-begun.result c.hide_begun-begun.result c.begin_all-begun.new.keeper c.hide_begun-begun.new.keeper c.work.result.passed.items c.hide_begun-begun.ensures c.work.ensures.passed)
 
 pub returns-clause-same_keeper : goal.returns-clause-same_keeper
 returns-clause-same_keeper g c = c.work.ensures.same_objects.keeper
@@ -215,7 +231,9 @@ returns-clause-same_b g c = c.work.ensures.same_objects.b
 pub returns-clause-unnumbered : goal.returns-clause-unnumbered
 returns-clause-unnumbered g c =
     met_unnumbered c.args.context.settings.now c.args.scanned.now.listed.items (g.F.Folder.told c.args.around.now.folder.now) (g.F.Folder.told c.begin_all-begun.new.folder) (g.F.Folder.told c.work.new.around.folder.now)
-    c.begin_all-begun.result c.work.result.met c.begin_all-begun.ensures.unnumbered c.work.ensures.told.0 c.work.ensures.told.1 c.begin_all-begun.new.crew _ _ c.work.ensures.cause
+    c.hide_begun-begun.result c.work.result.met
+    (errors_still (λ error. IsMetUnnumbered c.args.context.settings.now c.args.scanned.now.listed.items (g.F.Folder.told c.args.around.now.folder.now) (g.F.Folder.told c.begin_all-begun.new.folder) (met_of error)) c.args.context.settings.now.inputs
+    c.args.scanned.now.listed.items c.begin_all-begun.result c.hide_begun-begun.result c.begin_all-begun.new.keeper c.hide_begun-begun.new.keeper tt c.hide_begun-begun.ensures c.begin_all-begun.ensures.unnumbered) c.work.ensures.told.0 c.work.ensures.told.1 c.begin_all-begun.new.crew _ _ c.work.ensures.cause
 
 pub begin_all-begun-requires : goal.begin_all-begun-requires
 begin_all-begun-requires g c = record {
@@ -232,3 +250,9 @@ begin_all-begun-requires g c = record {
 
 pub returns-in_err-crew-clause-asks : goal.returns-in_err-crew-clause-asks
 returns-in_err-crew-clause-asks g c = asks_nothing 1 (questions_of g.K.Clock g.B.Bell c.args.around.now.clock.now c.args.around.now.bell.now)
+
+pub hide_begun-begun-requires-clause-room : goal.hide_begun-begun-requires-clause-room
+hide_begun-begun-requires-clause-room g c =
+    begun_knows (tails_of g.F.Tail.Tail) c.args.context.settings.now c.args.scanned.now.now c.args.scanned.now.listed.items c.begin_all-begun.result
+    (beginning g.F.Folder c.args.around.now.folder.now c.in_ok-crew.crew c.args.storing.now.keeper.now)
+    (beginning g.F.Folder c.begin_all-begun.new.folder c.begin_all-begun.new.crew c.begin_all-begun.new.keeper) c.requires.few (ap (λ (k : Keeping). k.tracked.notes) c.requires.keeper.is) c.begin_all-begun.ensures.begun

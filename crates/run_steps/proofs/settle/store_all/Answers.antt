@@ -1,4 +1,4 @@
-use Rattle.std.proofs.Common.{None, Some, refl}
+use Rattle.std.proofs.Common.{None}
 use Rattle.rounds.specs.Crewing.{crewing}
 use Rattle.rounds.specs.WordsOf.{words_of}
 use Rattle.run_steps.proofs.LastOnes.{hands_on_by_round, hands_on_by_two, hands_on_nothing, stores_by_round}
