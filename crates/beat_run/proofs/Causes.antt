@@ -3,7 +3,6 @@ use Rattle.std.proofs.Common.{◌≡◌, ◌⊎◌, inl, inr, ℕ, zero, suc, �
 use Rattle.std.specs.Prelude.{slice_get}
 use Rattle.event_tree.specs.declared.input_rule.InputRule.{InputRule}
 use Rattle.event_tree.specs.declared.settings.Settings.{Settings as SettingsOf}
-use Rattle.outside.specs.Counts.{Rose}
 use Rattle.outside.specs.Folders.{Event, FolderHistory}
 use Rattle.prospect.specs.ListedFiles.{FindsNoNumbers, FindsOneMore}
 use Rattle.prospect.specs.declared.listed.Listed.{Listed}

@@ -8,9 +8,7 @@ use Rattle.beat_config.specs.Document.{AreSettings, AreSettingsOf, IsFirstFault}
 use Rattle.beat_config.specs.declared.settings_error.SettingsError.{SettingsError}
 use Rattle.beat_config.proofs.OneAnswer.{settings_without_fault}
 use Rattle.beat_config.proofs.RangesOfDocuments.{document_in_range}
-use Rattle.command_line.specs.LineCount.{IsLineCount}
-use Rattle.command_line.specs.Words.{IsCommand, IsGenerateBy, IsNoCommand}
-use Rattle.command_line.specs.declared.words.Words.{Words}
+use Rattle.command_line.specs.Words.{IsNoCommand}
 use Rattle.event_tree.specs.declared.input_rule.InputRule.{InputRule}
 use Rattle.event_tree.specs.declared.output_rule.OutputRule.{OutputRule}
 use Rattle.event_tree.specs.declared.settings.Settings.{Settings as SettingsOf}

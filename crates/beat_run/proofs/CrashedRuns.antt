@@ -1,11 +1,11 @@
 -- What a run opens behind a crash of another one, and what a crash leaves of an area that a run uses.
-use Rattle.std.proofs.Common.{◌≡◌, ◌≢◌, ◌⊎◌, ⊎_elim, ℕ, List, Option, Some, IfSome, sym, subst, ◌∙◌, arith}
+use Rattle.std.proofs.Common.{◌≡◌, ◌≢◌, ⊎_elim, ℕ, List, Option, Some, IfSome, sym, subst, ◌∙◌, arith}
 use Rattle.registry_store.specs.Choice.{Choice, Chosen, IsChoice}
 use Rattle.registry_store.specs.Sides.{other_area}
 use Rattle.rounds.specs.Words.{DiskWords}
 use Rattle.wire_base.specs.declared.limits.Which.{Which}
 use Rattle.wire_base.specs.declared.limits.Which.TheVariants.{A, B}
-use Rattle.run_steps.specs.AccountedFor.{AreImageRows, GiveImageRows, LostKey, areas_of}
+use Rattle.run_steps.specs.AccountedFor.{AreImageRows, GiveImageRows, LostInImage, areas_of}
 use Rattle.run_steps.specs.UnusedArea.{IsOfUnusedArea}
 use Rattle.run_steps.proofs.Members.{some_is}
 use Rattle.run_steps.proofs.RunRows.{OneChoice, same_rows}
@@ -16,11 +16,11 @@ use Rattle.beat_run.specs.UsedImages.{IsUsedOrLater, KeepsUsedImages}
 
 module _ {D : Type 0} (disks : DiskWords D) where
   -- the rows that it opens are those of an image
-  pub opens_image_rows : OneChoice → (earlier later : EndedRun disks) → FindsAreasAsCrashed disks earlier later.objects → AreImageRows LostKey earlier.accounted.run earlier.accounted.account later.accounted.run.opening
+  pub opens_image_rows : OneChoice → (earlier later : EndedRun disks) → FindsAreasAsCrashed disks earlier later.objects → AreImageRows earlier.accounted.run earlier.accounted.account LostInImage later.accounted.run.opening
   opens_image_rows one earlier later found =
-      let gives = crash_gives disks (GiveImageRows LostKey earlier.accounted.run earlier.accounted.account) (areas_of earlier.objects.before) (areas_of earlier.objects.after)
+      let gives = crash_gives disks (GiveImageRows earlier.accounted.run earlier.accounted.account) (areas_of earlier.objects.before) (areas_of earlier.objects.after)
       (earlier.accounted.together found.were_at_rest) found.first found.second found.left in
-      subst (AreImageRows LostKey earlier.accounted.run earlier.accounted.account)
+      subst (AreImageRows earlier.accounted.run earlier.accounted.account LostInImage)
       (same_rows one found.first found.second gives.rows later.accounted.run.opening gives.given (later.accounted.opened found.first found.second found.a_found found.b_found)) gives.are
 
   pub end_is_a_moment : ((disk : D) → IfSome (disks.contents disk) (disks.images disk)) → (earlier later : EndedRun disks) → FindsAreasAsLeft disks earlier.objects later.objects → FindsAreasAsCrashed disks earlier later.objects
@@ -30,7 +30,7 @@ module _ {D : Type 0} (disks : DiskWords D) where
         were_at_rest = as_left.were_at_rest;
         first = as_left.first;
         second = as_left.second;
-        left = left_at_end disks (GiveImageRows LostKey earlier.accounted.run earlier.accounted.account) together.writes (areas_of earlier.objects.before) (areas_of earlier.objects.after) together.lead
+        left = left_at_end disks (GiveImageRows earlier.accounted.run earlier.accounted.account) together.writes (areas_of earlier.objects.before) (areas_of earlier.objects.after) together.lead
             as_left.first as_left.second (as_it_reads earlier.objects.after.a as_left.first as_left.a_left) (as_it_reads earlier.objects.after.b as_left.second as_left.b_left);
         a_found = as_left.a_found;
         b_found = as_left.b_found;

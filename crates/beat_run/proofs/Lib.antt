@@ -6,8 +6,6 @@ pub mod CrashedRuns
 pub mod Endings
 pub mod EpochsOut
 pub mod FirstLacks
-pub mod GoneNumbers
-pub mod GoneSkipped
 pub mod PathsListed
 pub mod PrintedEnds
 pub mod Printings

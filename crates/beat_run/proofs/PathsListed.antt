@@ -1,6 +1,6 @@
 -- A path that a run followed was listed by its scan, whatever the folder told behind that; and so was one whose file told no native numbers as
 -- it was opened.
-use Rattle.std.proofs.Common.{◌≡◌, ◌⊎◌, inl, inr, ℕ, zero, suc, List, [], ◌∷◌, ◌++◌, length, drop, map, Any, Contains, Option, Some, None, IfSome, refl, sym, ap, subst, ◌∙◌, arith, append_assoc, length-append, ◌≤◌}
+use Rattle.std.proofs.Common.{◌≡◌, ℕ, List, ◌++◌, length, drop, map, Any, Contains, Option, Some, None, IfSome, refl, sym, ap, subst, ◌∙◌, arith, append_assoc, length-append, ◌≤◌}
 use Rattle.std.proofs.Math.Seq.{drop-append_seam}
 use Rattle.std.proofs.lemmas.List.{drop-append-le}
 use Rattle.std.proofs.lemmas.List.Elements.{All-contains, Contains-append_left}
@@ -28,7 +28,6 @@ use Rattle.run_steps.proofs.KeyedFiles.{IsKeyedFrom, KeepsEntry, keeps_entry, ke
 use Rattle.run_steps.proofs.Members.{some_is}
 use Rattle.run_steps.specs.ScannedSome.{HasOnlyAsked}
 use Rattle.run_steps.specs.Unnumbered.{IsUnnumbered, WasOpenedUnnumbered}
-use Rattle.ship_core.proofs.Members.{first_there, later_there, none_there, there_cases}
 use Rattle.beat_run.specs.Cause.{WasListed, WasUnnumbered}
 use Rattle.beat_run.specs.Scanning.{ScansParted, TellsScanned}
 use Rattle.beat_run.specs.Skipped.{AreSkipped, all_skipped}

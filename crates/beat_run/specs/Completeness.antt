@@ -1,7 +1,7 @@
 -- When a run has to be done (this project's profile): nothing that it is given is refused or not built, no count of faults rises, the bell
 -- does not ring, files are no more than there may be, have epochs left and the native numbers that are asked for, and peers send nothing
 -- but acknowledgements within their windows, in time as far as the clock tells. Then it ends with `Done`, or for want of memory.
-use Rattle.std.specs.Prelude.{◌≡◌, ◌⊎◌, ◌≤◌, ◌-◌, ℕ, true, false, List, [], drop, length, slice_get, take, Option, None, Some, IfSome, IsSomeAnd}
+use Rattle.std.specs.Prelude.{◌≡◌, ◌⊎◌, ◌≤◌, ◌-◌, ℕ, false, List, [], drop, length, slice_get, take, Option, Some, IfSome, IsSomeAnd}
 use Rattle.std.specs.List.{AllByRecursion}
 use Rattle.batch_worker.specs.Seen.{Seen}
 use Rattle.beat_config.specs.Document.{AreSettingsOf}

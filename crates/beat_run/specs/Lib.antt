@@ -2,7 +2,6 @@ pub mod Accounted
 pub mod AfterCrash
 pub mod Asked
 pub mod Cause
-pub mod Cleaning
 pub mod Completeness
 pub mod Ended
 pub mod Ends

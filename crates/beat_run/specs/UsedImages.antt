@@ -6,7 +6,7 @@ use Rattle.registry_store.specs.Choice.{Choice, Chosen, Fresh, Refused}
 use Rattle.rounds.specs.Words.{DiskWords}
 use Rattle.wire_base.specs.declared.limits.Which.{Which}
 use Rattle.wire_base.specs.declared.row.Row.{Row}
-use Rattle.run_steps.specs.AccountedFor.{AreImageRows, LostKey, RunObjects, WereAtRest, areas_of}
+use Rattle.run_steps.specs.AccountedFor.{AreImageRows, LostInImage, RunObjects, WereAtRest, areas_of}
 use Rattle.run_steps.specs.Together.{area_in}
 use Rattle.run_steps.specs.UnusedArea.{Choose}
 use Rattle.beat_run.specs.NextRun.{EndedRun}
@@ -33,4 +33,4 @@ module _ {D : Type 0} (disks : DiskWords D) where
 
   -- its rows are kept
   abbrev pub KeepsUsedImages : EndedRun disks → Type 0
-  KeepsUsedImages run = WereAtRest disks run.objects → (used : UsedImage run.objects) → AreImageRows LostKey run.accounted.run run.accounted.account used.rows
+  KeepsUsedImages run = WereAtRest disks run.objects → (used : UsedImage run.objects) → AreImageRows run.accounted.run run.accounted.account LostInImage used.rows

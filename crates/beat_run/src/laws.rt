@@ -1,7 +1,7 @@
 ghost use Rattle.accounts.specs.RunsInARow.{HaveOwnIds};
 ghost use Rattle.beat_config.specs.InRange.{AreInRange};
 ghost use Rattle.beat_run.specs.AfterCrash.{FindsAreasAsCrashed, FindsKeys};
-ghost use Rattle.beat_run.specs.NextRun.{EndedRun, FindsAreasAsLeft, OpensKeptRows, OpensLastRows};
+ghost use Rattle.beat_run.specs.NextRun.{EndedRun, FindsAreasAsLeft, FindsLastKeys, OpensKeptRows, OpensLastRows};
 ghost use Rattle.beat_run.specs.UsedImages.{KeepsUsedImages};
 ghost use Rattle.event_tree.specs.declared.settings.Settings.{Settings};
 ghost use Rattle.registry_log.specs.OnlyRead.{IsOnlyRead};
@@ -17,8 +17,9 @@ pub fn unasked_disk_is_only_read<D: Disk>()
         IsOnlyRead D.contents D.images D.moment D.images_since D.faults disk disk }
 {}
 
-/// Each row that a run opens was told by the run before, whatever that met, or stood as that one opened it. So the rows that
-/// `accounted_runs_adjoin` asks for are there, and its inputs have ids of their own. A law; it computes nothing.
+/// Each row that a run opens was told by the run before, whatever that met, or stood as that one opened it; and no key loses its row
+/// but rightly. So the rows that `accounted_runs_adjoin` asks for are there, and its inputs have ids of their own. A law; it computes
+/// nothing.
 pub fn next_run_opens_kept_rows<D: Disk>()
     ensures opening { (earlier later : EndedRun (disks_of D.Disk)) →
         FindsAreasAsLeft (disks_of D.Disk) earlier.objects later.objects →
@@ -26,11 +27,14 @@ pub fn next_run_opens_kept_rows<D: Disk>()
     ensures opening_behind_last_steps { (earlier later : EndedRun (disks_of D.Disk)) →
         FindsAreasAsLeft (disks_of D.Disk) earlier.objects later.objects →
         OpensLastRows (disks_of D.Disk) earlier later }
+    ensures keys { (earlier later : EndedRun (disks_of D.Disk)) →
+        FindsAreasAsLeft (disks_of D.Disk) earlier.objects later.objects →
+        FindsLastKeys (disks_of D.Disk) earlier later }
     ensures own_ids { (settings : Settings) → AreInRange settings → HaveOwnIds settings.inputs }
 {}
 
 /// Each row that a run opens over areas as a crash left them at some moment of the run before, in the order of its account's
-/// writes, was told by that run, or stood as it opened it; and no key loses its row but rightly. The end of a run that ended is
+/// writes, was told by that run, or stood as it opened it; and no key loses its row but rightly, by some slot of it. The end of a run that ended is
 /// such a moment, so the premise can hold. A law; it computes nothing.
 pub fn run_after_a_crash_opens_kept_rows<D: Disk>()
     ensures opening { (earlier later : EndedRun (disks_of D.Disk)) →

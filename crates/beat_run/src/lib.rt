@@ -5,7 +5,6 @@
 //! trait that the caller hands in. What is not built yet is refused by a status of its own.
 #![tactic(auto)]
 
-mod cleaning;
 mod ending;
 mod laws;
 mod objects;

@@ -1,21 +1,19 @@
-ghost use Rattle.std.specs.Prelude.{false, ◌≡◌, All, IfErr, IfOk, IfSome, IsErrOf, IsSome, List, MatchResult, OnOk, Some, ℕ, length, take, vec_len};
+ghost use Rattle.std.specs.Prelude.{false, ◌≡◌, ◌⊎◌, All, IfErr, IfOk, IfSome, IsErrOf, IsSome, List, MatchResult, OnOk, Some, ℕ, length, take, vec_len};
 ghost use Rattle.beat_config.specs.Document.{AreSettingsOf, IsFirstFault};
 ghost use Rattle.beat_config.specs.InRange.{AreInRange};
 ghost use Rattle.command_line.specs.Words.{IsNoCommand};
 ghost use Rattle.prospect.specs.Lacks.{IsFirstLack};
 ghost use Rattle.registry_store.specs.Settled.{AreAtRest};
+ghost use Rattle.report.specs.Report.{IsReport};
 ghost use Rattle.rounds.specs.WordsOf.{disks_of};
-ghost use Rattle.registry_store.specs.Standing.{Standing};
-ghost use Rattle.run_steps.specs.Met.{AreLeft, IsMetOf};
+ghost use Rattle.run_steps.specs.Met.{IsMetOf, IsTelling};
 ghost use Rattle.run_steps.specs.Registry.{AreRefusedAt};
 ghost use Rattle.run_steps.specs.Together.{Areas};
-ghost use Rattle.run_steps.specs.declared.met.Met.{Met};
 ghost use Rattle.wire_base.specs.declared.limits.Which.{Which};
 ghost use Rattle.beat_run.specs.Accounted.{AllTell, IsAccounted, IsAccountedWhereTold, IsOpenedFrom, TellEnough};
 ghost use Rattle.beat_run.specs.Asked.{AskFor, AskForOnce, IsAsked};
 ghost use Rattle.beat_run.specs.Cause.{Cause, without_sink};
-ghost use Rattle.beat_run.specs.Cleaning.{Finishes};
-ghost use Rattle.beat_run.specs.Ended.{ended};
+ghost use Rattle.beat_run.specs.Ended.{StandsForMet, ended};
 ghost use Rattle.beat_run.specs.Ends.{IsBehindOpening, IsRefusal, IsReportEnd, IsRunEnd, IsScannedEnd, IsSettledEnd, IsUnprepared, RefusesArea, RefusesKey, RefusesLack, RefusesSettings, RefusesWords};
 ghost use Rattle.beat_run.specs.Handed.{CausedIn, GoesOn, SameOutside, handed_in, lent_by, objects_by, objects_of, outside_words, signs_of};
 ghost use Rattle.beat_run.specs.Printed.{IsReportOf, IsToBePrinted, ReportsStored};
@@ -23,7 +21,6 @@ ghost use Rattle.beat_run.specs.Skipped.{all_skipped};
 ghost use Rattle.beat_run.specs.Untouched.{IfAreasRefused, IsOnlyReadBy, IsRefused, LeavesUntouched};
 ghost use Rattle.beat_run.specs.declared.settings.TheConstants.{LIMIT};
 
-use crate::cleaning::clean;
 use crate::ending::{Ending, Totals, ending_of};
 use crate::laws::unasked_disk_is_only_read;
 use crate::objects::Outside;
@@ -299,25 +296,26 @@ where
         };
         run_over(rt, context, passes, &scanned, &mut storing, &mut around)?
     };
-    finish(context, &scanned, worked, keeper, outside.a, outside.b)
+    finish(context, &scanned, worked, keeper)
 }
 
-/// Takes the rows of removed files out of the registry, and makes what is told of the run.
-fn finish<D: Disk>(
+/// Makes what is told of the run.
+fn finish(
     context: Context<'_, '_>,
     scanned: &Scanned,
     worked: Worked,
     keeper: Keeper,
-    a: &mut D,
-    b: &mut D,
 ) -> Result<Ending, Status>
     requires of_these { IsMetOf (length scanned.now.listed.items) worked.met }
-    requires open { AreLeft worked.met → keeper.store.closed ≡ false }
-    ensures finished { (now : Met) × (store : Standing) ×
-        Finishes (disks_of D.Disk) context.entry.settings.now scanned.entry.now.listed.items
-        (all_skipped worked.passed.items scanned.entry.now) keeper
-        (record { met = worked.met; store = keeper.store; a = a.old; b = b.old })
-        (record { met = now; store = store; a = a.new; b = b.new }) result }
+    ensures telling { IfOk result (λ _. IsTelling worked.met) }
+    ensures report { IfOk result (λ ending. IsReport keeper.store.rows
+        (all_skipped worked.passed.items scanned.entry.now)
+        keeper.shipped keeper.dropped ending.status ending.report) }
+    ensures stands { IfOk result (λ ending. StandsForMet scanned.entry.now.listed.items
+        context.entry.settings.now.output.attempts worked.met ending.status) }
+    ensures refused { IfErr result (λ status. (status ≡ Status.NoMemory)
+        ⊎ StandsForMet scanned.entry.now.listed.items
+        context.entry.settings.now.output.attempts worked.met status) }
     ensures with_report { IfOk result (λ ending. IsReportEnd ending.status) }
     ensures without_report { IfErr result IsRunEnd }
 {
@@ -325,17 +323,7 @@ fn finish<D: Disk>(
         shipped: keeper.shipped(),
         dropped: keeper.dropped(),
     };
-    let (mut store, _) = keeper.end();
-    let Worked { passed, met } = worked;
-    let listed = scanned.listed.as_slice();
-    let met = clean(context, listed, met, &mut store, a, b);
+    let (store, _) = keeper.end();
     let attempts = context.settings.output.attempts;
-    ending_of(
-        context.alloc,
-        Worked { passed, met },
-        &store,
-        totals,
-        scanned,
-        attempts,
-    )
+    ending_of(context.alloc, worked, &store, totals, scanned, attempts)
 }

@@ -13,3 +13,8 @@ returns-clause-opening_behind_last_steps g c = λ earlier later as_left are_left
 
 pub returns-clause-own_ids : goal.returns-clause-own_ids
 returns-clause-own_ids g c = λ settings in_range. inputs_have_own_ids settings in_range
+
+pub returns-clause-keys : goal.returns-clause-keys
+returns-clause-keys g c = λ earlier later as_left.
+    let gives = later.accounted.opened as_left.first as_left.second as_left.a_found as_left.b_found in
+    (earlier.accounted.rows as_left.were_at_rest as_left.first as_left.second later.accounted.run.opening as_left.a_left as_left.b_left gives).in_image.stay

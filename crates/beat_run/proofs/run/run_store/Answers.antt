@@ -1,6 +1,5 @@
-use Rattle.std.proofs.Common.{◌≡◌, ◌∙◌, ℕ, ◌+◌, ◌-◌, ◌^◌, ◌<◌, ◌≤◌, List, Some, ap, length, map, refl, subst, sym, arith}
+use Rattle.std.proofs.Common.{◌≡◌, ◌∙◌, ℕ, ◌+◌, ◌-◌, ◌^◌, ◌<◌, ◌≤◌, List, ap, length, map, refl, subst, sym, arith}
 use Rattle.std.proofs.lemmas.Result.{err_from_is_err_and}
-use Rattle.keeper.specs.Keeping.{Keeping}
 use Rattle.report.specs.declared.status.Status.TheVariants.{NoMemory}
 use Rattle.rounds.specs.Making.{all_seen}
 use Rattle.rounds.specs.declared.storing.Storing.{Storing}
@@ -12,14 +11,13 @@ use Rattle.run_steps.specs.Starting.{AreFewFiles, HaveRoomBefore}
 use Rattle.registry_store.specs.Standing.{Standing}
 use Rattle.wire_base.specs.declared.row.Row.{Row}
 use Rattle.beat_run.proofs.Accounts.{early, full_for_scan, outcomes_seen, wires_tell, worked}
-use Rattle.ship_core.specs.Rows.{IsInOrder}
 use Rattle.beat_run.specs.Cause.{Signs}
 use Rattle.beat_run.specs.Ended.{ended}
 use Rattle.beat_run.specs.Skipped.{all_skipped}
 use Rattle.beat_run.proofs.Causes.{at_rest, ends_without_report, is_met_of, scan_caused, scan_ended}
 use Rattle.beat_run.proofs.EpochsOut.{has_none}
 use Rattle.beat_run.proofs.PathsListed.{shown_goes_further}
-use Rattle.beat_run.proofs.Cleaned.{accounted_and_cleaned, failed_after_cleaning, keys_are_known, left_before_cleaning, met_after_cleaning, of_these_after_cleaning, unnumbered_after_cleaning, none_after_cleaning}
+use Rattle.beat_run.proofs.Cleaned.{keys_are_known, worked_over}
 use Rattle.beat_run.proofs.ReportEnds.{caused_ending, full_for_ending, left_by_ending, met_for_ending, report_of, report_over, reports_stored, scanned_ending}
 use Rattle.beat_run.proofs.ScanShown.{each_some, parted_told, scanned_some, scanned_whole}
 use Rattle.beat_run.proofs.SettingOut.{earlier, outset, set_out}
@@ -92,7 +90,6 @@ returns-in_err-worked-clause-accounted g c = λ from opened tells.
 pub returns-clause-cause : goal.returns-clause-cause
 returns-clause-cause g c = λ from opened.
     let inputs : c.as_slice.result.now ≡ c.args.settings.now.inputs = c.as_slice.ensures in
-    let fin = c.finish.ensures.finished in
     let disks = disks_of g.D.Disk in
     let wires = wires_of g.W.Wire in
     let before : Signs = record {
@@ -105,7 +102,7 @@ returns-clause-cause g c = λ from opened.
       folder = g.F.Folder.told c.run_over.new.around.folder.now;
       moments = g.K.Clock.moments c.run_over.new.around.clock.now;
       wires = all_seen wires c.run_over.new.around.wires.now.items;
-      counts = record { a_faults = g.D.Disk.faults c.finish.new.a; b_faults = g.D.Disk.faults c.finish.new.b; folder_faults = g.F.Folder.faults c.run_over.new.around.folder.now; rings = g.B.Bell.rings c.run_over.new.around.bell.now };
+      counts = record { a_faults = g.D.Disk.faults c.run_over.new.storing.a.now; b_faults = g.D.Disk.faults c.run_over.new.storing.b.now; folder_faults = g.F.Folder.faults c.run_over.new.around.folder.now; rings = g.B.Bell.rings c.run_over.new.around.bell.now };
     } in
     (caused_ending c.args.settings.now c.in_ok-scanned.scanned.listed.items c.in_ok-scanned.scanned.doubled.items before now (g.F.Folder.told c.scan.new.folder) (g.F.Folder.faults c.scan.new.folder) c.scan.ensures.folder_faults_never_fall
     (parted_told c.args.settings.now.inputs (g.F.Folder.told c.args.outside.now.folder.now) (g.F.Folder.told c.scan.new.folder) c.in_ok-scanned.scanned (rw inputs at c.in_ok-scanned.ensures.scanned))
@@ -119,23 +116,19 @@ returns-clause-cause g c = λ from opened.
     c.in_ok-parts.parts.desk.id c.in_ok-parts.parts.keeper c.args.store c.in_ok-parts.ensures.keeper c.in_ok-parts.ensures.store c.args.outside.now.wires.now.items from
     c.args.outside.now.a.now c.args.outside.now.b.now opened c.in_ok-scanned.scanned.listed.items c.in_ok-scanned.scanned.doubled.items c.in_ok-scanned.scanned.now.0
     (g.K.Clock.moments c.args.outside.now.clock.now) (g.K.Clock.moments c.scan.new.clock) c.in_ok-scanned.ensures.moment_given (g.F.Folder.told c.scan.new.folder) (rw inputs at c.in_ok-scanned.ensures.of_inputs))).1.ends.stands.files.shown)
-    fin.0 c.finish.result
-    (met_after_cleaning disks _ _ _ _ fin.2.cleans c.args.settings.now.output.workers (length c.in_ok-scanned.scanned.listed.items) _ _ _ c.run_over.ensures.a_faults_never_fall c.run_over.ensures.b_faults_never_fall
-    c.in_ok-worked.ensures.cause)
-    (unnumbered_after_cleaning disks _ _ _ _ fin.2.cleans c.args.settings.now (g.F.Folder.told c.scan.new.folder) (g.F.Folder.told c.run_over.new.around.folder.now) c.in_ok-worked.ensures.unnumbered)
-    (failed_after_cleaning disks _ _ _ _ fin.2.cleans c.args.settings.now before now
+    c.in_ok-worked.worked.met c.finish.result
+    c.in_ok-worked.ensures.cause
+    c.in_ok-worked.ensures.unnumbered
     (failed_by wires c.args.settings.now c.args.outside.now.wires.now.items c.run_over.new.around.wires.now.items before now refl refl c.in_ok-scanned.scanned.now.0 (g.K.Clock.moments c.scan.new.clock)
-    c.in_ok-scanned.ensures.moment_given _ _ _ c.in_ok-worked.worked.met c.in_ok-worked.ensures.cause c.in_ok-worked.ensures.failing))
-    fin.2.stands fin.2.refused)
+    c.in_ok-scanned.ensures.moment_given _ _ _ c.in_ok-worked.worked.met c.in_ok-worked.ensures.cause c.in_ok-worked.ensures.failing)
+    c.finish.ensures.stands c.finish.ensures.refused)
 
 pub returns-clause-accounted : goal.returns-clause-accounted
 returns-clause-accounted g c = λ from opened tells.
     let inputs : c.as_slice.result.now ≡ c.args.settings.now.inputs = c.as_slice.ensures in
-    let fin = c.finish.ensures.finished in
-    let cleans = fin.2.cleans in
     let disks = disks_of g.D.Disk in
     let wires = wires_of g.W.Wire in
-    let of = of_these_after_cleaning disks _ _ _ _ cleans (length c.in_ok-scanned.scanned.listed.items) (is_met_of c.args.settings.now.output.workers _ _ _ c.in_ok-worked.worked.met c.in_ok-worked.ensures.cause) in
+    let of = is_met_of c.args.settings.now.output.workers _ _ _ c.in_ok-worked.worked.met c.in_ok-worked.ensures.cause in
     let before = earlier disks wires c.args.settings.now c.requires.in_range
     c.in_ok-parts.parts.desk.id c.in_ok-parts.parts.keeper c.args.store c.in_ok-parts.ensures.keeper c.in_ok-parts.ensures.store c.args.outside.now.wires.now.items from
     c.args.outside.now.a.now c.args.outside.now.b.now opened c.in_ok-scanned.scanned.listed.items c.in_ok-scanned.scanned.doubled.items c.in_ok-scanned.scanned.now.0
@@ -154,40 +147,26 @@ returns-clause-accounted g c = λ from opened tells.
     let few = subst (λ (l : List Row). AreFewFiles l c.in_ok-scanned.scanned.listed.items) rows c.in_ok-scanned.ensures.few in
     let room = subst (λ (l : List Row). HaveRoomBefore l c.in_ok-scanned.scanned.listed.items (length c.in_ok-scanned.scanned.listed.items)) rows c.in_ok-scanned.ensures.room in
     let keeper_is : c.keeper-2-1.given.0 ≡ c.run_over.new.storing.keeper.now = c.keeper-2-1.given.1 (sym c.run_over.ensures.same_keeper) in
-    (worked disks start c.requires.in_range (map g.W.Wire.outcomes c.args.outside.now.wires.now.items) _ fin.0 c.keeper-2-1.given.0.shipped c.keeper-2-1.given.0.dropped
+    (worked disks start c.requires.in_range (map g.W.Wire.outcomes c.args.outside.now.wires.now.items) _ c.in_ok-worked.worked.met c.keeper-2-1.given.0.shipped c.keeper-2-1.given.0.dropped
     c.in_ok-scanned.scanned refl refl c.in_ok-worked.worked.passed.items
     (g.F.Folder.told c.args.outside.now.folder.now) (ended c.finish.result) tells.folder (rw inputs at c.in_ok-scanned.ensures.scanned)
     (shown_goes_further (g.F.Folder.told c.scan.new.folder) _ _ ends.1.ends.stands.files.shown)
     (record { gave = sets.gave; few = few; room = room })
-    (met_for_ending c.in_ok-scanned.scanned.listed.items c.args.settings.now.output.attempts fin.0 c.finish.result of fin.2.stands fin.2.refused)
-    (full_for_ending disks c.args.settings.now _ start.opening sets.gave c.in_ok-scanned.scanned.listed.items c.args.settings.now.output.attempts fin.0 c.finish.result of
-    (none_after_cleaning disks _ _ _ _ cleans c.args.settings.now start.opening c.in_ok-scanned.scanned.listed.items (g.F.Folder.told c.args.outside.now.folder.now) (g.F.Folder.told c.run_over.new.around.folder.now)
+    (met_for_ending c.in_ok-scanned.scanned.listed.items c.args.settings.now.output.attempts c.in_ok-worked.worked.met c.finish.result of c.finish.ensures.stands c.finish.ensures.refused)
+    (full_for_ending disks c.args.settings.now _ start.opening sets.gave c.in_ok-scanned.scanned.listed.items c.args.settings.now.output.attempts c.in_ok-worked.worked.met c.finish.result of
     (has_none _ start _ _ _ (shown_goes_further (g.F.Folder.told c.scan.new.folder) _ _ ends.1.ends.stands.files.shown) (g.F.Folder.told c.args.outside.now.folder.now)
     (parted_told c.args.settings.now.inputs (g.F.Folder.told c.args.outside.now.folder.now) (g.F.Folder.told c.scan.new.folder) c.in_ok-scanned.scanned (rw inputs at c.in_ok-scanned.ensures.scanned))
-    c.in_ok-worked.worked.met ends.1))
-    fin.2.stands fin.2.refused)
-    (report_over _ fin.1.rows (all_skipped c.in_ok-worked.worked.passed.items c.in_ok-scanned.scanned) c.keeper-2-1.given.0.shipped c.keeper-2-1.given.0.dropped fin.0 c.finish.result fin.2.telling fin.2.report)
+    c.in_ok-worked.worked.met ends.1)
+    c.finish.ensures.stands c.finish.ensures.refused)
+    (report_over _ c.keeper-2-1.given.0.store.rows (all_skipped c.in_ok-worked.worked.passed.items c.in_ok-scanned.scanned) c.keeper-2-1.given.0.shipped c.keeper-2-1.given.0.dropped c.in_ok-worked.worked.met c.finish.result c.finish.ensures.telling c.finish.ensures.report)
     (λ folder has.
-    accounted_and_cleaned disks c.disk_images_are_counted.ensures.reads c.disk_images_are_counted.ensures.counts c.one_choice.ensures c.args.settings.now c.in_ok-parts.parts.keeper.store.rows
-    (subst (λ (k : Keeping). IsInOrder k.store.rows) (sym keeper.is) keeper.in_order) c.in_ok-scanned.scanned.listed.items
-    (keys_are_known start folder has) (length folder.scanned.events)
-    (record {
-      before = record { folder = Some folder.earlier; moments = g.K.Clock.moments c.args.outside.now.clock.now; outcomes = map g.W.Wire.outcomes c.args.outside.now.wires.now.items; a = from.a; b = from.b };
-      after = record {
-        folder = g.F.Folder.told c.run_over.new.around.folder.now;
-        moments = g.K.Clock.moments c.run_over.new.around.clock.now;
-        outcomes = map g.W.Wire.outcomes c.run_over.new.around.wires.now.items;
-        a = c.finish.new.a;
-        b = c.finish.new.b;
-      };
-    })
-    _ _ _ _ _ (rw (← keeper_is) at c.in_ok-worked.ensures.accounted before folder sets has tells.moments (wires_tell g.W.Wire.outcomes c.run_over.new.around.wires.now.items tells.wires)) cleans
-    (λ were. (ends.1.ends.stands.areas were).of_a.later) (λ were. (ends.1.ends.stands.areas were).of_b.later) (λ left were. rw (← keeper_is) at (ends.1.left.at_rest left were).settled)))
+    worked_over disks c.args.settings.now c.in_ok-parts.parts.keeper.store.rows c.in_ok-scanned.scanned.listed.items
+    (keys_are_known start folder has) (length folder.scanned.events) _ c.in_ok-worked.worked.met _ _ _
+    (rw (← keeper_is) at c.in_ok-worked.ensures.accounted before folder sets has tells.moments (wires_tell g.W.Wire.outcomes c.run_over.new.around.wires.now.items tells.wires))))
 
 pub returns-clause-at_rest : goal.returns-clause-at_rest
 returns-clause-at_rest g c = λ from opened some rest followed.
     let inputs : c.as_slice.result.now ≡ c.args.settings.now.inputs = c.as_slice.ensures in
-    let fin = c.finish.ensures.finished in
     let disks = disks_of g.D.Disk in
     let wires = wires_of g.W.Wire in
     let ends = c.in_ok-worked.ensures.ends
@@ -199,15 +178,13 @@ returns-clause-at_rest g c = λ from opened some rest followed.
     c.in_ok-parts.parts.desk.id c.in_ok-parts.parts.keeper c.args.store c.in_ok-parts.ensures.keeper c.in_ok-parts.ensures.store c.args.outside.now.wires.now.items from
     c.args.outside.now.a.now c.args.outside.now.b.now opened c.in_ok-scanned.scanned.listed.items c.in_ok-scanned.scanned.doubled.items c.in_ok-scanned.scanned.now.0
     (g.K.Clock.moments c.args.outside.now.clock.now) (g.K.Clock.moments c.scan.new.clock) c.in_ok-scanned.ensures.moment_given (g.F.Folder.told c.scan.new.folder) (rw inputs at c.in_ok-scanned.ensures.of_inputs)) in
-    let left = left_by_ending c.in_ok-scanned.scanned.listed.items c.args.settings.now.output.attempts fin.0 c.finish.result fin.2.stands fin.2.refused followed in
-    let before = left_before_cleaning disks _ _ _ _ fin.2.cleans left in
+    let left = left_by_ending c.in_ok-scanned.scanned.listed.items c.args.settings.now.output.attempts c.in_ok-worked.worked.met c.finish.result c.finish.ensures.stands c.finish.ensures.refused followed in
     let keeper_is : c.keeper-2-1.given.0 ≡ c.run_over.new.storing.keeper.now = c.keeper-2-1.given.1 (sym c.run_over.ensures.same_keeper) in
-    (at_rest disks c.finish.new.a c.finish.new.b fin.1 (fin.2.cleans.at_rest left (rw (← keeper_is) at (ends.1.left.at_rest before rest).settled)))
+    (at_rest disks c.run_over.new.storing.a.now c.run_over.new.storing.b.now c.keeper-2-1.given.0.store (rw (← keeper_is) at (ends.1.left.at_rest left rest).settled))
 
 pub returns-clause-reported : goal.returns-clause-reported
 returns-clause-reported g c = λ from opened some rest.
     let inputs : c.as_slice.result.now ≡ c.args.settings.now.inputs = c.as_slice.ensures in
-    let fin = c.finish.ensures.finished in
     let disks = disks_of g.D.Disk in
     let wires = wires_of g.W.Wire in
     let ends = c.in_ok-worked.ensures.ends
@@ -221,16 +198,15 @@ returns-clause-reported g c = λ from opened some rest.
     (g.K.Clock.moments c.args.outside.now.clock.now) (g.K.Clock.moments c.scan.new.clock) c.in_ok-scanned.ensures.moment_given (g.F.Folder.told c.scan.new.folder) (rw inputs at c.in_ok-scanned.ensures.of_inputs)) in
     let keeper = c.keeper-2-1.given.0 in
     let keeper_is : keeper ≡ c.run_over.new.storing.keeper.now = c.keeper-2-1.given.1 (sym c.run_over.ensures.same_keeper) in
-    (reports_stored disks c.finish.new.a c.finish.new.b fin.1 (all_skipped c.in_ok-worked.worked.passed.items c.in_ok-scanned.scanned) keeper.shipped keeper.dropped fin.0 c.finish.result fin.2.telling fin.2.report
-    (λ left. fin.2.cleans.at_rest left (rw (← keeper_is) at (ends.1.left.at_rest (left_before_cleaning disks _ _ _ _ fin.2.cleans left) rest).settled)))
+    (reports_stored disks c.run_over.new.storing.a.now c.run_over.new.storing.b.now keeper.store (all_skipped c.in_ok-worked.worked.passed.items c.in_ok-scanned.scanned) keeper.shipped keeper.dropped c.in_ok-worked.worked.met c.finish.result c.finish.ensures.telling c.finish.ensures.report
+    (λ left. rw (← keeper_is) at (ends.1.left.at_rest left rest).settled))
 
 pub returns-clause-ends : goal.returns-clause-ends
 returns-clause-ends g c =
-    let fin = c.finish.ensures.finished in
     let disks = disks_of g.D.Disk in
     let of = is_met_of c.args.settings.now.output.workers _ _ _ c.in_ok-worked.worked.met c.in_ok-worked.ensures.cause in
-    scanned_ending c.in_ok-scanned.scanned.listed.items c.args.settings.now.output.attempts fin.0 c.finish.result (of_these_after_cleaning disks _ _ _ _ fin.2.cleans (length c.in_ok-scanned.scanned.listed.items) of)
-    fin.2.refused c.finish.ensures.without_report
+    scanned_ending c.in_ok-scanned.scanned.listed.items c.args.settings.now.output.attempts c.in_ok-worked.worked.met c.finish.result of
+    c.finish.ensures.refused c.finish.ensures.without_report
 
 -- ---- what goes on
 
@@ -286,11 +262,10 @@ returns-clause-goes_on g c =
       tails = λ few. tails_by_two (g.F.Folder.open_tails c.args.outside.now.folder.now) (g.F.Folder.open_tails c.scan.new.folder) (g.F.Folder.open_tails c.run_over.new.around.folder.now) (length c.in_ok-scanned.scanned.listed.items)
           c.scan.ensures.open_tails_kept c.in_ok-scanned.ensures.few_listed c.run_over.ensures.tails_closed few;
       links = c.run_over.ensures.links_finished;
-      a_told = λ told. c.finish.ensures.finished.2.cleans.a_told (c.run_over.ensures.still_tell.a told);
-      b_told = λ told. c.finish.ensures.finished.2.cleans.b_told (c.run_over.ensures.still_tell.b told);
+      a_told = c.run_over.ensures.still_tell.a;
+      b_told = c.run_over.ensures.still_tell.b;
     }
 
 pub returns-clause-report : goal.returns-clause-report
 returns-clause-report g c =
-    let fin = c.finish.ensures.finished in
-    report_of fin.1.rows (all_skipped c.in_ok-worked.worked.passed.items c.in_ok-scanned.scanned) c.keeper-2-1.given.0.shipped c.keeper-2-1.given.0.dropped c.finish.result fin.2.report
+    report_of c.keeper-2-1.given.0.store.rows (all_skipped c.in_ok-worked.worked.passed.items c.in_ok-scanned.scanned) c.keeper-2-1.given.0.shipped c.keeper-2-1.given.0.dropped c.finish.result c.finish.ensures.report
