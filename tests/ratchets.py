@@ -24,9 +24,9 @@ LIMITS = {
     "clause lines above 100 columns": 518,
     "functions with more than six parameters": 1,
     "functions above 40 lines of body": 0,
-    "files above 500 lines": 5,
+    "files above 500 lines": 4,
     "ghost use lines for each 1,000 lines of code": 41,
-    "lemma signatures that are there before": 192,
+    "lemma signatures that are there before": 187,
 }
 
 FUNCTION = re.compile(r"^(\s*)(?:pub(?:\([a-z]+\))?\s+)?(?:const\s+)?fn\s+(\w+)")

@@ -113,6 +113,7 @@ module _ (run : Run) (scan : Scan) (files : List Filed) (hiddens : List Hidden) 
       where
         epoch : ℕ
         epoch = hidden.row.epoch.0
+
         end : ℕ
         end = hidden.row.offset
 
@@ -188,7 +189,7 @@ module _ (run : Run) (scan : Scan) (files : List Filed) (hiddens : List Hidden) 
               (given_there (slot_for row.key) notes.all (hidden_begin was.hidden) (hidden_slot was.hidden) was.begun (begins_its_key row.key was.hidden (ap (λ (r : Row). r.key) was.row_is))))
           by_slots (slot ∷ slots) is =
               let none = none_pass notes.all (slot ∷ slots) (each_member (λ (n : ℕ). is_some (row_over n notes.all) ≡ false) (slot ∷ slots)
-                  (λ n among. none_stands row.key removed n (subst (λ (l : List ℕ). Contains l n) (sym is) among))) in
+              (λ n among. none_stands row.key removed n (subst (λ (l : List ℕ). Contains l n) (sym is) among))) in
               let q : Some row ≡ None = found ∙ ap (row_among run.opening notes.all row.key) is ∙ ap (row_of_greatest notes.all) none in cc
 
       pub none_removed : AllByRecursion (λ (row : Row). ¬ (IsRemoved inputs listed row.key)) rows
