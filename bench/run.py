@@ -16,7 +16,6 @@ from container import container_table
 from harvester import harvester_table
 from known import known_table
 from memory import settled_table, stored_table
-from rounds import rounds_tables
 from sink import sink_table
 from spool import spool_table
 from syncs import syncs_table
@@ -37,7 +36,6 @@ PARTS = {
     "harvester": harvester_table,
     "container": container_table,
     "spool": spool_table,
-    "rounds": rounds_tables,
     "known": known_table,
     "spans": settled_table,
     "commits": stored_table,
