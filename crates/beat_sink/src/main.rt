@@ -4,8 +4,6 @@
 mod objects;
 mod port;
 mod sink;
-#[cfg(test)]
-mod tests;
 
 use lumber_server::{SinkStatus, is_command, receive};
 use objects::Objects;
