@@ -4,7 +4,6 @@ ghost use Rattle.wire_base.specs.Ranges.{IsKey, IsNote, IsPlace};
 mod joining;
 mod machine;
 mod orderly;
-mod row_list;
 mod tracker;
 
 use crate::tests::machine::Told;
@@ -192,17 +191,19 @@ fn commit(alloc: Global, told: &mut Told, wanted: bool) -> Result<(), Fail>
     Ok(())
 }
 
+const BEFORE: [Step; 2] = [Step::Begin(0, b"a"), Step::Begin(1, b"b")];
+
+const BEHIND: [Step; 3] = [Step::Acked(0, 0, 4), Step::Forget(1), Step::Begin(2, b"c")];
+
 /// Two files that begin, perhaps a commit, and then a span of the first, the going of the second and a third that begins.
 fn three_files(rt: &impl Abort, alloc: Global, commits: bool) -> Result<Told, Fail>
     ensures runs { IfOk result (λ told. told.world.runs ≡ true) }
     ensures same { IfOk result (λ told. told.world.notes ≡ told.notes.items) }
 {
     let mut told = Told::new(alloc)?;
-    let first = [Step::Begin(0, b"a"), Step::Begin(1, b"b")];
-    tell(rt, alloc, &mut told, &first)?;
+    tell(rt, alloc, &mut told, &BEFORE)?;
     commit(alloc, &mut told, commits)?;
-    let then = [Step::Acked(0, 0, 4), Step::Forget(1), Step::Begin(2, b"c")];
-    tell(rt, alloc, &mut told, &then)?;
+    tell(rt, alloc, &mut told, &BEHIND)?;
     Ok(told)
 }
 

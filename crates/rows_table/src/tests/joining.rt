@@ -3,13 +3,13 @@ ghost use Rattle.prospector_core.specs.KnownFiles.{IsSeen};
 ghost use Rattle.wire_base.specs.Ranges.{IsKey, IsPath, IsPlace};
 
 use prospector_core::Seen;
-use restart_join::{JoinError, join_rows};
+use restart_join::join_rows;
 use ship_core::Rows;
 use std::alloc::Global;
 use std::fmt::Write;
 use std::process::Abort;
 use std::test::Fail;
-use wire_base::{Begin, Epoch, Full, MAX_KEY, MAX_PATH, MAX_PLACE, Moment, Op, Row, Slot, Text};
+use wire_base::{Begin, Epoch, MAX_KEY, MAX_PATH, MAX_PLACE, Moment, Op, Row, Slot, Text};
 
 fn seen(alloc: Global, key: &str, path: &str, size: u64) -> Result<Seen, Fail>
     requires key { IsKey key.now }
@@ -77,28 +77,6 @@ fn shown(alloc: Global, begins: &[Begin]) -> Result<String, Fail> {
     Ok(text)
 }
 
-/// The files of a scan begin so, with slots from the first one on, or this limit is told with this
-/// path.
-fn check(
-    rt: &impl Abort,
-    alloc: Global,
-    rows: &Rows,
-    scan: &[File],
-    first: u32,
-    wanted: Result<&str, (Full, &str)>,
-) -> Result<(), Fail> {
-    let scan = scan_of(rt, alloc, scan)?;
-    let joined = join_rows(alloc, rows, &scan, Slot(first));
-    match wanted {
-        Ok(lines) => assert_eq!(rt; shown(alloc, &joined?)?.as_str(), lines),
-        Err((what, path)) => {
-            let path = Text::from_bytes(alloc, path.as_bytes())?;
-            assert_eq!(rt; joined, Err(JoinError::TooMany { what, path }));
-        }
-    }
-    Ok(())
-}
-
 #[test]
 fn files_begin_where_their_rows_stand(rt: HostRuntime) -> Result<(), Fail> {
     let alloc = rt.alloc();
@@ -121,40 +99,7 @@ fn files_begin_where_their_rows_stand(rt: HostRuntime) -> Result<(), Fail> {
         ("none", "/a", 5),
     ];
     let want = "7 none /a 5 0 0\n8 same /b 10 2 10\n9 longer /c 11 1 10\n10 shorter /d 9 4 0\n";
-    check(&rt, alloc, &rows, &scan, 7, Ok(want))
-}
-
-/// A file, the first slot, and what comes of it beside a row of the last epoch.
-const LIMITS: [(File, u32, Result<&str, (Full, &str)>); 3] = [
-    (
-        ("old", "/a", 10),
-        u32::MAX - 1,
-        Ok("4294967294 old /a 10 4294967295 10\n"),
-    ),
-    (("old", "/a", 9), 0, Err((Full::Epochs, "/a"))),
-    (("n", "/n", 1), u32::MAX, Err((Full::Slots, "/n"))),
-];
-
-#[test]
-fn limits_are_told_with_the_path(rt: HostRuntime) -> Result<(), Fail> {
-    let alloc = rt.alloc();
-    let rows = rows_of(&rt, alloc, &[("old", u32::MAX, 10)])?;
-    for (file, first, wanted) in LIMITS {
-        check(&rt, alloc, &rows, &[file], first, wanted)?;
-    }
+    let begins = join_rows(alloc, &rows, &scan_of(&rt, alloc, &scan)?, Slot(7))?;
+    assert_eq!(rt; shown(alloc, &begins)?.as_str(), want);
     Ok(())
-}
-
-#[test]
-fn all_rows_count_as_files(rt: HostRuntime) -> Result<(), Fail> {
-    let alloc = rt.alloc();
-    let mut rows = Rows::new(alloc);
-    for i in 0..65_536 {
-        let key = format!(in alloc; "{i:05}")?;
-        let key = key.as_str();
-        assert!(rt; key.len() <= MAX_KEY);
-        set(alloc, &mut rows, key, 0, 1)?;
-    }
-    let scan = [("00001", "/a", 1), ("x", "/b", 1)];
-    check(&rt, alloc, &rows, &scan, 0, Err((Full::Files, "/b")))
 }
