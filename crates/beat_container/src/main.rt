@@ -2,8 +2,6 @@
 #![tactic(auto)]
 
 mod stdin;
-#[cfg(test)]
-mod tests;
 
 use container_lines::{ContainerStatus, container_run};
 use outside_real::StdSink;

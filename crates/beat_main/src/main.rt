@@ -3,8 +3,6 @@
 
 mod objects;
 mod streams;
-#[cfg(test)]
-mod tests;
 
 use beat_run::{Places, Status, places, ship, status_line};
 use objects::{Surroundings, generated_surroundings, real_surroundings, words_of};

@@ -2,8 +2,6 @@
 #![tactic(auto)]
 
 mod stdin;
-#[cfg(test)]
-mod tests;
 
 use outside_real::{FileDisk, StdSink, SystemClock, TcpWire};
 use spool_queue::{SpoolStatus, spool_run};

@@ -1,9 +1,6 @@
 //! The program: looks how far each file is, beside a run, and prints that. It changes nothing.
 #![tactic(auto)]
 
-#[cfg(test)]
-mod tests;
-
 use clap::Error;
 use clap::error::ErrorKind;
 use file_progress::{Asked, Outside, read_words, show};

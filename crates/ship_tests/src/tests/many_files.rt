@@ -1,6 +1,6 @@
 //! Several inputs, files, lanes and workers.
 
-use crate::tests::wanted::{Case, Sent, Wanted, check_each};
+use crate::tests::wanted::{Case, Sent, Wanted, check, check_each};
 use crate::tests::world::{Later, Object, PLAIN, Start};
 use std::test::Fail;
 
@@ -160,6 +160,53 @@ const CASES: &[Case] = &[
     UNOPENED,
     CREW,
 ];
+
+/// Six files of up to five lines.
+const SIX_FILES: Start = Start {
+    files: &[
+        ("/w/a.log", b"a1\na2\na3\na4\n", &[]),
+        ("/w/b.log", b"b1\n", &[]),
+        ("/w/c.log", b"c1\nc2\nc3\n", &[]),
+        ("/w/d.log", b"d1\nd2\nd3\nd4\nd5\n", &[]),
+        ("/w/e.log", b"e1\ne2\n", &[]),
+        ("/w/f.log", b"f1\nf2\nf3\n", &[]),
+    ],
+    ..PLAIN
+};
+
+const OF_SIX_FILES: Wanted = Wanted {
+    status: 0,
+    rows: Some(
+        r#"file "filestream::w::path::/w/a.log" 0 12 "/w/a.log"
+file "filestream::w::path::/w/b.log" 0 3 "/w/b.log"
+file "filestream::w::path::/w/c.log" 0 9 "/w/c.log"
+file "filestream::w::path::/w/d.log" 0 15 "/w/d.log"
+file "filestream::w::path::/w/e.log" 0 6 "/w/e.log"
+file "filestream::w::path::/w/f.log" 0 9 "/w/f.log"
+"#,
+    ),
+    printed: "shipped 18 dropped 0\nstatus 0 done\n",
+    sent: Sent::Messages(&[
+        "a1", "a2", "a3", "a4", "b1", "c1", "c2", "c3", "d1", "d2", "d3", "d4", "d5", "e1", "e2",
+        "f1", "f2", "f3",
+    ]),
+    moment: None,
+};
+
+#[test]
+fn each_event_once(rt: HostRuntime) -> Result<(), Fail> {
+    for lanes in [1, 2, 8] {
+        for workers in [1, 2, 16] {
+            let output = format!(in rt.alloc(); "workers = {workers}\n[harvest]\nlanes = {lanes}")?;
+            let start = Start {
+                output: output.as_str(),
+                ..SIX_FILES
+            };
+            check(&rt, output.as_str(), start, OF_SIX_FILES)?;
+        }
+    }
+    Ok(())
+}
 
 #[test]
 fn files_are_shipped_by_all_lanes_and_workers(rt: HostRuntime) -> Result<(), Fail> {

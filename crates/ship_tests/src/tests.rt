@@ -1,6 +1,5 @@
-//! Worked runs of `ship` over objects in memory.
-
 mod faults;
+mod lines;
 mod many_files;
 mod refusals;
 mod restarts;

@@ -19,6 +19,8 @@ pub enum Sent<'a> {
     Open,
     /// So many events. Between files and workers no order is said.
     Events(usize),
+    /// One event for each of these messages, in any order.
+    Messages(&'a [&'a str]),
     /// The lines of `/w/a.log` that begin at these places, in whole windows, closed at moment 0.
     Lines(&'a [(u64, &'a str)]),
     /// These payloads.
@@ -156,6 +158,7 @@ fn check_payloads<X: AllocGlobal + Abort>(
     check_number(rt, "events", case, count, count_of(wanted).unwrap_or(count));
     match wanted {
         Sent::Lines(lines) => check_lines(rt, case, payloads, lines),
+        Sent::Messages(messages) => check_messages(rt, payloads, messages),
         Sent::Payloads(texts) => {
             check_texts(rt, case, payloads, texts);
             Ok(())
@@ -169,6 +172,7 @@ fn count_of(wanted: Sent) -> Option<u64> {
     match wanted {
         Sent::Open => None,
         Sent::Events(count) => Some(count as u64),
+        Sent::Messages(messages) => Some(messages.len() as u64),
         Sent::Lines(lines) => Some(lines.len() as u64),
         Sent::Payloads(texts) => Some(texts.len() as u64),
     }
@@ -184,6 +188,31 @@ fn check_lines<X: AllocGlobal + Abort>(
     for (payload, (place, message)) in payloads.iter().zip(lines) {
         let wanted = payload_of(rt.alloc(), *place, message)?;
         check_text(rt, "sent", case, payload.as_str(), wanted.as_str());
+    }
+    Ok(())
+}
+
+/// How many of the payloads end with this.
+fn count_ending(payloads: &[Text], end: &str) -> u64 {
+    let mut count = 0_u64;
+    for payload in payloads {
+        if payload.as_str().ends_with(end) {
+            count = count.saturating_add(1);
+        }
+    }
+    count
+}
+
+/// Each of the messages is that of one payload.
+fn check_messages<X: AllocGlobal + Abort>(
+    rt: &X,
+    payloads: &[Text],
+    messages: &[&str],
+) -> Result<(), Fail> {
+    for message in messages {
+        let end = format!(in rt.alloc(); "\"message\":\"{message}\"}}")?;
+        let times = count_ending(payloads, end.as_str());
+        check_number(rt, "times sent", message, times, 1);
     }
     Ok(())
 }

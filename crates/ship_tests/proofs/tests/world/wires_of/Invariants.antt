@@ -1,5 +1,5 @@
 use Rattle.std.proofs.Common.{◌≡◌, vec_len}
-use Rattle.beat_main.proofs.tests.world.wires_of.Given as goal
+use Rattle.ship_tests.proofs.tests.world.wires_of.Given as goal
 
 abbrev pub invariant-loop : goal.invariant-loop
 invariant-loop l = vec_len l.wires ≡ l.counter
