@@ -25,7 +25,7 @@ LIMITS = {
     "functions with more than six parameters": 1,
     "functions above 40 lines of body": 0,
     "files above 500 lines": 4,
-    "ghost use lines for each 1,000 lines of code": 41,
+    "ghost use lines for each 1,000 lines of code": 54,
     "lemma signatures that are there before": 187,
 }
 
@@ -92,10 +92,10 @@ def counts():
             inside = bool(CLAUSE.match(line)) or inside and line.strip() not in ("{", "") and not FUNCTION.match(line)
             if inside and len(line) > CLAUSE_COLUMNS:
                 found["clause lines above 100 columns"].append(place(path, at))
-            if re.match(r"\s*ghost use\b", line):
-                found["ghost use lines for each 1,000 lines of code"].append(place(path, at))
         if is_test(path):
             continue
+        uses = (at for at, line in enumerate(lines) if re.match(r"\s*ghost use\b", line))
+        found["ghost use lines for each 1,000 lines of code"] += [place(path, at) for at in uses]
         for name, at, signature, body in functions(lines):
             if parameters(signature) > PARAMETERS and name not in MANY_PARAMETERS:
                 found["functions with more than six parameters"].append(f"{place(path, at)} {name}")
@@ -121,7 +121,7 @@ def number(what, places):
     """How many there are, or of what grows with the code, how many for each 1,000 lines of it."""
     if not what.endswith("lines of code"):
         return len(places)
-    return len(places) * 1_000 // sum(len(path.read_text().splitlines()) for path in files("rt"))
+    return len(places) * 1_000 // sum(len(path.read_text().splitlines()) for path in files("rt") if not is_test(path))
 
 
 def main():

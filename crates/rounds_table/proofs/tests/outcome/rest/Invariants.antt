@@ -1,7 +1,0 @@
-use Rattle.rounds.specs.Crewing.{crewing}
-use Rattle.rounds.specs.Rounds.{IsReady}
-use Rattle.rounds.specs.Words.{tail_words}
-use Rattle.rounds_table.proofs.tests.outcome.rest.Given as goal
-
-abbrev pub invariant-rounds : goal.invariant-rounds
-invariant-rounds g l = IsReady (tail_words g.T.Tail.numbers g.T.Tail.told g.T.Tail.faults) l.outlets.queue.now.id l.outlets.desk.now.id (crewing l.crew l.storing)
