@@ -268,8 +268,8 @@ few_or_full rows listed path few first =
 module _ {D : Type 0} (disks : DiskWords D) (a b : D) (inputs : List InputRule) (before after : Option FolderHistory) (room : HasRoom disks a b inputs before after) where
   finds_room : (rows : List Row) (path : List ℕ) → GiveTheRows disks a b rows → FindsNoRoom inputs room.told rows path after → ⊥
   finds_room rows path given (inl finds) =
-      let few = room.few_listed finds.listings (finds.before ++ finds.next ∷ []) finds.listed_is finds.only finds.in_order finds.apart in
-      omega (arith, few, finds.full, length-append finds.before (finds.next ∷ []))
+      let few = room.few_listed finds.listings (finds.one_more.before ++ finds.one_more.next ∷ []) finds.listed_is finds.one_more.only finds.one_more.in_order finds.one_more.apart in
+      omega (arith, few, finds.one_more.full, length-append finds.one_more.before (finds.one_more.next ∷ []))
   finds_room rows path given (inr lists) = few_or_full rows lists.files path (room.few_known rows lists.files lists.doubled given lists.scans) lists.first
 
 -- ---- the run

@@ -93,7 +93,7 @@ module _ (inputs : List InputRule) (told : FolderHistory) (files doubled : List 
 
   listed_by : Any (λ shown. IsListedBy inputs from.of.listed shown) (shown_in scans.scans.listings)
   listed_by =
-      All-contains (λ (file : Listed). Any (λ shown. IsListedBy inputs file shown) (shown_in scans.scans.listings)) scans.all from.of.listed scans.scans.only
+      All-contains (λ (file : Listed). Any (λ shown. IsListedBy inputs file shown) (shown_in scans.scans.listings)) scans.all from.of.listed scans.scans.shown.only
       (subst (λ (l : List Listed). Contains l from.of.listed) scans.asked_are (mapped_there (λ (asked : AskedFile). asked.listed) scans.asked from.of from.among))
 
   asks : HasOnlyAsked scans.listed scans.scanned

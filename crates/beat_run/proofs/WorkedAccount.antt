@@ -125,10 +125,12 @@ scans_files : ScansFiles inputs earlier (listed ∷ []) (Some scanned)
 scans_files = record {
   listings = listings;
   listed_is = record { one_for_each_glob = refl; kept = refl };
-  only = All-cons IsOfShown listed [] (0, worked.shown, omega arith, refl, is_listed_by) (All-nil IsOfShown);
-  every = λ shown input of. has_file shown input of.rule of.among of.rule_is;
-  in_order = (tt, tt);
-  apart = ((λ has. none_there has.1 (has.0, has.2, has.3)), tt);
+  shown = record {
+    only = All-cons IsOfShown listed [] (0, worked.shown, omega arith, refl, is_listed_by) (All-nil IsOfShown);
+    every = λ shown input of. has_file shown input of.rule of.among of.rule_is;
+    in_order = (tt, tt);
+    apart = ((λ has. none_there has.1 (has.0, has.2, has.3)), tt);
+  };
 }
 
 is_keyed : IsKeyed inputs listed

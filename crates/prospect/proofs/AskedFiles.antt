@@ -1,5 +1,5 @@
 -- What asking listed files for their keys comes to, file by file.
-use Rattle.std.proofs.Common.{◌≡◌, ◌⊎◌, inl, inr, ℕ, zero, suc, ◌+◌, ◌-◌, ◌<◌, ◌≤◌, List, [], ◌∷◌, ◌++◌, length, map, Option, Some, None, Result, Ok, Err, All, IfSome, IsSome, OnOk, refl, sym, ap, subst, ◌∙◌, append-nil, append_assoc, drop, get_or, length-append, take, arith}
+use Rattle.std.proofs.Common.{◌≡◌, ◌⊎◌, inl, inr, ⊎_elim, ℕ, zero, suc, ◌+◌, ◌-◌, ◌<◌, ◌≤◌, List, [], ◌∷◌, ◌++◌, length, map, Option, Some, None, Result, Ok, Err, All, IfSome, IsSome, OnOk, refl, sym, ap, subst, ◌∙◌, append-nil, append_assoc, drop, get_or, length-append, take, arith}
 use Rattle.std.specs.Prelude.{flat_map, slice_get}
 use Rattle.std.specs.List.{AllByRecursion}
 use Rattle.std.proofs.lemmas.List.{flat_map_more, map-append, map-id, take-append-drop, take_more}
@@ -21,6 +21,8 @@ use Rattle.file_identity.specs.Key.{fingerprint_key}
 use Rattle.hex.proofs.HexLemmas.{length-encode_with}
 use Rattle.hex.specs.Hex.{lower_digits}
 use Rattle.outside.specs.declared.failed.FolderError.{FolderError}
+use Rattle.outside.specs.declared.failed.FolderError.TheVariants.{Failed as FolderFailed, NoMemory as FolderNoMemory}
+use Rattle.outside.specs.Counts.{Rose}
 use Rattle.outside.specs.declared.history.Look.{Look}
 use Rattle.outside.specs.declared.history.Question.{Question}
 use Rattle.outside.specs.declared.history.Question.TheVariants.{Length, ReadAt}
@@ -36,8 +38,8 @@ use Rattle.prospect.specs.declared.asking.Asked.{Asked}
 use Rattle.prospect.specs.declared.asking.Asked.TheVariants.{Gone, Known, Small, Told}
 use Rattle.prospect.specs.declared.asking.Keyed.{Keyed}
 use Rattle.prospect.specs.declared.listed.Listed.{Listed}
-use Rattle.prospect.specs.AskedFiles.{AskedFile, AsksFiles, AsksFrom, AsksSome, CutsOff, IsCutOff, IsKept, IsKeptOf, KeepsFiles, ReadNoFile, WasAsked, gone_by, keyed_by, small_by, with_key}
-use Rattle.prospect.specs.Asking.{Answers, AsksNext, IsAnswerFor, IsAnswered, KeepsNext, LeavesOff, PutsAs, TellsAnswer, answer_at}
+use Rattle.prospect.specs.AskedFiles.{AskedFile, AsksFiles, AsksFrom, AsksSome, CutsOff, FailsSo, IsCutOff, IsKept, IsKeptOf, KeepsFiles, ReadNoFile, WasAsked, gone_by, keyed_by, small_by, with_key}
+use Rattle.prospect.specs.Asking.{Answers, AsksNext, Fails, IsAnswerFor, IsAnswered, KeepsNext, LeavesOff, PutsAs, TellsAnswer, answer_at}
 use Rattle.prospect.specs.ListedFiles.{IsKeyed, IsListedInRange, KeyIsTold}
 use Rattle.prospect.specs.Members.{HaveShortIds}
 use Rattle.prospect.specs.Scan.{with_events}
@@ -61,7 +63,7 @@ part_reads [] place wanted reads = tt
 part_reads (look ∷ looks) place wanted reads =
     read_on place wanted (λ next left. ArePartReads looks next left) (looks ≡ []) (OnlyReads looks) (λ next left. part_reads looks next left) (no_reads looks) look.question reads.1
 
-only_reads : (identity : IdentityRule) (looks : List Look) → IsPartOfAsking identity looks → OnlyReads looks
+pub only_reads : (identity : IdentityRule) (looks : List Look) → IsPartOfAsking identity looks → OnlyReads looks
 only_reads (Fingerprint offset count) looks reads = part_reads looks offset count reads
 only_reads Native looks none = no_reads looks none
 only_reads Path looks none = no_reads looks none
@@ -101,21 +103,33 @@ module _ (rule : InputRule) (one : Listed) (told : FolderHistory) (shown : Shown
     after_is = after_is;
   }
 
+  -- it was read in vain
+  fails : (looks : List Look) (faults : ℕ) (after : Option FolderHistory) → IsPartOfAsking rule.file_identity looks → 0 < faults → after ≡ Some (after_both looks faults) → Fails rule one told after
+  fails looks faults after reads failed after_is = record {
+    last = Opened one.path shown.file (sight_of shown) ∷ Closed (length told.events) looks faults ∷ [];
+    by_bytes = by_bytes;
+    fails = inr (record {
+      read = record { number = shown.file; begun = sight_of shown; looks = looks; faults = faults; reads = only_reads rule.file_identity looks reads; last_is = refl };
+      failed = failed;
+    });
+    after_is = after_is;
+  }
+
   -- what the tail of the opening told, and its closing
   tells_answer : (looks : List Look) (faults : ℕ) (after : Option FolderHistory) → AreLooks file (sight_of shown) looks → after ≡ Some (after_both looks faults) →
-      (key : Result Identity IdentityError) → IsGiven rule.id rule.file_identity one.path file looks key → OnOk key (faults ≡ 0) →
+      (key : Result Identity IdentityError) → IsGiven rule.id rule.file_identity one.path file looks key → OnOk key (faults ≡ 0) → (key ≡ Err ReadFault → 0 < faults) →
       (answer : Result Asked FolderError) → IsAnswered key answer → TellsAnswer rule one told answer after
-  tells_answer looks faults after are after_is (Ok (Key key)) gave none answer is =
+  tells_answer looks faults after are after_is (Ok (Key key)) gave none failing answer is =
       subst (λ (a : Result Asked FolderError). TellsAnswer rule one told a after) (sym is)
       (record { last = after_both looks faults; answered = was_asked (Some key) looks faults are gave.0 gave.1 none; after_is = after_is })
-  tells_answer looks faults after are after_is (Ok (TooSmall place)) gave none answer is =
+  tells_answer looks faults after are after_is (Ok (TooSmall place)) gave none failing answer is =
       subst (λ (a : Result Asked FolderError). TellsAnswer rule one told a after) (sym is)
       (record { last = after_both looks faults; answered = was_asked None looks faults are gave.0 gave.1 none; after_is = after_is })
-  tells_answer looks faults after are after_is (Err NoNative) gave none answer is =
+  tells_answer looks faults after are after_is (Err NoNative) gave none failing answer is =
       subst (λ (a : Result Asked FolderError). TellsAnswer rule one told a after) (sym is) (leaves_off looks faults after gave after_is)
-  tells_answer looks faults after are after_is (Err ReadFault) gave none answer is =
-      subst (λ (a : Result Asked FolderError). TellsAnswer rule one told a after) (sym is) (leaves_off looks faults after (cut_is_part rule.file_identity looks gave) after_is)
-  tells_answer looks faults after are after_is (Err OutOfMemory) gave none answer is =
+  tells_answer looks faults after are after_is (Err ReadFault) gave none failing answer is =
+      subst (λ (a : Result Asked FolderError). TellsAnswer rule one told a after) (sym is) (fails looks faults after (cut_is_part rule.file_identity looks gave) (failing refl) after_is)
+  tells_answer looks faults after are after_is (Err OutOfMemory) gave none failing answer is =
       subst (λ (a : Result Asked FolderError). TellsAnswer rule one told a after) (sym is) (leaves_off looks faults after gave after_is)
 
 -- an opened tail has met no fault, and one that answered has met none since
@@ -127,11 +141,20 @@ faultless {T} tail_faults opened found tail opened_is found_is fresh told key fa
     let K : ℕ → Type 0 = λ n. OnOk key (faults ≡ n) in
     subst K none (kept some)
 
+-- and one whose reading failed has met one
+pub faulty : {T : Type 0} (tail_faults : T → ℕ) (opened : Result (Option T) FolderError) (found : Option T) (tail : T) → opened ≡ Ok found → found ≡ Some tail → StartsFresh tail_faults opened →
+    (key : Result Identity IdentityError) (faults : ℕ) → (key ≡ Err ReadFault → Rose (tail_faults tail) faults) → key ≡ Err ReadFault → 0 < faults
+faulty {T} tail_faults opened found tail opened_is found_is fresh key faults rose is =
+    let F : Result (Option T) FolderError → Type 0 = λ r. StartsFresh tail_faults r in
+    let none : tail_faults tail ≡ 0 = subst F (opened_is ∙ ap (λ (o : Option T). Ok o) found_is) fresh in
+    ⊎_elim (λ less. omega (arith, none, less)) (λ end. omega (arith, end)) (rose is)
+
 -- what was done with the tail
 pub record Handles (rule : InputRule) (one : Listed) (tail : Option TailHistory) (numbers : Option (ℕ × ℕ)) (key : Result Identity IdentityError) (faults : ℕ) (between after : Option FolderHistory) : Type 0 where
   pub left : Option TailHistory
   pub asked : IfSome tail (λ history. IsAsked rule.id rule.file_identity one.path numbers history key left)
   pub faultless : IsSome tail → OnOk key (faults ≡ 0)
+  pub faulty : key ≡ Err ReadFault → 0 < faults
   pub closed : TellsClosing between left faults after
 
 pub answered_in : {T : Type 0} (tail_told : T → Option TailHistory) (tail_numbers : T → Option (ℕ × ℕ)) (rule : InputRule) (one : Listed) (told between after : Option FolderHistory)
@@ -156,17 +179,18 @@ answered_in {T} tail_told tail_numbers rule one (Some history) between after sta
     let G : Option (ℕ × ℕ) → Type 0 = λ n. IsGiven rule.id rule.file_identity one.path (with_numbers n opens.file) told_so.looks key in
     tells_answer rule one history opens.one opens.file opens.file_is by_bytes told_so.looks faults after told_so.added.shown
     (closed ∙ ap (λ (h : FolderHistory). Some h) (both_events history (Opened one.path opens.one.file (sight_of opens.one)) (Closed (length history.events) told_so.looks faults)))
-    key (subst G opens.numbers told_so.gave) none answer is
+    key (subst G opens.numbers told_so.gave) none handles.faulty answer is
 
 -- ---- the next of the files
 
 pub not_asked_next : (inputs : List InputRule) (one : Listed) (rule : InputRule) → slice_get inputs one.input ≡ Some rule → (told after : Option FolderHistory) (asked : Result Asked FolderError) (error : FolderError) →
     asked ≡ Err error → IfSome told (λ history. TellsAnswer rule one history asked after) → IfSome told (λ history. (others : List Listed) → AsksSome inputs history (one ∷ others) after)
 not_asked_next inputs one rule rule_is None after asked error is tells = tt
-not_asked_next inputs one rule rule_is (Some history) after asked error is tells = λ others.
-    let R : Result Asked FolderError → Type 0 = λ r. TellsAnswer rule one history r after in
-    let leaves : LeavesOff rule one history after = subst R is tells in
-    record {
+not_asked_next inputs one rule rule_is (Some history) after asked error is tells =
+    by_error error (subst (λ (r : Result Asked FolderError). TellsAnswer rule one history r after) is tells)
+  where
+    left_off : LeavesOff rule one history after → (others : List Listed) → AsksSome inputs history (one ∷ others) after
+    left_off leaves others = record {
       asked = [];
       others = one ∷ others;
       are = refl;
@@ -176,10 +200,18 @@ not_asked_next inputs one rule rule_is (Some history) after asked error is tells
       ends = ends others leaves.last leaves.by_bytes leaves.ends;
       after_is = leaves.after_is;
     }
-  where
-    ends : (others : List Listed) (last : List Event) → IsFingerprint rule.file_identity → (last ≡ []) ⊎ CutsOff one.path history last → IsCutOff inputs (one ∷ others) history last
-    ends others last by_bytes (inl none) = inl none
-    ends others last by_bytes (inr cut) = inr (record { one = one; behind = others; others_are = refl; rule = rule; rule_is = rule_is; by_bytes = by_bytes; cut = cut })
+      where
+        ends : (others : List Listed) (last : List Event) → IsFingerprint rule.file_identity → (last ≡ []) ⊎ CutsOff one.path history last → IsCutOff inputs (one ∷ others) history last
+        ends others last by_bytes (inl none) = inl none
+        ends others last by_bytes (inr cut) = inr (record { one = one; behind = others; others_are = refl; rule = rule; rule_is = rule_is; by_bytes = by_bytes; cut = cut })
+
+    cut_by : (last : List Event) → FailsSo one.path history last → CutsOff one.path history last
+    cut_by last (inl refused) = inl refused
+    cut_by last (inr vain) = inr vain.read
+
+    by_error : (e : FolderError) → TellsAnswer rule one history (Err e) after → (others : List Listed) → AsksSome inputs history (one ∷ others) after
+    by_error FolderFailed fails = left_off (record { last = fails.last; by_bytes = fails.by_bytes; ends = inr (cut_by fails.last fails.fails); after_is = fails.after_is })
+    by_error FolderNoMemory leaves = left_off leaves
 
 pub asked_next : (inputs : List InputRule) (one : Listed) (rule : InputRule) → slice_get inputs one.input ≡ Some rule → (told after : Option FolderHistory) (answer : Result Asked FolderError) (asked : Asked) →
     answer ≡ Ok asked → IfSome told (λ history. TellsAnswer rule one history answer after) → (old new : Keyed) → PutsAs one asked old new →

@@ -7,7 +7,10 @@ pub mod Lists
 pub mod NativeKeys
 pub mod Numbering
 mod Parting
+pub mod PastFaults
 pub mod Telling
+pub mod Trying
+pub mod TryingFiles
 pub mod Unfinished
 mod Worked
 mod WorkedDoubles

@@ -33,10 +33,11 @@ use Rattle.prospect.specs.declared.scan_input.ScanInput.{ScanInput}
 use Rattle.prospect.specs.declared.showing.Showing.{Showing}
 use Rattle.prospect.specs.Covered.{AreCovered, AreNumbers, CoversEntry, IsFileOf, IsOneMore, IsUntold, Pair, Stop, StopsAt, file_of, pair_of, pairs_for, pairs_of, pairs_with}
 use Rattle.prospect.specs.Entries.{ByPath, IsOne, Lists, ShowEntries, entries_at, entries_in}
-use Rattle.prospect.specs.ListedFiles.{AreApart, AreInOrder, AreOfShown, EndsAs, FindsNoNumbers, FindsOneMore, HasFile, IsCoveredBy, IsKeyed, IsListedBy, IsListedInRange, KeyIsTold, Name, Place, ScansFiles, name_at, name_of, place_at, place_of, place_order, shown_in}
+use Rattle.prospect.specs.ListedFiles.{AreApart, AreFilesShown, AreInOrder, AreOfShown, EndsAs, HasFile, HasOneTooMany, IsCoveredBy, IsKeyed, IsListedBy, IsListedInRange, KeyIsTold, LacksNumbersFirst, Name, Place, ScansFiles, name_at, name_of, place_at, place_of, place_order, shown_in}
 use Rattle.prospect.specs.Members.{globs_of, HaveShortIds, IsCovered}
+use Rattle.prospect.specs.PastFaults.{RefusesBy}
 use Rattle.prospect.specs.Readings.{Reading, globs_read, reading, reading_of, readings_from}
-use Rattle.prospect.specs.Scan.{AreListed, TellsPath}
+use Rattle.prospect.specs.Scan.{AreListed, Listing, TellsPath}
 use Rattle.prospect.specs.Showings.{DifferInNumbers, HasNumbers, entries_for, entries_of}
 use Rattle.prospect.specs.Unfinished.{ListsSome}
 use Rattle.prospect.proofs.Covering.{covered_append, showing_by}
@@ -520,21 +521,18 @@ module _ (inputs : List InputRule) (reads : List ScanInput) (told after : Option
 
   -- ---- where the folder tells
 
-  module _ (history : FolderHistory) (shows : ShowEntries (globs_read reads) lists.entries history after) where
-    listed_is : AreListed (globs_of inputs) history shows.listings after
-    listed_is = subst (λ (globs : List (List ℕ)). AreListed globs history shows.listings after) (globs_are inputs reads numbered) shows.listed
-
+  module _ (listings : List Listing) (entries_are : lists.entries ≡ map (λ one. one.entry) (shown_in listings)) where
     -- what was shown of a pair
     record IsShownPair (pair : Pair) (is : IsKnown inputs lists.entries pair) : Type 0 where
       shown : Shown
-      among : IsIn (shown_in shows.listings) shown
+      among : IsIn (shown_in listings) shown
       entry_is : shown.entry ≡ pair.entry
       covered : IsCovered is.reads.rule.paths shown.entry.path
 
     shown_pair : (pair : Pair) (is : IsKnown inputs lists.entries pair) → CoversEntry pair → IsShownPair pair is
     shown_pair pair is covers =
-        let entries : Contains (map (λ one. one.entry) (shown_in shows.listings)) pair.entry = subst (λ (l : List Entry). Contains l pair.entry) shows.entries_are is.among in
-        let one = shown_of (shown_in shows.listings) pair.entry (in_contained (map (λ one. one.entry) (shown_in shows.listings)) pair.entry entries) in
+        let entries : Contains (map (λ one. one.entry) (shown_in listings)) pair.entry = subst (λ (l : List Entry). Contains l pair.entry) entries_are is.among in
+        let one = shown_of (shown_in listings) pair.entry (in_contained (map (λ one. one.entry) (shown_in listings)) pair.entry entries) in
         let covered : IsCovered is.reads.rule.paths pair.entry.path = subst (λ (r : Reading). IsCovered r.globs pair.entry.path) (own_reading inputs pair.reading is.reads) covers in
         record {
           shown = one.0;
@@ -543,24 +541,24 @@ module _ (inputs : List InputRule) (reads : List ScanInput) (told after : Option
           covered = subst (λ (e : Entry). IsCovered is.reads.rule.paths e.path) (sym one.2) covered;
         }
 
-    of_shown : (pair : Pair) → IsKnown inputs lists.entries pair → IsFileOf pair → Any (λ one. IsListedBy inputs (file_of pair) one) (shown_in shows.listings)
+    of_shown : (pair : Pair) → IsKnown inputs lists.entries pair → IsFileOf pair → Any (λ one. IsListedBy inputs (file_of pair) one) (shown_in listings)
     of_shown pair is file =
         let one : IsShownPair pair is = shown_pair pair is file.covers in
         let by : IsListedBy inputs (file_of (pair_of one.shown.entry (reading is.reads.place is.reads.rule))) one.shown = listed_by inputs one.shown is.reads.place is.reads.rule is.reads.rule_is one.covered in
         let by_reading : IsListedBy inputs (file_of (pair_of one.shown.entry pair.reading)) one.shown = subst (λ (r : Reading). IsListedBy inputs (file_of (pair_of one.shown.entry r)) one.shown) (sym (own_reading inputs pair.reading is.reads)) by in
-        any_in (λ s. IsListedBy inputs (file_of pair) s) (shown_in shows.listings) one.shown one.among
+        any_in (λ s. IsListedBy inputs (file_of pair) s) (shown_in listings) one.shown one.among
         (subst (λ (e : Entry). IsListedBy inputs (file_of (pair_of e pair.reading)) one.shown) one.entry_is by_reading)
 
-    all_shown : (some : List Pair) (files : List Listed) → AreCovered some files → AllByRecursion (IsKnown inputs lists.entries) some → AreOfShown inputs shows.listings files
+    all_shown : (some : List Pair) (files : List Listed) → AreCovered some files → AllByRecursion (IsKnown inputs lists.entries) some → AreOfShown inputs listings files
     all_shown some files covered all =
-        All-from_recursion (λ one. Any (λ s. IsListedBy inputs one s) (shown_in shows.listings)) files
-        (covered_all (λ one. Any (λ s. IsListedBy inputs one s) (shown_in shows.listings)) (IsKnown inputs lists.entries) of_shown some files covered all)
+        All-from_recursion (λ one. Any (λ s. IsListedBy inputs one s) (shown_in listings)) files
+        (covered_all (λ one. Any (λ s. IsListedBy inputs one s) (shown_in listings)) (IsKnown inputs lists.entries) of_shown some files covered all)
 
-    showing_at : (one : Shown) → IsIn (shown_in shows.listings) one →
+    showing_at : (one : Shown) → IsIn (shown_in listings) one →
         (showing : Showing) × IsIn (map showing_by found.entries) showing × AllByRecursion (HasPath one.entry.path) (entries_of showing) × HasNumbers (entries_of showing) one.entry.native
     showing_at one among =
-        let entries : Contains lists.entries one.entry = subst (λ (l : List Entry). Contains l one.entry) (sym shows.entries_are)
-        (contains_in (map (λ one. one.entry) (shown_in shows.listings)) one.entry (in_map (λ (s : Shown). s.entry) (shown_in shows.listings) one among)) in
+        let entries : Contains lists.entries one.entry = subst (λ (l : List Entry). Contains l one.entry) (sym entries_are)
+        (contains_in (map (λ one. one.entry) (shown_in listings)) one.entry (in_map (λ (s : Shown). s.entry) (shown_in listings) one among)) in
         by_value (get compare found one.entry.path) refl (lists.added.every one.entry entries)
       where
         by_value : (value : Option Showing) → get compare found one.entry.path ≡ value → HasNumbers (entries_in value) one.entry.native →
@@ -573,9 +571,9 @@ module _ (inputs : List InputRule) (reads : List ScanInput) (told after : Option
           has,
         )
 
-    pair_at : (one : Shown) (input : ℕ) (is : IsCoveredBy inputs shows.listings one input) → IsPairOf pairs (name_at is.rule one input)
+    pair_at : (one : Shown) (input : ℕ) (is : IsCoveredBy inputs listings one input) → IsPairOf pairs (name_at is.rule one input)
     pair_at one input is =
-        let (showing, among, paths, has) = showing_at one (in_contained (shown_in shows.listings) one is.among) in
+        let (showing, among, paths, has) = showing_at one (in_contained (shown_in listings) one is.among) in
         let (entry, told_apart, path_is, key_is) = keyed_as is.rule.file_identity is.rule.id one.entry.path showing one.entry.native paths has in
         let read : Reading = reading (0 + input) is.rule in
         record {
@@ -587,7 +585,7 @@ module _ (inputs : List InputRule) (reads : List ScanInput) (told after : Option
               ∙ ap (λ (key : Option (List ℕ)). record { place = place_at one input; key = key }) key_is;
         }
 
-    has_before : (stop : Stop pairs) (s : Shown) (input : ℕ) (of : IsCoveredBy inputs shows.listings s input) → place_order (place_at s input) (pair_place stop.pair) ≡ Less →
+    has_before : (stop : Stop pairs) (s : Shown) (input : ℕ) (of : IsCoveredBy inputs listings s input) → place_order (place_at s input) (pair_place stop.pair) ≡ Less →
         HasFile stop.more (name_at of.rule s input)
     has_before stop s input of less =
         let at = pair_at s input of in
@@ -596,7 +594,7 @@ module _ (inputs : List InputRule) (reads : List ScanInput) (told after : Option
         (subst (λ (n : Name). place_order n.place (pair_place stop.pair) ≡ Less) (sym at.name_is) less) in
         file_named stop.more (name_at of.rule s input) at.pair (covered_has stop.before stop.more at.pair stop.covered_before stands at.covers) at.name_is
 
-    never_untold_before : (stop : Stop pairs) (s : Shown) (input : ℕ) (of : IsCoveredBy inputs shows.listings s input) → of.rule.file_identity ≡ Native → s.entry.native ≡ None →
+    never_untold_before : (stop : Stop pairs) (s : Shown) (input : ℕ) (of : IsCoveredBy inputs listings s input) → of.rule.file_identity ≡ Native → s.entry.native ≡ None →
         place_order (place_at s input) (pair_place stop.pair) ≡ Less → ⊥
     never_untold_before stop s input of by_numbers none less =
         let name : Name = name_at of.rule s input in
@@ -607,8 +605,8 @@ module _ (inputs : List InputRule) (reads : List ScanInput) (told after : Option
         no_key of.rule.file_identity of.rule.id s.entry.path s.entry.native by_numbers none
         (subst (λ (n : Name). KeyIsTold of.rule.file_identity n.key) is told)
 
-    finds_none : (path : List ℕ) → IsUntold pairs [] path → FindsNoNumbers inputs history path after
-    finds_none path untold =
+    lacks_numbers : (path : List ℕ) → IsUntold pairs [] path → LacksNumbersFirst inputs listings path
+    lacks_numbers path untold =
         let stop : Stop pairs = untold.stop in
         let is : IsKnown inputs lists.entries stop.pair = stop_known stop in
         let one : IsShownPair stop.pair is = shown_pair stop.pair is untold.covers in
@@ -617,12 +615,10 @@ module _ (inputs : List InputRule) (reads : List ScanInput) (told after : Option
         ap (λ (e : Entry). record { path = e.path; input = is.reads.place }) one.entry_is
         ∙ ap (λ (r : Reading). record { path = stop.pair.entry.path; input = r.number }) (sym own) in
         record {
-          listings = shows.listings;
-          listed_is = listed_is;
           shown = one.shown;
           input = is.reads.place;
           covered = record {
-            among = contains_in (shown_in shows.listings) one.shown one.among;
+            among = contains_in (shown_in listings) one.shown one.among;
             rule = is.reads.rule;
             rule_is = is.reads.rule_is;
             covered = one.covered;
@@ -637,18 +633,16 @@ module _ (inputs : List InputRule) (reads : List ScanInput) (told after : Option
           every_before = λ other at of less. has_before stop other at of (subst (λ (place : Place). place_order (place_at other at) place ≡ Less) place_is less);
         }
 
-    scans : (files : List Listed) → AreCovered pairs files → ScansFiles inputs history files after
-    scans files covered = record {
-      listings = shows.listings;
-      listed_is = listed_is;
+    files_shown : (files : List Listed) → AreCovered pairs files → AreFilesShown inputs listings files
+    files_shown files covered = record {
       only = all_shown pairs files covered known;
       every = λ one input is. let at = pair_at one input is in file_named files (name_at is.rule one input) at.pair (covered_has pairs files at.pair covered at.among at.covers) at.name_is;
       in_order = (files_sorted pairs files covered sorted).0;
       apart = (files_sorted pairs files covered sorted).1;
     }
 
-    finds_more : (path : List ℕ) → IsOneMore pairs [] path → FindsOneMore inputs history path after
-    finds_more path one =
+    has_one_more : (path : List ℕ) → IsOneMore pairs [] path → HasOneTooMany inputs listings path
+    has_one_more path one =
         let stop : Stop pairs = one.stop in
         let front : List Pair = stop.before ++ stop.pair ∷ [] in
         let files : List Listed = stop.more ++ file_of stop.pair ∷ [] in
@@ -657,8 +651,6 @@ module _ (inputs : List InputRule) (reads : List ScanInput) (told after : Option
         let in_front : AreSorted front = sorted_front front stop.behind (subst AreSorted all sorted) in
         let known_front : AllByRecursion (IsKnown inputs lists.entries) front = all_front (IsKnown inputs lists.entries) front stop.behind (subst (λ (l : List Pair). AllByRecursion (IsKnown inputs lists.entries) l) all known) in
         record {
-          listings = shows.listings;
-          listed_is = listed_is;
           before = stop.more;
           full = one.full;
           next = file_of stop.pair;
@@ -670,12 +662,29 @@ module _ (inputs : List InputRule) (reads : List ScanInput) (told after : Option
           apart = (files_sorted front files covered in_front).1;
         }
 
+    pub shows_files : (files : List Listed) → AreCovered (pairs_of (map reading_of reads) (map showing_by found.entries)) files → AreFilesShown inputs listings files
+    shows_files files covered = files_shown files (covered_pairs files covered)
+
+    pub refuses : (error : ScanError) → error ≢ NoMemory → StopsAt (pairs_of (map reading_of reads) (map showing_by found.entries)) [] error → RefusesBy inputs listings error
+    refuses Failed some stops = stops
+    refuses NoMemory some stops = some refl
+    refuses (NoNative path) some stops = lacks_numbers path (untold_in_pairs path stops)
+    refuses (TooMany path) some stops = has_one_more path (more_in_pairs path stops)
+
+  -- one listing for each glob
+  listed_by_globs : (history : FolderHistory) (shows : ShowEntries (globs_read reads) lists.entries history after) → AreListed (globs_of inputs) history shows.listings after
+  listed_by_globs history shows = subst (λ (globs : List (List ℕ)). AreListed globs history shows.listings after) (globs_are inputs reads numbered) shows.listed
+
   pub scanned : (files : List Listed) → AreCovered (pairs_of (map reading_of reads) (map showing_by found.entries)) files → IfSome told (λ history. ScansFiles inputs history files after)
   scanned files covered = by_told told lists.shown
     where
       by_told : (o : Option FolderHistory) → IfSome o (λ history. ShowEntries (globs_read reads) lists.entries history after) → IfSome o (λ history. ScansFiles inputs history files after)
       by_told None shows = tt
-      by_told (Some history) shows = scans history shows files (covered_pairs files covered)
+      by_told (Some history) shows = record {
+        listings = shows.listings;
+        listed_is = listed_by_globs history shows;
+        shown = shows_files shows.listings shows.entries_are files covered;
+      }
 
   pub refused : (error : ScanError) → StopsAt (pairs_of (map reading_of reads) (map showing_by found.entries)) [] error → IfSome told (λ history. EndsAs inputs history error after)
   refused Failed stops = absurd stops
@@ -686,9 +695,17 @@ module _ (inputs : List InputRule) (reads : List ScanInput) (told after : Option
     where
       by_told : (o : Option FolderHistory) → IfSome o (λ history. ShowEntries (globs_read reads) lists.entries history after) → IfSome o (λ history. EndsAs inputs history (NoNative path) after)
       by_told None shows = tt
-      by_told (Some history) shows = finds_none history shows path (untold_in_pairs path stops)
+      by_told (Some history) shows = record {
+        listings = shows.listings;
+        listed_is = listed_by_globs history shows;
+        lacks = lacks_numbers shows.listings shows.entries_are path (untold_in_pairs path stops);
+      }
   refused (TooMany path) stops = by_told told lists.shown
     where
       by_told : (o : Option FolderHistory) → IfSome o (λ history. ShowEntries (globs_read reads) lists.entries history after) → IfSome o (λ history. EndsAs inputs history (TooMany path) after)
       by_told None shows = tt
-      by_told (Some history) shows = finds_more history shows path (more_in_pairs path stops)
+      by_told (Some history) shows = record {
+        listings = shows.listings;
+        listed_is = listed_by_globs history shows;
+        one_more = has_one_more shows.listings shows.entries_are path (more_in_pairs path stops);
+      }

@@ -109,14 +109,16 @@ both_are_told : ScansFiles inputs told files (after exchanged)
 both_are_told = record {
   listings = exchanged;
   listed_is = record { one_for_each_glob = refl; kept = refl };
-  only = All-from_recursion (λ one. Any (λ s. IsListedBy inputs one s) (shown_in exchanged)) files ((0, shown (Some (7, 1)), omega arith, refl, listed_by (7, 1)), ((1, shown (Some (9, 1)), omega arith, refl, listed_by (9, 1)), tt));
-  every = λ one number of.
-      let is = only_input number of.rule of.rule_is in
-      subst (λ (n : ℕ). HasFile files (name_at of.rule one n)) is.0
-      (subst (λ (r : InputRule). HasFile files (name_at r one 0)) is.1
-      (each_told one (in_contained (shown_in exchanged) one of.among)));
-  in_order = ((never_itself (place_of (file (9, 1))) (place_of (file (7, 1))) refl, tt), (tt, tt));
-  apart = (λ has. one_name has, (λ has. none_left has, tt));
+  shown = record {
+    only = All-from_recursion (λ one. Any (λ s. IsListedBy inputs one s) (shown_in exchanged)) files ((0, shown (Some (7, 1)), omega arith, refl, listed_by (7, 1)), ((1, shown (Some (9, 1)), omega arith, refl, listed_by (9, 1)), tt));
+    every = λ one number of.
+        let is = only_input number of.rule of.rule_is in
+        subst (λ (n : ℕ). HasFile files (name_at of.rule one n)) is.0
+        (subst (λ (r : InputRule). HasFile files (name_at r one 0)) is.1
+        (each_told one (in_contained (shown_in exchanged) one of.among)));
+    in_order = ((never_itself (place_of (file (9, 1))) (place_of (file (7, 1))) refl, tt), (tt, tt));
+    apart = (λ has. one_name has, (λ has. none_left has, tt));
+  };
 }
   where
     one_name : HasFile (file (9, 1) ∷ []) (name_of (file (7, 1))) → ⊥
@@ -145,14 +147,16 @@ refused_without_numbers : EndsAs inputs told (NoNative path) (after half_numbere
 refused_without_numbers = record {
   listings = half_numbered;
   listed_is = record { one_for_each_glob = refl; kept = refl };
-  shown = shown None;
-  input = 0;
-  covered = record { among = (1, omega arith, refl); rule = input; rule_is = refl; covered = is_covered };
-  by_numbers = refl;
-  path_is = refl;
-  none = refl;
-  first = λ one number of by_numbers none. never_before one number of;
-  before = file (7, 1) ∷ [];
-  few = omega arith;
-  every_before = λ one number of less. absurd (never_before one number of less);
+  lacks = record {
+    shown = shown None;
+    input = 0;
+    covered = record { among = (1, omega arith, refl); rule = input; rule_is = refl; covered = is_covered };
+    by_numbers = refl;
+    path_is = refl;
+    none = refl;
+    first = λ one number of by_numbers none. never_before one number of;
+    before = file (7, 1) ∷ [];
+    few = omega arith;
+    every_before = λ one number of less. absurd (never_before one number of less);
+  };
 }

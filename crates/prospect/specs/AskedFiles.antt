@@ -1,7 +1,7 @@
 -- The keys of listed files whose inputs know their files by fingerprints (Filebeat reference, file identity,
 -- `fingerprint`; this project's profile): each such file is opened by its path, asked for its key and closed again, one
 -- behind the other. A file that is too small for its fingerprint has no key yet, and one that is gone has none.
-use Rattle.std.specs.Prelude.{◌≡◌, ◌⊎◌, ℕ, List, [], ◌∷◌, ◌++◌, flat_map, length, map, slice_get, All, Option, Some, None}
+use Rattle.std.specs.Prelude.{◌≡◌, ◌⊎◌, ◌<◌, ℕ, List, [], ◌∷◌, ◌++◌, flat_map, length, map, slice_get, All, Option, Some, None}
 use Rattle.std.specs.List.{AllByRecursion}
 use Rattle.event_tree.specs.declared.input_rule.InputRule.{InputRule}
 use Rattle.file_identity.specs.Answers.{IsAskable, IsFingerprint, IsKeyBy}
@@ -123,6 +123,15 @@ pub record OnlyRead (path : List ℕ) (before : FolderHistory) (last : List Even
   pub faults : ℕ
   pub reads : AllByRecursion (λ look. IsRead look.question) looks
   pub last_is : last ≡ Opened path number begun ∷ Closed (length before.events) looks faults ∷ []
+
+-- and closed with faults
+pub record WasReadInVain (path : List ℕ) (before : FolderHistory) (last : List Event) : Type 0 where
+  pub read : OnlyRead path before last
+  pub failed : 0 < read.faults
+
+-- opening the file by the path failed, or reading it did
+abbrev pub FailsSo : List ℕ → FolderHistory → List Event → Type 0
+FailsSo path before last = (last ≡ OpeningFailed path ∷ []) ⊎ WasReadInVain path before last
 
 -- the opening by the path failed, or the file was closed before its key was put anywhere
 abbrev pub CutsOff : List ℕ → FolderHistory → List Event → Type 0

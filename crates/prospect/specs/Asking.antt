@@ -13,7 +13,7 @@ use Rattle.prospect.specs.declared.asking.Asked.{Asked}
 use Rattle.prospect.specs.declared.asking.Asked.TheVariants.{Gone, Known, Small, Told}
 use Rattle.prospect.specs.declared.asking.Keyed.{Keyed}
 use Rattle.prospect.specs.declared.listed.Listed.{Listed}
-use Rattle.prospect.specs.AskedFiles.{Answer, AnswersSo, AskedFile, AsksOne, ByName, CutsOff, Gave, KeepsFiles, NotFound, TooFew, gone_by, keyed_by, small_by}
+use Rattle.prospect.specs.AskedFiles.{Answer, AnswersSo, AskedFile, AsksOne, ByName, CutsOff, FailsSo, Gave, KeepsFiles, NotFound, TooFew, gone_by, keyed_by, small_by}
 use Rattle.prospect.specs.Scan.{with_events}
 
 -- the answer, where the file's opening has this place
@@ -36,9 +36,17 @@ pub record LeavesOff (rule : InputRule) (one : Listed) (told : FolderHistory) (a
   pub ends : (last ≡ []) ⊎ CutsOff one.path told last
   pub after_is : after ≡ Some (with_events told last)
 
+-- opening or reading it failed
+pub record Fails (rule : InputRule) (one : Listed) (told : FolderHistory) (after : Option FolderHistory) : Type 0 where
+  pub last : List Event
+  pub by_bytes : IsFingerprint rule.file_identity
+  pub fails : FailsSo one.path told last
+  pub after_is : after ≡ Some (with_events told last)
+
 abbrev pub TellsAnswer : InputRule → Listed → FolderHistory → Result Asked FolderError → Option FolderHistory → Type 0
 TellsAnswer rule one told (Ok asked) after = Answers rule one told asked after
-TellsAnswer rule one told (Err error) after = LeavesOff rule one told after
+TellsAnswer rule one told (Err Failed) after = Fails rule one told after
+TellsAnswer rule one told (Err NoMemory) after = LeavesOff rule one told after
 
 -- only a file that is known by a fingerprint is asked, and a key is of as many bytes as are wanted
 abbrev pub IsAnswerFor : InputRule → Listed → Asked → Type 0

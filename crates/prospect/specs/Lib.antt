@@ -7,7 +7,9 @@ pub mod Lacks
 pub mod ListedFiles
 pub mod Members
 pub mod Parting
+pub mod PastFaults
 pub mod Readings
 pub mod Scan
 pub mod Showings
+pub mod Trying
 pub mod Unfinished

@@ -92,14 +92,18 @@ pub record IsCoveredBy (inputs : List InputRule) (listings : List Listing) (show
   pub rule_is : slice_get inputs input ≡ Some rule
   pub covered : IsCovered rule.paths shown.entry.path
 
--- the files are those that the inputs cover of what the listings showed, each once
-pub record ScansFiles (inputs : List InputRule) (told : FolderHistory) (listed : List Listed) (after : Option FolderHistory) : Type 0 where
-  pub listings : List Listing
-  pub listed_is : AreListed (globs_of inputs) told listings after
+-- the files are those that the inputs cover of what these listings showed, each once
+pub record AreFilesShown (inputs : List InputRule) (listings : List Listing) (listed : List Listed) : Type 0 where
   pub only : AreOfShown inputs listings listed
   pub every : (shown : Shown) (input : ℕ) (of : IsCoveredBy inputs listings shown input) → HasFile listed (name_at of.rule shown input)
   pub in_order : AreInOrder listed
   pub apart : AreApart listed
+
+-- by one listing for each glob
+pub record ScansFiles (inputs : List InputRule) (told : FolderHistory) (listed : List Listed) (after : Option FolderHistory) : Type 0 where
+  pub listings : List Listing
+  pub listed_is : AreListed (globs_of inputs) told listings after
+  pub shown : AreFilesShown inputs listings listed
 
 -- the key is told where the identity does not read the file
 abbrev pub KeyIsTold : IdentityRule → Option (List ℕ) → Type 0
@@ -117,11 +121,9 @@ HaveEachBefore inputs listings files place =
     (shown : Shown) (input : ℕ) (of : IsCoveredBy inputs listings shown input) →
     place_order (place_at shown input) place ≡ Less → HasFile files (name_at of.rule shown input)
 
--- a path for which an input asks for native numbers was shown without them, the first such in the order; not more stand
--- before it than a scan tells
-pub record FindsNoNumbers (inputs : List InputRule) (told : FolderHistory) (path : List ℕ) (after : Option FolderHistory) : Type 0 where
-  pub listings : List Listing
-  pub listed_is : AreListed (globs_of inputs) told listings after
+-- the listings showed a path for which an input asks for native numbers without them, the first such in the order; not more
+-- stand before it than a scan tells
+pub record LacksNumbersFirst (inputs : List InputRule) (listings : List Listing) (path : List ℕ) : Type 0 where
   pub shown : Shown
   pub input : ℕ
   pub covered : IsCoveredBy inputs listings shown input
@@ -134,11 +136,15 @@ pub record FindsNoNumbers (inputs : List InputRule) (told : FolderHistory) (path
   pub few : length before ≤ MAX_FILES
   pub every_before : HaveEachBefore inputs listings before (place_at shown input)
 
--- there is a file more than a scan tells, and this is its path: as many as a scan tells stand before it, all that do, and
--- none of them lacks its numbers
-pub record FindsOneMore (inputs : List InputRule) (told : FolderHistory) (path : List ℕ) (after : Option FolderHistory) : Type 0 where
+-- by one listing for each glob
+pub record FindsNoNumbers (inputs : List InputRule) (told : FolderHistory) (path : List ℕ) (after : Option FolderHistory) : Type 0 where
   pub listings : List Listing
   pub listed_is : AreListed (globs_of inputs) told listings after
+  pub lacks : LacksNumbersFirst inputs listings path
+
+-- they showed a file more than a scan tells, and this is its path: as many as a scan tells stand before it, all that do, and
+-- none of them lacks its numbers
+pub record HasOneTooMany (inputs : List InputRule) (listings : List Listing) (path : List ℕ) : Type 0 where
   pub before : List Listed
   pub full : length before ≡ MAX_FILES
   pub next : Listed
@@ -148,6 +154,12 @@ pub record FindsOneMore (inputs : List InputRule) (told : FolderHistory) (path :
   pub keyed : All (IsKeyed inputs) (before ++ next ∷ [])
   pub in_order : AreInOrder (before ++ next ∷ [])
   pub apart : AreApart (before ++ next ∷ [])
+
+-- by one listing for each glob
+pub record FindsOneMore (inputs : List InputRule) (told : FolderHistory) (path : List ℕ) (after : Option FolderHistory) : Type 0 where
+  pub listings : List Listing
+  pub listed_is : AreListed (globs_of inputs) told listings after
+  pub one_more : HasOneTooMany inputs listings path
 
 -- what was done where a scan tells no file
 abbrev pub EndsAs : List InputRule → FolderHistory → ScanError → Option FolderHistory → Type 0

@@ -1,5 +1,5 @@
 ghost use Rattle.std.specs.Prelude.{◌≡◌, ◌∷◌, ◌-◌, ◌<◌, ◌≤◌, ◌^◌, List, length, All, IfOk, IfSome, IsErrOf, IsSome, OnErr, OnOk};
-ghost use Rattle.file_identity.specs.Answers.{IsAskable};
+ghost use Rattle.file_identity.specs.Answers.{IsAskable, IsFingerprint};
 ghost use Rattle.outside.specs.Counts.{Rose};
 ghost use Rattle.prospect.specs.AskedFiles.{AreAskable, AsksFiles, AsksSome, KeepsFiles, ReadNoFile};
 ghost use Rattle.prospect.specs.Asking.{AsksNext, IsAnswerFor, IsAnswered, KeepsNext, PutsAs, TellsAnswer};
@@ -106,7 +106,7 @@ fn ask_next<F: Folder>(
 
 /// What asking a listed file for its key came to.
 #[derive(Drop)]
-enum Asked {
+pub(crate) enum Asked {
     /// Its entry told the key.
     Told,
     Known(Text),
@@ -114,7 +114,7 @@ enum Asked {
     Gone,
 }
 
-fn put(keyed: &mut Keyed, one: Listed, asked: Asked) -> Result<(), NoMemory>
+pub(crate) fn put(keyed: &mut Keyed, one: Listed, asked: Asked) -> Result<(), NoMemory>
     ensures { OnOk result (PutsAs one asked keyed.old keyed.new) }
 {
     match asked {
@@ -130,7 +130,7 @@ fn put(keyed: &mut Keyed, one: Listed, asked: Asked) -> Result<(), NoMemory>
 }
 
 /// Asks a file of this input for its key. One that is opened is closed again.
-fn ask<F: Folder>(
+pub(crate) fn ask<F: Folder>(
     alloc: Global,
     folder: &mut F,
     rule: &InputRule,
@@ -140,6 +140,7 @@ fn ask<F: Folder>(
     ensures told { IfSome (F.told folder.old)
         (λ told. TellsAnswer rule.now one.now told result (F.told folder.new)) }
     ensures answer { IfOk result (IsAnswerFor rule.now one.now) }
+    ensures refused { OnErr result (IsFingerprint rule.now.file_identity) }
     ensures failed_only_where_faults_rose { IsErrOf result FolderError.Failed
         → Rose (F.faults folder.old) (F.faults folder.new) }
     ensures open_tails_kept { F.open_tails folder.old < 2 ^ 64 - 1

@@ -220,8 +220,8 @@ module _ {D : Type 0} (start : Began D) (folder : FolderTold) (has : HasScanned 
     each = each_member (IsForAnEntry run scan) scan.askings (λ asking among.
         let from = of_map asking_of folder.asked asking among in
         subst (IsForAnEntry run scan) from.is (for_an_entry from.item from.among));
-    in_order = all_in_order inputs folder.asked (each_member (IsAskedBy inputs) folder.asked asked_by) (subst AreInOrder (sym has.asked_are) has.scans.in_order)
-        (subst AreApart (sym has.asked_are) has.scans.apart);
+    in_order = all_in_order inputs folder.asked (each_member (IsAskedBy inputs) folder.asked asked_by) (subst AreInOrder (sym has.asked_are) has.scans.shown.in_order)
+        (subst AreApart (sym has.asked_are) has.scans.shown.apart);
     made = subst (λ (n : ℕ). AreMadeFrom folder.ended.events n scan.askings) right_behind
         (made_from inputs folder.asked folder.listed folder.scanned folder.ended has.asks (run_goes_on start folder has so_far done wires));
   }

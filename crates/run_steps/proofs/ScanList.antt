@@ -216,7 +216,7 @@ module _ {D : Type 0} (start : Began D) (folder : FolderTold) (has : HasScanned 
   -- ---- its files
 
   pub shown_of : (of : AskedFile) → Contains folder.asked of → IsOfShown inputs listings of.listed
-  shown_of of there = member_is (IsOfShown inputs listings) has.all of.listed (each_of_shown inputs listings has.all has.scans.only)
+  shown_of of there = member_is (IsOfShown inputs listings) has.all of.listed (each_of_shown inputs listings has.all has.scans.shown.only)
       (subst (λ (l : List Listed). Contains l of.listed) has.asked_are (mapped_there listed_of folder.asked of there))
 
   -- each listed file was asked for its key

@@ -188,6 +188,31 @@ fn first_path_without_numbers_is_told(rt: HostRuntime) -> Result<(), Fail> {
     Ok(())
 }
 
+/// What `list_past_faults` answers; none of its contract is needed here.
+fn scan_on(
+    alloc: Global,
+    folder: &mut ListedFolder,
+    inputs: &[InputRule],
+) -> Result<Listings, NoMemory>
+    requires { HaveGlobs inputs.now }
+{
+    list_past_faults(alloc, folder, inputs)
+}
+
+/// One path is shown by the listing that fails alone.
+#[test]
+fn scan_goes_on_past_a_failed_listing(rt: HostRuntime) -> Result<(), Fail> {
+    let alloc = rt.alloc();
+    let (paths, asks, rows) = &FILES[0];
+    let inputs = inputs(alloc, &INPUTS, asks)?;
+    let mut folder = folder(alloc, paths, 2)?;
+    let Listings { files, failed } = scan_on(alloc, &mut folder, &inputs)?;
+    assert!(rt; folder.listings.as_str() == "/w 1\n/w 1\n/none 1\n");
+    assert!(rt; failed.len() == 1 && failed[0].as_str() == "/w");
+    assert!(rt; are_listed(&files?, &rows[..4]));
+    Ok(())
+}
+
 /// The file under the second path has the key that one listing of the first path told.
 #[test]
 fn file_of_an_earlier_key_is_doubled(rt: HostRuntime) -> Result<(), Fail> {

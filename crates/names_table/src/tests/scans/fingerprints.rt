@@ -8,7 +8,7 @@ use crate::tests::scans::asks::{globs, input};
 use crate::tests::scans::{Row, are_listed};
 use event_tree::{IdentityRule, InputRule};
 use outside_mem::{Due, MemChange, MemFile, MemFolder, MemStep};
-use prospect::{Keyed, ask_files, list_files};
+use prospect::{Keyed, ask_files, ask_past_faults, list_files};
 use std::alloc::Global;
 use std::test::Fail;
 use wire_base::Blob;
@@ -81,5 +81,18 @@ fn listed_files_are_asked_for_their_fingerprints(rt: HostRuntime) -> Result<(), 
         assert!(rt; are_listed(&keyed.gone, gone));
         assert!(rt; are_listed(&keyed.small, small));
     }
+    Ok(())
+}
+
+#[test]
+fn file_that_does_not_open_is_left_out(rt: HostRuntime) -> Result<(), Fail> {
+    let alloc = rt.alloc();
+    let inputs = inputs(alloc)?;
+    let mut folder = folder(alloc, 112, false)?;
+    folder.fail_at(&[1])?;
+    let listed = list_files(alloc, &mut folder, &inputs)?;
+    let askings = ask_past_faults(alloc, &mut folder, &inputs, listed)?;
+    assert!(rt; askings.keyed.files.is_empty());
+    assert!(rt; are_listed(&askings.failed, &[(0, None, "/w/a.log", 112, 0)]));
     Ok(())
 }
