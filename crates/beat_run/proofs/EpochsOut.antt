@@ -19,7 +19,7 @@ use Rattle.run_steps.specs.BeginFor.{row_of, start_among}
 use Rattle.run_steps.specs.Ends.{Ending}
 use Rattle.run_steps.specs.LastEpoch.{falls_in}
 use Rattle.run_steps.specs.RunEnds.{HasEnded}
-use Rattle.run_steps.specs.Shown.{WasClosedWith}
+use Rattle.told_scans.specs.OnlyAsked.{WasClosedWith}
 use Rattle.run_steps.specs.Starting.{IsFirstTooMany, new_files}
 use Rattle.run_steps.specs.declared.met.Met.{Met}
 use Rattle.run_steps.proofs.Members.{some_is}

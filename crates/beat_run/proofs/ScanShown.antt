@@ -22,7 +22,7 @@ use Rattle.report.specs.declared.status.Status.TheVariants.{Done, Stopped, Usage
 use Rattle.run_steps.specs.RunOf.{FolderTold}
 use Rattle.run_steps.specs.ScannedSome.{HasScannedSome}
 use Rattle.run_steps.specs.declared.beginning.Scanned.{Scanned}
-use Rattle.run_steps.proofs.AskedEvents.{asked_none}
+use Rattle.told_scans.proofs.AskedEvents.{asked_none}
 use Rattle.run_steps.proofs.RunEarly.{asked_scan, cut_scan, listed_all}
 use Rattle.wire_base.specs.declared.limits.Full.TheVariants.{Epochs, Files, Slots}
 use Rattle.wire_base.specs.declared.row.Row.{Row}

@@ -48,7 +48,7 @@ whole_listed globs told failed faults after tries none =
 
 -- ---- and one of which something did
 
-not_more : (faults : ℕ) (attempts : List Attempt) (events : List Event) → StandSo faults attempts events → length events ≤ length attempts
+pub not_more : (faults : ℕ) (attempts : List Attempt) (events : List Event) → StandSo faults attempts events → length events ≤ length attempts
 not_more faults [] events stand = omega (arith, ap (λ (l : List Event). length l) stand)
 not_more faults (Served listing ∷ attempts) events stand =
     omega (arith, ap (λ (l : List Event). length l) stand.1, not_more faults attempts stand.0 stand.2)

@@ -34,7 +34,7 @@ use Rattle.run_steps.specs.declared.begin_error.BeginError.{BeginError}
 use Rattle.run_steps.proofs.BeginningFiles.{BeginsBelow, IsToBegin, Leaves, leaves, one_ends, one_more}
 use Rattle.run_steps.proofs.BeginningOne.{AreBelow, Begins, at_phase, stands_at}
 use Rattle.run_steps.proofs.HiddenStands.{hides, hides_some}
-use Rattle.run_steps.proofs.Openings.{got_at_end}
+use Rattle.told_scans.proofs.Events.{got_at_end}
 use Rattle.run_steps.proofs.SeenMoments.{are_all_seen}
 use Rattle.run_steps.proofs.ToldMoments.{AreListedFrom, StandsUncollected, all_seen}
 use Rattle.run_steps.proofs.Ended.{nil_by}

@@ -7,7 +7,7 @@ use Rattle.std.specs.List.{AllByRecursion}
 use Rattle.harvester.specs.declared.harvester.Harvester.{Harvester}
 use Rattle.accounts.specs.Turned.{Turned}
 use Rattle.accounts.specs.Turning.{Pairs}
-use Rattle.kept_rows.specs.Trace.{Closing, closing_by, closing_in, first_of_two}
+use Rattle.kept_rows.specs.Trace.{Closing, closing_in, first_of_two}
 use Rattle.lanes.specs.Laning.{Laning}
 use Rattle.outside.specs.Folders.{Closed, Event, FolderHistory, Listed, ListingFailed, NotThere, Opened, OpeningFailed}
 use Rattle.outside.specs.Tails.{TailHistory}
@@ -16,21 +16,14 @@ use Rattle.rounds.specs.Pairs.{SomeOf}
 use Rattle.ship_core.proofs.Members.{first_there, later_there}
 use Rattle.run_steps.specs.Releasing.{all_closings, closing_of, closings_of}
 use Rattle.run_steps.specs.SoFar.{Left}
-use Rattle.run_steps.specs.Shown.{IsStillOpen, WasClosedWith}
+use Rattle.told_scans.specs.OnlyAsked.{WasClosedWith}
+use Rattle.run_steps.specs.Shown.{IsStillOpen}
 use Rattle.run_steps.proofs.Releasing.{left_of, left_of_all}
 use Rattle.prospect.proofs.Lists.{all_append}
 use Rattle.run_steps.proofs.LastOver.{some_behind, some_first}
+use Rattle.told_scans.proofs.Events.{closing_both}
 
 -- ---- the first closing of an opening
-
-pub closing_both : (opening : ℕ) (first second : List Event) → closing_in opening (first ++ second) ≡ first_of_two (closing_in opening first) (closing_in opening second)
-closing_both opening [] second = refl
-closing_both opening (event ∷ first) second = ap (first_of_two (closing_by opening event)) (closing_both opening first second)
-    ∙ in_turn (closing_by opening event) (closing_in opening first) (closing_in opening second)
-  where
-    in_turn : (x y z : Option Closing) → first_of_two x (first_of_two y z) ≡ first_of_two (first_of_two x y) z
-    in_turn None y z = refl
-    in_turn (Some c) y z = refl
 
 module _ (before : FolderHistory) (more : List Event) where
   abbrev after : FolderHistory

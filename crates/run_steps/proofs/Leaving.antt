@@ -42,7 +42,8 @@ use Rattle.run_steps.specs.Begun.{AreSlotsFrom}
 use Rattle.run_steps.specs.Releasing.{all_closings, released, with_events}
 use Rattle.run_steps.specs.LastEpoch.{IsLastOver, HaveOneOver}
 use Rattle.run_steps.specs.RunState.{Finished, Leaving, OutOfEpochs, Phase, Reading, RunState, phase_left}
-use Rattle.run_steps.specs.Shown.{HasDone, HasShown, IsNoListing, IsStillOpen, WasClosedWith, WasOnlyAsked, WasOpenedSince, openings_of}
+use Rattle.told_scans.specs.OnlyAsked.{IsNoListing, WasClosedWith, WasOnlyAsked}
+use Rattle.run_steps.specs.Shown.{HasDone, HasShown, IsStillOpen, WasOpenedSince, openings_of}
 use Rattle.run_steps.specs.SoFar.{Left, SoFar, files_in, files_of}
 use Rattle.run_steps.specs.Stands.{AreEachOnce, AreTurnedIn, Further, IsLeftSo, Stands, TellIn}
 use Rattle.run_steps.proofs.Causing.{some_parted}

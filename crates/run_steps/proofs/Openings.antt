@@ -18,9 +18,11 @@ use Rattle.outside.specs.Tails.{TailHistory}
 use Rattle.outside.specs.declared.history.Look.{Look}
 use Rattle.outside.specs.declared.history.Sight.{Sight}
 use Rattle.ship_core.proofs.Members.{first_there, later_there, none_there, there_cases}
-use Rattle.run_steps.specs.Shown.{HasDone, IsNoListing, IsStillOpen, IsTurnedIn, WasClosedWith, WasOnlyAsked, WasOpenedSince, openings_of}
+use Rattle.told_scans.specs.OnlyAsked.{IsNoListing, WasClosedWith, WasOnlyAsked}
+use Rattle.run_steps.specs.Shown.{HasDone, IsStillOpen, IsTurnedIn, WasOpenedSince, openings_of}
 use Rattle.run_steps.specs.SoFar.{Left, SoFar, files_of}
 use Rattle.accounts.proofs.Orderly.{member_is}
+use Rattle.told_scans.proofs.Events.{got_at_end}
 
 -- ---- closings
 
@@ -60,10 +62,6 @@ closes_no_other opening of looks faults less = by_case (of == opening) refl
     by_case false is = ap (λ (b : Bool). first_of_two (if b then Some (record { looks = looks; faults = faults }) else None) (closing_in opening [])) is
 
 -- ---- places
-
-pub got_at_end : {A : Type 0} (xs : List A) (x : A) (ys : List A) → slice_get (xs ++ x ∷ ys) (length xs) ≡ Some x
-got_at_end [] x ys = refl
-got_at_end (first ∷ xs) x ys = got_at_end xs x ys
 
 -- it stands in the first list, or so far behind it in the second
 pub record StandsBehind {A : Type 0} (xs ys : List A) (k : ℕ) (x : A) : Type 0 where

@@ -40,7 +40,8 @@ use Rattle.run_steps.specs.LastEpoch.{IsLastOver, HaveOneOver, RanOutOfEpochs, f
 use Rattle.run_steps.specs.Releasing.{HasNoHarvesters}
 use Rattle.run_steps.specs.RunEnds.{HasEnded}
 use Rattle.run_steps.specs.RunState.{Phase}
-use Rattle.run_steps.specs.Shown.{HasDone, HasShown, WasClosedWith, WasOpenedSince}
+use Rattle.told_scans.specs.OnlyAsked.{WasClosedWith}
+use Rattle.run_steps.specs.Shown.{HasDone, HasShown, WasOpenedSince}
 use Rattle.run_steps.specs.SoFar.{Left, SoFar, files_in, files_of}
 use Rattle.run_steps.specs.Stands.{IsLeftSo}
 use Rattle.run_steps.specs.declared.met.Met.{Met}

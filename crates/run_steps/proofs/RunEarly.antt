@@ -52,13 +52,14 @@ use Rattle.wire_base.specs.declared.row.Row.{Row}
 use Rattle.run_steps.specs.AccountedFor.{Absences, AccountedFor, AreImageRows, LostInImage, LostKey, RowsBy, RunObjects}
 use Rattle.run_steps.specs.Areas.{BeganAtRest, GaveRows, GiveTheRows, HaveHeldFronts}
 use Rattle.run_steps.specs.Began.{Began}
-use Rattle.run_steps.specs.FolderOn.{FolderGoesOn}
+use Rattle.told_scans.specs.FolderOn.{FolderGoesOn}
 use Rattle.run_steps.specs.RunOf.{FolderTold, run_of, scan_of, wires_behind}
-use Rattle.run_steps.specs.ScannedSome.{HasOnlyAsked, HasScannedSome}
+use Rattle.told_scans.specs.OnlyAsked.{HasOnlyAsked}
+use Rattle.run_steps.specs.ScannedSome.{HasScannedSome}
 use Rattle.run_steps.specs.Shown.{HasGiven}
 use Rattle.run_steps.specs.declared.met.Met.{Met}
 use Rattle.run_steps.specs.declared.met.Met.TheVariants.{Done}
-use Rattle.run_steps.proofs.AskedEvents.{all_asked, asked_none, event_was, goes_on_asking, some_asked, goes_on_further}
+use Rattle.told_scans.proofs.AskedEvents.{all_asked, asked_none, event_was, goes_on_asking, some_asked, goes_on_further}
 use Rattle.run_steps.proofs.NamedInputs.{inputs_have_own_ids}
 use Rattle.run_steps.proofs.ImagesHold.{images_hold, ordered_at_rest, together_hold}
 use Rattle.run_steps.proofs.Members.{some_is}
@@ -66,7 +67,8 @@ use Rattle.run_steps.proofs.RowsStay.{KeepsItsSlots, rows_stay}
 use Rattle.run_steps.proofs.RunFits.{first_since, moments_since}
 use Rattle.run_steps.proofs.RunRows.{OneChoice, given_over_fronts}
 use Rattle.run_steps.proofs.RunWires.{acknowledged_none, of_no_worker, took_none}
-use Rattle.run_steps.proofs.Scanning.{AreAt, are_at, no_more_listings}
+use Rattle.told_scans.proofs.Scanning.{are_at, no_more_listings}
+use Rattle.told_scans.specs.Partial.{AreAt}
 use Rattle.run_steps.proofs.Unbegun.{unbegun_stand}
 use Rattle.run_steps.proofs.WireOn.{all_told_stay}
 

@@ -44,21 +44,24 @@ use Rattle.run_steps.specs.Began.{Began}
 use Rattle.run_steps.specs.BeginFor.{row_of}
 use Rattle.run_steps.specs.Begun.{AreSlotsFrom, IsKeyed, IsOpenedAsListed}
 use Rattle.run_steps.specs.Releasing.{HasNoHarvesters}
-use Rattle.run_steps.specs.RunOf.{FolderTold, run_of, scan_of}
+use Rattle.run_steps.specs.RunOf.{FolderTold, run_of, scan_of, told_scan}
 use Rattle.run_steps.specs.RunState.{RunState}
 use Rattle.run_steps.specs.Scanned.{HasScanned}
-use Rattle.run_steps.specs.Shown.{HasDone, HasShown, WasClosedWith, WasOnlyAsked, WasOpenedSince, openings_of}
+use Rattle.told_scans.specs.OnlyAsked.{WasClosedWith, WasOnlyAsked}
+use Rattle.run_steps.specs.Shown.{HasDone, HasShown, WasOpenedSince, openings_of}
 use Rattle.run_steps.specs.SoFar.{Left, SoFar, files_in, files_of}
 use Rattle.run_steps.specs.Stands.{AreTurnedIn, IsLeftSo, Stands}
-use Rattle.run_steps.proofs.AskedEvents.{distinct_both, openings_asked, openings_distinct}
+use Rattle.told_scans.proofs.AskedEvents.{distinct_both, openings_asked, openings_distinct}
 use Rattle.run_steps.proofs.NamedInputs.{each_of}
 use Rattle.prospect.proofs.Doubled.{keys_apart as files_keys_apart}
 use Rattle.prospect.specs.AskedFiles.{keyed_by}
 use Rattle.run_steps.proofs.Named.{keys_apart}
-use Rattle.run_steps.proofs.FirstPaths.{is_first_path}
-use Rattle.run_steps.proofs.ScanAsked.{in_this_run}
-use Rattle.run_steps.proofs.ScanList.{IsOfEntry, asked_within, behind_listings, entry_of, is_before, placed_in_scan, since_listed}
-use Rattle.run_steps.proofs.ScanOf.{ShowsSome, shows_file}
+use Rattle.told_scans.proofs.FirstPaths.{is_first_path}
+use Rattle.told_scans.proofs.ScanAsked.{in_this_run}
+use Rattle.told_scans.proofs.ScanList.{IsOfEntry, asked_within, behind_listings, entry_of, is_before, placed_in_scan, since_listed}
+use Rattle.told_scans.proofs.ScanOf.{ShowsSome, shows_file}
+use Rattle.run_steps.proofs.OneScan.{around_one, is_around, told_so}
+use Rattle.told_scans.specs.ToldScan.{IsAround, IsTold, RunAround, ToldScan}
 
 -- ---- what stands of a file in the lists
 
@@ -156,6 +159,18 @@ module _ {T W L D : Type 0} (words : Words T W L D) (start : Began D) (state : R
   pub done : HasDone folder.scanned folder.ended (files_of so_far)
   done = subst (λ (o : Option FolderHistory). HasShown (Some folder.scanned) o (files_of so_far)) shown (subst (λ (o : Option FolderHistory). HasShown o state.shown (files_of so_far)) has.shown stands.files.shown)
 
+  abbrev the_scan : ToldScan
+  the_scan = told_scan start folder
+
+  abbrev scan_told : IsTold the_scan
+  scan_told = told_so start folder has
+
+  abbrev around_scan : RunAround
+  around_scan = around_one start folder so_far.moments wires
+
+  abbrev stands_around : IsAround the_scan around_scan
+  stands_around = is_around start folder so_far done wires
+
   tells : IsSome start.shown
   tells = subst (λ (o : Option FolderHistory). IsSome o) (sym has.shown) refl
 
@@ -226,7 +241,7 @@ module _ {T W L D : Type 0} (words : Words T W L D) (start : Began D) (state : R
 
     -- behind the listings, as behind all of the scan
     behind : length folder.listed.events ≤ one.opening
-    behind = let since = opened_since.since in let long = since_listed start folder has so_far done wires in omega (arith, since, long)
+    behind = let since = opened_since.since in let long = since_listed the_scan scan_told around_scan stands_around in omega (arith, since, long)
 
     -- ---- as it was listed
 
@@ -240,7 +255,7 @@ module _ {T W L D : Type 0} (words : Words T W L D) (start : Began D) (state : R
     entry_there = got_there start.listed one.begin.slot.0 entry as_listed.listed_there
 
     pub of_entry : IsOfEntry start.settings.inputs has.scans.listings folder.asked entry
-    of_entry = entry_of start folder has so_far done wires entry (Contains-append_left start.listed start.doubled entry entry_there)
+    of_entry = entry_of the_scan scan_told around_scan stands_around entry (Contains-append_left start.listed start.doubled entry entry_there)
 
     abbrev its_entry : Shown
     its_entry = of_entry.shown
@@ -254,10 +269,10 @@ module _ {T W L D : Type 0} (words : Words T W L D) (start : Began D) (state : R
     rule_is : slice_get start.settings.inputs one.begin.input ≡ Some one.rule
     rule_is = ap (slice_get start.settings.inputs) input_is ∙ as_listed.rule_is
 
-    shows : ShowsSome start folder has so_far done wires its_entry one.begin.input key
+    shows : ShowsSome the_scan scan_told around_scan stands_around its_entry one.begin.input key
     shows =
-        subst (λ (i : ℕ). ShowsSome start folder has so_far done wires its_entry i key) (sym input_is)
-        (shows_file start folder has so_far done wires entry (Contains-append_left start.listed start.doubled entry entry_there) of_entry key as_listed.keyed one.rule as_listed.rule_is)
+        subst (λ (i : ℕ). ShowsSome the_scan scan_told around_scan stands_around its_entry i key) (sym input_is)
+        (shows_file the_scan scan_told around_scan stands_around entry (Contains-append_left start.listed start.doubled entry entry_there) of_entry key as_listed.keyed one.rule as_listed.rule_is)
 
     starts : start_in one ≡ start_by (find key start.opening) its_entry.entry.size
     starts =
@@ -269,7 +284,7 @@ module _ {T W L D : Type 0} (words : Words T W L D) (start : Began D) (state : R
     first : IsFirstPath run scan key shows.number one.begin.path
     first =
         subst (IsFirstPath run scan key shows.number) (sym path_is)
-        (is_first_path start folder has so_far done wires entry key shows.number entry_there as_listed.keyed
+        (is_first_path the_scan scan_told around_scan stands_around entry key shows.number entry_there as_listed.keyed
         (record { shown = its_entry; path_is = sym of_entry.path_is; shows = (one.begin.input, shows.shows) }))
 
     is_listed : IsListedAs run scan one its_entry
@@ -278,7 +293,7 @@ module _ {T W L D : Type 0} (words : Words T W L D) (start : Began D) (state : R
       shows = shows.shows;
       path_is = sym of_entry.path_is ∙ sym path_is;
       first = first;
-      before = is_before start folder has so_far done wires one.opening behind;
+      before = is_before the_scan scan_told around_scan stands_around one.opening behind;
       starts = starts;
     }
 
@@ -303,7 +318,7 @@ module _ {T W L D : Type 0} (words : Words T W L D) (start : Began D) (state : R
       in_range = as_listed.in_range;
       file_is = opened_since.file_is;
       tail = record {
-        in_this_run = in_this_run start folder has so_far done wires one.opening behind;
+        in_this_run = in_this_run the_scan scan_told around_scan stands_around one.opening behind;
         begun = one.begun;
         opened = opened_since.stands;
         tells = tells_looks;
@@ -340,14 +355,14 @@ module _ {T W L D : Type 0} (words : Words T W L D) (start : Began D) (state : R
   each_opening : EachOpeningIsOne run files
   each_opening opening path number begun since is =
       ⊎_elim
-      (λ within. inr (only_reads opening (asked_within start folder has so_far done wires opening path number begun (behind_listings start folder has so_far done wires opening path number begun since is) within is)))
+      (λ within. inr (only_reads opening (asked_within the_scan scan_told around_scan stands_around opening path number begun (behind_listings the_scan scan_told around_scan stands_around opening path number begun since is) within is)))
       (λ behind. ⊎_elim (λ among. inl (subst (λ (l : List ℕ). Contains l opening) (sym openings_are) among)) (λ was. inr (only_reads opening was)) (done.serve opening path number begun behind is))
       (cases_lt opening (length folder.scanned.events))
 
   -- those that only asked stand before the end of the scan, and those that are followed behind it
   none_in_both : (opening : ℕ) → Contains (openings_asked folder.asked) opening → Contains (openings_of so_far.opened) opening → ⊥
   none_in_both opening asked followed =
-      let within = placed_in_scan start folder has so_far done wires opening asked in
+      let within = placed_in_scan the_scan scan_told around_scan stands_around opening asked in
       let of = of_map (λ (o : Opened). o.opening) so_far.opened opening followed in
       let since = (member_is (WasOpenedSince folder.scanned folder.ended) so_far.opened of.item done.opened of.among).since in
       let is = of.is in

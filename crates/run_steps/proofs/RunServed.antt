@@ -41,7 +41,8 @@ use Rattle.run_steps.specs.Telling.{moment_noted}
 use Rattle.run_steps.specs.Began.{Began}
 use Rattle.run_steps.specs.Begun.{noted_begin}
 use Rattle.run_steps.specs.Releasing.{HasNoHarvesters}
-use Rattle.run_steps.specs.RunOf.{FolderTold, asking_of, opening_by, run_of, scan_of}
+use Rattle.told_scans.specs.ToldScan.{IsAround, IsTold, RunAround, ToldScan, asking_of, opening_by}
+use Rattle.run_steps.specs.RunOf.{FolderTold, run_of, scan_of, told_scan}
 use Rattle.run_steps.specs.RunState.{RunState}
 use Rattle.run_steps.specs.Scanned.{HasScanned}
 use Rattle.run_steps.specs.Served.{AreServed, HasBegin, WasSkippedBy, folder_trace}
@@ -49,17 +50,18 @@ use Rattle.run_steps.specs.SkippedFor.{GaveAsOpened, IsSkippedFor, WasMoved, Was
 use Rattle.run_steps.specs.Shown.{HasDone}
 use Rattle.run_steps.specs.SoFar.{SoFar, files_in, files_of}
 use Rattle.run_steps.specs.Stands.{Stands}
-use Rattle.run_steps.proofs.AskedEvents.{AnswerStands, HasAsked, HasMissed}
-use Rattle.run_steps.proofs.FirstPaths.{double_has_earlier}
+use Rattle.told_scans.proofs.AskedEvents.{AnswerStands, HasAsked, HasMissed}
+use Rattle.run_steps.proofs.Doubles.{double_has_earlier}
 use Rattle.run_steps.proofs.FollowedOrSkipped.{IsSkippedSince, came_so}
 use Rattle.run_steps.proofs.HiddenAmong.{hidden_slots}
-use Rattle.run_steps.proofs.KeyedFiles.{KeepsEntry, keeps_entry}
+use Rattle.told_scans.proofs.KeyedFiles.{KeepsEntry, keeps_entry}
 use Rattle.run_steps.proofs.Members.{some_is}
 use Rattle.run_steps.proofs.RunFiles.{as_listed, done, files, is_joined, joined, moment_is, moment_noted_is, of_entry, path_is, input_is, was_opened}
 use Rattle.run_steps.proofs.RunNotes.{begin_opened, opened_is_in_notes}
-use Rattle.run_steps.proofs.ScanAsked.{asks_for, in_this_run, of_its_input, of_no_asking}
-use Rattle.run_steps.proofs.ScanList.{answered, entry_of, everyone, in_parts, is_before, shows_entry, since_listed}
-use Rattle.run_steps.proofs.ScanOf.{IsListedFor, ShowsSome, answer_by, gave_there, is_listed_for, key_is_told, rule_of, shows_asked, shows_file}
+use Rattle.told_scans.proofs.ScanAsked.{asks_for, in_this_run}
+use Rattle.run_steps.proofs.OneScan.{around_one, is_around, of_its_input, of_no_asking, told_so}
+use Rattle.told_scans.proofs.ScanList.{answered, entry_of, everyone, in_parts, is_before, shows_entry, since_listed}
+use Rattle.told_scans.proofs.ScanOf.{IsListedFor, ShowsSome, answer_by, gave_there, is_listed_for, key_is_told, rule_of, shows_asked, shows_file}
 use Rattle.accounts.proofs.Orderly.{member_is}
 
 got_some : {A : Type 0} (P : A → Type 0) (o : Option A) (x : A) → o ≡ Some x → IfSome o P → P x
@@ -83,6 +85,18 @@ module _ {T W L D : Type 0} (words : Words T W L D) (start : Began D) (state : R
 
   has_done : HasDone folder.scanned folder.ended (files_of so_far)
   has_done = done words start state so_far stands released folder has shown wires
+
+  abbrev the_scan : ToldScan
+  the_scan = told_scan start folder
+
+  abbrev scan_told : IsTold the_scan
+  scan_told = told_so start folder has
+
+  abbrev around_scan : RunAround
+  around_scan = around_one start folder so_far.moments wires
+
+  abbrev stands_around : IsAround the_scan around_scan
+  stands_around = is_around start folder so_far has_done wires
 
   ground : AllByRecursion (HasGround (files_in so_far) (acknowledged_in workers)) so_far.collected
   ground = each_has_ground (files_in so_far) workers so_far.collected fits
@@ -123,19 +137,19 @@ module _ {T W L D : Type 0} (words : Words T W L D) (start : Began D) (state : R
 
   -- behind the scan no opening was made for an asking
   behind_listings : (opening : ℕ) → length folder.scanned.events ≤ opening → length folder.listed.events ≤ opening
-  behind_listings opening since = let long = since_listed start folder has so_far has_done wires in omega (arith, long, since)
+  behind_listings opening since = let long = since_listed the_scan scan_told around_scan stands_around in omega (arith, long, since)
 
   module _ (shown_entry : Shown) (input : ℕ) (rule : InputRule) (entry : ShowsEntry run.trace scan shown_entry) (rule_is : slice_get start.settings.inputs input ≡ Some rule)
       (covered : IsCovered rule.paths shown_entry.entry.path) where
-    of : IsListedFor start folder has so_far has_done wires shown_entry input rule
-    of = is_listed_for start folder has so_far has_done wires shown_entry input rule entry rule_is covered
+    of : IsListedFor the_scan scan_told around_scan stands_around shown_entry input rule
+    of = is_listed_for the_scan scan_told around_scan stands_around shown_entry input rule entry rule_is covered
 
     answer : AnswerStands rule of.of.listed of.of.answer folder.ended
-    answer = answer_by start folder has so_far has_done wires of.of of.among shown_entry input rule entry of.input_is of.path_is rule_is
+    answer = answer_by the_scan scan_told around_scan stands_around of.of of.among shown_entry input rule entry of.input_is of.path_is rule_is
 
     -- where its opening is, if it was opened to ask for its key
     since : (opening : ℕ) → opening_by of.of.answer ≡ Some opening → length folder.listed.events ≤ opening
-    since opening at = ((answered start folder has so_far has_done wires of.of of.among).placed opening at).0
+    since opening at = ((answered the_scan scan_told around_scan stands_around of.of of.among).placed opening at).0
 
     own : (opening : ℕ) → opening_by of.of.answer ≡ Some opening → IsOfNoOther run input opening
     own opening at = subst (λ (i : ℕ). IsOfNoOther run i opening) of.input_is (of_its_input start folder has so_far has_done wires of.of of.among opening at)
@@ -146,10 +160,10 @@ module _ {T W L D : Type 0} (words : Words T W L D) (start : Began D) (state : R
     gone_asked : (opening : ℕ) → opening_by of.of.answer ≡ Some opening → HasMissed rule of.of.listed opening folder.ended → IsGone run scan shown_entry.entry.path input
     gone_asked opening at missed = record {
       opening = opening;
-      since = is_before start folder has so_far has_done wires opening (since opening at);
+      since = is_before the_scan scan_told around_scan stands_around opening (since opening at);
       of_input = own opening at;
       was = record {
-        in_this_run = in_this_run start folder has so_far has_done wires opening (since opening at);
+        in_this_run = in_this_run the_scan scan_told around_scan stands_around opening (since opening at);
         not_there = missed.is ∙ ap (λ (path : List ℕ). Some (NotThere path)) of.path_is;
       };
     }
@@ -159,10 +173,10 @@ module _ {T W L D : Type 0} (words : Words T W L D) (start : Began D) (state : R
       by_bytes = asked.by_bytes;
       gave_none = inl (record {
         asking = asking_of of.of;
-        asks = asks_for start folder has so_far has_done wires of.of of.among shown_entry input entry of.input_is of.path_is;
+        asks = asks_for the_scan scan_told around_scan stands_around of.of of.among shown_entry input entry of.input_is of.path_is;
         number = asked.number;
         gave = subst (λ (o : Option ℕ). Gave run.trace rule shown_entry o None asked.number) (sym at)
-            (gave_there start folder has so_far has_done wires of.of of.among shown_entry input rule entry of.input_is of.path_is rule_is opening None at asked);
+            (gave_there the_scan scan_told around_scan stands_around of.of of.among shown_entry input rule entry of.input_is of.path_is rule_is opening None at asked);
       });
     }
 
@@ -178,13 +192,13 @@ module _ {T W L D : Type 0} (words : Words T W L D) (start : Began D) (state : R
       its_rule : slice_get start.settings.inputs one.input ≡ Some rule
       its_rule = ap (slice_get start.settings.inputs) (keeps.input_is ∙ of.input_is) ∙ rule_is
 
-      among_all : Contains (everyone start folder has so_far has_done wires) one
-      among_all = in_parts start folder has so_far has_done wires of.of one of.among kept
+      among_all : Contains (everyone the_scan scan_told around_scan stands_around) one
+      among_all = in_parts the_scan scan_told around_scan stands_around of.of one of.among kept
 
       -- the entry shows a file with the key
-      shows_it : (key : List ℕ) → one.key ≡ Some key → ShowsSome start folder has so_far has_done wires shown_entry input key
+      shows_it : (key : List ℕ) → one.key ≡ Some key → ShowsSome the_scan scan_told around_scan stands_around shown_entry input key
       shows_it key keyed =
-          shows_asked start folder has so_far has_done wires of.of of.among shown_entry input rule entry of.input_is of.path_is rule_is covered of.key_is one kept key keyed
+          shows_asked the_scan scan_told around_scan stands_around of.of of.among shown_entry input rule entry of.input_is of.path_is rule_is covered of.key_is one kept key keyed
 
       among_files : (slot : ℕ) → slice_get start.listed slot ≡ Some one → HasFileAt slot → IsAmongFiles run scan run_files shown_entry input
       among_files slot at there =
@@ -204,7 +218,7 @@ module _ {T W L D : Type 0} (words : Words T W L D) (start : Began D) (state : R
       is_gone : (opening : ℕ) → length folder.scanned.events ≤ opening → WasGone told_trace opening one.path → IsGone run scan shown_entry.entry.path input
       is_gone opening behind gone = record {
         opening = opening;
-        since = is_before start folder has so_far has_done wires opening (behind_listings opening behind);
+        since = is_before the_scan scan_told around_scan stands_around opening (behind_listings opening behind);
         of_input = of_no_asking start folder has so_far has_done wires opening input behind;
         was = record { in_this_run = gone.in_this_run; not_there = gone.not_there ∙ ap (λ (path : List ℕ). Some (NotThere path)) its_path };
       }
@@ -214,7 +228,7 @@ module _ {T W L D : Type 0} (words : Words T W L D) (start : Began D) (state : R
           WasOpenedWith run rule scan input shown_entry.entry.path key
       opened_with key opening behind opened = record {
         opening = opening;
-        since = is_before start folder has so_far has_done wires opening (behind_listings opening behind);
+        since = is_before the_scan scan_told around_scan stands_around opening (behind_listings opening behind);
         of_input = of_no_asking start folder has so_far has_done wires opening input behind;
         number = opened.number;
         looks = opened.gave.looks;
@@ -238,7 +252,7 @@ module _ {T W L D : Type 0} (words : Words T W L D) (start : Began D) (state : R
 
       is_moved : (opening : ℕ) → length folder.scanned.events ≤ opening → WasMoved start.settings.inputs told_trace one opening → IsMoved run rule scan shown_entry input
       is_moved opening behind moved =
-          let its_key = key_is_told start folder has so_far has_done wires one among_all in
+          let its_key = key_is_told the_scan scan_told around_scan stands_around one among_all in
           let shows = shows_it its_key.0 its_key.1 in
           record {
             key = its_key.0;
@@ -266,10 +280,10 @@ module _ {T W L D : Type 0} (words : Words T W L D) (start : Began D) (state : R
       is_doubled double =
           let earlier = double_has_earlier start folder has so_far has_done wires one double in
           let first_there = Contains-append_left start.listed start.doubled earlier.first earlier.among in
-          let its = entry_of start folder has so_far has_done wires earlier.first first_there in
+          let its = entry_of the_scan scan_told around_scan stands_around earlier.first first_there in
           let shows = shows_it earlier.key earlier.keyed in
-          let shows_first = shows_file start folder has so_far has_done wires earlier.first first_there its earlier.key earlier.same its.by.rule
-          (rule_of start folder has so_far has_done wires earlier.first its) in
+          let shows_first = shows_file the_scan scan_told around_scan stands_around earlier.first first_there its earlier.key earlier.same its.by.rule
+          (rule_of the_scan scan_told around_scan stands_around earlier.first its) in
           record {
             key = earlier.key;
             number = shows.number;
@@ -355,7 +369,7 @@ module _ {T W L D : Type 0} (words : Words T W L D) (start : Began D) (state : R
           (is_joined words start state so_far stands released folder has shown wires file among).among;
       moment = record {
         shown = (of_entry words start state so_far stands released folder has shown wires file among).shown;
-        entry = shows_entry start folder has so_far has_done wires (of_entry words start state so_far stands released folder has shown wires file among).shown
+        entry = shows_entry the_scan scan_told around_scan stands_around (of_entry words start state so_far stands released folder has shown wires file among).shown
             (of_entry words start state so_far stands released folder has shown wires file among).among;
         path_is = sym (of_entry words start state so_far stands released folder has shown wires file among).path_is
             ∙ sym (path_is words start state so_far stands released folder has shown wires file among);

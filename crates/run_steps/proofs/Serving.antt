@@ -41,7 +41,7 @@ use Rattle.run_steps.specs.SkippedFor.{GaveAsOpened, IsSkippedFor}
 use Rattle.run_steps.proofs.FollowedOrSkipped.{each_then_so}
 use Rattle.run_steps.proofs.SkippedFor.{skipped_still}
 use Rattle.accounts.proofs.Orderly.{member_is}
-use Rattle.run_steps.proofs.AskedEvents.{closes_here}
+use Rattle.told_scans.proofs.AskedEvents.{closes_here}
 use Rattle.run_steps.specs.declared.begin.Admission.{Admission}
 use Rattle.run_steps.specs.declared.begin.Admission.TheVariants.{Followed, Skipped}
 

@@ -43,7 +43,7 @@ use Rattle.run_steps.specs.Outset.{Earlier, IsFirstKeeper, Outset, SetsOut, bega
 use Rattle.run_steps.specs.Ends.{Ending}
 use Rattle.run_steps.specs.Releasing.{with_events}
 use Rattle.run_steps.specs.RunEnds.{HasEnded}
-use Rattle.run_steps.specs.RunOf.{FolderTold, starts_of}
+use Rattle.run_steps.specs.RunOf.{FolderTold, starts_of, told_scan}
 use Rattle.run_steps.specs.RunState.{Reading}
 use Rattle.run_steps.specs.Scanned.{HasScanned}
 use Rattle.run_steps.specs.Stands.{Further, Stands}
@@ -58,8 +58,9 @@ use Rattle.run_steps.proofs.HiddenBegun.{hides_tell}
 use Rattle.run_steps.proofs.First.{IsMade, given, so_far, stands_first}
 use Rattle.run_steps.proofs.RunEnded.{ended_is_accounted_for, ended_objects}
 use Rattle.run_steps.proofs.RunRows.{OneChoice}
-use Rattle.run_steps.proofs.ScanList.{since_earlier}
+use Rattle.told_scans.proofs.ScanList.{since_earlier}
 use Rattle.run_steps.proofs.StillServed.{IsServedAtEnd, served_at_end}
+use Rattle.run_steps.proofs.OneScan.{told_so}
 
 -- ---- lists
 
@@ -189,7 +190,7 @@ module _ {T W L D : Type 0} (words : Words T W L D) (reads : (disk : D) → IfSo
                 IfErr r (λ _. ¬ (IsTelling met)) → IsServedAtEnd settings old.keeper.store.rows listed passed ending.keeper.tracked.notes folder ending.shown
             by_result (Ok paths) (Ok same) all hides_all are not =
                 subst (λ (l : List Passing). IsServedAtEnd settings old.keeper.store.rows listed l ending.keeper.tracked.notes folder ending.shown) (sym (are ∙ ap (λ (v : Vec Passing Global). v.items) hides_all.0))
-                (served_at_end words.tails settings old.keeper.store.rows now listed paths.items folder old new has.shown (since_earlier start folder has)
+                (served_at_end words.tails settings old.keeper.store.rows now listed paths.items folder old new has.shown (since_earlier (told_scan start folder) (told_so start folder has))
                 (ap (λ (k : Keeping). k.tracked.notes) first.is) all
                 (all_are_seen words reads counts start moments a b now old (so_far words start old.crew first.store first.pass a b moments settings.output made) stands_out refl refl
                 (given words start old.crew first.store first.pass a b moments settings.output made).ends sets.of_inputs paths.items new all)

@@ -23,7 +23,7 @@ use Rattle.outside.specs.declared.history.Sight.{Sight}
 use Rattle.prospect.specs.declared.listed.Listed.{Listed}
 use Rattle.restart_join.specs.declared.start.TheConstants.{MAX_EPOCH}
 use Rattle.run_steps.specs.LastEpoch.{RanOutOfEpochs, falls_in}
-use Rattle.run_steps.specs.Shown.{WasClosedWith}
+use Rattle.told_scans.specs.OnlyAsked.{WasClosedWith}
 use Rattle.run_steps.specs.Starting.{HasRoomAt, IsFirstTooMany}
 use Rattle.wire_base.specs.declared.limits.Full.TheVariants.{Epochs}
 use Rattle.wire_base.specs.declared.row.Row.{Row}

@@ -31,7 +31,7 @@ use Rattle.rounds.specs.Words.{DiskWords}
 use Rattle.wire_base.specs.declared.limits.Which.{Which}
 use Rattle.wire_base.specs.declared.row.Row.{Row}
 use Rattle.run_steps.specs.Areas.{GiveTheRows}
-use Rattle.run_steps.specs.FolderOn.{FolderGoesOn}
+use Rattle.told_scans.specs.FolderOn.{FolderGoesOn}
 use Rattle.run_steps.specs.Met.{AreLeft}
 use Rattle.run_steps.specs.RunOf.{wires_behind}
 use Rattle.run_steps.specs.WireOn.{OutcomesGoOn}

@@ -19,7 +19,7 @@ use Rattle.wire_base.specs.declared.numbers.Slot.{Slot}
 use Rattle.wire_base.specs.declared.row.Row.{Row}
 use Rattle.run_steps.specs.BeginFor.{start_among}
 use Rattle.run_steps.specs.RunState.{Finished, Leaving, OutOfEpochs, Phase, Reading}
-use Rattle.run_steps.specs.Shown.{WasClosedWith}
+use Rattle.told_scans.specs.OnlyAsked.{WasClosedWith}
 
 -- ---- by what its turns told
 

@@ -14,7 +14,6 @@ pub mod CarriersFail
 pub mod CarriersGoOn
 pub mod ClockOn
 pub mod Ends
-pub mod FolderOn
 pub mod FolderSeen
 pub mod FollowedOrSkipped
 pub mod Goes

@@ -2,13 +2,13 @@
 -- listed, opened and closed stands in the folder's list, and of each wire's connections those behind the run's start are its own.
 use Rattle.std.specs.Prelude.{ℕ, true, List, [], ◌∷◌, ◌++◌, drop, length, map, Option, Some, None}
 use Rattle.batch_worker.specs.Standing.{length_of}
-use Rattle.kept_rows.specs.Run.{Asking, Run, Scan}
-use Rattle.kept_rows.specs.Scans.{listings_from}
+use Rattle.kept_rows.specs.Run.{Run, Scan}
 use Rattle.kept_rows.specs.Trace.{WireTold}
 use Rattle.outside.specs.Folders.{FolderHistory}
 use Rattle.outside.specs.Wires.{Outcome}
-use Rattle.prospect.specs.AskedFiles.{Answer, AskedFile, ByName, Gave, NotFound, TooFew}
+use Rattle.prospect.specs.AskedFiles.{AskedFile}
 use Rattle.rounds.specs.Words.{WireWords}
+use Rattle.told_scans.specs.ToldScan.{ToldScan, scan_by}
 use Rattle.run_steps.specs.Began.{Began}
 
 -- what the folder told as the run began, behind its listings, behind its scan and at its end; and what asking the listed files for
@@ -22,24 +22,21 @@ pub record FolderTold : Type 0 where
 
 -- ---- its scan
 
--- at which opening the key was asked for, where the file was to be opened for it
-abbrev pub opening_by : Answer → Option ℕ
-opening_by ByName = None
-opening_by (Gave opening key) = Some opening
-opening_by (TooFew opening) = Some opening
-opening_by (NotFound opening) = Some opening
-
--- the input asked for the key of the path
-abbrev pub asking_of : AskedFile → Asking
-asking_of asked = record { input = asked.listed.input; path = asked.listed.path; opening = opening_by asked.answer }
-
--- its listings are those of the folder's list between the start and what stands behind them; it asked for the keys of all listed files
-abbrev pub scan_of : {D : Type 0} → Began D → FolderTold → Scan
-scan_of start folder = record {
+-- the scan as the folder told it
+abbrev pub told_scan : {D : Type 0} → Began D → FolderTold → ToldScan
+told_scan start folder = record {
+  settings = start.settings;
   moment = start.moment;
-  listings = listings_from (length folder.earlier.events) (drop (length folder.earlier.events) folder.listed.events);
-  askings = map asking_of folder.asked;
+  earlier = folder.earlier;
+  listed = folder.listed;
+  scanned = folder.scanned;
+  asked = folder.asked;
+  files = start.listed;
+  doubled = start.doubled;
 }
+
+abbrev pub scan_of : {D : Type 0} → Began D → FolderTold → Scan
+scan_of start folder = scan_by (told_scan start folder)
 
 -- ---- its wires
 

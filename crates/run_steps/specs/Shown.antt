@@ -3,38 +3,13 @@
 use Rattle.std.specs.Prelude.{◌≡◌, ◌⊎◌, ℕ, suc, ◌≤◌, drop, List, [], ◌∷◌, ◌++◌, Contains, length, map, slice_get, Option, Some, None, IfSome}
 use Rattle.std.specs.List.{AllByRecursion, flat_map}
 use Rattle.accounts.specs.Opened.{Opened as OpenedFile}
-use Rattle.file_identity.specs.AskedAgain.{IsRead}
 use Rattle.kept_rows.specs.Scans.{AreDistinct, StandInOrder}
 use Rattle.kept_rows.specs.Trace.{closing_in}
-use Rattle.outside.specs.Folders.{Closed, Event, FolderHistory, Listed, ListingFailed, NotThere, Opened, OpeningFailed}
+use Rattle.outside.specs.Folders.{Event, FolderHistory, Opened}
 use Rattle.outside.specs.Times.{EndsWith}
-use Rattle.outside.specs.declared.history.Look.{Look}
 use Rattle.outside.specs.declared.history.Sight.{Sight}
+use Rattle.told_scans.specs.OnlyAsked.{IsNoListing, WasClosedWith, WasOnlyAsked}
 use Rattle.run_steps.specs.SoFar.{FilesSoFar, Left}
-
-abbrev pub IsNoListing : Event → Type 0
-IsNoListing (Listed root depth shown) = ⊥
-IsNoListing ListingFailed = ⊥
-IsNoListing (Opened path number begun) = Unit {0}
-IsNoListing (NotThere path) = Unit {0}
-IsNoListing (OpeningFailed path) = Unit {0}
-IsNoListing (Closed opening looks faults) = Unit {0}
-
--- the tail of this opening was closed with these looks
-pub record WasClosedWith (told : FolderHistory) (opening : ℕ) (looks : List Look) : Type 0 where
-  pub faults : ℕ
-  pub closing : closing_in opening (drop (suc opening) told.events) ≡ Some (record { looks = looks; faults = faults })
-
--- it told nothing but reads, as where it was asked for its key
-pub record WasOnlyAsked (told : FolderHistory) (opening : ℕ) : Type 0 where
-  pub looks : List Look
-  pub closed : WasClosedWith told opening looks
-  pub reads : AllByRecursion (λ look. IsRead look.question) looks
-
--- so each tail was that was opened behind the first so many things that were done
-abbrev pub AreOnlyAsked : ℕ → FolderHistory → Type 0
-AreOnlyAsked since told = (opening : ℕ) (path : List ℕ) (number : ℕ) (begun : Sight) → since ≤ opening →
-    slice_get told.events opening ≡ Some (Opened path number begun) → WasOnlyAsked told opening
 
 abbrev pub IsStillOpen : FolderHistory → ℕ → Type 0
 IsStillOpen told opening = closing_in opening (drop (suc opening) told.events) ≡ None

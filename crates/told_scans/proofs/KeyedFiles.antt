@@ -5,16 +5,13 @@ use Rattle.std.proofs.lemmas.List.Elements.{Contains-append_cases, Contains-appe
 use Rattle.std.specs.Prelude.{flat_map, slice_get}
 use Rattle.std.specs.List.{AllByRecursion}
 use Rattle.std.specs.declared.cmp.Ordering.TheVariants.{Less}
-use Rattle.accounts.proofs.Backing.{mapped_there}
-use Rattle.accounts.proofs.Grounded.{each_member}
 use Rattle.event_tree.specs.declared.input_rule.InputRule.{InputRule}
 use Rattle.file_identity.specs.Answers.{IsFingerprint}
 use Rattle.prospect.specs.AskedFiles.{Answer, AskedFile, ByName, Gave, NotFound, TooFew, keyed_as, keyed_by, with_key}
 use Rattle.prospect.specs.ListedFiles.{AreApart, AreInOrder, HasFile, Name, Place, name_of, place_of, place_order}
 use Rattle.prospect.specs.declared.listed.Listed.{Listed}
 use Rattle.ship_core.proofs.Members.{first_there, later_there, none_there, there_cases}
-use Rattle.run_steps.proofs.Members.{some_is}
-use Rattle.accounts.proofs.Orderly.{member_is}
+use Rattle.told_scans.proofs.Members.{each_member, mapped_there, member_is, some_is}
 
 abbrev pub listed_of : AskedFile → Listed
 listed_of asked = asked.listed

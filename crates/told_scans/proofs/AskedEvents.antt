@@ -7,10 +7,6 @@ use Rattle.std.proofs.lemmas.List.Elements.{Contains-append_cases}
 use Rattle.std.proofs.lemmas.Option.{slice_get_within}
 use Rattle.std.specs.Prelude.{slice_get}
 use Rattle.std.specs.List.{AllByRecursion, cons_option, filter_map}
-use Rattle.accounts.proofs.Askings.{asking_reads}
-use Rattle.accounts.proofs.Backing.{mapped_there}
-use Rattle.accounts.proofs.Grounded.{of_map}
-use Rattle.accounts.proofs.Lists.{each_then}
 use Rattle.event_tree.specs.declared.input_rule.InputRule.{InputRule}
 use Rattle.file_identity.specs.Answers.{IsFingerprint}
 use Rattle.file_identity.specs.AskedAgain.{IsRead}
@@ -28,14 +24,11 @@ use Rattle.prospect.specs.AskedFiles.{Answer, AnswersSo, AskedFile, AsksFrom, As
 use Rattle.prospect.specs.Scan.{with_events}
 use Rattle.prospect.specs.declared.listed.Listed.{Listed}
 use Rattle.ship_core.proofs.Members.{first_there, given_there, later_there, none_there, there_cases, there_given}
-use Rattle.run_steps.specs.FolderOn.{FolderGoesOn}
-use Rattle.run_steps.specs.RunOf.{asking_of, opening_by}
-use Rattle.run_steps.specs.ScannedSome.{HasOnlyAsked}
-use Rattle.run_steps.specs.Shown.{HasDone, IsNoListing, WasOnlyAsked}
-use Rattle.run_steps.specs.SoFar.{SoFar, files_of}
-use Rattle.run_steps.proofs.Closing.{closing_both}
-use Rattle.accounts.proofs.Orderly.{member_is}
-use Rattle.run_steps.proofs.Openings.{got_at_end}
+use Rattle.told_scans.specs.FolderOn.{FolderGoesOn}
+use Rattle.told_scans.specs.OnlyAsked.{HasOnlyAsked, IsNoListing, WasOnlyAsked}
+use Rattle.told_scans.proofs.Events.{closing_both, got_at_end}
+use Rattle.told_scans.proofs.Members.{asking_reads, each_then, mapped_there, member_is, of_map}
+use Rattle.told_scans.specs.ToldScan.{asking_of, opening_by}
 
 -- ---- places in lists
 
@@ -65,9 +58,6 @@ stays_behind opening events more closing within is =
 
 pub goes_on_asking : (now later : FolderHistory) → HasOnlyAsked now later → FolderGoesOn now later
 goes_on_asking now later asks = record { files = asks.files; more = asks.more; events = asks.events }
-
-pub goes_on_doing : (now later : FolderHistory) (so_far : SoFar) → HasDone now later (files_of so_far) → FolderGoesOn now later
-goes_on_doing now later so_far done = record { files = done.files; more = done.more; events = done.events }
 
 pub goes_on_further : (one two three : FolderHistory) → FolderGoesOn one two → FolderGoesOn two three → FolderGoesOn one three
 goes_on_further one two three first second = record {

@@ -9,7 +9,6 @@ use Rattle.std.specs.List.{AllByRecursion}
 use Rattle.std.specs.Ordering.{nat_cmp, ordering_then}
 use Rattle.std.specs.declared.cmp.Ordering.{Ordering}
 use Rattle.std.specs.declared.cmp.Ordering.TheVariants.{Equal, Greater, Less}
-use Rattle.accounts.proofs.Grounded.{each_member, of_map}
 use Rattle.event_tree.specs.declared.input_rule.IdentityRule.{IdentityRule}
 use Rattle.event_tree.specs.declared.input_rule.IdentityRule.TheVariants.{Fingerprint, Native, Path}
 use Rattle.event_tree.specs.declared.input_rule.InputRule.{InputRule}
@@ -19,26 +18,22 @@ use Rattle.kept_rows.specs.Askings.{AreMadeFrom, AsksInOrder, ComesBehind, HasIt
 use Rattle.kept_rows.specs.Askings as askings
 use Rattle.kept_rows.specs.Run.{Run, Scan}
 use Rattle.kept_rows.specs.Scans.{IsCovered, IsNoFingerprint, listings_from}
-use Rattle.kept_rows.specs.Trace.{WireTold}
 use Rattle.outside.specs.Folders.{Closed, Event, FolderHistory, NotThere, Opened}
 use Rattle.prospect.specs.AskedFiles.{Answer, AnswersSo, AskedFile, AsksFrom, ByName, Gave, NotFound, TooFew, WasAsked}
-use Rattle.prospect.specs.ListedFiles.{AreApart, AreInOrder, HasFile, name_of, place_of, place_order}
+use Rattle.prospect.specs.ListedFiles.{shown_in, AreApart, AreInOrder, HasFile, name_of, place_of, place_order}
 use Rattle.prospect.specs.Scan.{Listing, event_of, with_events}
 use Rattle.prospect.specs.declared.listed.Listed.{Listed}
-use Rattle.ship_core.proofs.Members.{first_there, later_there}
+use Rattle.ship_core.proofs.Members.{first_there, later_there, none_there}
 use Rattle.wire_base.proofs.ByteOrder.{compare_less, same_key}
 use Rattle.wire_base.specs.KeyOrder.{compare}
-use Rattle.run_steps.specs.Began.{Began}
-use Rattle.run_steps.specs.FolderOn.{FolderGoesOn}
-use Rattle.run_steps.specs.RunOf.{FolderTold, asking_of, opening_by, run_of, scan_of}
-use Rattle.run_steps.specs.Scanned.{HasScanned}
-use Rattle.run_steps.specs.Shown.{HasDone}
-use Rattle.run_steps.specs.SoFar.{SoFar, files_of}
-use Rattle.run_steps.proofs.AskedEvents.{AnswerStands, all_asked, goes_on_asking, goes_on_further}
-use Rattle.run_steps.proofs.KeyedFiles.{listed_of}
-use Rattle.run_steps.proofs.Members.{some_is}
-use Rattle.run_steps.proofs.ScanList.{answered, listed_length, listings, listings_are, run_goes_on, shown_of, shows_entry}
-use Rattle.run_steps.proofs.Scanning.{AreAt, are_at}
+use Rattle.told_scans.specs.FolderOn.{FolderGoesOn}
+use Rattle.told_scans.proofs.AskedEvents.{AnswerStands, all_asked, goes_on_asking, goes_on_further}
+use Rattle.told_scans.proofs.KeyedFiles.{listed_of}
+use Rattle.told_scans.proofs.ScanList.{answered, listed_length, listings, listings_are, run_goes_on, shown_of, shows_entry}
+use Rattle.told_scans.proofs.Scanning.{are_at}
+use Rattle.told_scans.specs.Partial.{AreAt}
+use Rattle.told_scans.proofs.Members.{each_member, of_map, some_is}
+use Rattle.told_scans.specs.ToldScan.{IsAround, IsTold, RunAround, ToldScan, asking_of, opening_by, run_around, scan_by}
 
 -- ---- which inputs read their files
 
@@ -111,9 +106,11 @@ made_from inputs (one ∷ asked) before after later asks on =
       made_from inputs asked mid after later asks.2 on,
     )
 
-behind_them : (its : List Listing) (place : ℕ) → behind_all place (listings_from place (map event_of its)) ≡ place + length (map event_of its)
-behind_them [] place = omega arith
-behind_them (listing ∷ its) place = let rest = behind_them its (suc place) in omega (arith, rest)
+-- behind a listing the place from which one begins does not matter
+behind_some : (listing : Listing) (its : List Listing) (began place : ℕ) →
+    behind_all began (listings_from place (map event_of (listing ∷ its))) ≡ place + length (map event_of (listing ∷ its))
+behind_some listing [] began place = omega arith
+behind_some listing (next ∷ its) began place = let rest = behind_some next its (suc place) (suc place) in omega (arith, rest)
 
 -- ---- in which order they stand
 
@@ -170,58 +167,73 @@ module _ (inputs : List InputRule) where
 
 -- ---- together
 
-module _ {D : Type 0} (start : Began D) (folder : FolderTold) (has : HasScanned start folder) (so_far : SoFar) (done : HasDone folder.scanned folder.ended (files_of so_far))
-    (wires : List WireTold) where
+module _ (told : ToldScan) (has : IsTold told) (around : RunAround) (on : IsAround told around) where
   abbrev run : Run
-  run = run_of start folder so_far.moments wires
+  run = run_around told around
 
   abbrev scan : Scan
-  scan = scan_of start folder
+  scan = scan_by told
 
   abbrev inputs : List InputRule
-  inputs = start.settings.inputs
+  inputs = told.settings.inputs
 
-  module _ (of : AskedFile) (there : Contains folder.asked of) where
+  module _ (of : AskedFile) (there : Contains told.asked of) where
     asked_by : IsAskedBy inputs of
     asked_by =
-        let its = answered start folder has so_far done wires of there in
-        let entry = shown_of start folder has so_far done wires of there in
+        let its = answered told has around on of there in
+        let entry = shown_of told has around on of there in
         let rule = some_is entry.by.rule its.rule (sym entry.by.rule_is ∙ its.rule_is) in
         record {
           rule = its.rule;
           rule_is = its.rule_is;
-          opening = its_opening its.rule of.listed of.answer folder.ended its.stands;
+          opening = its_opening its.rule of.listed of.answer around.ended its.stands;
           unnamed = λ reads. entry.by.key_is ∙ ap (λ (r : InputRule). named_key r.id r.file_identity entry.shown.entry.path entry.shown.entry.native) rule
               ∙ no_name its.rule.id its.rule.file_identity entry.shown.entry.path entry.shown.entry.native reads;
         }
 
     for_an_entry : IsForAnEntry run scan (asking_of of)
     for_an_entry =
-        let its = answered start folder has so_far done wires of there in
-        let entry = shown_of start folder has so_far done wires of there in
+        let its = answered told has around on of there in
+        let entry = shown_of told has around on of there in
         let rule = some_is entry.by.rule its.rule (sym entry.by.rule_is ∙ its.rule_is) in
         record {
           shown = entry.shown;
-          entry = shows_entry start folder has so_far done wires entry.shown entry.among;
+          entry = shows_entry told has around on entry.shown entry.among;
           path_is = entry.by.path_is;
           rule = its.rule;
           rule_is = its.rule_is;
           covered = subst (λ (r : InputRule). IsCovered r.paths of.listed.path) rule entry.by.covered;
-          opening = its_opening its.rule of.listed of.answer folder.ended its.stands;
+          opening = its_opening its.rule of.listed of.answer around.ended its.stands;
         }
 
-  right_behind : length folder.listed.events ≡ behind_all run.trace.began scan.listings
-  right_behind =
-      listed_length start folder has so_far done wires ∙ sym (behind_them (listings start folder has so_far done wires) run.trace.began)
-      ∙ sym (ap (behind_all run.trace.began) (listings_are start folder has so_far done wires))
+  -- a scan for no glob asked for nothing
+  none_asked : listings told has around on ≡ [] → (asked : List AskedFile) → told.asked ≡ asked → (place : ℕ) → AreMadeFrom around.ended.events place (map asking_of asked)
+  none_asked none [] is place = tt
+  none_asked none (of ∷ asked) is place =
+      let entry = shown_of told has around on of (subst (λ (l : List AskedFile). Contains l of) (sym is) (first_there of asked)) in
+      absurd (none_there entry.shown (subst (λ (l : List Listing). Contains (shown_in l) entry.shown) none entry.among))
+
+  made : AreMadeFrom around.ended.events (behind_all around.began scan.listings) scan.askings
+  made = by_listings (listings told has around on) refl
+    where
+      by_listings : (its : List Listing) → listings told has around on ≡ its → AreMadeFrom around.ended.events (behind_all around.began scan.listings) scan.askings
+      by_listings [] is = none_asked is told.asked refl (behind_all around.began scan.listings)
+      by_listings (listing ∷ its) is = subst (λ (n : ℕ). AreMadeFrom around.ended.events n scan.askings) right_behind
+          (made_from inputs told.asked told.listed told.scanned around.ended has.asks (run_goes_on told has around on))
+        where
+          right_behind : length told.listed.events ≡ behind_all around.began scan.listings
+          right_behind =
+              listed_length told has around on
+              ∙ ap (λ (l : List Listing). length told.earlier.events + length (map event_of l)) is
+              ∙ sym (behind_some listing its around.began (length told.earlier.events))
+              ∙ sym (ap (behind_all around.began) (listings_are told has around on ∙ ap (λ (l : List Listing). listings_from (length told.earlier.events) (map event_of l)) is))
 
   pub asks_in_order : AsksInOrder run scan
   asks_in_order = record {
     each = each_member (IsForAnEntry run scan) scan.askings (λ asking among.
-        let from = of_map asking_of folder.asked asking among in
+        let from = of_map asking_of told.asked asking among in
         subst (IsForAnEntry run scan) from.is (for_an_entry from.item from.among));
-    in_order = all_in_order inputs folder.asked (each_member (IsAskedBy inputs) folder.asked asked_by) (subst AreInOrder (sym has.asked_are) has.scans.shown.in_order)
+    in_order = all_in_order inputs told.asked (each_member (IsAskedBy inputs) told.asked asked_by) (subst AreInOrder (sym has.asked_are) has.scans.shown.in_order)
         (subst AreApart (sym has.asked_are) has.scans.shown.apart);
-    made = subst (λ (n : ℕ). AreMadeFrom folder.ended.events n scan.askings) right_behind
-        (made_from inputs folder.asked folder.listed folder.scanned folder.ended has.asks (run_goes_on start folder has so_far done wires));
+    made = made;
   }

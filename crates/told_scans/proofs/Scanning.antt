@@ -12,15 +12,11 @@ use Rattle.outside.specs.declared.history.Sight.{Sight}
 use Rattle.prospect.specs.ListedFiles.{shown_in}
 use Rattle.prospect.specs.Scan.{Listing, event_of}
 use Rattle.ship_core.proofs.Members.{first_there, later_there, none_there, there_cases}
-use Rattle.run_steps.specs.Shown.{IsNoListing}
-use Rattle.run_steps.proofs.Openings.{got_at_end}
+use Rattle.told_scans.specs.OnlyAsked.{IsNoListing}
+use Rattle.told_scans.proofs.Events.{got_at_end}
+use Rattle.told_scans.specs.Partial.{AreAt}
 
 -- ---- places in a list
-
--- each of these stands at its place, from this one on
-abbrev pub AreAt : List Event → ℕ → List Event → Type 0
-AreAt events place [] = Unit {0}
-AreAt events place (event ∷ more) = (slice_get events place ≡ Some event) × AreAt events (suc place) more
 
 pub are_at : (xs front back : List Event) → AreAt (front ++ (xs ++ back)) (length front) xs
 are_at [] front back = tt

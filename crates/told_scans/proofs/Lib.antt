@@ -1,0 +1,12 @@
+pub mod AskedEvents
+pub mod Events
+pub mod FirstPaths
+pub mod KeyedFiles
+pub mod Members
+pub mod NamesApart
+pub mod Partial
+pub mod ScanAsked
+pub mod ScanAskings
+pub mod ScanList
+pub mod ScanOf
+pub mod Scanning

@@ -1,0 +1,4 @@
+pub mod FolderOn
+pub mod OnlyAsked
+pub mod Partial
+pub mod ToldScan

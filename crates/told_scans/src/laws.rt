@@ -1,0 +1,17 @@
+ghost use Rattle.kept_rows.specs.Run.{Run, Scan};
+ghost use Rattle.kept_rows.specs.Scans.{IsWhole};
+ghost use Rattle.told_scans.specs.Partial.{IsPartial};
+ghost use Rattle.told_scans.specs.ToldScan.{IsAround, IsTold, RunAround, ToldScan, run_around, scan_by};
+
+/// A scan that listed for each glob and asked each file, as its calls tell it, is a whole scan of each run around it. A law;
+/// it computes nothing.
+pub fn told_scans_are_whole()
+    ensures { (told : ToldScan) (around : RunAround) → IsTold told → IsAround told around →
+        IsWhole (run_around told around) (scan_by told) }
+{}
+
+/// A scan of which a listing failed, or the opening or reading of a file that was asked for its key, is no whole scan. A law;
+/// it computes nothing.
+pub fn partial_scans_are_never_whole()
+    ensures { (run : Run) (scan : Scan) → IsPartial run scan → ¬ (IsWhole run scan) }
+{}
