@@ -8,7 +8,7 @@ use Rattle.lanes.specs.declared.tally.Tally.{Tally}
 
 -- before any turn; whether what was held went through
 abbrev pub begun_tally : Bool → Tally
-begun_tally moved = record { moved = moved; memory = false; tail_faults = 0; epochs = None }
+begun_tally moved = record { moved = moved; memory = false; tail_faults = 0; failed = None; epochs = None }
 
 abbrev pub first_slot : Option Slot → Slot → Option Slot
 first_slot None slot = Some slot
@@ -23,5 +23,5 @@ tally_with slot AtEnd tally = tally
 tally_with slot (NewLife epoch) tally = record tally { moved = true }
 tally_with slot Changed tally = record tally { moved = true }
 tally_with slot EpochsOut tally = record tally { moved = true; epochs = first_slot tally.epochs slot }
-tally_with slot ReadFault tally = record tally { tail_faults = added_counts tally.tail_faults 1 }
+tally_with slot ReadFault tally = record tally { tail_faults = added_counts tally.tail_faults 1; failed = first_slot tally.failed slot }
 tally_with slot NoMemory tally = record tally { memory = true }

@@ -13,6 +13,8 @@ pub struct Tally {
     pub memory: bool,
     /// How many turns met a read fault. The count saturates at 2^64 - 1.
     pub tail_faults: u64,
+    /// The first file of which a read failed.
+    pub failed: Option<Slot>,
     /// The first file whose last epoch was over.
     pub epochs: Option<Slot>,
 }
@@ -25,6 +27,7 @@ impl Tally {
             moved,
             memory: false,
             tail_faults: 0,
+            failed: None,
             epochs: None,
         }
     }
@@ -35,7 +38,12 @@ impl Tally {
         match turn {
             Turn::Issued(_) | Turn::Passed(_, _) | Turn::More | Turn::NewLife(_) | Turn::Changed =>
                 self.moved = true,
-            Turn::ReadFault => self.tail_faults = self.tail_faults.saturating_add(1),
+            Turn::ReadFault => {
+                self.tail_faults = self.tail_faults.saturating_add(1);
+                if self.failed.is_none() {
+                    self.failed = Some(slot);
+                }
+            }
             Turn::NoMemory => self.memory = true,
             Turn::EpochsOut => {
                 self.moved = true;
