@@ -26,10 +26,10 @@ module _ {W L : Type 0} (attempts : ℕ) (carriers : List (Carrier W L)) (number
   pub none_of_all : length carriers ≤ number → All (HasTriesLeft attempts) (take number carriers) → NoneFailed attempts carriers
   none_of_all all none = subst (All (HasTriesLeft attempts)) (take_all number carriers all) none
 
-pub was_sending : {T W L : Type 0} (attempts : ℕ) (crew : Crew T W L) (round : Round) (carriers : List (Carrier W L)) → round.memory ≡ false → round.disk ≡ false → round.tail_faults ≤ 0 → round.epochs ≡ None
+pub was_sending : {T W L : Type 0} (attempts : ℕ) (crew : Crew T W L) (round : Round) (carriers : List (Carrier W L)) → round.memory ≡ false → round.disk ≡ false → round.epochs ≡ None
     → carriers ≡ crew.carriers.items → NoneFailed attempts carriers → WasSending attempts crew round
-was_sending attempts crew round carriers memory disk faults epochs same none = record {
-  reading = record { storing = record { memory = memory; disk = disk }; no_faults = omega (arith, faults); no_epochs = epochs };
+was_sending attempts crew round carriers memory disk epochs same none = record {
+  reading = record { storing = record { memory = memory; disk = disk }; no_epochs = epochs };
   none_failed = subst (NoneFailed attempts) same none;
 }
 

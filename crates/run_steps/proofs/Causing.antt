@@ -1,5 +1,5 @@
 -- What a turn of a round found shows in a harvester as the round ends.
-use Rattle.std.proofs.Common.{◌≡◌, ◌⊎◌, inl, inr, ⊎_elim, ℕ, zero, suc, ◌<◌, ◌||◌, List, [], ◌∷◌, ◌++◌, Option, Some, refl, sym, ap, subst, ◌∙◌, arith}
+use Rattle.std.proofs.Common.{◌≡◌, ◌⊎◌, inl, inr, ⊎_elim, ℕ, zero, suc, ◌<◌, ◌||◌, List, [], ◌∷◌, ◌++◌, Option, None, Some, IsSome, refl, sym, ap, subst, ◌∙◌, arith}
 use Rattle.std.specs.Prelude.{slice_get, slice_set}
 use Rattle.std.specs.List.{AllByRecursion}
 use Rattle.harvester.specs.History.{Over}
@@ -12,9 +12,11 @@ use Rattle.harvester.specs.declared.stage.Stage.TheVariants as stage
 use Rattle.harvester.specs.declared.turn.Turn.{Turn}
 use Rattle.harvester.specs.declared.turn.Turn.TheVariants as turn
 use Rattle.lanes.specs.Laning.{Laning, without_passes}
-use Rattle.lanes.specs.Step.{Step}
+use Rattle.lanes.specs.Step.{Step, tallied}
 use Rattle.lanes.specs.Steps.{IsMade, Run}
+use Rattle.lanes.specs.Tallies.{begun_tally, tally_with}
 use Rattle.lanes.specs.Turned.{IsKnown}
+use Rattle.lanes.specs.declared.tally.Tally.{Tally}
 use Rattle.lanes.specs.declared.run.When.{When}
 use Rattle.outside.specs.Tails.{TailHistory}
 use Rattle.restart_join.specs.declared.start.TheConstants.{MAX_EPOCH}
@@ -25,7 +27,9 @@ use Rattle.rounds.specs.Placed.{AreStepsOf}
 use Rattle.rounds.specs.Words.{TailWords}
 use Rattle.wire_base.specs.declared.note.Begin.{Begin}
 use Rattle.wire_base.specs.declared.numbers.Slot.{Slot}
+use Rattle.run_steps.specs.ClosesTail.{HasFailedFile}
 use Rattle.run_steps.specs.MetBy.{IsOverOf, SomeHarvester}
+use Rattle.run_steps.proofs.LastOver.{some_behind, some_first}
 
 -- ---- one of several
 
@@ -113,6 +117,18 @@ module _ {T : Type 0} (tails : TailWords T) (queue box : ℕ) (when : When) (Q :
       let later : bare_lanes others ≡ bare_lanes lanes = cc in
       ⊎_elim (λ one. inl (subst (λ (hs : List (Harvester T)). SomeOf P hs) here one)) (λ rest. inr (some_but_passes lanes others later rest)) some
 
+  lanes_stay : (all : List Step) (olds news : List (Laning T)) → AreStepsOf tails queue box when all olds news → SomeHarvester P olds → SomeHarvester P news
+  lanes_stay all [] news are some = absurd some
+  lanes_stay all (old ∷ olds) [] are some = absurd are
+  lanes_stay all (old ∷ olds) (new ∷ news) are some =
+      ⊎_elim (λ here. inl (run_stays tails.numbers tails.told tails.faults Q P shows are.0.keeps.steps old.harvesters new.harvesters are.0.keeps.ran here))
+      (λ later. inr (lanes_stay are.1 olds news are.3 later)) some
+
+  -- one that was so before the round is so behind it
+  pub round_stays : (all : List Step) (olds lanes news : List (Laning T)) → AreStepsOf tails queue box when all olds lanes → bare_lanes news ≡ bare_lanes lanes →
+      SomeHarvester P olds → SomeHarvester P news
+  round_stays all olds lanes news are same some = some_but_passes lanes news same (lanes_stay all olds lanes are some)
+
   -- as the round ends
   pub round_shows : (all : List Step) (olds lanes news : List (Laning T)) → AreStepsOf tails queue box when all olds lanes → bare_lanes news ≡ bare_lanes lanes →
       AllByRecursion Known olds → SomeOf Q all → SomeHarvester P news
@@ -167,3 +183,50 @@ module _ {T : Type 0} (numbers : T → Option (ℕ × ℕ)) (told : T → Option
           subst (λ (t : Turn). made.after.reader.epoch.0 ≡ (after_did step.now.0 t g.did h).present.epoch) met.turn g.has_told.held.holds.follows.epoch in
           let caused = subst (λ (t : Turn). IsCaused told step.now.0 (step.last || known.0.ends) h g.did (after_did step.now.0 t g.did h) made.before t made.after) met.turn g.caused in
           epoch_is ∙ caused.1
+
+-- ---- lanes that name a failed file
+
+failed_with : (slot : Slot) (t : Turn) (tally : Tally) → IsSome (tally_with slot t tally).failed → IsSome tally.failed ⊎ (t ≡ turn.ReadFault)
+failed_with slot (turn.Issued parcel) tally some = inl some
+failed_with slot (turn.Passed span rule) tally some = inl some
+failed_with slot turn.More tally some = inl some
+failed_with slot turn.AtEnd tally some = inl some
+failed_with slot (turn.NewLife epoch) tally some = inl some
+failed_with slot turn.Changed tally some = inl some
+failed_with slot turn.EpochsOut tally some = inl some
+failed_with slot turn.ReadFault tally some = inr refl
+failed_with slot turn.NoMemory tally some = inl some
+
+failed_in : (tally : Tally) (steps : List Step) → IsSome (tallied tally steps).failed → IsSome tally.failed ⊎ SomeOf MetFault steps
+failed_in tally [] some = inl some
+failed_in tally (s ∷ ss) some =
+    ⊎_elim (λ earlier. ⊎_elim (λ before. inl before) (λ here. inr (inl here)) (failed_with s.slot s.turn tally earlier)) (λ later. inr (inr later))
+    (failed_in (tally_with s.slot s.turn tally) ss some)
+
+module _ {T : Type 0} (tails : TailWords T) (queue box : ℕ) (when : When) where
+  failed_lanes : (steps : List Step) (olds news : List (Laning T)) → AreStepsOf tails queue box when steps olds news → SomeOf HasFailedFile news → SomeOf MetFault steps
+  failed_lanes steps [] [] are some = absurd some
+  failed_lanes steps [] (n ∷ ns) are some = absurd are
+  failed_lanes steps (o ∷ os) [] are some = absurd some
+  failed_lanes steps (o ∷ os) (n ∷ ns) are some =
+      let runs = are.0 in
+      let rest = are.1 in
+      ⊎_elim
+      (λ here. subst (SomeOf MetFault) (sym are.2) (some_first MetFault runs.keeps.steps rest
+      (⊎_elim (λ (begun : IsSome (begun_tally runs.moved).failed). absurd cc) (λ found. found)
+      (failed_in (begun_tally runs.moved) runs.keeps.steps (subst (λ (t : Tally). IsSome t.failed) runs.tally here)))))
+      (λ later. subst (SomeOf MetFault) (sym are.2) (some_behind MetFault runs.keeps.steps rest (failed_lanes rest os ns are.3 later))) some
+
+  failed_but_passes : (lanes others : List (Laning T)) → bare_lanes others ≡ bare_lanes lanes → SomeOf HasFailedFile others → SomeOf HasFailedFile lanes
+  failed_but_passes [] [] same some = absurd some
+  failed_but_passes [] (other ∷ others) same some = absurd cc
+  failed_but_passes (lane ∷ lanes) [] same some = absurd some
+  failed_but_passes (lane ∷ lanes) (other ∷ others) same some =
+      let bare : without_passes other ≡ without_passes lane = cc in
+      let here : other.tally ≡ lane.tally = ap (λ (l : Laning T). l.tally) bare in
+      let later : bare_lanes others ≡ bare_lanes lanes = cc in
+      ⊎_elim (λ one. inl (subst (λ (t : Tally). IsSome t.failed) here one)) (λ rest. inr (failed_but_passes lanes others later rest)) some
+
+  -- as the round ends
+  pub failed_by : (steps : List Step) (olds lanes news : List (Laning T)) → AreStepsOf tails queue box when steps olds lanes → bare_lanes news ≡ bare_lanes lanes → SomeOf HasFailedFile news → SomeOf MetFault steps
+  failed_by steps olds lanes news are same some = failed_lanes steps olds lanes are (failed_but_passes lanes news same some)

@@ -12,7 +12,7 @@ use Rattle.rounds.specs.declared.storing.Storing.{Storing}
 use Rattle.run_steps.specs.CarriersFail.{sending}
 use Rattle.run_steps.specs.LastSteps.{HandsOn, LastSteps, StoresAll, state_in, written_by}
 use Rattle.run_steps.specs.Met.{AreLeft}
-use Rattle.run_steps.specs.MetBy.{GoesOn}
+use Rattle.run_steps.specs.MetBy.{GoesOn, HasFaults}
 use Rattle.run_steps.specs.Settling.{IsMetByStoring, IsStoredAs, Written}
 use Rattle.run_steps.specs.Readiness.{IsAbleIn, IsReadyIn}
 use Rattle.run_steps.specs.declared.context.Context.{Context}
@@ -23,7 +23,7 @@ use Rattle.run_steps.proofs.FailingStores.{fail_by_settling, none_failed_by_sett
 use Rattle.run_steps.proofs.LinksStay.{links_by_settling, links_on, links_same}
 use Rattle.run_steps.proofs.MetBy.{rose_since}
 use Rattle.run_steps.proofs.Onward.{onward_by_nothing, onward_by_two, settle_onward}
-use Rattle.run_steps.proofs.Settling.{none_still, settled_still}
+use Rattle.run_steps.proofs.Settling.{some_still, none_still, settled_still}
 
 module _ {T W L D : Type 0} {words : Words T W L D} {context : Context} where
   pub hands_on_nothing : (met : Option Met) (now : Crewing T W L D) → IsAbleIn words.tails context now → (GoesOn met → IsReadyIn words.tails context now) → HandsOn words context met now now
@@ -35,6 +35,7 @@ module _ {T W L D : Type 0} {words : Words T W L D} {context : Context} where
     no_harvesters = λ none. none;
     all_settled = λ settled. settled;
     slots = refl;
+    faults_stay = λ some. some;
     links_stay = links_same now.carriers.items;
     failing = λ moments. fail_by_nothing words.links words.wires context.settings.now.output.attempts (sending moments now.carriers.items);
     none_failed = λ none. none;
@@ -57,6 +58,7 @@ module _ {T W L D : Type 0} {words : Words T W L D} {context : Context} where
     no_harvesters = λ none. then.no_harvesters (one.no_harvesters none);
     all_settled = λ settled. then.all_settled (one.all_settled settled);
     slots = then.slots ∙ one.slots;
+    faults_stay = λ some. then.faults_stay (one.faults_stay some);
     links_stay = links_on first.carriers.items mid.carriers.items last.carriers.items one.links_stay then.links_stay;
     failing = λ moments. fail_by_two words.links words.wires context.settings.now.output.attempts (sending moments first.carriers.items) (sending moments mid.carriers.items)
         (sending moments last.carriers.items) (one.failing moments) one.none_failed (then.failing moments);
@@ -79,6 +81,7 @@ module _ {T W L D : Type 0} {words : Words T W L D} {context : Context} where
     no_harvesters = on.no_harvesters;
     all_settled = on.all_settled;
     slots = on.slots;
+    faults_stay = on.faults_stay;
     links_stay = on.links_stay;
     failing = on.failing;
     none_failed = on.none_failed;
@@ -141,6 +144,7 @@ module _ {T W L D : Type 0} (words : Words T W L D) (context : Context) (reads :
     no_harvesters = λ none. none_still (lanings old.lanes.items) (lanings new.lanes.items) keeps.lanes none;
     all_settled = λ settled. settled_still (lanings old.lanes.items) (lanings new.lanes.items) before.keeper.now after.keeper.now keeps.lanes keeps.collects settled;
     slots = keeps.slots;
+    faults_stay = some_still (HasFaults words.tails) (lanings old.lanes.items) (lanings new.lanes.items) keeps.lanes;
     links_stay = links_by_settling words context.outlets.queue.now context.outlets.desk.now (crewing old before) (crewing new after) round settles;
     failing = λ moments. fail_by_settling words context.outlets.queue.now context.outlets.desk.now (crewing old before) (crewing new after) round settles
         context.settings.now.output.attempts moments;

@@ -39,14 +39,15 @@ module _ {T W L D : Type 0} (words : Words T W L D) where
   module _ (reads : (disk : D) → IfSome (words.disks.contents disk) (words.disks.images disk))
       (counts : (disk : D) (since : ℕ) (image : List ℕ) → since ≤ words.disks.moment disk → words.disks.images disk image → words.disks.images_since disk since image)
       (queue : BoundedQueue) (desk : BoundedBox) (old new : Crew T W L) (before after : Storing D) (round : Round) (shown : Option FolderHistory) where
-    pub round_onward : (when : When) → when.last ≡ true → (moments later : Option (List ℕ)) (phase : Phase) → GivesMoment moments when.now.0 later →
+    pub round_onward : (when : When) → when.last ≡ true → (moments later : Option (List ℕ)) (from phase : Phase) → GivesMoment moments when.now.0 later →
         Rounds words queue desk when (crewing old before) (crewing new after) round → RoundKeeps words queue desk when (crewing old before) (crewing new after) round →
+        ((phase ≡ Reading) ⊎ (phase ≡ Finished) → from ≡ Reading) →
         ((phase ≡ Reading) ⊎ (phase ≡ Finished) → round.epochs ≡ None) → (phase ≡ Finished → AllByRecursion IsDone (lanings new.lanes.items)) →
         ((slot : Slot) → phase ≡ OutOfEpochs slot → SomeHarvester (IsOverOf slot) (lanings new.lanes.items)) →
-        Onward words (within shown moments old before Reading) (within shown later new after phase)
+        Onward words (within shown moments old before from) (within shown later new after phase)
     unfolding Onward
-    round_onward when last moments later phase gives ran keeps none_out done out start so_far stands began =
-        stands_on words queue desk when last (crewing old before) (crewing new after) round ran keeps start so_far shown moments later stands gives phase none_out done out reads counts began
+    round_onward when last moments later from phase gives ran keeps read none_out done out start so_far stands began =
+        stands_on words queue desk when last (crewing old before) (crewing new after) round ran keeps from start so_far shown moments later stands gives phase read none_out done out reads counts began
 
     pub settle_onward : (moments : Option (List ℕ)) (phase : Phase) → SettlingKeeps words queue desk (crewing old before) (crewing new after) round →
         Onward words (within shown moments old before phase) (within shown moments new after phase)

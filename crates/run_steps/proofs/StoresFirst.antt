@@ -1,10 +1,11 @@
 -- A step that stores, before the first round.
-use Rattle.std.proofs.Common.{◌≡◌, ℕ, IfNone, IfSome, List, [], ◌∷◌, Option, None, Some, refl, ap, arith}
+use Rattle.std.proofs.Common.{◌≡◌, ℕ, Bool, true, false, IfNone, IfSome, List, [], ◌∷◌, Option, None, Some, refl, ap, arith}
 use Rattle.outside.specs.Folders.{FolderHistory}
 use Rattle.rounds.specs.CarrierTurns.{seen_of}
+use Rattle.rounds.specs.Crewed.{lanings}
 use Rattle.rounds.specs.Crewing.{crewing}
 use Rattle.rounds.specs.Pairs.{Pairs}
-use Rattle.rounds.specs.Words.{WireWords, Words}
+use Rattle.rounds.specs.Words.{WireWords}
 use Rattle.rounds.specs.declared.carrier.Carrier.{Carrier}
 use Rattle.rounds.specs.declared.crew.Crew.{Crew}
 use Rattle.rounds.specs.declared.storing.Storing.{Storing}
@@ -12,19 +13,19 @@ use Rattle.run_steps.specs.CarriersFail.{KeepsLink, LinksStay}
 use Rattle.run_steps.specs.CarriersGoOn.{CarrierGoesOn, CarriersGoOn}
 use Rattle.run_steps.specs.Goes.{Goes, StepWords, stop_at}
 use Rattle.run_steps.specs.LastSteps.{StoresAll, written_by}
-use Rattle.run_steps.specs.MetBy.{IsMetBy, phase_of, since_of}
+use Rattle.run_steps.specs.MetBy.{IsEndedBy, phase_after, phase_met, phase_reading}
 use Rattle.run_steps.specs.MetIn.{NoneFailed}
 use Rattle.run_steps.specs.Onward.{Onward}
-use Rattle.run_steps.specs.RunState.{Finished, Leaving, Reading, within}
+use Rattle.run_steps.specs.RunState.{Leaving, Reading, within}
 use Rattle.run_steps.specs.Settling.{IsMetByStoring}
 use Rattle.run_steps.specs.declared.context.Context.{Context}
+use Rattle.run_steps.specs.declared.context.System.{System}
 use Rattle.run_steps.specs.declared.met.Met.{Met}
 use Rattle.run_steps.specs.declared.met.Met.TheVariants.{DiskFault, Done, Epochs, FolderFault, NoMemory, NoNative, Stopped, Unreachable}
-use Rattle.run_steps.specs.declared.reading.Signals.{Signals}
-use Rattle.run_steps.proofs.BeginningOne.{stands_at}
 use Rattle.run_steps.proofs.CarriersGoOn.{goes_unseen}
 use Rattle.run_steps.proofs.Clocks.{clock_stays}
-use Rattle.run_steps.proofs.Onward.{onward_by_two}
+use Rattle.run_steps.proofs.ReadersGo.{readers_stay}
+use Rattle.run_steps.proofs.TailClosed.{leaving_onward, onward_then}
 
 -- no wire was touched
 links_go_on : {W L : Type 0} (wires : WireWords W) (xs ys : List (Carrier W L)) → Pairs KeepsLink xs ys → Pairs (CarrierGoesOn wires) xs ys
@@ -40,41 +41,34 @@ pub carriers_by_links : {W L : Type 0} (wires : WireWords W) (xs ys : List (Carr
 unfolding LinksStay CarriersGoOn
 carriers_by_links wires xs ys stay = links_go_on wires xs ys stay
 
-module _ {T W L D : Type 0} (words : Words T W L D) where
-  -- a run that reads may leave
-  onward_leaving : (shown : Option FolderHistory) (moments : Option (List ℕ)) (crew : Crew T W L) (storing : Storing D) →
-      Onward words (within shown moments crew storing Reading) (within shown moments crew storing Leaving)
-  unfolding Onward
-  onward_leaving shown moments crew storing start so_far stands began = record {
-    so_far = so_far;
-    stands = stands_at words start moments storing.a.now storing.b.now shown shown crew storing.keeper.now Leaving so_far
-        (λ is. let no : Leaving ≡ Finished = is in cc) tt stands.files.shown stands;
-  }
-
-module _ {T W L D K B : Type 0} (words : StepWords T W L D K B) (context : Context) (signals : Signals K B) (old new : Crew T W L) (before after : Storing D) where
+module _ {T W L D F K B : Type 0} (words : StepWords T W L D F K B) (context : Context) (system : System F K B) (old new : Crew T W L) (before after : Storing D) where
   abbrev moments : Option (List ℕ)
-  moments = words.moments signals.clock.now
+  moments = words.moments system.clock.now
+
+  abbrev shown : Option FolderHistory
+  shown = (words.seen system.folder.now).told
 
   module _ (met : Option Met) (stores : StoresAll words.all context met (crewing old before) (crewing new after)) where
-    left_onward : (shown : Option FolderHistory) → Onward words.all (within shown moments old before Reading) (within shown moments new after Leaving)
-    left_onward shown = onward_by_two words.all (within shown moments old before Reading) (within shown moments old before Leaving) (within shown moments new after Leaving)
-        (λ rest. rest) (onward_leaving words.all shown moments old before) (stores.hands_on.onward shown moments Leaving)
+    leaves : Onward words.all (within shown moments old before Reading) (within shown moments new after Leaving)
+    leaves = onward_then words.all (within shown moments old before Reading) (within shown moments new after Reading) (within shown moments new after Leaving)
+        (stores.hands_on.onward shown moments Reading) (leaving_onward words.all shown moments new after Reading)
 
-    stored_onward : (shown : Option FolderHistory) (ended : Option Met) → IfSome ended (IsMetByStoring words.all.disks (written_by (crewing old before) (crewing new after))) →
-        Onward words.all (within shown moments old before Reading) (within shown moments new after (phase_of ended))
-    stored_onward shown None by = stores.hands_on.onward shown moments Reading
-    stored_onward shown (Some NoMemory) by = left_onward shown
-    stored_onward shown (Some DiskFault) by = left_onward shown
-    stored_onward shown (Some Done) by = absurd by
-    stored_onward shown (Some Stopped) by = absurd by
-    stored_onward shown (Some FolderFault) by = absurd by
-    stored_onward shown (Some (Unreachable worker)) by = absurd by
-    stored_onward shown (Some (Epochs slot)) by = absurd by
-    stored_onward shown (Some (NoNative slot)) by = absurd by
+    stored_onward : (faulty : Bool) (ended : Option Met) → IfSome ended (IsMetByStoring words.all.disks (written_by (crewing old before) (crewing new after))) →
+        Onward words.all (within shown moments old before (phase_reading faulty)) (within shown moments new after (phase_after faulty ended))
+    stored_onward false None by = stores.hands_on.onward shown moments Reading
+    stored_onward true ended by = stores.hands_on.onward shown moments Leaving
+    stored_onward false (Some NoMemory) by = leaves
+    stored_onward false (Some DiskFault) by = leaves
+    stored_onward false (Some Done) by = absurd by
+    stored_onward false (Some Stopped) by = absurd by
+    stored_onward false (Some FolderFault) by = absurd by
+    stored_onward false (Some (Unreachable worker)) by = absurd by
+    stored_onward false (Some (Epochs slot)) by = absurd by
+    stored_onward false (Some (NoNative slot)) by = absurd by
 
-    -- lanes and workers rest meanwhile, and clock and bell are not asked
-    pub goes_by_storing : Goes words context met (stop_at Reading old before signals) (stop_at (phase_of met) new after signals)
-    goes_by_storing = record {
+    -- lanes and workers rest meanwhile, and nothing is asked of the system
+    goes_by_storing : (faulty : Bool) → Goes words context met (stop_at (phase_reading faulty) old before system) (stop_at (phase_after faulty met) new after system)
+    goes_by_storing faulty = record {
       keeps = record {
         at_rest = stores.hands_on.at_rest;
         ready = stores.hands_on.ready;
@@ -90,27 +84,49 @@ module _ {T W L D K B : Type 0} (words : StepWords T W L D K B) (context : Conte
         collects = stores.hands_on.collects;
         same_objects = stores.hands_on.same_objects;
         still_tell = stores.hands_on.still_tell;
+        readers = readers_stay words.all.tails (words.seen system.folder.now) (lanings old.lanes.items) (lanings new.lanes.items) stores.hands_on.slots
+            stores.hands_on.faults_stay;
+        same_folder = refl;
         same_clock = refl;
         same_bell = refl;
       };
-      onward = λ shown. stored_onward shown met stores.by;
-      slots = stores.hands_on.slots;
+      onward = stored_onward faulty met stores.by;
     } where
       if_none : (ended : Option Met) → IfNone ended (NoneFailed context.settings.now.output.attempts old.carriers.items → NoneFailed context.settings.now.output.attempts new.carriers.items)
       if_none None = stores.hands_on.none_failed
       if_none (Some ended) = tt
 
+  -- the rounds follow
+  pub goes_stored : (faulty : Bool) → StoresAll words.all context None (crewing old before) (crewing new after) →
+      Goes words context None (stop_at (phase_reading faulty) old before system) (stop_at (phase_reading faulty) new after system)
+  goes_stored false stores = goes_by_storing None stores false
+  goes_stored true stores = goes_by_storing None stores true
+
+  -- or it met this
+  pub goes_met : (faulty : Bool) (met : Met) → StoresAll words.all context (Some met) (crewing old before) (crewing new after) →
+      Goes words context (Some met) (stop_at (phase_reading faulty) old before system) (stop_at (phase_met met) new after system)
+  goes_met false met stores = goes_by_storing (Some met) stores false
+  goes_met true NoMemory stores = goes_by_storing (Some NoMemory) stores true
+  goes_met true DiskFault stores = goes_by_storing (Some DiskFault) stores true
+  goes_met true Done stores = absurd stores.by
+  goes_met true Stopped stores = absurd stores.by
+  goes_met true FolderFault stores = absurd stores.by
+  goes_met true (Unreachable worker) stores = absurd stores.by
+  goes_met true (Epochs slot) stores = absurd stores.by
+  goes_met true (NoNative slot) stores = absurd stores.by
+
   -- what it met ends the run
-  pub met_by_storing : (met : Met) → IsMetByStoring words.all.disks (written_by (crewing old before) (crewing new after)) met →
-      IsMetBy words.all.tails words.all.disks context.settings.now.output.attempts (since_of before (crewing new after)) met
-  met_by_storing NoMemory by = tt
-  met_by_storing DiskFault by = by
-  met_by_storing Done by = absurd by
-  met_by_storing Stopped by = absurd by
-  met_by_storing FolderFault by = absurd by
-  met_by_storing (Unreachable worker) by = absurd by
-  met_by_storing (Epochs slot) by = absurd by
-  met_by_storing (NoNative slot) by = absurd by
+  pub met_by_storing : (met : Met) (faulty : Bool) (faults later_faults : ℕ) → IsMetByStoring words.all.disks (written_by (crewing old before) (crewing new after)) met →
+      IsEndedBy words.all.tails words.all.disks context.settings.now.output.attempts faulty
+      (record { a = before.a.now; b = before.b.now; faults = faults; later_faults = later_faults; now = crewing new after }) met
+  met_by_storing NoMemory faulty faults later_faults by = tt
+  met_by_storing DiskFault faulty faults later_faults by = by
+  met_by_storing Done faulty faults later_faults by = absurd by
+  met_by_storing Stopped faulty faults later_faults by = absurd by
+  met_by_storing FolderFault faulty faults later_faults by = absurd by
+  met_by_storing (Unreachable worker) faulty faults later_faults by = absurd by
+  met_by_storing (Epochs slot) faulty faults later_faults by = absurd by
+  met_by_storing (NoNative slot) faulty faults later_faults by = absurd by
 
   pub not_stopped : (met : Met) → IsMetByStoring words.all.disks (written_by (crewing old before) (crewing new after)) met → met ≡ Stopped → ⊥
   not_stopped NoMemory by is = let no : NoMemory ≡ Stopped = is in cc

@@ -1,6 +1,8 @@
 -- What a run does behind the beginning of its files, step by step.
-use Rattle.std.proofs.Common.{◌≡◌, ◌⊎◌, inl, inr, ⊎_elim, ℕ, zero, suc, ◌≤◌, ◌<◌, false, All, Any, List, [], ◌∷◌, ◌++◌, length, map, Option, Some, IfErr, IfOk, Result, Ok, Err, Vec, refl, sym, ap, subst, ◌∙◌, arith}
+use Rattle.std.proofs.Common.{◌≡◌, ◌⊎◌, inl, inr, ⊎_elim, ℕ, zero, suc, ◌≤◌, ◌<◌, true, false, All, List, [], ◌∷◌, ◌++◌, length, map, Option, Some, IfErr, IfOk, Result, Ok, Err, Vec, refl, sym, ap, subst, ◌∙◌, arith}
+use Rattle.std.proofs.lemmas.List.Elements.{recursion_from_All}
 use Rattle.std.specs.Prelude.{slice_get}
+use Rattle.std.specs.List.{AllByRecursion}
 use Rattle.std.specs.declared.alloc.Global.{Global}
 use Rattle.harvester.specs.HasTold.{begin_of}
 use Rattle.harvester.specs.declared.harvester.Harvester.{Harvester}
@@ -13,8 +15,8 @@ use Rattle.rounds.specs.Crewing.{crew_of, crewing}
 use Rattle.rounds.specs.Pairs.{SomeOf}
 use Rattle.rounds.specs.Settled.{AreSettledIn, IsDoneIn, spans_told}
 use Rattle.rounds.specs.Settling.{ArePostsCounted}
-use Rattle.rounds.specs.Staying.{AreAsMany, HaveSlot, begins_of}
-use Rattle.rounds.specs.Words.{DiskWords, Words}
+use Rattle.rounds.specs.Staying.{AreAsMany, HaveSlot}
+use Rattle.rounds.specs.Words.{DiskWords, TailWords, Words}
 use Rattle.rounds.specs.declared.carrier.Carrier.{Carrier}
 use Rattle.rounds.specs.declared.crew.Crew.{Crew}
 use Rattle.rounds.specs.declared.storing.Storing.{Storing}
@@ -26,9 +28,9 @@ use Rattle.run_steps.specs.BeginErrors.{met_of}
 use Rattle.run_steps.specs.CarriersEnd.{EndsCarriers}
 use Rattle.run_steps.specs.Ends.{IsAllSettled}
 use Rattle.run_steps.specs.Met.{AreLeft, IsTelling}
-use Rattle.run_steps.specs.MetBy.{HasFaults, IsMetBy, IsOverOf, Since, SomeHarvester, phase_met}
+use Rattle.run_steps.specs.MetBy.{HasFaults, HasMetFault, IsEndedBy, IsMetBy, IsOverOf, Since, SomeHarvester, phase_met}
 use Rattle.run_steps.specs.Onward.{Onward}
-use Rattle.run_steps.specs.Releasing.{CountsFaults, HasNoHarvesters, all_closings, harvesters_of, released, with_events}
+use Rattle.run_steps.specs.Releasing.{HasNoHarvesters}
 use Rattle.run_steps.specs.RunEnds.{HasEnded}
 use Rattle.run_steps.specs.RunState.{Finished, Phase, phase_left, within, OutOfEpochs}
 use Rattle.run_steps.specs.Settling.{IsMetByStoring, Written}
@@ -39,8 +41,7 @@ use Rattle.run_steps.specs.declared.begin_error.BeginError.{BeginError}
 use Rattle.run_steps.specs.declared.begin_error.BeginError.TheVariants as begin
 use Rattle.run_steps.specs.declared.met.Met.{Met}
 use Rattle.run_steps.specs.declared.met.Met.TheVariants.{DiskFault, Done, Epochs, FolderFault, NoMemory, Stopped, Unreachable, NoNative}
-use Rattle.run_steps.proofs.Leaving.{spans_same, stands_released}
-use Rattle.run_steps.proofs.Released.{rose_where_some}
+use Rattle.run_steps.proofs.ReadersGo.{rose_from, rose_on}
 
 -- ---- whether the last steps are left
 
@@ -122,11 +123,9 @@ module _ {T W L D : Type 0} (words : Words T W L D) (start : Began D) (begun : R
     (shown later : Option FolderHistory) (moments then : Option (List ℕ)) (crew one two three : Crew T W L) (storing first second : Storing D) (met now : Met) (old new : List W) where
   -- what each step gave
   pub record Steps : Type 0 where
-    pub followed : (at : Option FolderHistory) → Onward words (within at moments crew storing (phase_begun begun)) (within at then one first (phase_worked begun met))
+    pub followed : Onward words (within shown moments crew storing (phase_begun begun)) (within later then two first (phase_left (phase_worked begun met)))
     pub at_rest : AreLeft met → IsAtRest words.disks storing.keeper.now storing.a.now storing.b.now → IsAtRest words.disks first.keeper.now first.a.now first.b.now
-    pub lanes_are : lanings two.lanes.items ≡ map released (lanings one.lanes.items)
-    pub carriers_are : two.carriers ≡ one.carriers
-    pub shows : later ≡ with_events (all_closings words.tails.told words.tails.faults (lanings one.lanes.items)) shown
+    pub as_many_spans : spans_told (lanings two.lanes.items) ≡ spans_told (lanings one.lanes.items)
     pub settled : (at : Option FolderHistory) (given : Option (List ℕ)) (phase : Phase) → Onward words (within at given two first phase) (within at given three second phase)
     pub still : (¬ AreLeft met) → (three ≡ two) × (second ≡ first)
     pub left_before : AreLeft now → AreLeft met
@@ -146,24 +145,21 @@ module _ {T W L D : Type 0} (words : Words T W L D) (start : Began D) (begun : R
     abbrev phase : Phase
     phase = phase_left (phase_worked begun met)
 
-    after_rounds : Further words start (within shown then one first (phase_worked begun met))
+    after_rounds : Further words start (within later then two first phase)
     unfolding Onward
-    after_rounds = steps.followed shown start so_far stands began
-
-    after_release : Further words start (within later then two first phase)
-    after_release = stands_released words start after_rounds.so_far (within shown then one first (phase_worked begun met)) after_rounds.stands two later steps.lanes_are steps.carriers_are steps.shows
+    after_rounds = steps.followed start so_far stands began
 
     after_all : Further words start (within later then three second phase)
     unfolding Onward
-    after_all = ⊎_elim (λ left. steps.settled later then phase start after_release.so_far after_release.stands (λ at_start. steps.at_rest left (began at_start)))
+    after_all = ⊎_elim (λ left. steps.settled later then phase start after_rounds.so_far after_rounds.stands (λ at_start. steps.at_rest left (began at_start)))
         (λ not. let same = steps.still not in
         subst (λ (s : Storing D). Further words start (within later then three s phase)) (sym same.1)
-        (subst (λ (c : Crew T W L). Further words start (within later then c first phase)) (sym same.0) after_release)) (left_or_not met)
+        (subst (λ (c : Crew T W L). Further words start (within later then c first phase)) (sym same.0) after_rounds)) (left_or_not met)
 
     told_all : now ≡ Done → IsAllSettled (lanings two.lanes.items) first.keeper.now
     told_all is =
         let done = steps.done is in
-        let same = ap spans_told steps.lanes_are ∙ spans_same (lanings one.lanes.items) in
+        let same = steps.as_many_spans in
         let few = done.spans.below in
         let each = done.spans.settled in
         record { below = omega (arith, same, few); settled = omega (arith, same, each) }
@@ -202,7 +198,7 @@ not_stopped is = cc
 pub done_in : {T W L D : Type 0} (words : Words T W L D) (attempts : ℕ) (since : Since T W L D) (begun : Result (Vec Passing Global) BeginError) (met : Met) →
     IsFollowedBy words.tails words.disks attempts since begun met → met ≡ Done → IsDoneIn (crew_of since.now) since.now.storing.keeper.now
 done_in words attempts since (Ok passed) met by is =
-    subst (IsMetBy words.tails words.disks attempts since) is (by (λ stopped. not_stopped (sym is ∙ stopped)))
+    subst (IsEndedBy words.tails words.disks attempts false since) is (by (λ stopped. not_stopped (sym is ∙ stopped)))
 done_in words attempts since (Err error) met by is = absurd (not_done error (sym by ∙ is))
 
 some_mapped : {A B : Type 0} (P : B → Type 0) (f : A → B) (xs : List A) → SomeOf (λ x. P (f x)) xs → SomeOf P (map f xs)
@@ -219,21 +215,16 @@ has_slot {T} slot (lane ∷ lanes) some =
     ⊎_elim (λ here. inl (some_mapped (λ (b : Begin). b.slot ≡ slot) begin_of lane.harvesters
     (some_as (IsOverOf slot) (λ (h : Harvester T). (begin_of h).slot ≡ slot) lane.harvesters (λ h is. is.of_slot) here))) (λ later. inr (has_slot slot lanes later)) some
 
-some_any : {A : Type 0} (P : A → Type 0) (xs : List A) → SomeOf P xs → Any P xs
-some_any P [] some = absurd some
-some_any P (x ∷ xs) some = ⊎_elim (λ here. (0, x, omega arith, refl, here)) (λ later. let rest = some_any P xs later in (suc rest.0, rest.1, omega (arith, rest.2), rest.3, rest.4)) some
+none_in : {T : Type 0} (P : Harvester T → Type 0) (lanes : List (Laning T)) → AllByRecursion HasNoHarvesters lanes → SomeHarvester P lanes → ⊥
+none_in P [] none some = some
+none_in P (lane ∷ lanes) none some =
+    ⊎_elim (λ here. subst (λ (hs : List (Harvester _)). SomeOf P hs) none.0 here) (λ later. none_in P lanes none.1 later) some
 
-in_both : {T : Type 0} (P : Harvester T → Type 0) (xs ys : List (Harvester T)) → SomeOf P xs ⊎ SomeOf P ys → SomeOf P (xs ++ ys)
-in_both P [] ys (inl some) = absurd some
-in_both P [] ys (inr some) = some
-in_both P (x ∷ xs) ys (inl some) = ⊎_elim (λ here. inl here) (λ later. inr (in_both P xs ys (inl later))) some
-in_both P (x ∷ xs) ys (inr some) = inr (in_both P xs ys (inr some))
+-- where all tails are closed, the folder has counted each fault
+pub all_counted : {T : Type 0} (tails : TailWords T) (before faults : ℕ) (lanes : List (Laning T)) → All HasNoHarvesters lanes → HasMetFault tails before faults lanes → Rose before faults
+all_counted tails before faults lanes none met = ⊎_elim (λ rose. rose) (λ some. absurd (none_in (HasFaults tails) lanes (recursion_from_All HasNoHarvesters lanes none) some)) met
 
-in_all : {T : Type 0} (P : Harvester T → Type 0) (lanes : List (Laning T)) → SomeHarvester P lanes → SomeOf P (harvesters_of lanes)
-in_all P [] some = absurd some
-in_all P (lane ∷ lanes) some = in_both P lane.harvesters (harvesters_of lanes) (⊎_elim (λ here. inl here) (λ later. inr (in_all P lanes later)) some)
-
-module _ {T W L D : Type 0} (words : Words T W L D) (attempts : ℕ) (crew one : Crew T W L) (storing first second : Storing D) (before after : Tolls) where
+module _ {T W L D : Type 0} (words : Words T W L D) (attempts mid_faults : ℕ) (crew one : Crew T W L) (storing first second : Storing D) (before after : Tolls) where
   -- what each step tells of its counts
   pub record Counts : Type 0 where
     pub a_before : before.a_faults ≡ words.disks.faults storing.a.now
@@ -244,23 +235,18 @@ module _ {T W L D : Type 0} (words : Words T W L D) (attempts : ℕ) (crew one :
     pub b_first : words.disks.faults storing.b.now ≤ words.disks.faults first.b.now
     pub a_then : words.disks.faults first.a.now ≤ words.disks.faults second.a.now
     pub b_then : words.disks.faults first.b.now ≤ words.disks.faults second.b.now
-    pub folder : CountsFaults words.tails.faults before.folder_faults after.folder_faults (harvesters_of (lanings one.lanes.items))
+    pub folder : HasMetFault words.tails before.folder_faults mid_faults (lanings one.lanes.items) → Rose before.folder_faults after.folder_faults
     pub as_many : AreAsMany (crewing crew storing) (crewing one first)
-    pub slots : begins_of (lanings one.lanes.items) ≡ begins_of (lanings crew.lanes.items)
+    pub slots : (slot : Slot) → HaveSlot slot (lanings one.lanes.items) → HaveSlot slot (lanings crew.lanes.items)
 
-  rose_on : (x y z : ℕ) → Rose x y → y ≤ z → Rose x z
-  rose_on x y z (inl less) on = inl (omega (arith, less, on))
-  rose_on x y z (inr end) on = inr (omega (arith, end, on))
-
-  rose_from : (x y z : ℕ) → x ≤ y → Rose y z → Rose x z
-  rose_from x y z le (inl less) = inl (omega (arith, less, le))
-  rose_from x y z le (inr end) = inr end
+  abbrev since : Since T W L D
+  since = record { a = storing.a.now; b = storing.b.now; faults = before.folder_faults; later_faults = mid_faults; now = crewing one first }
 
   module _ (counts : Counts) where
     rose_as : (x y x' y' : ℕ) → x' ≡ x → y' ≡ y → Rose x y → Rose x' y'
     rose_as x y x' y' same also rose = subst (λ (n : ℕ). Rose n y') (sym same) (subst (Rose x) (sym also) rose)
 
-    by_rounds : (met : Met) → IsMetBy words.tails words.disks attempts (record { a = storing.a.now; b = storing.b.now; now = crewing one first }) met → IsWorkedBy crew before after met
+    by_rounds : (met : Met) → IsMetBy words.tails words.disks attempts since met → IsWorkedBy crew before after met
     by_rounds Done is = tt
     by_rounds Stopped is = absurd is
     by_rounds NoMemory is = tt
@@ -269,9 +255,7 @@ module _ {T W L D : Type 0} (words : Words T W L D) (attempts : ℕ) (crew one :
         (rose_on (words.disks.faults storing.a.now) (words.disks.faults first.a.now) (words.disks.faults second.a.now) rose counts.a_then)))
         (λ rose. inr (rose_as (words.disks.faults storing.b.now) (words.disks.faults second.b.now) before.b_faults after.b_faults counts.b_before counts.b_after
         (rose_on (words.disks.faults storing.b.now) (words.disks.faults first.b.now) (words.disks.faults second.b.now) rose counts.b_then))) is
-    by_rounds FolderFault is =
-        rose_where_some words.tails.faults before.folder_faults after.folder_faults (harvesters_of (lanings one.lanes.items)) counts.folder
-        (some_any (HasFaults words.tails) (harvesters_of (lanings one.lanes.items)) (in_all (HasFaults words.tails) (lanings one.lanes.items) is))
+    by_rounds FolderFault is = counts.folder is
     by_rounds (Unreachable worker) is =
         let within = got_within one.carriers.items worker is.one is.is in
         let many = counts.as_many.carriers in
@@ -281,7 +265,7 @@ module _ {T W L D : Type 0} (words : Words T W L D) (attempts : ℕ) (crew one :
         got_within [] k c got = absurd cc
         got_within (x ∷ cs) zero c got = omega arith
         got_within (x ∷ cs) (suc k) c got = let more = got_within cs k c got in omega (arith, more)
-    by_rounds (Epochs slot) is = subst (SomeOf (SomeOf (λ (b : Begin). b.slot ≡ slot))) counts.slots (has_slot slot (lanings one.lanes.items) is)
+    by_rounds (Epochs slot) is = counts.slots slot (has_slot slot (lanings one.lanes.items) is)
     by_rounds (NoNative slot) is = is
 
     by_storing : (met : Met) → IsMetByStoring words.disks (record { a = first.a.now; b = first.b.now; new_a = second.a.now; new_b = second.b.now }) met → IsWorkedBy crew before after met
@@ -299,20 +283,20 @@ module _ {T W L D : Type 0} (words : Words T W L D) (attempts : ℕ) (crew one :
     by_storing (NoNative slot) is = absurd is
 
     by_following : (begun : Result (Vec Passing Global) BeginError) (met : Met) →
-        IsFollowedBy words.tails words.disks attempts (record { a = storing.a.now; b = storing.b.now; now = crewing one first }) begun met →
+        IsFollowedBy words.tails words.disks attempts since begun met →
         IfOk begun (λ _. met ≡ Stopped → Rose before.rings after.rings) → IsBegunWith begun met ⊎ IsWorkedBy crew before after met
     by_following (Err other) met is rang = inl is
     by_following (Ok passed) Stopped is rang = inr (rang refl)
     by_following (Ok passed) Done is rang = inr tt
     by_following (Ok passed) NoMemory is rang = inr tt
     by_following (Ok passed) DiskFault is rang = inr (by_rounds DiskFault (is (λ e. cc)))
-    by_following (Ok passed) FolderFault is rang = inr (by_rounds FolderFault (is (λ e. cc)))
+    by_following (Ok passed) FolderFault is rang = inr (⊎_elim (λ (no : false ≡ true). absurd cc) (λ met. by_rounds FolderFault met) (is (λ e. cc)))
     by_following (Ok passed) (Unreachable worker) is rang = inr (by_rounds (Unreachable worker) (is (λ e. cc)))
     by_following (Ok passed) (Epochs slot) is rang = inr (by_rounds (Epochs slot) (is (λ e. cc)))
     by_following (Ok passed) (NoNative slot) is rang = inr (by_rounds (NoNative slot) (is (λ e. cc)))
 
     pub cause : (begun : Result (Vec Passing Global) BeginError) (met now : Met) →
-        IsFollowedBy words.tails words.disks attempts (record { a = storing.a.now; b = storing.b.now; now = crewing one first }) begun met →
+        IsFollowedBy words.tails words.disks attempts since begun met →
         IfOk begun (λ _. met ≡ Stopped → Rose before.rings after.rings) →
         (now ≡ met) ⊎ IsMetByStoring words.disks (record { a = first.a.now; b = first.b.now; new_a = second.a.now; new_b = second.b.now }) now →
         IsBegunWith begun now ⊎ IsWorkedBy crew before after now

@@ -1,18 +1,18 @@
 -- What each step of a run keeps between its beginning and its end (this project's profile), whatever else it does: what is told and stored
--- goes on, no count falls, lanes and workers are as many and of the same files, and each object is the same one. Two steps in a row are one.
+-- goes on, no count falls, lanes and workers are as many, no file comes, and each object is the same one. Two steps in a row are one.
 use Rattle.std.specs.Prelude.{◌≡◌, ◌≤◌, ℕ, List, Option, IfNone}
 use Rattle.keeper.specs.Collecting.{Collects}
-use Rattle.outside.specs.Folders.{FolderHistory}
 use Rattle.outside.specs.declared.bell.Bell.{Ghosts as BellGhosts}
 use Rattle.outside.specs.declared.clock.Clock.{Ghosts as ClockGhosts}
 use Rattle.outside.specs.declared.disk.Disk.{Ghosts as DiskGhosts}
+use Rattle.outside.specs.declared.folder.Folder.{Ghosts as FolderGhosts}
 use Rattle.outside.specs.declared.link.Link.{Ghosts as LinkGhosts}
 use Rattle.outside.specs.declared.tail.Tail.{Ghosts as TailGhosts}
 use Rattle.outside.specs.declared.wire.Wire.{Ghosts as WireGhosts}
 use Rattle.rounds.specs.Crewed.{lanings}
 use Rattle.rounds.specs.Crewing.{crewing}
 use Rattle.rounds.specs.KeeperTurns.{SameObjects, StillTell}
-use Rattle.rounds.specs.Staying.{AreAsMany, begins_of}
+use Rattle.rounds.specs.Staying.{AreAsMany}
 use Rattle.rounds.specs.Words.{Words}
 use Rattle.rounds.specs.WordsOf.{words_of}
 use Rattle.rounds.specs.declared.crew.Crew.{Crew}
@@ -21,53 +21,63 @@ use Rattle.run_steps.specs.Areas.{IsAtRest}
 use Rattle.run_steps.specs.CarriersFail.{FailOn, sending}
 use Rattle.run_steps.specs.CarriersGoOn.{CarriersGoOn}
 use Rattle.run_steps.specs.ClockOn.{MomentsGoOn}
+use Rattle.run_steps.specs.ClosesTail.{Readers, ReadersGo}
+use Rattle.run_steps.specs.FolderSeen.{FolderSeen, seen_in}
 use Rattle.run_steps.specs.MetBy.{GoesOn}
 use Rattle.run_steps.specs.MetIn.{NoneFailed}
 use Rattle.run_steps.specs.Onward.{Onward}
 use Rattle.run_steps.specs.Readiness.{IsAbleIn, IsReadyIn}
 use Rattle.run_steps.specs.RunState.{Phase, RunState, within}
 use Rattle.run_steps.specs.declared.context.Context.{Context}
+use Rattle.run_steps.specs.declared.context.System.{System}
 use Rattle.run_steps.specs.declared.met.Met.{Met}
-use Rattle.run_steps.specs.declared.reading.Signals.{Signals}
 
 -- ---- the words of all objects that a step is lent
 
-pub record StepWords (T W L D K B : Type 0) : Type 1 where
+pub record StepWords (T W L D F K B : Type 0) : Type 1 where
   pub all : Words T W L D
+  pub seen : F → FolderSeen
   pub moments : K → Option (List ℕ)
   pub rings : B → ℕ
 
-abbrev pub step_words : {T W L D K B : Type 0} → TailGhosts T → LinkGhosts L → WireGhosts W L → DiskGhosts D → ClockGhosts K → BellGhosts B →
-    StepWords T W L D K B
-step_words tail link wire disk clock bell = record { all = words_of tail link wire disk; moments = clock.moments; rings = bell.rings }
+abbrev pub step_words : {F T W L D K B : Type 0} → FolderGhosts F T → TailGhosts T → LinkGhosts L → WireGhosts W L → DiskGhosts D → ClockGhosts K →
+    BellGhosts B → StepWords T W L D F K B
+step_words folder tail link wire disk clock bell = record {
+  all = words_of tail link wire disk;
+  seen = seen_in folder;
+  moments = clock.moments;
+  rings = bell.rings;
+}
 
 -- ---- where a run stops between two steps
 
-pub record Stop (T W L D K B : Type 0) : Type 0 where
+pub record Stop (T W L D F K B : Type 0) : Type 0 where
   pub phase : Phase
   pub crew : Crew T W L
   pub storing : Storing D
-  pub signals : Signals K B
+  pub system : System F K B
 
-abbrev pub stop_at : {T W L D K B : Type 0} → Phase → Crew T W L → Storing D → Signals K B → Stop T W L D K B
-stop_at phase crew storing signals = record { phase = phase; crew = crew; storing = storing; signals = signals }
+abbrev pub stop_at : {T W L D F K B : Type 0} → Phase → Crew T W L → Storing D → System F K B → Stop T W L D F K B
+stop_at phase crew storing system = record { phase = phase; crew = crew; storing = storing; system = system }
 
-module _ {T W L D K B : Type 0} (words : StepWords T W L D K B) where
-  abbrev pub moments_at : Stop T W L D K B → Option (List ℕ)
-  moments_at stop = words.moments stop.signals.clock.now
+module _ {T W L D F K B : Type 0} (words : StepWords T W L D F K B) where
+  abbrev pub moments_at : Stop T W L D F K B → Option (List ℕ)
+  moments_at stop = words.moments stop.system.clock.now
 
-  abbrev pub state_at : Option FolderHistory → Stop T W L D K B → RunState T W L D
-  state_at shown stop = within shown (moments_at stop) stop.crew stop.storing stop.phase
+  abbrev pub readers_at : Stop T W L D F K B → Readers T
+  readers_at stop = record { folder = words.seen stop.system.folder.now; lanes = lanings stop.crew.lanes.items }
+
+  abbrev pub state_at : Stop T W L D F K B → RunState T W L D
+  state_at stop = within (words.seen stop.system.folder.now).told (moments_at stop) stop.crew stop.storing stop.phase
 
   -- the keeper's areas are at rest
-  abbrev pub RestsAt : Stop T W L D K B → Type 0
+  abbrev pub RestsAt : Stop T W L D F K B → Type 0
   RestsAt stop = IsAtRest words.all.disks stop.storing.keeper.now stop.storing.a.now stop.storing.b.now
 
 -- ---- a step, which met this if it ended the run
 
-module _ {T W L D K B : Type 0} (words : StepWords T W L D K B) (context : Context) where
-  -- of crew, keeper, areas, clock and bell
-  pub record Keeps (met : Option Met) (before after : Stop T W L D K B) : Type 0 where
+module _ {T W L D F K B : Type 0} (words : StepWords T W L D F K B) (context : Context) where
+  pub record Keeps (met : Option Met) (before after : Stop T W L D F K B) : Type 0 where
     pub at_rest : GoesOn met → RestsAt words before → RestsAt words after
     pub ready : GoesOn met → IsReadyIn words.all.tails context (crewing after.crew after.storing)
     pub able : IsAbleIn words.all.tails context (crewing after.crew after.storing)
@@ -82,17 +92,18 @@ module _ {T W L D K B : Type 0} (words : StepWords T W L D K B) (context : Conte
     pub as_many : AreAsMany (crewing before.crew before.storing) (crewing after.crew after.storing)
     pub a_faults_never_fall : words.all.disks.faults before.storing.a.now ≤ words.all.disks.faults after.storing.a.now
     pub b_faults_never_fall : words.all.disks.faults before.storing.b.now ≤ words.all.disks.faults after.storing.b.now
-    pub rings_never_fall : words.rings before.signals.bell.now ≤ words.rings after.signals.bell.now
+    pub rings_never_fall : words.rings before.system.bell.now ≤ words.rings after.system.bell.now
     pub clock_goes_on : MomentsGoOn (moments_at words before) (moments_at words after)
     pub collects : Collects before.storing.keeper.now after.storing.keeper.now
     pub same_objects : SameObjects before.storing after.storing
     pub still_tell : StillTell words.all.disks.contents before.storing after.storing
-    pub same_clock : after.signals.clock.ghost_name ≡ before.signals.clock.ghost_name
-    pub same_bell : after.signals.bell.ghost_name ≡ before.signals.bell.ghost_name
+    -- lanes, and the folder of their tails
+    pub readers : ReadersGo words.all.tails (readers_at words before) (readers_at words after)
+    pub same_folder : after.system.folder.ghost_name ≡ before.system.folder.ghost_name
+    pub same_clock : after.system.clock.ghost_name ≡ before.system.clock.ghost_name
+    pub same_bell : after.system.bell.ghost_name ≡ before.system.bell.ghost_name
 
-  -- and of the files too: it opens and closes none
-  pub record Goes (met : Option Met) (before after : Stop T W L D K B) : Type 0 where
+  pub record Goes (met : Option Met) (before after : Stop T W L D F K B) : Type 0 where
     pub keeps : Keeps met before after
     -- what was known of the events told, and of what the areas may hold, is known of them afterwards
-    pub onward : (shown : Option FolderHistory) → Onward words.all (state_at words shown before) (state_at words shown after)
-    pub slots : begins_of (lanings after.crew.lanes.items) ≡ begins_of (lanings before.crew.lanes.items)
+    pub onward : Onward words.all (state_at words before) (state_at words after)

@@ -14,7 +14,7 @@ use Rattle.run_steps.specs.Areas.{IsAtRest}
 use Rattle.run_steps.specs.CarriersFail.{FailOn, LinksStay, sending}
 use Rattle.run_steps.specs.Ends.{IsAllSettled}
 use Rattle.run_steps.specs.Met.{AreLeft}
-use Rattle.run_steps.specs.MetBy.{GoesOn}
+use Rattle.run_steps.specs.MetBy.{GoesOn, HasFaults, SomeHarvester}
 use Rattle.run_steps.specs.MetIn.{NoneFailed}
 use Rattle.run_steps.specs.Onward.{Onward}
 use Rattle.run_steps.specs.Releasing.{HasNoHarvesters}
@@ -45,6 +45,7 @@ module _ {T W L D : Type 0} (words : Words T W L D) (context : Context) where
     pub no_harvesters : All HasNoHarvesters (lanings before.lanes.items) → All HasNoHarvesters (lanings after.lanes.items)
     pub all_settled : IsAllSettled (lanings before.lanes.items) before.storing.keeper.now → IsAllSettled (lanings after.lanes.items) after.storing.keeper.now
     pub slots : begins_of (lanings after.lanes.items) ≡ begins_of (lanings before.lanes.items)
+    pub faults_stay : SomeHarvester (HasFaults words.tails) (lanings before.lanes.items) → SomeHarvester (HasFaults words.tails) (lanings after.lanes.items)
     pub links_stay : LinksStay before.carriers.items after.carriers.items
     -- each worker's failures in a row are those of its wire, if they were before it
     pub failing : (moments : Option (List ℕ)) → FailOn words.links words.wires context.settings.now.output.attempts

@@ -13,6 +13,7 @@ pub mod CarriersEnd
 pub mod CarriersFail
 pub mod CarriersGoOn
 pub mod ClockOn
+pub mod ClosesTail
 pub mod Ends
 pub mod FolderSeen
 pub mod FollowedOrSkipped

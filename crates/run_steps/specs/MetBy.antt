@@ -1,11 +1,12 @@
 -- By what a run met what ends it (this project's profile): each of its causes shows in the crew, the keeper and the areas as they
 -- are then.
-use Rattle.std.specs.Prelude.{◌≡◌, ◌⊎◌, ◌<◌, ℕ, Option, Some, None, List}
+use Rattle.std.specs.Prelude.{◌≡◌, ◌⊎◌, ◌<◌, ℕ, Bool, true, false, Option, Some, None, List}
 use Rattle.harvester.specs.HasTold.{begin_of}
 use Rattle.harvester.specs.declared.harvester.Harvester.{Harvester}
 use Rattle.harvester.specs.declared.stage.Stage.TheVariants.{Over}
 use Rattle.lanes.specs.Laning.{Laning}
 use Rattle.outside.specs.Counts.{Rose}
+use Rattle.outside.specs.declared.folder.Folder.{Ghosts as FolderGhosts}
 use Rattle.restart_join.specs.declared.start.TheConstants.{MAX_EPOCH}
 use Rattle.rounds.specs.Crewed.{lanings}
 use Rattle.rounds.specs.Crewing.{Crewing, crew_of}
@@ -17,6 +18,7 @@ use Rattle.wire_base.specs.declared.numbers.Slot.{Slot}
 use Rattle.run_steps.specs.Met.{AreLeft}
 use Rattle.run_steps.specs.MetIn.{HasFailed}
 use Rattle.run_steps.specs.RunState.{Finished, Leaving, OutOfEpochs, Phase, Reading}
+use Rattle.run_steps.specs.declared.context.System.{System}
 use Rattle.run_steps.specs.declared.met.Met.{Met}
 use Rattle.run_steps.specs.declared.met.Met.TheVariants.{DiskFault, Done, Epochs, FolderFault, NoMemory, NoNative, Stopped, Unreachable}
 
@@ -33,14 +35,26 @@ pub record IsOverOf {T : Type 0} (slot : Slot) (harvester : Harvester T) : Type 
   pub over : harvester.reader.stage ≡ Over
   pub last : harvester.reader.epoch.0 ≡ MAX_EPOCH
 
--- the areas as they were, and all as it is now
+-- the folder has counted a fault since it counted so many, or a tail has that is open
+abbrev pub HasMetFault : {T : Type 0} → TailWords T → ℕ → ℕ → List (Laning T) → Type 0
+HasMetFault tails before faults lanes = Rose before faults ⊎ SomeHarvester (HasFaults tails) lanes
+
+-- the areas and the folder's count of faults as they were, and all as it is now
 pub record Since (T W L D : Type 0) : Type 0 where
   pub a : D
   pub b : D
+  pub faults : ℕ
+  pub later_faults : ℕ
   pub now : Crewing T W L D
 
-abbrev pub since_of : {T W L D : Type 0} → Storing D → Crewing T W L D → Since T W L D
-since_of before now = record { a = before.a.now; b = before.b.now; now = now }
+abbrev pub since_of : {F T W L D K B : Type 0} → FolderGhosts F T → Storing D → System F K B → Crewing T W L D → System F K B → Since T W L D
+since_of words before was now system = record {
+  a = before.a.now;
+  b = before.b.now;
+  faults = words.faults was.folder.now;
+  later_faults = words.faults system.folder.now;
+  now = now;
+}
 
 module _ {T W L D : Type 0} (tails : TailWords T) (disks : DiskWords D) (attempts : ℕ) where
   abbrev pub IsMetBy : Since T W L D → Met → Type 0
@@ -49,10 +63,21 @@ module _ {T W L D : Type 0} (tails : TailWords T) (disks : DiskWords D) (attempt
   IsMetBy since NoMemory = Unit {0}
   IsMetBy since DiskFault =
       Rose (disks.faults since.a) (disks.faults since.now.storing.a.now) ⊎ Rose (disks.faults since.b) (disks.faults since.now.storing.b.now)
-  IsMetBy since FolderFault = SomeHarvester (HasFaults tails) (lanings since.now.lanes.items)
+  IsMetBy since FolderFault = HasMetFault tails since.faults since.later_faults (lanings since.now.lanes.items)
   IsMetBy since (Unreachable worker) = HasFailed attempts since.now.carriers.items worker
   IsMetBy since (Epochs slot) = SomeHarvester (IsOverOf slot) (lanings since.now.lanes.items)
   IsMetBy since (NoNative slot) = ⊥
+
+  -- or some file met a fault before that
+  abbrev pub IsEndedBy : Bool → Since T W L D → Met → Type 0
+  IsEndedBy faulty since Done = IsMetBy since Done
+  IsEndedBy faulty since Stopped = IsMetBy since Stopped
+  IsEndedBy faulty since NoMemory = IsMetBy since NoMemory
+  IsEndedBy faulty since DiskFault = IsMetBy since DiskFault
+  IsEndedBy faulty since FolderFault = (faulty ≡ true) ⊎ IsMetBy since FolderFault
+  IsEndedBy faulty since (Unreachable worker) = IsMetBy since (Unreachable worker)
+  IsEndedBy faulty since (Epochs slot) = IsMetBy since (Epochs slot)
+  IsEndedBy faulty since (NoNative slot) = IsMetBy since (NoNative slot)
 
 -- another round may follow, or the last steps
 abbrev pub GoesOn : Option Met → Type 0
@@ -73,3 +98,13 @@ phase_met (NoNative slot) = Leaving
 abbrev pub phase_of : Option Met → Phase
 phase_of None = Reading
 phase_of (Some met) = phase_met met
+
+-- the phase of a run that reads, by whether some file met a fault
+abbrev pub phase_reading : Bool → Phase
+phase_reading false = Reading
+phase_reading true = Leaving
+
+-- and behind a round of it
+abbrev pub phase_after : Bool → Option Met → Phase
+phase_after false met = phase_of met
+phase_after true met = Leaving

@@ -1,5 +1,6 @@
--- What ends the run in a round (this project's profile): where a round met several causes, the first in this order.
-use Rattle.std.specs.Prelude.{◌≡◌, ℕ, ◌<◌, ◌≤◌, true, false, List, All, take, slice_get, Option, Some, None}
+-- What ends the run in a round (this project's profile): where a round met several causes, the first in this order. A read fault ends
+-- the run of one file alone, and the run has met it once the others are at their ends.
+use Rattle.std.specs.Prelude.{◌≡◌, ℕ, ◌<◌, ◌≤◌, Bool, true, false, List, All, take, slice_get, Option, Some, None, Result, Ok, Err}
 use Rattle.keeper.specs.Keeping.{Keeping}
 use Rattle.rounds.specs.Settled.{IsDoneIn}
 use Rattle.rounds.specs.declared.answer.Round.{Round}
@@ -27,10 +28,9 @@ pub record WasStoring (round : Round) : Type 0 where
   pub memory : round.memory ≡ false
   pub disk : round.disk ≡ false
 
--- and each turn could read, in an epoch that is not the last
+-- and each file is in an epoch that is not the last
 pub record WasReading (round : Round) : Type 0 where
   pub storing : WasStoring round
-  pub no_faults : round.tail_faults ≡ 0
   pub no_epochs : round.epochs ≡ None
 
 -- and each worker may go on
@@ -41,10 +41,27 @@ pub record WasSending {T W L : Type 0} (attempts : ℕ) (crew : Crew T W L) (rou
 abbrev pub IsMetIn : {T W L : Type 0} → ℕ → Crew T W L → Keeping → Round → Option Met → Type 0
 IsMetIn attempts crew keeper round (Some NoMemory) = round.memory ≡ true
 IsMetIn attempts crew keeper round (Some DiskFault) = (round.memory ≡ false) × (round.disk ≡ true)
-IsMetIn attempts crew keeper round (Some FolderFault) = WasStoring round × (0 < round.tail_faults)
-IsMetIn attempts crew keeper round (Some (Epochs slot)) = WasStoring round × (round.tail_faults ≡ 0) × (round.epochs ≡ Some slot)
+IsMetIn attempts crew keeper round (Some FolderFault) = ⊥
+IsMetIn attempts crew keeper round (Some (Epochs slot)) = WasStoring round × (round.epochs ≡ Some slot)
 IsMetIn attempts crew keeper round (Some (Unreachable worker)) = WasReading round × HasFailed attempts crew.carriers.items worker
 IsMetIn attempts crew keeper round (Some Done) = WasSending attempts crew round × (round.moved ≡ false) × IsDoneIn crew keeper
 IsMetIn attempts crew keeper round (Some Stopped) = ⊥
 IsMetIn attempts crew keeper round (Some (NoNative slot)) = ⊥
 IsMetIn attempts crew keeper round None = WasSending attempts crew round × (round.moved ≡ false → ¬ (IsDoneIn crew keeper))
+
+-- a run in which some file met a fault has met that, unless it has no memory or a disk failed
+abbrev pub met_behind : Bool → Met → Met
+met_behind false met = met
+met_behind true Done = FolderFault
+met_behind true Stopped = FolderFault
+met_behind true NoMemory = NoMemory
+met_behind true DiskFault = DiskFault
+met_behind true FolderFault = FolderFault
+met_behind true (Unreachable worker) = FolderFault
+met_behind true (Epochs slot) = FolderFault
+met_behind true (NoNative slot) = FolderFault
+
+-- whether some file met a fault, where the run goes on, or what it has met
+abbrev pub read_by : Bool → Option Met → Result Bool Met
+read_by faulty None = Ok faulty
+read_by faulty (Some met) = Err (met_behind faulty met)

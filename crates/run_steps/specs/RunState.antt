@@ -12,9 +12,9 @@ pub data Phase : Type 0 where
   Reading : Phase
   -- each file was told to its end
   Finished : Phase
-  -- tails are closed, whatever was told of their files
+  -- tails may be closed, whatever was told of their files; others may be turned on
   Leaving : Phase
-  -- so they are, and the last epoch of the file of this slot is over
+  -- so it is, and the last epoch of the file of this slot is over
   OutOfEpochs : Slot → Phase
 
 -- once tails are closed

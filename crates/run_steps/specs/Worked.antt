@@ -1,5 +1,5 @@
 -- What a run has done once its rounds are made (this project's profile): where files could not all be begun, none is.
-use Rattle.std.specs.Prelude.{◌≡◌, ◌≢◌, ◌⊎◌, ◌≤◌, ◌<◌, ℕ, List, [], length, Result, Ok, Err, Vec}
+use Rattle.std.specs.Prelude.{◌≡◌, ◌≢◌, ◌⊎◌, ◌≤◌, ◌<◌, ℕ, false, List, [], length, Result, Ok, Err, Vec}
 use Rattle.std.specs.Borrow.{MutBor}
 use Rattle.std.specs.declared.alloc.Global.{Global}
 use Rattle.keeper.specs.Keeping.{Keeping}
@@ -12,7 +12,7 @@ use Rattle.rounds.specs.Words.{DiskWords, TailWords}
 use Rattle.rounds.specs.declared.crew.Crew.{Crew}
 use Rattle.rounds.specs.declared.storing.Storing.{Storing}
 use Rattle.run_steps.specs.BeginErrors.{met_of}
-use Rattle.run_steps.specs.MetBy.{IsMetBy, Since, phase_met}
+use Rattle.run_steps.specs.MetBy.{IsEndedBy, Since, phase_met}
 use Rattle.run_steps.specs.RunState.{Leaving, Phase, Reading}
 use Rattle.run_steps.specs.declared.begin_error.BeginError.{BeginError}
 use Rattle.run_steps.specs.declared.met.Met.{Met}
@@ -33,7 +33,7 @@ HasPassed (Err error) after = after ≡ []
 
 -- what was met as files were begun ends the run; else a round, or the bell, did
 abbrev pub IsFollowedBy : {T W L D : Type 0} → TailWords T → DiskWords D → ℕ → Since T W L D → Result (Vec Passing Global) BeginError → Met → Type 0
-IsFollowedBy tails disks attempts since (Ok passed) met = met ≢ Stopped → IsMetBy tails disks attempts since met
+IsFollowedBy tails disks attempts since (Ok passed) met = met ≢ Stopped → IsEndedBy tails disks attempts false since met
 IsFollowedBy tails disks attempts since (Err error) met = met ≡ met_of error
 
 -- what counts tell of the objects of a run, before it works and behind it

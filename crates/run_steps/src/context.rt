@@ -19,3 +19,11 @@ pub struct Surroundings<'a, 'b, 'c, 'd, F, W, K, B> {
     pub clock: &'c mut K,
     pub bell: &'d mut B,
 }
+
+/// What rounds read and ask of the system beside a run's areas: where tails are closed, the time, and whether to stop.
+#[derive(Drop)]
+pub struct System<'a, 'b, 'c, F, K, B> {
+    pub folder: &'a mut F,
+    pub clock: &'b mut K,
+    pub bell: &'c mut B,
+}

@@ -1,5 +1,5 @@
 ghost use Rattle.std.specs.Prelude.{◌≡◌, ◌-◌, ◌^◌, ◌≤◌, IfNone, IfSome, length};
-ghost use Rattle.run_steps.specs.MetIn.{HasFailed, IsMetIn, NoneFailed};
+ghost use Rattle.run_steps.specs.MetIn.{HasFailed, IsMetIn, NoneFailed, met_behind};
 
 use crate::met::Met;
 use keeper::Keeper;
@@ -9,19 +9,19 @@ use rounds::{Carrier, Crew, Round};
 /// How long the clock pauses after a round in which nothing moved, in milliseconds.
 pub const PAUSE_MS: u64 = 100;
 
-/// Lets the clock pause where the round ended nothing and moved nothing.
+/// Lets the clock pause where the round ended nothing and moved nothing, and no file is closed behind it.
 pub fn pause_where_still<K: Clock>(met: Option<Met>, round: Round, clock: &mut K)
     ensures moments_kept { K.moments clock.new ≡ K.moments clock.old }
     ensures not_asked { K.questions clock.new ≡ K.questions clock.old }
     ensures faults_never_fall { K.faults clock.old ≤ K.faults clock.new }
 {
-    if met.is_none() && !round.moved {
+    if met.is_none() && !round.moved && round.tail_faults == 0 {
         clock.pause(PAUSE_MS);
     }
 }
 
 /// What ends the run in this round. Where the round met several causes it is the first in this order: no memory, a disk's fault,
-/// a file's, a last epoch, a worker that failed `attempts` times in a row, and that all is done.
+/// a last epoch, a worker that failed `attempts` times in a row, and that all is done. A file's read fault ends no run by itself.
 pub fn met_in<T: Tail, L: Link, W: Wire<Link = L>>(
     attempts: u32,
     crew: &Crew<T, W, L>,
@@ -37,9 +37,6 @@ pub fn met_in<T: Tail, L: Link, W: Wire<Link = L>>(
     if round.disk {
         return Some(Met::DiskFault);
     }
-    if round.tail_faults > 0 {
-        return Some(Met::FolderFault);
-    }
     if let Some(slot) = round.epochs {
         return Some(Met::Epochs(slot));
     }
@@ -50,6 +47,16 @@ pub fn met_in<T: Tail, L: Link, W: Wire<Link = L>>(
         return Some(Met::Done);
     }
     None
+}
+
+/// What a run has met that ends by this: a file's fault, if some file met one, unless memory or a disk failed.
+pub fn met_behind(faulty: bool, met: Met) -> Met
+    ensures { result ≡ met_behind faulty met }
+{
+    match met {
+        Met::NoMemory | Met::DiskFault => met,
+        _ => { if faulty { Met::FolderFault } else { met } }
+    }
 }
 
 /// The first worker that failed so often in a row.

@@ -1,48 +1,93 @@
-ghost use Rattle.std.specs.Prelude.{◌≡◌, ◌+◌, ◌-◌, ◌<◌, ◌≤◌, All, length, map, vec_capacity, vec_len};
+ghost use Rattle.std.specs.Prelude.{◌≡◌, ◌+◌, ◌-◌, ◌<◌, ◌≤◌, [], ◌∷◌, All, Some, length, vec_capacity, vec_len};
 ghost use Rattle.lanes.specs.Laning.{laning};
 ghost use Rattle.outside.specs.Counts.{added_counts};
 ghost use Rattle.outside.specs.Files.{NoneEarlier};
 ghost use Rattle.rounds.specs.Crewed.{lanings};
-ghost use Rattle.rounds.specs.WordsOf.{links_of, wires_of};
+ghost use Rattle.rounds.specs.WordsOf.{links_of, tails_of, wires_of};
 ghost use Rattle.run_steps.specs.CarriersEnd.{EndsCarriers, HasCarrierPasses, HasLanePasses, PutsWire};
-ghost use Rattle.run_steps.specs.Releasing.{CountsFaults, HasNoHarvesters, all_closings, closing_of, closings_of, harvesters_of, released, with_events};
+ghost use Rattle.run_steps.specs.ClosesTail.{ClosesFailed, ClosesOne, ClosesSome, LetsSlotGo, readers};
+ghost use Rattle.run_steps.specs.Releasing.{HasNoHarvesters, closing_of, with_events};
 
 use harvester::Harvester;
 use lanes::Lane;
 use outside::{Folder, Link, Tail, Wire};
 use rounds::{Carrier, Crew};
+use wire_base::Slot;
 
-/// Lets all harvesters go, and gives the folder their tails back: lane by lane, and in each from the last one on. It takes no
-/// memory.
-pub fn release_all<F: Folder>(folder: &mut F, lanes: &mut [Lane<F::Tail>])
-    ensures released { lanings lanes.new ≡ map released (lanings lanes.old) }
-    ensures told { F.told folder.new ≡ with_events
-        (all_closings F.Tail.told F.Tail.faults (lanings lanes.old)) (F.told folder.old) }
-    ensures open_tails { F.open_tails folder.new
-        ≡ F.open_tails folder.old - length (harvesters_of (lanings lanes.old)) }
-    ensures counts_faults { CountsFaults F.Tail.faults (F.faults folder.old)
-        (F.faults folder.new) (harvesters_of (lanings lanes.old)) }
-    ensures faults_never_fall { F.faults folder.old ≤ F.faults folder.new }
+/// Closes all tails: lane by lane, and in each from the last one on. It takes no memory.
+pub fn close_all<F: Folder>(folder: &mut F, lanes: &mut [Lane<F::Tail>])
+    ensures closes { ClosesSome (tails_of F.Tail.Tail)
+        (readers F.Folder folder.old (lanings lanes.old))
+        (readers F.Folder folder.new (lanings lanes.new)) }
+    ensures none_left { All HasNoHarvesters (lanings lanes.new) }
 {
     let Some((first, rest)) = lanes.split_first_mut() else {
         return;
     };
-    release_lane(folder, first);
-    release_all(folder, rest);
+    close_lane(folder, first);
+    close_all(folder, rest);
 }
 
-fn release_lane<F: Folder>(folder: &mut F, lane: &mut Lane<F::Tail>)
-    ensures released { laning lane.new ≡ released (laning lane.old) }
-    ensures told { F.told folder.new ≡ with_events
-        (closings_of F.Tail.told F.Tail.faults (laning lane.old).harvesters)
-        (F.told folder.old) }
-    ensures open_tails { F.open_tails folder.new
-        ≡ F.open_tails folder.old - length (laning lane.old).harvesters }
-    ensures counts_faults { CountsFaults F.Tail.faults (F.faults folder.old)
-        (F.faults folder.new) (laning lane.old).harvesters }
-    ensures faults_never_fall { F.faults folder.old ≤ F.faults folder.new }
+fn close_lane<F: Folder>(folder: &mut F, lane: &mut Lane<F::Tail>)
+    ensures closes { ClosesSome (tails_of F.Tail.Tail)
+        (readers F.Folder folder.old (laning lane.old ∷ []))
+        (readers F.Folder folder.new (laning lane.new ∷ [])) }
+    ensures none_left { HasNoHarvesters (laning lane.new) }
 {
-    'harvesters: while let Some(harvester) = lane.pop() {
+    'harvesters: while lane.len() > 0 {
+        close_tail(folder, lane, lane.len() - 1);
+    }
+}
+
+/// Closes the tail of this seat, and lets its harvester go; the lane's last one takes the seat. It takes no memory.
+pub fn close_tail<F: Folder>(folder: &mut F, lane: &mut Lane<F::Tail>, seat: usize)
+    requires seat { seat < length (laning lane.old).harvesters }
+    ensures closes { ClosesOne (tails_of F.Tail.Tail)
+        (readers F.Folder folder.old (laning lane.old ∷ []))
+        (readers F.Folder folder.new (laning lane.new ∷ [])) }
+    ensures fewer { length (laning lane.new).harvesters + 1
+        ≡ length (laning lane.old).harvesters }
+{
+    let harvester = lane.release_at(seat);
+    release(folder, harvester);
+}
+
+/// Behind a round: of each lane, closes the first file of which a read failed. Whether there was one. It takes no memory.
+pub fn close_failed<F: Folder>(folder: &mut F, lanes: &mut [Lane<F::Tail>]) -> bool
+    ensures { ClosesFailed (tails_of F.Tail.Tail) result
+        (readers F.Folder folder.old (lanings lanes.old))
+        (readers F.Folder folder.new (lanings lanes.new)) }
+{
+    let Some((first, rest)) = lanes.split_first_mut() else {
+        return false;
+    };
+    let here = close_failed_of(folder, first);
+    let later = close_failed(folder, rest);
+    here || later
+}
+
+fn close_failed_of<F: Folder>(folder: &mut F, lane: &mut Lane<F::Tail>) -> bool
+    ensures { ClosesFailed (tails_of F.Tail.Tail) result
+        (readers F.Folder folder.old (laning lane.old ∷ []))
+        (readers F.Folder folder.new (laning lane.new ∷ [])) }
+{
+    match lane.tally().failed {
+        Some(slot) => {
+            close_slot(folder, lane, slot);
+            true
+        }
+        None => false,
+    }
+}
+
+/// Closes the tail of a harvester of this slot, if the lane has one, and lets the harvester go. It takes no memory.
+pub fn close_slot<F: Folder>(folder: &mut F, lane: &mut Lane<F::Tail>, slot: Slot)
+    ensures closes { ClosesSome (tails_of F.Tail.Tail)
+        (readers F.Folder folder.old (laning lane.old ∷ []))
+        (readers F.Folder folder.new (laning lane.new ∷ [])) }
+    ensures lets_go { LetsSlotGo (Some slot) (laning lane.old) (laning lane.new) }
+{
+    if let Some(harvester) = lane.release(slot) {
         release(folder, harvester);
     }
 }

@@ -28,10 +28,10 @@ ghost use Rattle.run_steps.specs.Worked.{HasPassed, IsBegunWith, IsFollowedBy, I
 ghost use Rattle.run_steps.specs.declared.met.Met.TheVariants.{Stopped};
 
 use crate::begin_error::BeginError;
-use crate::context::{Context, Surroundings};
-use crate::leave::{end_crew, release_all};
+use crate::context::{Context, Surroundings, System};
+use crate::leave::{close_all, end_crew};
 use crate::met::Met;
-use crate::reading::{Signals, store_and_follow};
+use crate::reading::store_and_follow;
 use crate::settle::settle_all;
 use outside::{Bell, Clock, Disk, Folder, Link, Tail, Wire};
 use report::Passing;
@@ -48,7 +48,7 @@ pub struct Worked {
 }
 
 /// Rounds until one ends the run, and the last steps; then all files, lanes and workers are let go, and the wires are back in their
-/// order. What was met as files were begun ends the run before a round. Takes as long as the files, the peers and the disk do.
+/// order. What was met as files were begun ends the run before a round; a fault of a file in a round ends it once the others are read. Takes as long as the files, the peers and the disk do.
 pub fn work<
     X: Threads + Wait + Sync,
     F: Folder,
@@ -123,12 +123,13 @@ where
     ensures same_clock { around.new.clock.ghost_name ≡ around.old.clock.ghost_name }
     ensures same_bell { around.new.bell.ghost_name ≡ around.old.bell.ghost_name }
 {
-    let mut signals = Signals {
+    let mut system = System {
+        folder: &mut *around.folder,
         clock: &mut *around.clock,
         bell: &mut *around.bell,
     };
-    let worked = follow_begun(rt, context, begun, &mut crew, storing, &mut signals);
-    release_all(around.folder, crew.lanes.as_mut_slice());
+    let worked = follow_begun(rt, context, begun, &mut crew, storing, &mut system);
+    close_all(around.folder, crew.lanes.as_mut_slice());
     let worked = settle_after(rt, context, worked, &mut crew, storing);
     end_crew(crew, around.wires);
     worked
@@ -136,7 +137,7 @@ where
 
 /// Rounds, if all files were begun and what was noted of them is stored.
 pub fn follow_begun<
-    T: Tail + Send,
+    F: Folder,
     L: Link + Send,
     W: Wire<Link = L> + Send,
     D: Disk + Send,
@@ -147,29 +148,33 @@ pub fn follow_begun<
     rt: &R,
     context: Context<'_, '_>,
     begun: Result<Vec<Passing>, BeginError>,
-    crew: &mut Crew<T, W, L>,
+    crew: &mut Crew<F::Tail, W, L>,
     storing: &mut Storing<'_, D>,
-    signals: &mut Signals<'_, K, B>,
+    system: &mut System<'_, '_, '_, F, K, B>,
 ) -> Worked
-    requires ready { IsReadyIn (tails_of T.Tail) context (crewing crew.old storing.old) }
+where
+    F::Tail: Send,
+    requires ready { IsReadyIn (tails_of F.Tail.Tail) context (crewing crew.old storing.old) }
     requires few { length crew.old.carriers.items ≤ 2 ^ 32 - 1 }
-    ensures goes { Goes (step_words T.Tail L.Link W.Wire D.Disk K.Clock B.Bell) context.entry
-        (Some result.met) (stop_at (phase_begun begun) crew.old storing.old signals.old)
-        (stop_at (phase_worked begun result.met) crew.new storing.new signals.new) }
+    ensures goes { Goes (step_words F.Folder F.Tail.Tail L.Link W.Wire D.Disk K.Clock B.Bell)
+        context.entry (Some result.met)
+        (stop_at (phase_begun begun) crew.old storing.old system.old)
+        (stop_at (phase_worked begun result.met) crew.new storing.new system.new) }
     ensures passed { HasPassed begun result.passed.items }
-    ensures met { IsFollowedBy (tails_of T.Tail) (disks_of D.Disk)
+    ensures met { IsFollowedBy (tails_of F.Tail.Tail) (disks_of D.Disk)
         context.entry.settings.now.output.attempts
-        (since_of storing.old (crewing crew.new storing.new)) begun result.met }
+        (since_of F.Folder storing.old system.old (crewing crew.new storing.new) system.new)
+        begun result.met }
     ensures stopped { IfOk begun (λ _. result.met ≡ Stopped →
-        Rose (B.rings signals.old.bell.now) (B.rings signals.new.bell.now)) }
+        Rose (B.rings system.old.bell.now) (B.rings system.new.bell.now)) }
     ensures asks { AsksOn 1
-        (questions_of K.Clock B.Bell signals.old.clock.now signals.old.bell.now)
-        (questions_of K.Clock B.Bell signals.new.clock.now signals.new.bell.now) }
+        (questions_of K.Clock B.Bell system.old.clock.now system.old.bell.now)
+        (questions_of K.Clock B.Bell system.new.clock.now system.new.bell.now) }
 {
     match begun {
         Ok(passed) => Worked {
             passed,
-            met: store_and_follow(rt, context, crew, storing, signals),
+            met: store_and_follow(rt, context, false, crew, storing, system),
         },
         Err(error) => Worked {
             passed: Vec::new(context.alloc),

@@ -1,16 +1,19 @@
 use Rattle.std.proofs.Common.{ℕ, true, List, Option, refl, sym, subst, ◌∙◌, arith}
 use Rattle.lanes.specs.declared.run.When.{When}
 use Rattle.outside.specs.Times.{GivesMoment}
+use Rattle.rounds.specs.Crewed.{lanings}
 use Rattle.rounds.specs.Crewing.{crewing}
 use Rattle.rounds.specs.WordsOf.{words_of}
 use Rattle.run_steps.specs.ClockOn.{MomentsGoOn}
-use Rattle.run_steps.specs.MetBy.{phase_of}
+use Rattle.run_steps.specs.FolderSeen.{seen_in}
+use Rattle.run_steps.specs.MetBy.{phase_after, phase_reading}
 use Rattle.run_steps.proofs.CarriersGoOn.{carriers_by_round}
 use Rattle.run_steps.proofs.Clocks.{clock_by_moment}
 use Rattle.run_steps.proofs.FailingRounds.{fail_by_round, none_failed_in}
 use Rattle.run_steps.proofs.GoesOn.{none_failed_on}
-use Rattle.run_steps.proofs.MetBy.{all_done, each_met, none_out, some_out, stored_well}
+use Rattle.run_steps.proofs.MetBy.{all_done_after, each_met, faults_stay, never_fault, none_out_after, reads_before, round_failed, some_out_after, stored_well}
 use Rattle.run_steps.proofs.Onward.{round_onward}
+use Rattle.run_steps.proofs.ReadersGo.{readers_stay}
 use Rattle.run_steps.proofs.reading.make_round.Goals as goal
 
 pub met_in-met-requires : goal.met_in-met-requires
@@ -18,13 +21,25 @@ met_in-met-requires g c = record { few = let many = c.round-round.ensures.keeps.
 
 pub returns-clause-met : goal.returns-clause-met
 returns-clause-met g c =
-    each_met (words_of g.T.Tail g.L.Link g.W.Wire g.D.Disk) c.args.context.outlets.queue.now c.args.context.outlets.desk.now (record { now = c.now-now.result; last = true })
+    each_met (words_of g.F.Tail.Tail g.L.Link g.W.Wire g.D.Disk) c.args.context.outlets.queue.now c.args.context.outlets.desk.now (record { now = c.now-now.result; last = true })
+    (crewing c.args.crew.now c.args.storing.now) (crewing c.round-round.new.self c.round-round.new.storing) c.round-round.result c.requires.ready c.round-round.ensures.keeps
+    c.args.context.settings.now.output.attempts (g.F.Folder.faults c.args.system.now.folder.now) (g.F.Folder.faults c.args.system.now.folder.now) c.met_in-met.result c.met_in-met.ensures
+
+pub returns-clause-no_fault : goal.returns-clause-no_fault
+returns-clause-no_fault g c =
+    never_fault (words_of g.F.Tail.Tail g.L.Link g.W.Wire g.D.Disk) c.args.context.outlets.queue.now c.args.context.outlets.desk.now (record { now = c.now-now.result; last = true })
     (crewing c.args.crew.now c.args.storing.now) (crewing c.round-round.new.self c.round-round.new.storing) c.round-round.result c.requires.ready c.round-round.ensures.keeps
     c.args.context.settings.now.output.attempts c.met_in-met.result c.met_in-met.ensures
 
+pub returns-clause-failed : goal.returns-clause-failed
+returns-clause-failed g c =
+    round_failed (words_of g.F.Tail.Tail g.L.Link g.W.Wire g.D.Disk) c.args.context.outlets.queue.now c.args.context.outlets.desk.now (record { now = c.now-now.result; last = true })
+    (crewing c.args.crew.now c.args.storing.now) (crewing c.round-round.new.self c.round-round.new.storing) c.round-round.result c.requires.ready c.round-round.ensures.keeps
+    c.args.context.settings.now.output.attempts
+
 pub returns-clause-goes : goal.returns-clause-goes
-returns-clause-goes g c =
-    let all = words_of g.T.Tail g.L.Link g.W.Wire g.D.Disk in
+returns-clause-goes g c faulty =
+    let all = words_of g.F.Tail.Tail g.L.Link g.W.Wire g.D.Disk in
     let queue = c.args.context.outlets.queue.now in
     let desk = c.args.context.outlets.desk.now in
     let attempts = c.args.context.settings.now.output.attempts in
@@ -33,7 +48,7 @@ returns-clause-goes g c =
     let new = crewing c.round-round.new.self c.round-round.new.storing in
     let round = c.round-round.result in
     let met = c.met_in-met.result in
-    let before = g.K.Clock.moments c.args.signals.now.clock.now in
+    let before = g.K.Clock.moments c.args.system.now.clock.now in
     let after = g.K.Clock.moments c.pause_where_still.new.clock in
     let keeps = c.round-round.ensures.keeps in
     let given : GivesMoment before c.now-now.result.0 after =
@@ -59,15 +74,18 @@ returns-clause-goes g c =
         collects = keeps.collects;
         same_objects = keeps.same_objects;
         still_tell = keeps.still_tell;
+        readers = readers_stay all.tails (seen_in g.F.Folder c.args.system.now.folder.now) (lanings c.args.crew.now.lanes.items) (lanings c.round-round.new.self.lanes.items) keeps.slots
+            (faults_stay all queue desk when old new round c.requires.ready keeps attempts);
+        same_folder = refl;
         same_clock = refl;
         same_bell = refl;
       };
-      onward = λ shown. round_onward all c.disk_images_are_counted.ensures.reads c.disk_images_are_counted.ensures.counts queue desk c.args.crew.now c.round-round.new.self
-          c.args.storing.now c.round-round.new.storing round shown when refl before after (phase_of met) given c.round-round.ensures.rounds keeps
-          (none_out all queue desk when old new round c.requires.ready keeps attempts met c.met_in-met.ensures)
-          (all_done all queue desk when old new round c.requires.ready keeps attempts met c.met_in-met.ensures)
-          (some_out all queue desk when old new round c.requires.ready keeps attempts met c.met_in-met.ensures);
-      slots = keeps.slots;
+      onward = round_onward all c.disk_images_are_counted.ensures.reads c.disk_images_are_counted.ensures.counts queue desk c.args.crew.now c.round-round.new.self
+          c.args.storing.now c.round-round.new.storing round (g.F.Folder.told c.args.system.now.folder.now) when refl before after (phase_reading faulty) (phase_after faulty met) given c.round-round.ensures.rounds keeps
+          (reads_before all queue desk when old new round c.requires.ready keeps attempts faulty met)
+          (none_out_after all queue desk when old new round c.requires.ready keeps attempts faulty met c.met_in-met.ensures)
+          (all_done_after all queue desk when old new round c.requires.ready keeps attempts faulty met c.met_in-met.ensures)
+          (some_out_after all queue desk when old new round c.requires.ready keeps attempts faulty met c.met_in-met.ensures);
     }
 
 pub returns-clause-none_failed : goal.returns-clause-none_failed

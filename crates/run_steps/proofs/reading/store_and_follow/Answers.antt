@@ -1,40 +1,41 @@
-use Rattle.std.proofs.Common.{None, Some}
+use Rattle.std.proofs.Common.{arith, inl}
 use Rattle.rounds.specs.Crewing.{crewing}
 use Rattle.rounds.specs.WordsOf.{words_of}
 use Rattle.run_steps.specs.Goes.{step_words}
 use Rattle.run_steps.specs.MetBy.{since_of}
 use Rattle.run_steps.specs.Questions.{questions_of}
 use Rattle.run_steps.proofs.GoesOn.{goes_by_two}
-use Rattle.run_steps.proofs.MetBy.{met_since}
+use Rattle.run_steps.proofs.MetBy.{ended_since}
 use Rattle.run_steps.proofs.Questions.{asks_nothing}
-use Rattle.run_steps.proofs.StoresFirst.{goes_by_storing, met_by_storing, not_stopped}
+use Rattle.run_steps.proofs.StoresFirst.{goes_met, goes_stored, met_by_storing, not_stopped}
 use Rattle.run_steps.proofs.reading.store_and_follow.Goals as goal
 
 pub returns-in-Some-clause-goes : goal.returns-in-Some-clause-goes
 returns-in-Some-clause-goes g c =
-    goes_by_storing (step_words g.T.Tail g.L.Link g.W.Wire g.D.Disk g.K.Clock g.B.Bell) c.args.context c.args.signals.now c.args.crew.now c.store_all.new.crew
-    c.args.storing.now c.store_all.new.storing (Some c.in-Some.met) c.in-Some.ensures
+    goes_met (step_words g.F.Folder g.F.Tail.Tail g.L.Link g.W.Wire g.D.Disk g.K.Clock g.B.Bell) c.args.context c.args.system.now c.args.crew.now c.store_all.new.crew
+    c.args.storing.now c.store_all.new.storing c.args.faulty c.in-Some.met c.in-Some.ensures
 
 pub returns-in-Some-clause-met : goal.returns-in-Some-clause-met
 returns-in-Some-clause-met g c = λ other.
-    met_by_storing (step_words g.T.Tail g.L.Link g.W.Wire g.D.Disk g.K.Clock g.B.Bell) c.args.context c.args.signals.now c.args.crew.now c.store_all.new.crew
-    c.args.storing.now c.store_all.new.storing c.in-Some.met c.in-Some.ensures.by
+    met_by_storing (step_words g.F.Folder g.F.Tail.Tail g.L.Link g.W.Wire g.D.Disk g.K.Clock g.B.Bell) c.args.context c.args.system.now c.args.crew.now c.store_all.new.crew
+    c.args.storing.now c.store_all.new.storing c.in-Some.met c.args.faulty (g.F.Folder.faults c.args.system.now.folder.now) (g.F.Folder.faults c.args.system.now.folder.now) c.in-Some.ensures.by
 
 pub returns-in-Some-clause-stopped : goal.returns-in-Some-clause-stopped
 returns-in-Some-clause-stopped g c is =
-    absurd (not_stopped (step_words g.T.Tail g.L.Link g.W.Wire g.D.Disk g.K.Clock g.B.Bell) c.args.context c.args.signals.now c.args.crew.now c.store_all.new.crew
+    absurd (not_stopped (step_words g.F.Folder g.F.Tail.Tail g.L.Link g.W.Wire g.D.Disk g.K.Clock g.B.Bell) c.args.context c.args.system.now c.args.crew.now c.store_all.new.crew
     c.args.storing.now c.store_all.new.storing c.in-Some.met c.in-Some.ensures.by is)
 
 pub returns-in-None-clause-goes : goal.returns-in-None-clause-goes
 returns-in-None-clause-goes g c =
-    goes_by_two (goes_by_storing (step_words g.T.Tail g.L.Link g.W.Wire g.D.Disk g.K.Clock g.B.Bell) c.args.context c.args.signals.now c.args.crew.now c.store_all.new.crew
-    c.args.storing.now c.store_all.new.storing None c.in-None.ensures) c.follow_all.ensures.goes
+    goes_by_two (goes_stored (step_words g.F.Folder g.F.Tail.Tail g.L.Link g.W.Wire g.D.Disk g.K.Clock g.B.Bell) c.args.context c.args.system.now c.args.crew.now c.store_all.new.crew
+    c.args.storing.now c.store_all.new.storing c.args.faulty c.in-None.ensures) c.follow_all.ensures.goes
 
 pub returns-in-None-clause-met : goal.returns-in-None-clause-met
 returns-in-None-clause-met g c other =
-    met_since (words_of g.T.Tail g.L.Link g.W.Wire g.D.Disk) c.args.context.settings.now.output.attempts c.args.storing.now.a.now c.args.storing.now.b.now
-    (since_of c.store_all.new.storing (crewing c.follow_all.new.crew c.follow_all.new.storing)) c.in-None.ensures.hands_on.a_faults_never_fall c.in-None.ensures.hands_on.b_faults_never_fall
-    c.follow_all.result (c.follow_all.ensures.met other)
+    let since = since_of g.F.Folder c.store_all.new.storing c.args.system.now (crewing c.follow_all.new.crew c.follow_all.new.storing) c.follow_all.new.system in
+    ended_since (words_of g.F.Tail.Tail g.L.Link g.W.Wire g.D.Disk) c.args.context.settings.now.output.attempts c.args.storing.now.a.now c.args.storing.now.b.now
+    since.faults since c.in-None.ensures.hands_on.a_faults_never_fall c.in-None.ensures.hands_on.b_faults_never_fall (omega arith)
+    c.args.faulty c.args.faulty c.follow_all.result (λ is. inl is) (c.follow_all.ensures.met other)
 
 pub returns-in-Some-clause-asks : goal.returns-in-Some-clause-asks
-returns-in-Some-clause-asks g c = asks_nothing 1 (questions_of g.K.Clock g.B.Bell c.args.signals.now.clock.now c.args.signals.now.bell.now)
+returns-in-Some-clause-asks g c = asks_nothing 1 (questions_of g.K.Clock g.B.Bell c.args.system.now.clock.now c.args.system.now.bell.now)

@@ -12,9 +12,9 @@ use Rattle.run_steps.proofs.working.follow_begun.Goals as goal
 
 pub returns-in-Err-clause-goes : goal.returns-in-Err-clause-goes
 returns-in-Err-clause-goes g c =
-    let at = λ (phase : Phase). stop_at phase c.args.crew.now c.args.storing.now c.args.signals.now in
-    subst (λ (b : Result (Vec Passing Global) BeginError). Goes (step_words g.T.Tail g.L.Link g.W.Wire g.D.Disk g.K.Clock g.B.Bell) c.args.context (Some c.from.result) (at (phase_begun b)) (at (phase_worked b c.from.result)))
+    let at = λ (phase : Phase). stop_at phase c.args.crew.now c.args.storing.now c.args.system.now in
+    subst (λ (b : Result (Vec Passing Global) BeginError). Goes (step_words g.F.Folder g.F.Tail.Tail g.L.Link g.W.Wire g.D.Disk g.K.Clock g.B.Bell) c.args.context (Some c.from.result) (at (phase_begun b)) (at (phase_worked b c.from.result)))
     (sym c.in-Err.is) (goes_by_nothing (Some c.from.result) (at Leaving) c.requires.ready)
 
 pub returns-in-Err-clause-asks : goal.returns-in-Err-clause-asks
-returns-in-Err-clause-asks g c = asks_nothing 1 (questions_of g.K.Clock g.B.Bell c.args.signals.now.clock.now c.args.signals.now.bell.now)
+returns-in-Err-clause-asks g c = asks_nothing 1 (questions_of g.K.Clock g.B.Bell c.args.system.now.clock.now c.args.system.now.bell.now)

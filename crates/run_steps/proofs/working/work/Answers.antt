@@ -1,43 +1,47 @@
-use Rattle.std.proofs.Common.{◌≡◌, ◌-◌, All, map, List, refl, sym, subst, length, arith}
+use Rattle.std.proofs.Common.{◌≡◌, refl, arith}
 use Rattle.keeper.proofs.InARow.{collects_more}
-use Rattle.lanes.specs.declared.lane.Lane.{Lane}
 use Rattle.rounds.specs.Crewed.{lanings}
 use Rattle.rounds.specs.Crewing.{crewing}
 use Rattle.std.specs.Vec.{with_items}
 use Rattle.run_steps.specs.CarriersFail.{sending}
+use Rattle.run_steps.specs.ClosesTail.{Readers}
+use Rattle.run_steps.specs.FolderSeen.{seen_in}
 use Rattle.run_steps.specs.MetBy.{Since}
-use Rattle.run_steps.specs.Releasing.{CountsFaults, HasNoHarvesters, all_closings, harvesters_of, released, with_events}
 use Rattle.run_steps.specs.RunState.{phase_left}
 use Rattle.run_steps.specs.Worked.{phase_worked}
 use Rattle.run_steps.specs.declared.met.Met.TheVariants.{Done}
 use Rattle.rounds.specs.WordsOf.{links_of, tails_of, wires_of, words_of}
 use Rattle.run_steps.proofs.CarriersGoOn.{wires_return}
 use Rattle.run_steps.proofs.FailingRounds.{fail_after}
-use Rattle.run_steps.proofs.Letting.{able_released, carriers_have_passes, lanes_have_passes, none_left, released_in}
-use Rattle.run_steps.proofs.RunTails.{as_many_harvesters, wires_back}
+use Rattle.run_steps.proofs.GoesOn.{goes_then_closes}
+use Rattle.run_steps.proofs.Letting.{able_closed, carriers_have_passes, lanes_have_passes, none_in, none_many, some_in, spans_by_some}
+use Rattle.run_steps.proofs.ReadersGo.{readers_go_by_some}
+use Rattle.run_steps.proofs.RunTails.{wires_back}
 use Rattle.run_steps.proofs.Unreached.{failed_as_met}
-use Rattle.run_steps.proofs.Whole.{cause, done_before, done_in, finished_by, first_met, has_ended, left_still, untold_by, epochs_before, out_by}
+use Rattle.run_steps.proofs.Whole.{all_counted, cause, done_before, done_in, finished_by, first_met, has_ended, left_still, untold_by, epochs_before, out_by}
 use Rattle.run_steps.proofs.working.work.Goals as goal
 
 pub settle_after-worked-requires-clause-ready : goal.settle_after-worked-requires-clause-ready
 settle_after-worked-requires-clause-ready g c κs within left =
     let one = c.follow_begun-worked.new.crew in
-    let same = released_in one.lanes c.release_all.new.lanes (subst (λ (l : List (Lane g.row.F-Tail.Denot)). lanings c.release_all.new.lanes ≡ map released (lanings l)) c.as_mut_slice.ensures.value c.release_all.ensures.released) in
+    let folder = c.follow_begun-worked.new.system.folder in
+    let closes = some_in (tails_of g.F.Tail.Tail) (seen_in g.F.Folder folder.now) (seen_in g.F.Folder c.close_all.new.folder) one.lanes c.as_mut_slice.result.now c.close_all.new.lanes
+    c.as_mut_slice.ensures.value c.close_all.ensures.closes in
     let ready = c.follow_begun-worked.ensures.goes.keeps.ready left in
     record {
-      able = able_released (tails_of g.F.Tail.Tail) c.args.context.outlets.queue.now.id c.args.context.outlets.desk.now.id
-          (crewing one c.follow_begun-worked.new.storing) (crewing (record one { lanes = with_items one.lanes c.release_all.new.lanes }) c.follow_begun-worked.new.storing)
-          ready.able same refl refl;
+      able = able_closed (tails_of g.F.Tail.Tail) c.args.context.outlets.queue.now.id c.args.context.outlets.desk.now.id closes.closed (seen_in g.F.Folder folder.now) (seen_in g.F.Folder c.close_all.new.folder)
+          (crewing one c.follow_begun-worked.new.storing) (crewing (record one { lanes = with_items one.lanes c.close_all.new.lanes }) c.follow_begun-worked.new.storing) ready.able closes.each refl refl;
       is_open = ready.is_open;
     }
 
 pub settle_after-worked-requires-clause-able : goal.settle_after-worked-requires-clause-able
 settle_after-worked-requires-clause-able g c κs within =
     let one = c.follow_begun-worked.new.crew in
-    let same = released_in one.lanes c.release_all.new.lanes (subst (λ (l : List (Lane g.row.F-Tail.Denot)). lanings c.release_all.new.lanes ≡ map released (lanings l)) c.as_mut_slice.ensures.value c.release_all.ensures.released) in
-    able_released (tails_of g.F.Tail.Tail) c.args.context.outlets.queue.now.id c.args.context.outlets.desk.now.id
-    (crewing one c.follow_begun-worked.new.storing) (crewing (record one { lanes = with_items one.lanes c.release_all.new.lanes }) c.follow_begun-worked.new.storing)
-    c.follow_begun-worked.ensures.goes.keeps.able same refl refl
+    let folder = c.follow_begun-worked.new.system.folder in
+    let closes = some_in (tails_of g.F.Tail.Tail) (seen_in g.F.Folder folder.now) (seen_in g.F.Folder c.close_all.new.folder) one.lanes c.as_mut_slice.result.now c.close_all.new.lanes
+    c.as_mut_slice.ensures.value c.close_all.ensures.closes in
+    able_closed (tails_of g.F.Tail.Tail) c.args.context.outlets.queue.now.id c.args.context.outlets.desk.now.id closes.closed (seen_in g.F.Folder folder.now) (seen_in g.F.Folder c.close_all.new.folder)
+    (crewing one c.follow_begun-worked.new.storing) (crewing (record one { lanes = with_items one.lanes c.close_all.new.lanes }) c.follow_begun-worked.new.storing) c.follow_begun-worked.ensures.goes.keeps.able closes.each refl refl
 
 pub end_crew-requires-clause-lanes : goal.end_crew-requires-clause-lanes
 end_crew-requires-clause-lanes g c =
@@ -47,8 +51,10 @@ end_crew-requires-clause-lanes g c =
 pub end_crew-requires-clause-no_harvesters : goal.end_crew-requires-clause-no_harvesters
 end_crew-requires-clause-no_harvesters g c =
     let one = c.follow_begun-worked.new.crew in
-    let same = released_in one.lanes c.release_all.new.lanes (subst (λ (l : List (Lane g.row.F-Tail.Denot)). lanings c.release_all.new.lanes ≡ map released (lanings l)) c.as_mut_slice.ensures.value c.release_all.ensures.released) in
-    c.settle_after-worked.ensures.last.hands_on.no_harvesters (subst (All HasNoHarvesters) (sym same) (none_left (lanings one.lanes.items)))
+    let folder = c.follow_begun-worked.new.system.folder in
+    let none = none_in (tails_of g.F.Tail.Tail) (seen_in g.F.Folder folder.now) (seen_in g.F.Folder c.close_all.new.folder) one.lanes c.as_mut_slice.result.now c.close_all.new.lanes
+    c.as_mut_slice.ensures.value c.close_all.ensures.closes c.close_all.ensures.none_left in
+    c.settle_after-worked.ensures.last.hands_on.no_harvesters none
 
 pub end_crew-requires-clause-carriers : goal.end_crew-requires-clause-carriers
 end_crew-requires-clause-carriers g c =
@@ -58,24 +64,34 @@ end_crew-requires-clause-carriers g c =
 pub returns-clause-ends : goal.returns-clause-ends
 returns-clause-ends g c start so_far stands began =
     let all = words_of g.F.Tail.Tail g.L.Link g.W.Wire g.D.Disk in
-    let one = c.follow_begun-worked.new.crew in
     let first = c.follow_begun-worked.new.storing in
     let met = c.follow_begun-worked.result.met in
     let now = c.settle_after-worked.result.met in
-    let since : Since g.row.F-Tail.Denot g.row.W.Denot g.row.L.Denot g.row.D.Denot = record { a = c.args.storing.now.a.now; b = c.args.storing.now.b.now; now = crewing one first } in
+    let one = c.follow_begun-worked.new.crew in
+    let folder = c.follow_begun-worked.new.system.folder in
+    let closes = some_in (tails_of g.F.Tail.Tail) (seen_in g.F.Folder folder.now) (seen_in g.F.Folder c.close_all.new.folder) one.lanes c.as_mut_slice.result.now c.close_all.new.lanes
+    c.as_mut_slice.ensures.value c.close_all.ensures.closes in
+    let none = none_in (tails_of g.F.Tail.Tail) (seen_in g.F.Folder folder.now) (seen_in g.F.Folder c.close_all.new.folder) one.lanes c.as_mut_slice.result.now c.close_all.new.lanes
+    c.as_mut_slice.ensures.value c.close_all.ensures.closes c.close_all.ensures.none_left in
+    let goes = goes_then_closes closes.closed (record folder { now = c.close_all.new.folder }) (with_items one.lanes c.close_all.new.lanes) c.follow_begun-worked.ensures.goes closes.each refl in
+    let since : Since g.row.F-Tail.Denot g.row.W.Denot g.row.L.Denot g.row.D.Denot = record {
+      a = c.args.storing.now.a.now;
+      b = c.args.storing.now.b.now;
+      faults = g.F.Folder.faults c.args.around.now.folder.now;
+      later_faults = g.F.Folder.faults c.follow_begun-worked.new.system.folder.now;
+      now = crewing one first;
+    } in
     let is_done = λ (is : now ≡ Done). done_before all.disks (record { a = first.a.now; b = first.b.now; new_a = c.settle_after-worked.new.storing.a.now; new_b = c.settle_after-worked.new.storing.b.now }) met now
     c.settle_after-worked.ensures.last.by is in (
       phase_left (phase_worked c.args.begun met),
-      has_ended all start c.args.begun (g.F.Folder.told c.args.around.now.folder.now) (g.F.Folder.told c.release_all.new.folder) (g.K.Clock.moments c.args.around.now.clock.now)
-          (g.K.Clock.moments c.follow_begun-worked.new.signals.clock.now) c.args.crew one (record one { lanes = with_items one.lanes c.release_all.new.lanes }) c.settle_after-worked.new.crew
+      has_ended all start c.args.begun (g.F.Folder.told c.args.around.now.folder.now) (g.F.Folder.told c.close_all.new.folder) (g.K.Clock.moments c.args.around.now.clock.now)
+          (g.K.Clock.moments c.follow_begun-worked.new.system.clock.now) c.args.crew one (record one { lanes = with_items one.lanes c.close_all.new.lanes }) c.settle_after-worked.new.crew
           c.args.storing.now first c.settle_after-worked.new.storing met now c.args.around.now.wires.now.items c.end_crew.new.wires.items
           (record {
-            followed = c.follow_begun-worked.ensures.goes.onward;
-            at_rest = c.follow_begun-worked.ensures.goes.keeps.at_rest;
-            lanes_are = released_in one.lanes c.release_all.new.lanes (subst (λ (l : List (Lane g.row.F-Tail.Denot)). lanings c.release_all.new.lanes ≡ map released (lanings l)) c.as_mut_slice.ensures.value c.release_all.ensures.released);
-            carriers_are = refl;
-            shows = subst (λ (l : List (Lane g.row.F-Tail.Denot)). g.F.Folder.told c.release_all.new.folder ≡ with_events (all_closings g.F.Tail.Tail.told g.F.Tail.Tail.faults (lanings l)) (g.F.Folder.told c.args.around.now.folder.now))
-                c.as_mut_slice.ensures.value c.release_all.ensures.told;
+            followed = goes.onward;
+            at_rest = goes.keeps.at_rest;
+            as_many_spans = spans_by_some (tails_of g.F.Tail.Tail) closes.closed (record { folder = seen_in g.F.Folder folder.now; lanes = lanings one.lanes.items })
+                (record { folder = seen_in g.F.Folder c.close_all.new.folder; lanes = lanings (with_items one.lanes c.close_all.new.lanes).items }) closes.each;
             settled = c.settle_after-worked.ensures.last.hands_on.onward;
             still = c.settle_after-worked.ensures.still;
             left_before = left_still all.disks (record { a = first.a.now; b = first.b.now; new_a = c.settle_after-worked.new.storing.a.now; new_b = c.settle_after-worked.new.storing.b.now }) met now
@@ -84,9 +100,7 @@ returns-clause-ends g c start so_far stands began =
             counted = c.settle_after-worked.ensures.last.counted;
             is_open = λ left. (c.settle_after-worked.ensures.last.hands_on.ready left).is_open;
             then_at_rest = c.settle_after-worked.ensures.last.hands_on.at_rest;
-            none_left = c.settle_after-worked.ensures.last.hands_on.no_harvesters (subst (All HasNoHarvesters)
-                (sym (released_in one.lanes c.release_all.new.lanes (subst (λ (l : List (Lane g.row.F-Tail.Denot)). lanings c.release_all.new.lanes ≡ map released (lanings l)) c.as_mut_slice.ensures.value c.release_all.ensures.released)))
-                (none_left (lanings one.lanes.items)));
+            none_left = c.settle_after-worked.ensures.last.hands_on.no_harvesters none;
             all_settled = c.settle_after-worked.ensures.last.hands_on.all_settled;
             ended = c.end_crew.ensures.ended;
             done = λ is. done_in all c.args.context.settings.now.output.attempts since c.args.begun met c.follow_begun-worked.ensures.met (is_done is);
@@ -104,17 +118,44 @@ returns-clause-told_only_where_begun g c =
     let first = c.follow_begun-worked.new.storing in
     let met = c.follow_begun-worked.result.met in
     let now = c.settle_after-worked.result.met in
-    let since : Since g.row.F-Tail.Denot g.row.W.Denot g.row.L.Denot g.row.D.Denot = record { a = c.args.storing.now.a.now; b = c.args.storing.now.b.now; now = crewing one first } in
+    let since : Since g.row.F-Tail.Denot g.row.W.Denot g.row.L.Denot g.row.D.Denot = record {
+      a = c.args.storing.now.a.now;
+      b = c.args.storing.now.b.now;
+      faults = g.F.Folder.faults c.args.around.now.folder.now;
+      later_faults = g.F.Folder.faults c.follow_begun-worked.new.system.folder.now;
+      now = crewing one first;
+    } in
     untold_by all.disks (record { a = first.a.now; b = first.b.now; new_a = c.settle_after-worked.new.storing.a.now; new_b = c.settle_after-worked.new.storing.b.now }) c.args.begun met now
     (first_met all c.args.context.settings.now.output.attempts since c.args.begun met c.follow_begun-worked.ensures.met) c.settle_after-worked.ensures.last.by
 
 pub returns-clause-open_tails : goal.returns-clause-open_tails
 returns-clause-open_tails g c =
     let one = c.follow_begun-worked.new.crew in
-    let closed = subst (λ (l : List (Lane g.row.F-Tail.Denot)). g.F.Folder.open_tails c.release_all.new.folder ≡ g.F.Folder.open_tails c.args.around.now.folder.now - length (harvesters_of (lanings l)))
-    c.as_mut_slice.ensures.value c.release_all.ensures.open_tails in
-    let same = as_many_harvesters (lanings c.args.crew.lanes.items) (lanings one.lanes.items) c.follow_begun-worked.ensures.goes.slots in
-    omega (arith, closed, same)
+    let folder = c.follow_begun-worked.new.system.folder in
+    let closes = some_in (tails_of g.F.Tail.Tail) (seen_in g.F.Folder folder.now) (seen_in g.F.Folder c.close_all.new.folder) one.lanes c.as_mut_slice.result.now c.close_all.new.lanes
+    c.as_mut_slice.ensures.value c.close_all.ensures.closes in
+    let none = none_in (tails_of g.F.Tail.Tail) (seen_in g.F.Folder folder.now) (seen_in g.F.Folder c.close_all.new.folder) one.lanes c.as_mut_slice.result.now c.close_all.new.lanes
+    c.as_mut_slice.ensures.value c.close_all.ensures.closes c.close_all.ensures.none_left in
+    let goes = goes_then_closes closes.closed (record folder { now = c.close_all.new.folder }) (with_items one.lanes c.close_all.new.lanes) c.follow_begun-worked.ensures.goes closes.each refl in
+    let closed = goes.keeps.readers.open_tails in
+    let many = none_many (lanings (with_items one.lanes c.close_all.new.lanes).items) none in
+    omega (arith, closed, many)
+
+pub returns-clause-never_fall : goal.returns-clause-never_fall
+returns-clause-never_fall g c =
+    let one = c.follow_begun-worked.new.crew in
+    let folder = c.follow_begun-worked.new.system.folder in
+    let closes = some_in (tails_of g.F.Tail.Tail) (seen_in g.F.Folder folder.now) (seen_in g.F.Folder c.close_all.new.folder) one.lanes c.as_mut_slice.result.now c.close_all.new.lanes
+    c.as_mut_slice.ensures.value c.close_all.ensures.closes in
+    let goes = goes_then_closes closes.closed (record folder { now = c.close_all.new.folder }) (with_items one.lanes c.close_all.new.lanes) c.follow_begun-worked.ensures.goes closes.each refl in
+    let first = c.follow_begun-worked.ensures.goes.keeps in
+    let then = c.settle_after-worked.ensures.last.hands_on in
+    record {
+      a_faults = omega (arith, first.a_faults_never_fall, then.a_faults_never_fall);
+      b_faults = omega (arith, first.b_faults_never_fall, then.b_faults_never_fall);
+      folder_faults = goes.keeps.readers.faults_never_fall;
+      rings = first.rings_never_fall;
+    }
 
 pub returns-clause-as_many_wires : goal.returns-clause-as_many_wires
 returns-clause-as_many_wires g c =
@@ -127,25 +168,33 @@ returns-clause-as_many_wires g c =
 pub returns-clause-cause : goal.returns-clause-cause
 returns-clause-cause g c =
     let all = words_of g.F.Tail.Tail g.L.Link g.W.Wire g.D.Disk in
-    let one = c.follow_begun-worked.new.crew in
     let first = c.follow_begun-worked.new.storing in
     let second = c.settle_after-worked.new.storing in
-    cause all c.args.context.settings.now.output.attempts c.args.crew one c.args.storing.now first second
+    let keeps = c.follow_begun-worked.ensures.goes.keeps in
+    let one = c.follow_begun-worked.new.crew in
+    let folder = c.follow_begun-worked.new.system.folder in
+    let closes = some_in (tails_of g.F.Tail.Tail) (seen_in g.F.Folder folder.now) (seen_in g.F.Folder c.close_all.new.folder) one.lanes c.as_mut_slice.result.now c.close_all.new.lanes
+    c.as_mut_slice.ensures.value c.close_all.ensures.closes in
+    let none = none_in (tails_of g.F.Tail.Tail) (seen_in g.F.Folder folder.now) (seen_in g.F.Folder c.close_all.new.folder) one.lanes c.as_mut_slice.result.now c.close_all.new.lanes
+    c.as_mut_slice.ensures.value c.close_all.ensures.closes c.close_all.ensures.none_left in
+    let before : Readers g.row.F-Tail.Denot = record { folder = seen_in g.F.Folder folder.now; lanes = lanings one.lanes.items } in
+    let after : Readers g.row.F-Tail.Denot = record { folder = seen_in g.F.Folder c.close_all.new.folder; lanes = lanings (with_items one.lanes c.close_all.new.lanes).items } in
+    cause all c.args.context.settings.now.output.attempts (g.F.Folder.faults folder.now) c.args.crew one c.args.storing.now first second
     (record { a_faults = g.D.Disk.faults c.args.storing.now.a.now; b_faults = g.D.Disk.faults c.args.storing.now.b.now; folder_faults = g.F.Folder.faults c.args.around.now.folder.now; rings = g.B.Bell.rings c.args.around.now.bell.now })
-    (record { a_faults = g.D.Disk.faults second.a.now; b_faults = g.D.Disk.faults second.b.now; folder_faults = g.F.Folder.faults c.release_all.new.folder; rings = g.B.Bell.rings c.follow_begun-worked.new.signals.bell.now })
+    (record { a_faults = g.D.Disk.faults second.a.now; b_faults = g.D.Disk.faults second.b.now; folder_faults = g.F.Folder.faults c.close_all.new.folder; rings = g.B.Bell.rings c.follow_begun-worked.new.system.bell.now })
     (record {
       a_before = refl;
       b_before = refl;
       a_after = refl;
       b_after = refl;
-      a_first = c.follow_begun-worked.ensures.goes.keeps.a_faults_never_fall;
-      b_first = c.follow_begun-worked.ensures.goes.keeps.b_faults_never_fall;
+      a_first = keeps.a_faults_never_fall;
+      b_first = keeps.b_faults_never_fall;
       a_then = c.settle_after-worked.ensures.last.hands_on.a_faults_never_fall;
       b_then = c.settle_after-worked.ensures.last.hands_on.b_faults_never_fall;
-      folder = subst (λ (l : List (Lane g.row.F-Tail.Denot)). CountsFaults g.F.Tail.Tail.faults (g.F.Folder.faults c.args.around.now.folder.now) (g.F.Folder.faults c.release_all.new.folder) (harvesters_of (lanings l)))
-          c.as_mut_slice.ensures.value c.release_all.ensures.counts_faults;
-      as_many = c.follow_begun-worked.ensures.goes.keeps.as_many;
-      slots = c.follow_begun-worked.ensures.goes.slots;
+      folder = λ met. all_counted all.tails (g.F.Folder.faults c.args.around.now.folder.now) (g.F.Folder.faults c.close_all.new.folder) after.lanes none
+          ((readers_go_by_some all.tails closes.closed before after closes.each).fault_stays (g.F.Folder.faults c.args.around.now.folder.now) keeps.readers.faults_never_fall met);
+      as_many = keeps.as_many;
+      slots = keeps.readers.slots;
     })
     c.args.begun c.follow_begun-worked.result.met c.settle_after-worked.result.met c.follow_begun-worked.ensures.met c.follow_begun-worked.ensures.stopped c.settle_after-worked.ensures.last.by
 
@@ -156,11 +205,12 @@ returns-clause-collects g c =
 
 pub returns-clause-told : goal.returns-clause-told
 returns-clause-told g c =
-    let one = c.follow_begun-worked.new.crew in (
-      all_closings g.F.Tail.Tail.told g.F.Tail.Tail.faults (lanings one.lanes.items),
-      subst (λ (l : List (Lane g.row.F-Tail.Denot)). g.F.Folder.told c.release_all.new.folder ≡ with_events (all_closings g.F.Tail.Tail.told g.F.Tail.Tail.faults (lanings l)) (g.F.Folder.told c.args.around.now.folder.now))
-          c.as_mut_slice.ensures.value c.release_all.ensures.told,
-    )
+    let one = c.follow_begun-worked.new.crew in
+    let folder = c.follow_begun-worked.new.system.folder in
+    let closes = some_in (tails_of g.F.Tail.Tail) (seen_in g.F.Folder folder.now) (seen_in g.F.Folder c.close_all.new.folder) one.lanes c.as_mut_slice.result.now c.close_all.new.lanes
+    c.as_mut_slice.ensures.value c.close_all.ensures.closes in
+    let goes = goes_then_closes closes.closed (record folder { now = c.close_all.new.folder }) (with_items one.lanes c.close_all.new.lanes) c.follow_begun-worked.ensures.goes closes.each refl in
+    (goes.keeps.readers.more, goes.keeps.readers.told)
 
 pub returns-clause-failing : goal.returns-clause-failing
 returns-clause-failing g c timeout earlier starts some none failing =
@@ -168,8 +218,14 @@ returns-clause-failing g c timeout earlier starts some none failing =
     let attempts = c.args.context.settings.now.output.attempts in
     let one = c.follow_begun-worked.new.crew in
     let first = c.follow_begun-worked.new.storing in
-    let moments = g.K.Clock.moments c.follow_begun-worked.new.signals.clock.now in
-    let since : Since g.row.F-Tail.Denot g.row.W.Denot g.row.L.Denot g.row.D.Denot = record { a = c.args.storing.now.a.now; b = c.args.storing.now.b.now; now = crewing one first } in
+    let moments = g.K.Clock.moments c.follow_begun-worked.new.system.clock.now in
+    let since : Since g.row.F-Tail.Denot g.row.W.Denot g.row.L.Denot g.row.D.Denot = record {
+      a = c.args.storing.now.a.now;
+      b = c.args.storing.now.b.now;
+      faults = g.F.Folder.faults c.args.around.now.folder.now;
+      later_faults = g.F.Folder.faults c.follow_begun-worked.new.system.folder.now;
+      now = crewing one first;
+    } in
     failed_as_met all attempts timeout earlier starts moments c.args.begun since
     (record { a = first.a.now; b = first.b.now; new_a = c.settle_after-worked.new.storing.a.now; new_b = c.settle_after-worked.new.storing.b.now })
     c.settle_after-worked.new.crew.carriers.items c.args.around.now.wires.now.items c.end_crew.new.wires.items c.follow_begun-worked.result.met c.settle_after-worked.result.met

@@ -1,0 +1,488 @@
+-- Tails that are closed keep what stands of a run: their files are left, with what the tails told.
+use Rattle.std.proofs.Common.{◌≡◌, ◌≢◌, ◌⊎◌, inl, inr, ⊎_elim, ℕ, zero, suc, ◌+◌, ◌≤◌, ◌<◌, ◌^◌, ◌-◌, List, [], ◌∷◌, ◌++◌, Contains, length, map, append_assoc, Option, Some, None, IsSome, IfSome, refl, sym, ap, subst, ◌∙◌, arith}
+use Rattle.std.proofs.lemmas.List.{map-append}
+use Rattle.std.proofs.lemmas.List.Elements.{Contains-append_cases, Contains-append_left}
+use Rattle.std.specs.Prelude.{Vec, slice_get}
+use Rattle.std.specs.declared.alloc.Global.{Global}
+use Rattle.std.specs.List.{AllByRecursion, flat_map}
+use Rattle.accounts.specs.Once.{AreOnce}
+use Rattle.accounts.specs.Opened.{IsTailOf, Opened}
+use Rattle.accounts.specs.ToldFile.{IsReadThrough}
+use Rattle.accounts.specs.Turned.{Turned, notes_told, parcels_told, spans_in}
+use Rattle.accounts.specs.Turning.{IsTurnedSo, Pairs}
+use Rattle.accounts.proofs.Backing.{mapped_there}
+use Rattle.accounts.proofs.Grounded.{each_member}
+use Rattle.accounts.proofs.Joining.{told_as_often}
+use Rattle.accounts.proofs.Lists.{each_last}
+use Rattle.accounts.proofs.Often.{often_back, often_contains, often_then, once_apart, once_more, once_none, once_often}
+use Rattle.accounts.proofs.Orderly.{member_is}
+use Rattle.event_tree.specs.declared.processor_rule.ProcessorRule.{ProcessorRule}
+use Rattle.harvester.specs.declared.harvester.Harvester.{Harvester}
+use Rattle.kept_rows.specs.Scans.{AreDistinct}
+use Rattle.lanes.specs.declared.lane.Lane.{Lane}
+use Rattle.outside.specs.Folders.{Closed, Event, FolderHistory}
+use Rattle.outside.specs.Folders as folders
+use Rattle.outside.specs.Tails.{TailHistory}
+use Rattle.outside.specs.declared.history.Sight.{Sight}
+use Rattle.pass_sums.specs.Weight.{AsOften, weigh}
+use Rattle.pass_sums.proofs.Weights.{weigh-append}
+use Rattle.prospect.proofs.Lists.{all_append}
+use Rattle.rounds.specs.Crewed.{lanings}
+use Rattle.rounds.specs.Pairs.{SomeOf}
+use Rattle.rounds.specs.Settled.{spans_told}
+use Rattle.rounds.specs.Words.{Words}
+use Rattle.rounds.specs.declared.carrier.Carrier.{Carrier}
+use Rattle.rounds.specs.declared.crew.Crew.{Crew}
+use Rattle.rounds.specs.declared.storing.Storing.{Storing}
+use Rattle.settle_box.specs.Senders.{notes}
+use Rattle.ship_core.proofs.Members.{first_there, later_there, none_there, there_cases}
+use Rattle.wire_base.specs.declared.note.Note.{Note}
+use Rattle.wire_base.specs.declared.numbers.Slot.{Slot}
+use Rattle.run_steps.specs.Began.{Began}
+use Rattle.run_steps.specs.Begun.{AreSlotsFrom}
+use Rattle.run_steps.specs.ClosesTail.{ClosesTail, ClosesTails, LetsGoAt, Readers}
+use Rattle.run_steps.specs.FolderSeen.{FolderSeen}
+use Rattle.run_steps.specs.LastEpoch.{HaveOneOver, IsLastOver}
+use Rattle.run_steps.specs.Onward.{Onward}
+use Rattle.run_steps.specs.Releasing.{closing_of, with_events}
+use Rattle.run_steps.specs.RunState.{Finished, Leaving, OutOfEpochs, Phase, Reading, RunState, phase_left, within}
+use Rattle.run_steps.specs.Shown.{HasDone, HasShown, IsNoListing, IsStillOpen, WasClosedWith, WasOnlyAsked, WasOpenedSince, openings_of}
+use Rattle.run_steps.specs.SoFar.{FilesSoFar, Left, SoFar, books_of, files_in, files_of, files_within, notes_of}
+use Rattle.run_steps.specs.Stands.{AreEachOnce, Books, BooksNow, Files, FilesNow, Further, HaveGiven, IsLeftSo, Notes, Stands}
+use Rattle.run_steps.proofs.Admitting.{booked_by, often_mapped, placed_by, spans_often}
+use Rattle.run_steps.proofs.Causing.{some_parted}
+use Rattle.run_steps.proofs.Closing.{closed_now, closed_still, closes_its, closes_no_other, open_still}
+use Rattle.run_steps.proofs.Filing.{same_slot, tells_slots}
+use Rattle.run_steps.proofs.First.{got_within}
+use Rattle.run_steps.proofs.LastOver.{some_behind, some_first}
+use Rattle.run_steps.proofs.LessOne.{all_in, each_in, less_in, often_in, one_in, some_in}
+use Rattle.run_steps.proofs.LettingGo.{StandsFor, each_kept, notes_kept, one_was, parcels_kept, passes_kept, spans_kept, stands_for}
+
+-- ---- slots, each once
+
+abbrev slots_in : List Opened → List Slot
+slots_in opened = map (λ (one : Opened). one.begin.slot) opened
+
+abbrev slots_of : List Turned → List Slot
+slots_of files = map (λ (turned : Turned). turned.slot) files
+
+not_below : (least : ℕ) (opened : List Opened) (slot : Slot) → AreSlotsFrom least opened → Contains (slots_in opened) slot → least ≤ slot.0
+not_below least [] slot rise there = absurd (none_there slot there)
+not_below least (one ∷ opened) slot rise there = by_case (there_cases one.begin.slot slot (slots_in opened) there) (not_below (one.begin.slot.0 + 1) opened slot rise.1)
+  where
+    by_case : (one.begin.slot ≡ slot) ⊎ Contains (slots_in opened) slot → (Contains (slots_in opened) slot → one.begin.slot.0 + 1 ≤ slot.0) → least ≤ slot.0
+    by_case (inl same) later = let is : one.begin.slot.0 ≡ slot.0 = ap (λ (s : Slot). s.0) same in let low = rise.0 in omega (arith, is, low)
+    by_case (inr behind) later = let more = later behind in let low = rise.0 in omega (arith, more, low)
+
+rising_once : (least : ℕ) (opened : List Opened) → AreSlotsFrom least opened → AreOnce same_slot (slots_in opened)
+rising_once least [] rise = once_none same_slot tells_slots
+rising_once least (one ∷ opened) rise =
+    once_more same_slot tells_slots one.begin.slot (slots_in opened)
+    (λ there. let more = not_below (one.begin.slot.0 + 1) opened one.begin.slot rise.1 there in omega (arith, more)) (rising_once (one.begin.slot.0 + 1) opened rise.1)
+
+files_once : (opened : List Opened) (files : List Turned) → AreEachOnce opened files → AreOnce same_slot (slots_of files)
+files_once opened files once = once_often same_slot tells_slots (slots_in opened) (slots_of files) (often_back (slots_of files) (slots_in opened) once.are) (rising_once 0 opened once.rise)
+
+-- of one opening there is one
+one_opened : (opened : List Opened) (one other : Opened) → AreDistinct (openings_of opened) → Contains opened one → Contains opened other → one.opening ≡ other.opening → one ≡ other
+one_opened [] one other apart there also same = absurd (none_there one there)
+one_opened (first ∷ opened) one other apart there also same =
+    by_case (there_cases first one opened there) (there_cases first other opened also) (λ x y. one_opened opened one other apart.1 x y same)
+  where
+    by_case : (first ≡ one) ⊎ Contains opened one → (first ≡ other) ⊎ Contains opened other → (Contains opened one → Contains opened other → one ≡ other) → one ≡ other
+    by_case (inl x) (inl y) later = sym x ∙ y
+    by_case (inl x) (inr y) later =
+        absurd (apart.0 (subst (λ (n : ℕ). Contains (openings_of opened) n) (sym (ap (λ (o : Opened). o.opening) x ∙ same)) (mapped_there (λ (o : Opened). o.opening) opened other y)))
+    by_case (inr x) (inl y) later =
+        absurd (apart.0 (subst (λ (n : ℕ). Contains (openings_of opened) n) (sym (ap (λ (o : Opened). o.opening) y ∙ sym same)) (mapped_there (λ (o : Opened). o.opening) opened one x)))
+    by_case (inr x) (inr y) later = later x y
+
+-- ---- lists
+
+parts_of : {A : Type 0} (P : A → Type 0) (xs ys : List A) → AllByRecursion P (xs ++ ys) → AllByRecursion P xs × AllByRecursion P ys
+parts_of P [] ys each = (tt, each)
+parts_of P (x ∷ xs) ys each = let rest = parts_of P xs ys each.1 in ((each.0, rest.0), rest.1)
+
+got_first : (events more : List Event) (k : ℕ) (event : Event) → slice_get events k ≡ Some event → slice_get (events ++ more) k ≡ Some event
+got_first [] more k event is = absurd cc
+got_first (e ∷ events) more zero event is = is
+got_first (e ∷ events) more (suc k) event is = got_first events more k event is
+
+got_in : (events more : List Event) (k : ℕ) (event : Event) → slice_get (events ++ more) k ≡ Some event → (slice_get events k ≡ Some event) ⊎ Contains more event
+got_in [] more k event is = inr (there more k is)
+  where
+    there : (l : List Event) (n : ℕ) → slice_get l n ≡ Some event → Contains l event
+    there [] n got = absurd cc
+    there (e ∷ l) zero got = let here : e ≡ event = cc in subst (λ x. Contains (e ∷ l) x) here (first_there e l)
+    there (e ∷ l) (suc n) got = later_there e event l (there l n got)
+got_in (e ∷ events) more zero event is = inl is
+got_in (e ∷ events) more (suc k) event is = got_in events more k event is
+
+-- ---- what stands of files and books, in a phase in which tails may be closed
+
+module _ {T W L D : Type 0} (words : Words T W L D) (start : Began D) (moments : Option (List ℕ)) (carriers : List (Carrier W L)) (got : List Note) (phase : Phase) where
+  abbrev files_at : Readers T → FilesNow T
+  files_at now = record { shown = now.folder.told; moments = moments; lanes = now.lanes; phase = phase }
+
+  abbrev books_at : Readers T → BooksNow T W L
+  books_at now = record { lanes = now.lanes; carriers = carriers; got = got }
+
+  pub record Reads (so_far : SoFar) (now : Readers T) : Type 0 where
+    pub files : Files words.tails start (files_at now) (files_of so_far)
+    pub books : Books words.links words.wires start.heard (books_at now) (books_of so_far)
+
+  -- and what was noted is the same
+  pub record ReadsOn (so_far : SoFar) (now : Readers T) : Type 0 where
+    pub later : SoFar
+    pub reads : Reads later now
+    pub same_notes : notes_of later ≡ notes_of so_far
+
+  module _ (not_reading : phase ≢ Reading) where
+    module _ (so_far : SoFar) (one : Harvester T) (old new : Readers T) (closes : ClosesTail words.tails one old new) (reads : Reads so_far old) where
+      abbrev processors : List ProcessorRule
+      processors = start.settings.processors
+
+      abbrev go : LetsGoAt one old.lanes new.lanes
+      go = closes.lets_go
+
+      abbrev So : Turned → Harvester T → Type 0
+      So = IsTurnedSo words.tails.numbers words.tails.told processors so_far.opened so_far.moments
+
+      its : StandsFor one old.lanes new.lanes go So so_far.lanes
+      its = stands_for one old.lanes new.lanes go So so_far.lanes reads.files.turned
+
+      abbrev file : Turned
+      file = its.file
+
+      abbrev told : Option TailHistory
+      told = words.tails.told one.tail
+
+      abbrev left_one : Left
+      left_one = record { turned = file; told = told }
+
+      abbrev after : SoFar
+      after = record so_far { lanes = less_in its.place go.seat so_far.lanes; left = so_far.left ++ left_one ∷ [] }
+
+      abbrev all_files : List Turned
+      all_files = all_in so_far.lanes
+
+      abbrev others : List Turned
+      others = all_in (less_in its.place go.seat so_far.lanes)
+
+      abbrev turned_in : List Left → List Turned
+      turned_in left = map (λ (l : Left). l.turned) left
+
+      same_files : AsOften (files_in so_far) (files_in after)
+      same_files h = omega (
+        arith,
+        often_in its.place go.seat so_far.lanes file its.there h,
+        weigh-append h all_files (turned_in so_far.left),
+        weigh-append h others (turned_in (so_far.left ++ left_one ∷ [])),
+        ap (weigh h) (map-append (λ (l : Left). l.turned) so_far.left (left_one ∷ [])),
+        weigh-append h (turned_in so_far.left) (file ∷ []),
+      )
+
+      each_once : AreEachOnce so_far.opened (files_in after)
+      each_once = record {
+        rise = reads.files.each_once.rise;
+        are = often_then (slots_of (files_in after)) (slots_of (files_in so_far)) (slots_in so_far.opened)
+            (often_mapped (λ (t : Turned). t.slot) (files_in after) (files_in so_far) (often_back (files_in so_far) (files_in after) same_files)) reads.files.each_once.are;
+      }
+
+      left : AllByRecursion (IsLeftSo processors so_far.opened so_far.moments) (so_far.left ++ left_one ∷ [])
+      left = each_last (IsLeftSo processors so_far.opened so_far.moments) so_far.left left_one reads.files.left (record { file = its.is.opened; among = its.is.of_files; is_told = its.is.is_told })
+
+      abbrev ReadThrough : Turned → Type 0
+      ReadThrough turned = IsReadThrough turned.history
+
+      finished : phase ≡ Finished → IsSome start.shown → AllByRecursion ReadThrough (files_in after)
+      finished is some =
+          let parts = parts_of ReadThrough all_files (turned_in so_far.left) (reads.files.finished is some) in
+          all_append ReadThrough others (turned_in (so_far.left ++ left_one ∷ [])) (each_in ReadThrough its.place go.seat so_far.lanes parts.0)
+          (subst (AllByRecursion ReadThrough) (sym (map-append (λ (l : Left). l.turned) so_far.left (left_one ∷ [])))
+          (each_last ReadThrough (turned_in so_far.left) file parts.1 (one_in ReadThrough its.place go.seat so_far.lanes file its.there parts.0)))
+
+      some_left : (P : Turned → Type 0) → SomeOf P (files_in so_far) → SomeOf P (files_in after)
+      some_left P some = subst (λ (l : List Turned). SomeOf P (others ++ l)) (sym (map-append (λ (l : Left). l.turned) so_far.left (left_one ∷ [])))
+          (⊎_elim (λ here. ⊎_elim (λ is. some_behind P others (turned_in so_far.left ++ file ∷ []) (some_behind P (turned_in so_far.left) (file ∷ []) (inl is)))
+          (λ other. some_first P others (turned_in so_far.left ++ file ∷ []) other) (some_in P its.place go.seat so_far.lanes file its.there here))
+          (λ later. some_behind P others (turned_in so_far.left ++ file ∷ []) (some_first P (turned_in so_far.left) (file ∷ []) later))
+          (some_parted P all_files (turned_in so_far.left) some))
+
+      over : (at : Phase) → HaveOneOver at (files_in so_far) → HaveOneOver at (files_in after)
+      over Reading is = tt
+      over Finished is = tt
+      over Leaving is = tt
+      over (OutOfEpochs slot) is = some_left (IsLastOver slot) is
+
+      -- ---- the folder
+
+      slots_less : AsOften (slots_of all_files) (file.slot ∷ slots_of others)
+      slots_less = often_mapped (λ (t : Turned). t.slot) all_files (file ∷ others) (often_in its.place go.seat so_far.lanes file its.there)
+
+      -- of its slot there is no other
+      none_of_slot : Contains (slots_of others) file.slot → ⊥
+      none_of_slot there =
+          once_apart same_slot tells_slots file.slot (slots_of (others ++ turned_in so_far.left))
+          (once_often same_slot tells_slots (slots_of (files_in so_far)) (file.slot ∷ slots_of (others ++ turned_in so_far.left))
+          (often_mapped (λ (t : Turned). t.slot) (files_in so_far) (file ∷ (others ++ turned_in so_far.left))
+          (λ h. omega (arith, often_in its.place go.seat so_far.lanes file its.there h, weigh-append h all_files (turned_in so_far.left), weigh-append h others (turned_in so_far.left))))
+          (files_once so_far.opened (files_in so_far) reads.files.each_once))
+          (subst (λ (l : List Slot). Contains l file.slot) (sym (map-append (λ (t : Turned). t.slot) others (turned_in so_far.left)))
+          (Contains-append_left (slots_of others) (slots_of (turned_in so_far.left)) file.slot there))
+
+      module _ (faults : ℕ) (first now : FolderHistory) (done : HasDone first now (files_of so_far)) where
+        abbrev events : Option TailHistory → List Event
+        events tells = closing_of tells faults
+
+        abbrev then_told : Option TailHistory → FolderHistory
+        then_told tells = record now { events = now.events ++ events tells }
+
+        -- an opening stands within the list so far
+        stands_within : (opened : Opened) → Contains so_far.opened opened → opened.opening < length now.events
+        stands_within opened among =
+            got_within now.events opened.opening (folders.Opened opened.begin.path opened.number opened.begun) (member_is (WasOpenedSince first now) so_far.opened opened done.opened among).stands
+
+        no_listings : (tells : Option TailHistory) → AllByRecursion IsNoListing (events tells)
+        no_listings None = tt
+        no_listings (Some tail) = (tt, tt)
+
+        no_opening : (tells : Option TailHistory) (path : List ℕ) (number : ℕ) (begun : Sight) → Contains (events tells) (folders.Opened path number begun) → ⊥
+        no_opening None path number begun there = none_there (folders.Opened path number begun) there
+        no_opening (Some tail) path number begun there = ⊎_elim (λ (is : Closed tail.opening tail.looks faults ≡ folders.Opened path number begun). cc) (λ later. none_there (folders.Opened path number begun) later)
+            (there_cases (Closed tail.opening tail.looks faults) (folders.Opened path number begun) [] there)
+
+        -- one that was closed stays so
+        closed_before : (tells : Option TailHistory) (l : Left) → Contains so_far.left l → IfSome l.told (λ tail. WasClosedWith (then_told tells) tail.opening tail.looks)
+        closed_before tells l there = by_case l.told refl
+          where
+            by_case : (o : Option TailHistory) → l.told ≡ o → IfSome o (λ tail. WasClosedWith (then_told tells) tail.opening tail.looks)
+            by_case None is = tt
+            by_case (Some tail) is =
+                let of = member_is (IsLeftSo processors so_far.opened so_far.moments) so_far.left l reads.files.left there in
+                let tail_is : IsTailOf of.file tail = subst (λ (o : Option TailHistory). IfSome o (IsTailOf of.file)) is of.is_told.tail in
+                let below : tail.opening < length now.events = subst (λ (n : ℕ). n < length now.events) (sym tail_is.opening) (stands_within of.file of.among) in
+                closed_still now (events tells) tail.opening tail.looks below
+                (subst (λ (o : Option TailHistory). IfSome o (λ tail. WasClosedWith now tail.opening tail.looks)) is
+                (member_is (λ (l : Left). IfSome l.told (λ tail. WasClosedWith now tail.opening tail.looks)) so_far.left l done.closed there))
+
+        asked_still : (tells : Option TailHistory) (opening : ℕ) → opening < length now.events → WasOnlyAsked now opening → WasOnlyAsked (then_told tells) opening
+        asked_still tells opening below was = record { looks = was.looks; closed = closed_still now (events tells) opening was.looks below was.closed; reads = was.reads }
+
+        -- it was turned, and its tail was open
+        was_turned : (other : Opened) → Contains (slots_of others) other.begin.slot → Contains (slots_of all_files) other.begin.slot
+        was_turned other there = often_contains same_slot tells_slots (slots_of all_files) (file.slot ∷ slots_of others) other.begin.slot slots_less (later_there file.slot other.begin.slot (slots_of others) there)
+
+        file_turned : Contains (slots_of all_files) its.is.opened.begin.slot
+        file_turned = subst (Contains (slots_of all_files)) its.is.is_told.slot
+            (often_contains same_slot tells_slots (slots_of all_files) (file.slot ∷ slots_of others) file.slot slots_less (first_there file.slot (slots_of others)))
+
+        module _ (tells : Option TailHistory) (tail_is : IfSome tells (IsTailOf its.is.opened)) where
+          closed_here : (o : Option TailHistory) → tells ≡ o → IfSome o (λ tail. WasClosedWith (then_told tells) tail.opening tail.looks)
+          closed_here None is = tt
+          closed_here (Some tail) is =
+              let of : IsTailOf its.is.opened tail = subst (λ (o : Option TailHistory). IfSome o (IsTailOf its.is.opened)) is tail_is in
+              let below : tail.opening < length now.events = subst (λ (n : ℕ). n < length now.events) (sym of.opening) (stands_within its.is.opened its.is.of_files) in
+              let still : IsStillOpen now tail.opening = subst (IsStillOpen now) (sym of.opening) (done.still_open its.is.opened its.is.of_files file_turned) in
+              subst (λ (o : Option TailHistory). WasClosedWith (then_told o) tail.opening tail.looks) (sym is)
+              (closed_now now (events (Some tail)) tail.opening tail.looks faults below still (closes_its tail.opening tail.looks faults))
+
+          open_here : (other : Opened) → Contains so_far.opened other → Contains (slots_of others) other.begin.slot → (o : Option TailHistory) → tells ≡ o → IsStillOpen (then_told tells) other.opening
+          open_here other among there None is =
+              subst (λ (o : Option TailHistory). IsStillOpen (then_told o) other.opening) (sym is)
+              (open_still now [] other.opening (stands_within other among) (done.still_open other among (was_turned other there)) refl)
+          open_here other among there (Some tail) is =
+              let of : IsTailOf its.is.opened tail = subst (λ (o : Option TailHistory). IfSome o (IsTailOf its.is.opened)) is tail_is in
+              subst (λ (o : Option TailHistory). IsStillOpen (then_told o) other.opening) (sym is)
+              (open_still now (events (Some tail)) other.opening (stands_within other among) (done.still_open other among (was_turned other there))
+              (closes_no_other tail.opening other.opening tail.looks faults (λ same.
+              let one_file : its.is.opened ≡ other = one_opened so_far.opened its.is.opened other done.apart its.is.of_files among (sym of.opening ∙ same) in
+              none_of_slot (subst (Contains (slots_of others)) (sym (its.is.is_told.slot ∙ ap (λ (o : Opened). o.begin.slot) one_file)) there))))
+
+          has_done : told ≡ tells → HasDone first (then_told tells) (files_of after)
+          has_done told_is = record {
+            files = done.files;
+            more = done.more ++ events tells;
+            events = ap (λ (l : List Event). l ++ events tells) done.events ∙ append_assoc first.events done.more (events tells);
+            no_listing = all_append IsNoListing done.more (events tells) done.no_listing (no_listings tells);
+            opened = each_member (WasOpenedSince first (then_told tells)) so_far.opened (λ opened there.
+                let of = member_is (WasOpenedSince first now) so_far.opened opened done.opened there in record {
+                  since = of.since;
+                  stands = got_first now.events (events tells) opened.opening (folders.Opened opened.begin.path opened.number opened.begun) of.stands;
+                  file_is = of.file_is;
+                });
+            apart = done.apart;
+            serve = λ opening path number begun since is. ⊎_elim
+                (λ here. ⊎_elim (λ among. inl among)
+                (λ was. inr (asked_still tells opening (got_within now.events opening (folders.Opened path number begun) here) was)) (done.serve opening path number begun since here))
+                (λ there. absurd (no_opening tells path number begun there)) (got_in now.events (events tells) opening (folders.Opened path number begun) is);
+            closed = each_last (λ (l : Left). IfSome l.told (λ tail. WasClosedWith (then_told tells) tail.opening tail.looks)) so_far.left left_one
+                (each_member (λ (l : Left). IfSome l.told (λ tail. WasClosedWith (then_told tells) tail.opening tail.looks)) so_far.left (closed_before tells))
+                (subst (λ (o : Option TailHistory). IfSome o (λ tail. WasClosedWith (then_told tells) tail.opening tail.looks)) (sym told_is) (closed_here tells refl));
+            still_open = λ other among is_turned. open_here other among is_turned tells refl;
+          }
+
+      has_shown : HasShown start.shown new.folder.told (files_of after)
+      has_shown = by_case start.shown old.folder.told new.folder.told closes.closes.told reads.files.shown
+        where
+          by_case : (first now then : Option FolderHistory) → then ≡ with_events (closing_of told (words.tails.faults one.tail)) now → HasShown first now (files_of so_far) → HasShown first then (files_of after)
+          by_case None now then is shown = is ∙ ap (with_events (closing_of told (words.tails.faults one.tail))) shown
+          by_case (Some first) None then is shown = absurd shown
+          by_case (Some first) (Some now) then is shown =
+              subst (λ (o : Option FolderHistory). HasShown (Some first) o (files_of after)) (sym is) (has_done (words.tails.faults one.tail) first now shown told its.is.is_told.tail refl)
+
+      -- ---- the books
+
+      spans_are : spans_told new.lanes < 2 ^ 64 - 1 → spans_in (files_in after) ≡ spans_told new.lanes
+      spans_are few =
+          let same = spans_kept one old.lanes new.lanes go in
+          let was = reads.books.spans (omega (arith, few, same)) in
+          let often = spans_often (files_in so_far) (files_in after) same_files in
+          omega (arith, same, was, often)
+
+      have_given : HaveGiven so_far.told (files_in after)
+      have_given = record {
+        parcels = often_then so_far.told.issued (flat_map parcels_told (files_in so_far)) (flat_map parcels_told (files_in after)) reads.books.gave.parcels
+            (told_as_often parcels_told (files_in so_far) (files_in after) same_files);
+        notes_are = often_then so_far.told.noted (flat_map notes_told (files_in so_far)) (flat_map notes_told (files_in after)) reads.books.gave.notes_are
+            (told_as_often notes_told (files_in so_far) (files_in after) same_files);
+      }
+
+      reads_without : Reads after new
+      reads_without = record {
+        files = record {
+          opened = reads.files.opened;
+          keyed = reads.files.keyed;
+          each_once = each_once;
+          turned = its.others;
+          left = left;
+          reading = λ is. absurd (not_reading is);
+          finished = finished;
+          over = over phase reads.files.over;
+          tell = λ some. each_kept one old.lanes new.lanes go (λ (h : Harvester T). IsSome (words.tails.told h.tail)) (reads.files.tell some);
+          left_tell = λ some. each_last (λ (l : Left). IsSome l.told) so_far.left left_one (reads.files.left_tell some)
+              (one_was one old.lanes new.lanes go (λ (h : Harvester T). IsSome (words.tails.told h.tail)) (reads.files.tell some));
+          shown = has_shown;
+          given = reads.files.given;
+        };
+        books = record {
+          gave = have_given;
+          booked = booked_by old.lanes new.lanes (parcels_kept one old.lanes new.lanes go) (notes_kept one old.lanes new.lanes go) words.links words.wires so_far.told carriers
+              (passes_kept one old.lanes new.lanes go) reads.books.booked;
+          heard = reads.books.heard;
+          placed = placed_by old.lanes new.lanes (parcels_kept one old.lanes new.lanes go) (notes_kept one old.lanes new.lanes go) so_far.told carriers so_far.queued got so_far.boxed reads.books.placed;
+          spans = spans_are;
+        };
+      }
+
+    -- one behind the other
+    pub reads_on : (closed : List (Harvester T)) (so_far : SoFar) (old new : Readers T) → ClosesTails words.tails closed old new → Reads so_far old → ReadsOn so_far new
+    reads_on [] so_far old new same reads = record { later = so_far; reads = subst (Reads so_far) (sym same) reads; same_notes = refl }
+    reads_on (one ∷ more) so_far old new closes reads =
+        let first = reads_without so_far one old closes.0 closes.1 reads in
+        let rest = reads_on more (after so_far one old closes.0 closes.1 reads) closes.0 new closes.2 first in
+        record { later = rest.later; reads = rest.reads; same_notes = rest.same_notes }
+
+-- ---- a run that reads may leave
+
+pub left_not_reading : (phase : Phase) → phase_left phase ≢ Reading
+left_not_reading Reading is = let no : Leaving ≡ Reading = is in cc
+left_not_reading Leaving is = let no : Leaving ≡ Reading = is in cc
+left_not_reading Finished is = let no : Finished ≡ Reading = is in cc
+left_not_reading (OutOfEpochs slot) is = let no : OutOfEpochs slot ≡ Reading = is in cc
+
+module _ {T W L D : Type 0} (words : Words T W L D) where
+  files_left : (start : Began D) (now : FilesNow T) (so_far : FilesSoFar) → Files words.tails start now so_far → Files words.tails start (record now { phase = phase_left now.phase }) so_far
+  files_left start now so_far files = record {
+    opened = files.opened;
+    keyed = files.keyed;
+    each_once = files.each_once;
+    turned = files.turned;
+    left = files.left;
+    reading = λ is. absurd (left_not_reading now.phase is);
+    finished = λ is some. finished now.phase refl is some;
+    over = over now.phase files.over;
+    tell = files.tell;
+    left_tell = files.left_tell;
+    shown = files.shown;
+    given = files.given;
+  }
+    where
+      finished : (phase : Phase) → now.phase ≡ phase → phase_left phase ≡ Finished → IsSome start.shown → AllByRecursion (λ (t : Turned). IsReadThrough t.history) (files_within so_far)
+      finished Reading was is some = absurd (let no : Leaving ≡ Finished = is in cc)
+      finished Leaving was is some = absurd (let no : Leaving ≡ Finished = is in cc)
+      finished Finished was is some = files.finished was some
+      finished (OutOfEpochs slot) was is some = absurd (let no : OutOfEpochs slot ≡ Finished = is in cc)
+
+      over : (phase : Phase) → HaveOneOver phase (files_within so_far) → HaveOneOver (phase_left phase) (files_within so_far)
+      over Reading is = tt
+      over Finished is = tt
+      over Leaving is = tt
+      over (OutOfEpochs slot) is = is
+
+  -- whatever the areas hold
+  abbrev pub GoesOnStanding : RunState T W L D → RunState T W L D → Type 0
+  GoesOnStanding before after = (start : Began D) (so_far : SoFar) → Stands words start before so_far → Further words start after
+
+  pub onward_then : (first mid last : RunState T W L D) → Onward words first mid → GoesOnStanding mid last → Onward words first last
+  unfolding Onward
+  onward_then first mid last one then start so_far stands began = let further = one start so_far stands began in then start further.so_far further.stands
+
+  -- whatever it was
+  pub leaving_onward : (shown : Option FolderHistory) (moments : Option (List ℕ)) (crew : Crew T W L) (storing : Storing D) (phase : Phase) →
+      GoesOnStanding (within shown moments crew storing phase) (within shown moments crew storing Leaving)
+  leaving_onward shown moments crew storing phase start so_far stands = record {
+    so_far = so_far;
+    stands = record {
+      files = record {
+        opened = stands.files.opened;
+        keyed = stands.files.keyed;
+        each_once = stands.files.each_once;
+        turned = stands.files.turned;
+        left = stands.files.left;
+        reading = λ is. absurd (let no : Leaving ≡ Reading = is in cc);
+        finished = λ is some. absurd (let no : Leaving ≡ Finished = is in cc);
+        over = tt;
+        tell = stands.files.tell;
+        left_tell = stands.files.left_tell;
+        shown = stands.files.shown;
+        given = stands.files.given;
+      };
+      books = stands.books;
+      notes = stands.notes;
+      areas = stands.areas;
+    };
+  }
+
+  -- lanes that show the same, and a folder that does
+  pub same_onward : (old new : FolderSeen) (moments : Option (List ℕ)) (crew : Crew T W L) (lanes : Vec (Lane T) Global) (storing : Storing D) (phase : Phase) →
+      ◌≡◌ {A = Readers T} (record { folder = new; lanes = lanings lanes.items }) (record { folder = old; lanes = lanings crew.lanes.items }) →
+      GoesOnStanding (within old.told moments crew storing phase) (within new.told moments (record crew { lanes = lanes }) storing phase)
+  same_onward old new moments crew lanes storing phase same start so_far stands = record {
+    so_far = so_far;
+    stands = record {
+      files = subst (λ (now : Readers T). Files words.tails start (files_at words start moments crew.carriers.items (notes storing.keeper.now.pass.got) phase now) (files_of so_far)) (sym same) stands.files;
+      books = subst (λ (now : Readers T). Books words.links words.wires start.heard (books_at words start moments crew.carriers.items (notes storing.keeper.now.pass.got) phase now) (books_of so_far)) (sym same) stands.books;
+      notes = stands.notes;
+      areas = stands.areas;
+    };
+  }
+
+  -- tails of its were closed
+  pub closing_onward : (closed : List (Harvester T)) (old new : FolderSeen) (moments : Option (List ℕ)) (crew : Crew T W L) (lanes : Vec (Lane T) Global) (storing : Storing D) (phase : Phase) →
+      ClosesTails words.tails closed (record { folder = old; lanes = lanings crew.lanes.items }) (record { folder = new; lanes = lanings lanes.items }) →
+      GoesOnStanding (within old.told moments crew storing phase) (within new.told moments (record crew { lanes = lanes }) storing (phase_left phase))
+  closing_onward closed old new moments crew lanes storing phase closes start so_far stands =
+      let before : Readers T = record { folder = old; lanes = lanings crew.lanes.items } in
+      let after : Readers T = record { folder = new; lanes = lanings lanes.items } in
+      let on = reads_on words start moments crew.carriers.items (notes storing.keeper.now.pass.got) (phase_left phase) (left_not_reading phase) closed so_far before after closes
+      (record { files = files_left start (files_at words start moments crew.carriers.items (notes storing.keeper.now.pass.got) phase before) (files_of so_far) stands.files; books = stands.books }) in
+      record {
+        so_far = on.later;
+        stands = record {
+          files = on.reads.files;
+          books = on.reads.books;
+          notes = subst (Notes start storing.keeper.now) (sym on.same_notes) stands.notes;
+          areas = stands.areas;
+        };
+      }
