@@ -119,10 +119,9 @@ some_in {T} tails old new lanes given later same closes =
     (sym (closed_in tails here.closed old new lanes later here.each)) here
 
 -- where none of them has a harvester more
-pub none_in : {T Z : Type 0} (tails : TailWords T) (old new : FolderSeen) (lanes : Vec (Lane T) Z) (given later : List (Lane T)) → given ≡ lanes.items →
-    ClosesSome tails (record { folder = old; lanes = lanings given }) (record { folder = new; lanes = lanings later }) → All HasNoHarvesters (lanings later) →
-    All HasNoHarvesters (lanings (with_items lanes later).items)
-none_in {T} tails old new lanes given later same closes none =
+pub none_in : {T Z : Type 0} (tails : TailWords T) (old new : FolderSeen) (lanes : Vec (Lane T) Z) (given later : List (Lane T)) → All HasNoHarvesters (lanings later) → given ≡ lanes.items →
+    ClosesSome tails (record { folder = old; lanes = lanings given }) (record { folder = new; lanes = lanings later }) → All HasNoHarvesters (lanings (with_items lanes later).items)
+none_in {T} tails old new lanes given later none same closes =
     let here : ClosesSome tails (record { folder = old; lanes = lanings lanes.items }) (record { folder = new; lanes = lanings later }) =
     subst (λ (l : List (Lane T)). ClosesSome tails (record { folder = old; lanes = lanings l }) (record { folder = new; lanes = lanings later })) same closes in
     subst (All HasNoHarvesters) (sym (closed_in tails here.closed old new lanes later here.each)) none

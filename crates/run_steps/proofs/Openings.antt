@@ -22,6 +22,7 @@ use Rattle.told_scans.specs.OnlyAsked.{IsNoListing, WasClosedWith, WasOnlyAsked}
 use Rattle.run_steps.specs.Shown.{HasDone, IsStillOpen, IsTurnedIn, WasOpenedSince, openings_of}
 use Rattle.run_steps.specs.SoFar.{Left, SoFar, files_of}
 use Rattle.accounts.proofs.Orderly.{member_is}
+use Rattle.run_steps.proofs.Closing.{closes_its}
 use Rattle.told_scans.proofs.Events.{got_at_end}
 
 -- ---- closings
@@ -49,11 +50,7 @@ none_in_both opening (event ∷ events) more none later = go (closing_by opening
     go None e again = again e
     go (Some first) e again = e
 
--- a closing of this opening, and of another one
-closes_itself : (opening : ℕ) (looks : List Look) (faults : ℕ) → closing_in opening (Closed opening looks faults ∷ []) ≡ Some (record { looks = looks; faults = faults })
-closes_itself opening looks faults =
-    ap (λ (b : Bool). first_of_two (if b then Some (record { looks = looks; faults = faults }) else None) (closing_in opening [])) (eq-eqb opening opening refl)
-
+-- a closing of another opening
 closes_no_other : (opening of : ℕ) (looks : List Look) (faults : ℕ) → opening < of → closing_in opening (Closed of looks faults ∷ []) ≡ None
 closes_no_other opening of looks faults less = by_case (of == opening) refl
   where
@@ -292,7 +289,7 @@ module _ (now : FolderHistory) where
         faults = faults;
         closing = ap (λ (k : ℕ). closing_in one.opening (drop (suc k) (now.events ++ both_events))) at
             ∙ ap (λ (l : List Event). closing_in one.opening l) (behind_all now.events both_events)
-            ∙ closes_itself one.opening one.asked faults;
+            ∙ closes_its one.opening one.asked faults;
       }
 
       none_closed : (opening : ℕ) → opening < length now.events → closing_in opening both_events ≡ None

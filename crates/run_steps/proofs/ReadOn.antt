@@ -11,7 +11,7 @@ use Rattle.rounds.specs.declared.crew.Crew.{Crew}
 use Rattle.rounds.specs.declared.storing.Storing.{Storing}
 use Rattle.run_steps.specs.ClosesTail.{ClosesFailed, HasFailedFile, Readers, ReadersGo}
 use Rattle.run_steps.specs.Goes.{Goes, StepWords, Stop, readers_at, stop_at}
-use Rattle.run_steps.specs.MetBy.{HasFaults, HasMetFault, IsEndedBy, IsMetBy, Since, SomeHarvester, phase_after, phase_met, phase_reading}
+use Rattle.run_steps.specs.MetBy.{HasFaults, HasMetFault, IsEndedBy, IsEndedRound, IsMetBy, Since, SomeHarvester, phase_after, phase_met, phase_reading}
 use Rattle.run_steps.specs.MetIn.{met_behind, read_by}
 use Rattle.run_steps.specs.RunState.{Leaving, Phase, Reading}
 use Rattle.run_steps.specs.declared.context.Context.{Context}
@@ -19,7 +19,7 @@ use Rattle.run_steps.specs.declared.context.System.{System}
 use Rattle.run_steps.specs.declared.met.Met.{Met}
 use Rattle.run_steps.specs.declared.met.Met.TheVariants.{FolderFault, Stopped}
 use Rattle.run_steps.proofs.GoesOn.{goes_as, goes_by_asking, goes_by_two, goes_leaving, goes_then_closes, goes_then_stays}
-use Rattle.run_steps.proofs.MetBy.{ended_behind, goes_on_behind, leaves_by_fault}
+use Rattle.run_steps.proofs.MetBy.{ended_behind, ended_round, goes_on_behind, leaves_by_fault}
 use Rattle.run_steps.proofs.ReadersGo.{readers_go_by_some}
 
 pub if_some : {A : Type 0} (P : A → Type 0) (o : Option A) → IfSome o P → (x : A) → o ≡ Some x → P x
@@ -94,6 +94,16 @@ module _ {T W L D F K B : Type 0} (words : StepWords T W L D F K B) (context : C
       met_so attempts a b (Some met) other is =
           ended_behind words.all attempts a b since (words.seen system.folder.now).faults (words.seen folder.now).faults (crewing crew storing) lanes faulty failed met met_fault
           (λ none. ap (λ (r : Readers T). r.lanes) (closes.none none)) (λ (e : met ≡ FolderFault). other (ap (λ (m : Met). Some m) e)) (is met refl)
+
+      pub round_so : (attempts : ℕ) (a b : D) (met : Option Met) → (met ≡ Some FolderFault → ⊥) →
+          ((one : Met) → met ≡ Some one → IsMetBy words.all.tails words.all.disks attempts
+          (record { a = a; b = b; faults = since; later_faults = (words.seen system.folder.now).faults; now = crewing crew storing }) one) →
+          IfErr (read_by (faulty || failed) met) (IsEndedRound words.all.tails words.all.disks attempts
+          (record { a = a; b = b; faults = since; later_faults = (words.seen folder.now).faults; now = crewing (record crew { lanes = lanes }) storing }))
+      round_so attempts a b None other is = tt
+      round_so attempts a b (Some met) other is =
+          ended_round words.all attempts a b since (words.seen system.folder.now).faults (words.seen folder.now).faults (crewing crew storing) lanes (faulty || failed) met
+          (λ (e : met ≡ FolderFault). other (ap (λ (m : Met). Some m) e)) (is met refl)
 
 -- the bell rang
 module _ {T W L D F K B : Type 0} (words : StepWords T W L D F K B) (context : Context) where

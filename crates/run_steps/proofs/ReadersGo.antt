@@ -30,13 +30,14 @@ added_behind first second (Some told) = ap (λ (events : List Event). Some (reco
 
 -- ---- counts
 
-pub rose_on : (before mid now : ℕ) → Rose before mid → mid ≤ now → Rose before now
-rose_on before mid now (inl less) on = inl (omega (arith, less, on))
-rose_on before mid now (inr end) on = inr (omega (arith, end, on))
+pub rose_since : (first mid now : ℕ) → first ≤ mid → Rose mid now → Rose first now
+rose_since first mid now later (inl above) = inl (omega (arith, above, later))
+rose_since first mid now later (inr at_end) = inr at_end
 
-pub rose_from : (before mid now : ℕ) → before ≤ mid → Rose mid now → Rose before now
-rose_from before mid now le (inl less) = inl (omega (arith, less, le))
-rose_from before mid now le (inr end) = inr end
+module _ (before mid now : ℕ) where
+  pub rose_on : Rose before mid → mid ≤ now → Rose before now
+  rose_on (inl less) on = inl (omega (arith, less, on))
+  rose_on (inr at_end) on = inr (omega (arith, at_end, on))
 
 rose_by : (before faults now : ℕ) → 0 < faults → added_counts before faults ≤ now → Rose before now
 rose_by before faults now some counts = by_order (eq-or-lt_of_le (omega (arith, counts)))
@@ -48,7 +49,7 @@ rose_by before faults now some counts = by_order (eq-or-lt_of_le (omega (arith, 
 module _ {T : Type 0} (tails : TailWords T) where
   -- from fewer faults on
   pub met_from : (before mid now : ℕ) (lanes : List (Laning T)) → before ≤ mid → HasMetFault tails mid now lanes → HasMetFault tails before now lanes
-  met_from before mid now lanes le met = ⊎_elim (λ rose. inl (rose_from before mid now le rose)) (λ some. inr some) met
+  met_from before mid now lanes le met = ⊎_elim (λ rose. inl (rose_since before mid now le rose)) (λ some. inr some) met
 
   pub readers_go_by_two : (first mid last : Readers T) → ReadersGo tails first mid → ReadersGo tails mid last → ReadersGo tails first last
   readers_go_by_two first mid last one then = record {
@@ -93,7 +94,7 @@ module _ {T : Type 0} (tails : TailWords T) where
         open_tails = omega (arith, less, closes.closes.open_tails);
         slots = λ slot have. have_slot slot old.lanes (some_was one old.lanes new.lanes go (OfSlot slot) (slot_had slot new.lanes have));
         fault_stays = λ since le met. ⊎_elim (λ rose. inl (rose_on since old.folder.faults new.folder.faults rose (omega (arith, counts))))
-            (λ some. ⊎_elim (λ its. inl (rose_from since old.folder.faults new.folder.faults le (rose_by old.folder.faults (tails.faults one.tail) new.folder.faults its counts))) (λ other. inr other)
+            (λ some. ⊎_elim (λ its. inl (rose_since since old.folder.faults new.folder.faults le (rose_by old.folder.faults (tails.faults one.tail) new.folder.faults its counts))) (λ other. inr other)
             (some_kept one old.lanes new.lanes go (HasFaults tails) some)) met;
       }
 

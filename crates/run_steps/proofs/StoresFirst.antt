@@ -13,7 +13,7 @@ use Rattle.run_steps.specs.CarriersFail.{KeepsLink, LinksStay}
 use Rattle.run_steps.specs.CarriersGoOn.{CarrierGoesOn, CarriersGoOn}
 use Rattle.run_steps.specs.Goes.{Goes, StepWords, stop_at}
 use Rattle.run_steps.specs.LastSteps.{StoresAll, written_by}
-use Rattle.run_steps.specs.MetBy.{IsEndedBy, phase_after, phase_met, phase_reading}
+use Rattle.run_steps.specs.MetBy.{IsEndedBy, IsEndedRound, phase_after, phase_met, phase_reading}
 use Rattle.run_steps.specs.MetIn.{NoneFailed}
 use Rattle.run_steps.specs.Onward.{Onward}
 use Rattle.run_steps.specs.RunState.{Leaving, Reading, within}
@@ -127,6 +127,19 @@ module _ {T W L D F K B : Type 0} (words : StepWords T W L D F K B) (context : C
   met_by_storing (Unreachable worker) faulty faults later_faults by = absurd by
   met_by_storing (Epochs slot) faulty faults later_faults by = absurd by
   met_by_storing (NoNative slot) faulty faults later_faults by = absurd by
+
+  -- in place of a round
+  pub round_by_storing : (met : Met) (faults later_faults : ℕ) → IsMetByStoring words.all.disks (written_by (crewing old before) (crewing new after)) met →
+      IsEndedRound words.all.tails words.all.disks context.settings.now.output.attempts
+      (record { a = before.a.now; b = before.b.now; faults = faults; later_faults = later_faults; now = crewing new after }) met
+  round_by_storing NoMemory faults later_faults by = record { by = NoMemory; no_fault = λ is. cc; faulty = false; met_is = refl; lanes = new.lanes; is = tt }
+  round_by_storing DiskFault faults later_faults by = record { by = DiskFault; no_fault = λ is. cc; faulty = false; met_is = refl; lanes = new.lanes; is = by }
+  round_by_storing Done faults later_faults by = absurd by
+  round_by_storing Stopped faults later_faults by = absurd by
+  round_by_storing FolderFault faults later_faults by = absurd by
+  round_by_storing (Unreachable worker) faults later_faults by = absurd by
+  round_by_storing (Epochs slot) faults later_faults by = absurd by
+  round_by_storing (NoNative slot) faults later_faults by = absurd by
 
   pub not_stopped : (met : Met) → IsMetByStoring words.all.disks (written_by (crewing old before) (crewing new after)) met → met ≡ Stopped → ⊥
   not_stopped NoMemory by is = let no : NoMemory ≡ Stopped = is in cc

@@ -41,7 +41,7 @@ use Rattle.run_steps.specs.declared.begin_error.BeginError.{BeginError}
 use Rattle.run_steps.specs.declared.begin_error.BeginError.TheVariants as begin
 use Rattle.run_steps.specs.declared.met.Met.{Met}
 use Rattle.run_steps.specs.declared.met.Met.TheVariants.{DiskFault, Done, Epochs, FolderFault, NoMemory, Stopped, Unreachable, NoNative}
-use Rattle.run_steps.proofs.ReadersGo.{rose_from, rose_on}
+use Rattle.run_steps.proofs.ReadersGo.{rose_on, rose_since}
 
 -- ---- whether the last steps are left
 
@@ -274,9 +274,9 @@ module _ {T W L D : Type 0} (words : Words T W L D) (attempts mid_faults : ℕ) 
     by_storing NoMemory is = tt
     by_storing DiskFault is = ⊎_elim
         (λ rose. inl (rose_as (words.disks.faults storing.a.now) (words.disks.faults second.a.now) before.a_faults after.a_faults counts.a_before counts.a_after
-        (rose_from (words.disks.faults storing.a.now) (words.disks.faults first.a.now) (words.disks.faults second.a.now) counts.a_first rose)))
+        (rose_since (words.disks.faults storing.a.now) (words.disks.faults first.a.now) (words.disks.faults second.a.now) counts.a_first rose)))
         (λ rose. inr (rose_as (words.disks.faults storing.b.now) (words.disks.faults second.b.now) before.b_faults after.b_faults counts.b_before counts.b_after
-        (rose_from (words.disks.faults storing.b.now) (words.disks.faults first.b.now) (words.disks.faults second.b.now) counts.b_first rose))) is
+        (rose_since (words.disks.faults storing.b.now) (words.disks.faults first.b.now) (words.disks.faults second.b.now) counts.b_first rose))) is
     by_storing FolderFault is = absurd is
     by_storing (Unreachable worker) is = absurd is
     by_storing (Epochs slot) is = absurd is

@@ -1,10 +1,12 @@
 -- By what a run met what ends it (this project's profile): each of its causes shows in the crew, the keeper and the areas as they
 -- are then.
-use Rattle.std.specs.Prelude.{◌≡◌, ◌⊎◌, ◌<◌, ℕ, Bool, true, false, Option, Some, None, List}
+use Rattle.std.specs.Prelude.{◌≡◌, ◌≢◌, ◌⊎◌, ◌<◌, ℕ, Bool, true, false, Option, Some, None, List, Vec}
+use Rattle.std.specs.declared.alloc.Global.{Global}
 use Rattle.harvester.specs.HasTold.{begin_of}
 use Rattle.harvester.specs.declared.harvester.Harvester.{Harvester}
 use Rattle.harvester.specs.declared.stage.Stage.TheVariants.{Over}
 use Rattle.lanes.specs.Laning.{Laning}
+use Rattle.lanes.specs.declared.lane.Lane.{Lane}
 use Rattle.outside.specs.Counts.{Rose}
 use Rattle.outside.specs.declared.folder.Folder.{Ghosts as FolderGhosts}
 use Rattle.restart_join.specs.declared.start.TheConstants.{MAX_EPOCH}
@@ -16,7 +18,7 @@ use Rattle.rounds.specs.Words.{DiskWords, TailWords}
 use Rattle.rounds.specs.declared.storing.Storing.{Storing}
 use Rattle.wire_base.specs.declared.numbers.Slot.{Slot}
 use Rattle.run_steps.specs.Met.{AreLeft}
-use Rattle.run_steps.specs.MetIn.{HasFailed}
+use Rattle.run_steps.specs.MetIn.{HasFailed, met_behind}
 use Rattle.run_steps.specs.RunState.{Finished, Leaving, OutOfEpochs, Phase, Reading}
 use Rattle.run_steps.specs.declared.context.System.{System}
 use Rattle.run_steps.specs.declared.met.Met.{Met}
@@ -78,6 +80,21 @@ module _ {T W L D : Type 0} (tails : TailWords T) (disks : DiskWords D) (attempt
   IsEndedBy faulty since (Unreachable worker) = IsMetBy since (Unreachable worker)
   IsEndedBy faulty since (Epochs slot) = IsMetBy since (Epochs slot)
   IsEndedBy faulty since (NoNative slot) = IsMetBy since (NoNative slot)
+
+  -- what ended a round, as it left the lanes before files that failed in it were closed: a file's fault alone does not
+  pub record IsEndedRound (since : Since T W L D) (met : Met) : Type 0 where
+    pub by : Met
+    pub no_fault : by ≢ FolderFault
+    pub faulty : Bool
+    pub met_is : met ≡ met_behind faulty by
+    pub lanes : Vec (Lane T) Global
+    pub is : IsMetBy (record since { now = record since.now { lanes = lanes } }) by
+
+-- the bell rang
+pub record WasStopped (rings later : ℕ) (met : Met) : Type 0 where
+  pub faulty : Bool
+  pub met_is : met ≡ met_behind faulty Stopped
+  pub rang : Rose rings later
 
 -- another round may follow, or the last steps
 abbrev pub GoesOn : Option Met → Type 0

@@ -6,7 +6,7 @@ ghost use Rattle.rounds.specs.Pairs.{SomeOf};
 ghost use Rattle.rounds.specs.WordsOf.{disks_of, tails_of};
 ghost use Rattle.run_steps.specs.ClosesTail.{HasFailedFile};
 ghost use Rattle.run_steps.specs.Goes.{Goes, step_words, stop_at};
-ghost use Rattle.run_steps.specs.MetBy.{HasFaults, HasMetFault, IsEndedBy, IsMetBy, SomeHarvester, phase_after, phase_met, phase_reading, since_of};
+ghost use Rattle.run_steps.specs.MetBy.{HasFaults, HasMetFault, IsEndedBy, IsEndedRound, IsMetBy, SomeHarvester, WasStopped, phase_after, phase_met, phase_reading, since_of};
 ghost use Rattle.run_steps.specs.MetIn.{NoneFailed, read_by};
 ghost use Rattle.run_steps.specs.Questions.{AsksOn, questions_of};
 ghost use Rattle.run_steps.specs.Readiness.{IsReadyIn};
@@ -53,7 +53,7 @@ where
     ensures met { IfSome result (IsMetBy (tails_of F.Tail.Tail) (disks_of D.Disk)
         context.entry.settings.now.output.attempts
         (since_of F.Folder storing.old system.old (crewing crew.new storing.new) system.new)) }
-    // It is no file's fault: a file of which a read failed shows that by its tail, and ends no run by itself.
+    // It is no file's fault: a file of which a read failed shows that by its tail.
     ensures no_fault { result ≢ Some FolderFault }
     ensures failed { SomeOf HasFailedFile (lanings crew.new.lanes.items) →
         SomeHarvester (HasFaults (tails_of F.Tail.Tail)) (lanings crew.new.lanes.items) }
@@ -112,6 +112,10 @@ where
     ensures met { IfErr result (λ met. IsEndedBy (tails_of F.Tail.Tail) (disks_of D.Disk)
         context.entry.settings.now.output.attempts faulty
         (since_of F.Folder storing.old system.old (crewing crew.new storing.new) system.new) met) }
+    // What ends the run is no file's fault alone.
+    ensures ended { IfErr result (IsEndedRound (tails_of F.Tail.Tail) (disks_of D.Disk)
+        context.entry.settings.now.output.attempts
+        (since_of F.Folder storing.old system.old (crewing crew.new storing.new) system.new)) }
     ensures asks_the_clock { K.questions system.new.clock.now
         ≡ next_count (K.questions system.old.clock.now) }
     ensures bell_kept { system.new.bell.now ≡ system.old.bell.now }
@@ -164,6 +168,12 @@ where
         result }
     ensures stopped { result ≡ Stopped →
         Rose (B.rings system.old.bell.now) (B.rings system.new.bell.now) }
+    // What ends the run is no file's fault alone.
+    ensures ended { WasStopped (B.rings system.old.bell.now) (B.rings system.new.bell.now) result
+        ⊎ IsEndedRound (tails_of F.Tail.Tail) (disks_of D.Disk)
+        context.entry.settings.now.output.attempts
+        (since_of F.Folder storing.old system.old (crewing crew.new storing.new) system.new)
+        result }
     ensures asks { AsksOn 1
         (questions_of K.Clock B.Bell system.old.clock.now system.old.bell.now)
         (questions_of K.Clock B.Bell system.new.clock.now system.new.bell.now) }
@@ -206,6 +216,12 @@ where
         result }
     ensures stopped { result ≡ Stopped →
         Rose (B.rings system.old.bell.now) (B.rings system.new.bell.now) }
+    // What ends the run is no file's fault alone.
+    ensures ended { WasStopped (B.rings system.old.bell.now) (B.rings system.new.bell.now) result
+        ⊎ IsEndedRound (tails_of F.Tail.Tail) (disks_of D.Disk)
+        context.entry.settings.now.output.attempts
+        (since_of F.Folder storing.old system.old (crewing crew.new storing.new) system.new)
+        result }
     ensures asks { AsksOn 1
         (questions_of K.Clock B.Bell system.old.clock.now system.old.bell.now)
         (questions_of K.Clock B.Bell system.new.clock.now system.new.bell.now) }

@@ -53,7 +53,7 @@ end_crew-requires-clause-no_harvesters g c =
     let one = c.follow_begun-worked.new.crew in
     let folder = c.follow_begun-worked.new.system.folder in
     let none = none_in (tails_of g.F.Tail.Tail) (seen_in g.F.Folder folder.now) (seen_in g.F.Folder c.close_all.new.folder) one.lanes c.as_mut_slice.result.now c.close_all.new.lanes
-    c.as_mut_slice.ensures.value c.close_all.ensures.closes c.close_all.ensures.none_left in
+    c.close_all.ensures.none_left c.as_mut_slice.ensures.value c.close_all.ensures.closes in
     c.settle_after-worked.ensures.last.hands_on.no_harvesters none
 
 pub end_crew-requires-clause-carriers : goal.end_crew-requires-clause-carriers
@@ -72,7 +72,7 @@ returns-clause-ends g c start so_far stands began =
     let closes = some_in (tails_of g.F.Tail.Tail) (seen_in g.F.Folder folder.now) (seen_in g.F.Folder c.close_all.new.folder) one.lanes c.as_mut_slice.result.now c.close_all.new.lanes
     c.as_mut_slice.ensures.value c.close_all.ensures.closes in
     let none = none_in (tails_of g.F.Tail.Tail) (seen_in g.F.Folder folder.now) (seen_in g.F.Folder c.close_all.new.folder) one.lanes c.as_mut_slice.result.now c.close_all.new.lanes
-    c.as_mut_slice.ensures.value c.close_all.ensures.closes c.close_all.ensures.none_left in
+    c.close_all.ensures.none_left c.as_mut_slice.ensures.value c.close_all.ensures.closes in
     let goes = goes_then_closes closes.closed (record folder { now = c.close_all.new.folder }) (with_items one.lanes c.close_all.new.lanes) c.follow_begun-worked.ensures.goes closes.each refl in
     let since : Since g.row.F-Tail.Denot g.row.W.Denot g.row.L.Denot g.row.D.Denot = record {
       a = c.args.storing.now.a.now;
@@ -135,7 +135,7 @@ returns-clause-open_tails g c =
     let closes = some_in (tails_of g.F.Tail.Tail) (seen_in g.F.Folder folder.now) (seen_in g.F.Folder c.close_all.new.folder) one.lanes c.as_mut_slice.result.now c.close_all.new.lanes
     c.as_mut_slice.ensures.value c.close_all.ensures.closes in
     let none = none_in (tails_of g.F.Tail.Tail) (seen_in g.F.Folder folder.now) (seen_in g.F.Folder c.close_all.new.folder) one.lanes c.as_mut_slice.result.now c.close_all.new.lanes
-    c.as_mut_slice.ensures.value c.close_all.ensures.closes c.close_all.ensures.none_left in
+    c.close_all.ensures.none_left c.as_mut_slice.ensures.value c.close_all.ensures.closes in
     let goes = goes_then_closes closes.closed (record folder { now = c.close_all.new.folder }) (with_items one.lanes c.close_all.new.lanes) c.follow_begun-worked.ensures.goes closes.each refl in
     let closed = goes.keeps.readers.open_tails in
     let many = none_many (lanings (with_items one.lanes c.close_all.new.lanes).items) none in
@@ -176,7 +176,7 @@ returns-clause-cause g c =
     let closes = some_in (tails_of g.F.Tail.Tail) (seen_in g.F.Folder folder.now) (seen_in g.F.Folder c.close_all.new.folder) one.lanes c.as_mut_slice.result.now c.close_all.new.lanes
     c.as_mut_slice.ensures.value c.close_all.ensures.closes in
     let none = none_in (tails_of g.F.Tail.Tail) (seen_in g.F.Folder folder.now) (seen_in g.F.Folder c.close_all.new.folder) one.lanes c.as_mut_slice.result.now c.close_all.new.lanes
-    c.as_mut_slice.ensures.value c.close_all.ensures.closes c.close_all.ensures.none_left in
+    c.close_all.ensures.none_left c.as_mut_slice.ensures.value c.close_all.ensures.closes in
     let before : Readers g.row.F-Tail.Denot = record { folder = seen_in g.F.Folder folder.now; lanes = lanings one.lanes.items } in
     let after : Readers g.row.F-Tail.Denot = record { folder = seen_in g.F.Folder c.close_all.new.folder; lanes = lanings (with_items one.lanes c.close_all.new.lanes).items } in
     cause all c.args.context.settings.now.output.attempts (g.F.Folder.faults folder.now) c.args.crew one c.args.storing.now first second
