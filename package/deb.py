@@ -34,8 +34,8 @@ Priority: optional
 Description: log shipper like Filebeat, over Lumberjack v2
  Reads log files once, sends their events to Logstash or other receivers, and
  stores for each file the offset up to which every event was acknowledged or
- dropped; the next run goes on there. With it come a status program, a receiver,
- a converter of container logs and a spool.
+ dropped; the next run goes on there. With it come programs that check settings
+ and show the status, a receiver, a converter of container logs and a spool.
 """
 # what the units of examples/ say, and what those of the package say in its place
 IN_UNITS = (

@@ -137,14 +137,15 @@ class Package(unittest.TestCase):
         self.assertEqual(digest(one), digest(other))
 
     def test_units_name_what_is_installed(self):
-        """What the unit of the package runs and reads is what the package installs."""
+        """What the unit of the package runs and reads is what the package installs, and nothing of the example's places."""
         unit = deb.unit((example.FOLDER / "beat.service").read_bytes()).decode()
-        started = re.findall(r"^Exec\w+=[-+!@:]*(\S+) -c (\S+)(.*)$", unit, re.MULTILINE)
-        self.assertTrue(started)
-        for path, settings, _ in started:
-            self.assertIn(path.removeprefix("/usr/bin/"), products.programs())
-            self.assertEqual(settings, f"/{deb.SETTINGS}")
-        self.assertIn("--data /var/lib/moqhuluzi", unit)
+        self.assertNotRegex(unit, r"/usr/local|/etc/beat|/var/lib/beat")
+        started = re.findall(r"(/\S*/)(beat_\w+) -c (\S+) (.*)", unit)
+        self.assertIn("beat_main", [name for _, name, _, _ in started])
+        for folder, name, settings, rest in started:
+            self.assertIn(name, products.programs())
+            self.assertEqual((folder, settings), ("/usr/bin/", f"/{deb.SETTINGS}"))
+            self.assertIn("--data /var/lib/moqhuluzi", rest)
         for line in ("StateDirectory=moqhuluzi", "User=moqhuluzi"):
             self.assertIn(f"\n{line}\n", unit)
 
