@@ -42,6 +42,8 @@ UMASKS = (0o022, 0o077)
 PASSWD = "root:x:0:0:root:/root:/bin/sh\n"
 GROUP = "root:x:0:\nadm:x:4:\n"
 INSTALLED = "Package: {}\nStatus: install ok installed\nMaintainer: nobody <nobody@example>\nVersion: {}\nArchitecture: amd64\nDescription: of the machine\n\n"
+# with what each program ends without arguments
+USAGE = 2
 # seconds that a command may take
 PATIENCE = 60
 
@@ -202,7 +204,8 @@ class Package(unittest.TestCase):
         self.assertEqual(lines[-2:], [f"shipped {shipped} dropped 0", "status 0 done"], ran)
 
     def test_package_in_a_bare_root(self):
-        """It installs, ships its example, goes on after a rotation, keeps changed settings, and goes; the registry stays."""
+        """It installs, each program starts, the example is shipped, also after a rotation, changed settings are kept, and all
+        is removed but the registry."""
         self.need("readelf", "dpkg-deb", "dpkg", "ldd", "chroot", "useradd")
         if os.geteuid() != 0:
             self.skipTest("only root may change the root folder")
@@ -211,8 +214,11 @@ class Package(unittest.TestCase):
         if run("chroot", root, "/usr/bin/sh", "-c", ":", check=False).returncode != 0:
             self.skipTest("this machine does not let root change the root folder")
         self.dpkg(root, "--install", package)
+        for name in products.programs():
+            self.assertEqual(run("chroot", root, f"/usr/bin/{name}", check=False).returncode, USAGE, name)
         logs = root / example.LOGS.removeprefix("/")
         shutil.copytree(example.FOLDER / "logs", logs)
+        self.assertEqual(self.run_in(root, "beat_check").returncode, 0)
         files = sorted(logs.rglob("*.log"))
         lines = sum(it.read_bytes().count(b"\n") for it in files)
         with Peer() as peer:
