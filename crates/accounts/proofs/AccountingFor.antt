@@ -1,7 +1,6 @@
 -- A run is accounted for by what is known of it as it ends.
-use Rattle.std.proofs.Common.{◌≡◌, ℕ, ◌<◌, Contains, List, [], ◌∷◌, ◌++◌, Option, refl}
+use Rattle.std.proofs.Common.{◌<◌, Contains, List, [], ◌∷◌, Option, refl}
 use Rattle.std.specs.List.{AllByRecursion}
-use Rattle.kept_rows.proofs.Showing.{both}
 use Rattle.kept_rows.specs.Account.{Place, SlotAccount, slot_of}
 use Rattle.kept_rows.specs.Backed.{AreBacked, AreBegun, AreInRows}
 use Rattle.kept_rows.specs.Epochs.{AreNumbered}
@@ -9,13 +8,12 @@ use Rattle.kept_rows.specs.Run.{Run, Scan}
 use Rattle.ship_core.proofs.Members.{given_there}
 use Rattle.ship_core.specs.RowsOver.{slot_for, slots_for}
 use Rattle.wire_base.proofs.ByteOrder.{compare_same}
-use Rattle.wire_base.specs.declared.note.Note.{Note}
 use Rattle.wire_base.specs.declared.parcel.Parcel.{Parcel}
 use Rattle.slot_parts.specs.Tellings.{tellings_in}
 use Rattle.accounts.specs.AccountedFor.{AccountsFor}
 use Rattle.accounts.specs.Filed.{Filed, accounts_of, turned_in, turned_of}
 use Rattle.accounts.specs.FollowedFile.{IsFollowedFile}
-use Rattle.accounts.specs.Hidden.{Hidden, hidden_account, hidden_accounts, hidden_begin, hidden_key, hidden_slot, with_hidden}
+use Rattle.accounts.specs.Hidden.{Hidden, hidden_begin, hidden_key, hidden_slot, with_hidden}
 use Rattle.accounts.specs.Places.{ArePlaces}
 use Rattle.accounts.specs.RunTold.{RunNotes, RunTold}
 use Rattle.accounts.specs.Taken.{Taken, acknowledged_in}

@@ -1,5 +1,5 @@
 -- What the talks of workers' wires acknowledged is what files told, and nothing of it twice.
-use Rattle.std.proofs.Common.{◌+◌, List, ◌++◌, Contains, arith}
+use Rattle.std.proofs.Common.{List, ◌++◌, Contains, arith}
 use Rattle.std.specs.List.{flat_map}
 use Rattle.pass_sums.proofs.Weights.{weigh-append}
 use Rattle.pass_sums.specs.Weight.{AsOften}

@@ -1,6 +1,6 @@
 -- A slot whose Begin is among notes is begun there.
-use Rattle.std.proofs.Common.{◌≡◌, ℕ, ◌==◌, List, [], ◌∷◌, ◌++◌, Contains, IsSome, refl}
-use Rattle.std.specs.List.{AllByRecursion, filter_map}
+use Rattle.std.proofs.Common.{ℕ, ◌==◌, List, [], ◌∷◌, ◌++◌, Contains, IsSome, refl}
+use Rattle.std.specs.List.{filter_map}
 use Rattle.std.proofs.lemmas.Bool.{eq-eqb}
 use Rattle.std.proofs.lemmas.List.Elements.{Contains-append_left}
 use Rattle.ship_core.proofs.Members.{given_there, none_there, passed_there}
@@ -11,7 +11,6 @@ use Rattle.wire_base.specs.declared.note.Note.TheVariants.{Begin}
 use Rattle.wire_base.specs.declared.numbers.Epoch.{Epoch}
 use Rattle.wire_base.specs.declared.numbers.Moment.{Moment}
 use Rattle.wire_base.specs.declared.numbers.Slot.{Slot}
-use Rattle.accounts.specs.Filed.{Filed, IsNoted}
 
 pub record HasItsBegin (notes : List Note) (slot : Slot) : Type 0 where
   pub key : List ℕ
@@ -41,14 +40,3 @@ begin_begins notes slot has =
     some_start : (starts : List Start) (start : Start) → Contains starts start → IsSome (first_start starts)
     some_start [] start there = absurd (none_there start there)
     some_start (first ∷ starts) start there = refl
-
--- that of a file
-pub noted_begins : (notes : List Note) (file : Filed) → IsNoted notes file → HasItsBegin notes file.opened.begin.slot
-noted_begins notes file noted = record {
-  key = file.opened.begin.key;
-  path = noted.path;
-  epoch = file.opened.begin.epoch;
-  base = file.opened.begin.base;
-  changed = noted.changed;
-  there = noted.there;
-}

@@ -32,7 +32,7 @@ use Rattle.accounts.specs.Same.{same_note}
 use Rattle.accounts.specs.Taken.{Taken, acknowledged_in}
 use Rattle.accounts.specs.ToldNotes.{AreNotesOf, IsKnownNote, MayTell}
 use Rattle.accounts.proofs.Grounded.{each_has_ground, each_member}
-use Rattle.accounts.proofs.HiddenFollowed.{apart_from_hidden, each_may_go}
+use Rattle.accounts.proofs.HiddenFollowed.{each_may_go}
 use Rattle.accounts.proofs.HiddenLost.{lost}
 use Rattle.accounts.proofs.HiddenSlots.{has_with_hidden}
 use Rattle.accounts.proofs.LastNotes.{is_started, none_forgotten, one_slot}

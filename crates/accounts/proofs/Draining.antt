@@ -21,7 +21,6 @@ use Rattle.ship_core.specs.RowOver.{notes_of, standing_row}
 use Rattle.ship_core.specs.RowsOver.{AreRowsOver}
 use Rattle.slot_parts.specs.Tails.{tails_of}
 use Rattle.told_events.specs.Told.{spans_of}
-use Rattle.wire_base.specs.declared.note.Note.{Note}
 use Rattle.wire_base.specs.declared.parcel.Parcel.{Parcel}
 use Rattle.wire_base.specs.declared.row.Row.{Row}
 use Rattle.accounts.specs.RunDone.{IsAmongFiles, IsFullScan, RunDone, IsToldWhole}

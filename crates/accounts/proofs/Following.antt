@@ -5,7 +5,6 @@ use Rattle.std.specs.List.{AllByRecursion, flat_map}
 use Rattle.harvester.specs.History.{History}
 use Rattle.kept_rows.specs.Account.{FollowedTail, Following, Place, SlotAccount}
 use Rattle.kept_rows.specs.Followed.{AreFollowed, AreInTurn, AreRising, IsFollowedTail, IsFollowing, IsGoneBefore, IsNewlyKnown, OnlyReads, asked_openings, followed_openings}
-use Rattle.file_identity.specs.AskedAgain.{StillHasKey}
 use Rattle.kept_rows.specs.Askings.{AsksInOrder}
 use Rattle.kept_rows.specs.Run.{Run, Scan}
 use Rattle.kept_rows.specs.Scans.{AllButTheLast, AreAsked, AreDistinct, IsFirstPath}

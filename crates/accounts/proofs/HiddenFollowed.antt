@@ -1,5 +1,5 @@
 -- The files of a run are followed so with the slots of hidden rows, where no slot of the account has the key of one of the rows.
-use Rattle.std.proofs.Common.{◌≡◌, ◌⊎◌, inl, inr, ℕ, zero, suc, ◌+◌, ◌<◌, ◌≤◌, List, [], ◌∷◌, ◌++◌, map, Some, None, refl, sym, ap, subst, ◌∙◌, arith}
+use Rattle.std.proofs.Common.{◌≡◌, ◌⊎◌, inr, ℕ, zero, suc, ◌+◌, ◌<◌, ◌≤◌, List, [], ◌∷◌, ◌++◌, map, Some, None, refl, sym, ap, subst, ◌∙◌, arith}
 use Rattle.std.specs.List.{AllByRecursion, Contains, slice_get}
 use Rattle.kept_rows.specs.Account.{FollowedTail, Following, SlotAccount, key_of, slot_of}
 use Rattle.kept_rows.specs.Followed.{AreFollowed, AreInTurn, AreRising, IsFollowing, IsGoneBefore, IsNewlyKnown, OnlyReads, asked_openings, followed_openings}
@@ -170,6 +170,7 @@ module _ (run : Run) (scan : Scan) (hiddens : List Hidden) (may : MayAllGo run s
     tails = λ rule is. tt;
   }
 
+  -- so hidden rows add no premise to those of files
   pub premises_with_hidden : (account : List SlotAccount) → Premises run (followings_in account) → Premises run (followings_in (with_hidden account hiddens))
   premises_with_hidden account premises = record {
     identities = mapped (KeepsIdentity run) (with_hidden account hiddens)

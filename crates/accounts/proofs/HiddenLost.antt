@@ -1,5 +1,5 @@
 -- A hidden row that is not there any more is rightly lost: the newest slot of its key is the one that stands for it behind the account.
-use Rattle.std.proofs.Common.{◌≡◌, inl, ◌≤◌, List, map, refl, sym, ap, subst, ◌∙◌, arith}
+use Rattle.std.proofs.Common.{◌≡◌, inl, ◌≤◌, List, refl, ap, arith}
 use Rattle.std.specs.List.{AllByRecursion, Contains}
 use Rattle.std.proofs.lemmas.List.Elements.{Contains-append_right}
 use Rattle.kept_rows.proofs.Showing.{both, each_on}

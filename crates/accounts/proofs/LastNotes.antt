@@ -1,17 +1,16 @@
 -- What the notes of a done run say of each of its files: which slot its key has, with what it begins, which epoch and moment are the
 -- greatest that they name, and which spans they settle of its last epoch.
 use Rattle.std.proofs.Common.{◌≡◌, ◌⊎◌, inl, inr, ℕ, ◌+◌, ◌==◌, ◌<◌, ◌≤◌, Bool, false, List, [], ◌∷◌, ◌++◌, Contains, map, Option, None, Some, refl, sym, ap, subst, ◌∙◌, arith, if◌then◌else◌}
-use Rattle.std.specs.List.{AllByRecursion, cons_option, filter_map, flat_map}
+use Rattle.std.specs.List.{AllByRecursion, filter_map, flat_map}
 use Rattle.std.specs.Ordering.{is_eq}
 use Rattle.std.specs.declared.cmp.Ordering.{Ordering}
 use Rattle.std.specs.declared.cmp.Ordering.TheVariants.{Equal, Greater, Less}
 use Rattle.std.proofs.lemmas.Bool.{eq-eqb, eqb-true}
-use Rattle.std.proofs.lemmas.List.Elements.{Contains-append_cases, Contains-append_left, Contains-append_right, filter-append, filter_map-append}
+use Rattle.std.proofs.lemmas.List.Elements.{Contains-append_left, Contains-append_right, filter-append}
 use Rattle.harvester.specs.History.{Telling}
 use Rattle.kept_rows.proofs.Begun.{ForgetNone, IsNoForget}
 use Rattle.kept_rows.specs.Scans.{AreDistinct}
 use Rattle.ship_core.proofs.Members.{first_there, given_there, greatest_least, later_there, member_within, none_there, passed_there, there_cases, there_given, there_passed}
-use Rattle.ship_core.specs.Orderly.{AreOrderly}
 use Rattle.ship_core.specs.RowOver.{Start, greatest_moment, moment_of, notes_of, slot_of, start_over}
 use Rattle.ship_core.specs.RowsOver.{slot_for, slots_for}
 use Rattle.wire_base.proofs.ByteOrder.{compare_same, same_key}

@@ -1,9 +1,9 @@
 -- Each note that is collected may follow the orderly notes before it, in whichever order those were told and collected: it is of one of the
 -- files, whose Begin is among them, and no two events of one epoch overlap.
-use Rattle.std.proofs.Common.{◌≡◌, ◌⊎◌, inl, inr, ℕ, ◌+◌, ◌==◌, ◌<◌, ◌≤◌, Bool, true, false, All, List, [], ◌∷◌, ◌++◌, Contains, map, Some, None, refl, sym, ap, subst, ◌∙◌, append-nil, append_assoc, arith, if◌then◌else◌}
+use Rattle.std.proofs.Common.{◌≡◌, ◌⊎◌, inl, inr, ℕ, ◌+◌, ◌==◌, ◌<◌, ◌≤◌, Bool, true, false, All, List, [], ◌∷◌, ◌++◌, Contains, map, Some, None, refl, sym, ap, subst, ◌∙◌, append-nil, arith, if◌then◌else◌}
 use Rattle.std.specs.List.{AllByRecursion}
 use Rattle.std.proofs.lemmas.Bool.{eqb-true, ne_eqb}
-use Rattle.std.proofs.lemmas.List.Elements.{All-from_recursion, Contains-append_cases, Contains-append_right}
+use Rattle.std.proofs.lemmas.List.Elements.{All-from_recursion, Contains-append_right}
 use Rattle.harvester.specs.History.{Telling}
 use Rattle.kept_rows.proofs.Showing.{both}
 use Rattle.kept_rows.specs.Scans.{AreDistinct}
@@ -22,7 +22,7 @@ use Rattle.wire_base.specs.declared.note.Note.TheVariants.{Announce, Begin, Forg
 use Rattle.wire_base.specs.declared.numbers.Epoch.{Epoch}
 use Rattle.wire_base.specs.declared.numbers.Slot.{Slot}
 use Rattle.wire_base.specs.declared.parcel.Parcel.{Parcel}
-use Rattle.accounts.specs.Filed.{Filed, HasItsSlot, slot_in, turned_in, turned_of}
+use Rattle.accounts.specs.Filed.{Filed, HasItsSlot, slot_in, turned_of}
 use Rattle.accounts.specs.FollowedFile.{AreInSlots}
 use Rattle.accounts.specs.Ground.{HasGround, IsEpochOf, IsNoteBy}
 use Rattle.accounts.specs.Hidden.{Hidden, hidden_begin, hidden_forget}

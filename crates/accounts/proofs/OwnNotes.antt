@@ -1,5 +1,5 @@
 -- What orderly notes say of one slot and of one key: a row that none of the slot's own notes forgets stands, and each slot begins once.
-use Rattle.std.proofs.Common.{◌≡◌, ◌⊎◌, inl, inr, ℕ, Bool, true, false, List, [], ◌∷◌, ◌++◌, Contains, Option, None, Some, ◌==◌, if◌then◌else◌, refl, sym, ap, subst, ◌∙◌, append_assoc}
+use Rattle.std.proofs.Common.{◌≡◌, ℕ, Bool, true, false, List, [], ◌∷◌, ◌++◌, Contains, Option, None, Some, ◌==◌, if◌then◌else◌, refl, sym, ap, subst, ◌∙◌, append_assoc}
 use Rattle.std.proofs.lemmas.Bool.{eq-eqb}
 use Rattle.std.specs.List.{AllByRecursion, cons_option}
 use Rattle.std.specs.Ordering.{is_eq}
@@ -7,7 +7,7 @@ use Rattle.std.specs.declared.cmp.Ordering.{Ordering}
 use Rattle.std.specs.declared.cmp.Ordering.TheVariants.{Equal, Greater, Less}
 use Rattle.kept_rows.proofs.Begun.{ForgetNone, slot_stands}
 use Rattle.kept_rows.specs.Scans.{AreDistinct}
-use Rattle.ship_core.proofs.Members.{first_there, none_there, passed_there, there_cases, there_given}
+use Rattle.ship_core.proofs.Members.{first_there, none_there, passed_there, there_given}
 use Rattle.ship_core.specs.Orderly.{AreOrderly, MayFollow}
 use Rattle.ship_core.specs.RowOver.{Start, notes_of, row_of, row_over, slot_of, standing_row, start_over}
 use Rattle.ship_core.specs.RowsOver.{slot_for, slots_for}
@@ -16,7 +16,6 @@ use Rattle.std.proofs.lemmas.List.Elements.{Contains-append_right}
 use Rattle.wire_base.specs.KeyOrder.{compare}
 use Rattle.wire_base.specs.declared.note.Note.{Note}
 use Rattle.wire_base.specs.declared.note.Note.TheVariants.{Announce, Begin, Forget, Rename, Seen, Settle}
-use Rattle.wire_base.specs.declared.row.Row.{Row}
 use Rattle.accounts.proofs.Parts.{parts_at}
 
 -- ---- of one slot
@@ -94,9 +93,3 @@ only_slot slot [] apart all there = absurd (none_there slot there)
 only_slot slot (first ∷ []) apart all there = ap (λ (n : ℕ). n ∷ []) all.0
 only_slot slot (first ∷ second ∷ slots) apart all there =
     absurd (apart.0 (subst (λ (n : ℕ). Contains (second ∷ slots) n) (all.1.0 ∙ sym all.0) (first_there second slots)))
-
--- ---- a key that no note begins
-
-pub none_begun : (key : List ℕ) (notes : List Note) → AllByRecursion (λ (note : Note). slot_for key note ≡ None) notes → slots_for key notes ≡ []
-none_begun key [] none = refl
-none_begun key (note ∷ notes) none = ap (λ (o : Option ℕ). cons_option o (slots_for key notes)) none.0 ∙ none_begun key notes none.1

@@ -7,10 +7,10 @@ use Rattle.harvester.specs.History.{Telling}
 use Rattle.kept_rows.proofs.Images.{found_by_its_key}
 use Rattle.kept_rows.proofs.Showing.{both}
 use Rattle.kept_rows.proofs.Storing.{Covers, stored_at_the_end}
-use Rattle.kept_rows.specs.Account.{AccountedEvent, EpochAccount, Place, SlotAccount, slot_of}
+use Rattle.kept_rows.specs.Account.{AccountedEvent, EpochAccount, Place, SlotAccount}
 use Rattle.kept_rows.specs.Backed.{AreBacked, AreBegun, AreInRows}
 use Rattle.kept_rows.specs.Kept.{IsSettled, SettlesAs}
-use Rattle.kept_rows.specs.Stored.{AreAllNoted as AreAllSettledIn, IsAllSettledBy, IsStored, settlement_of}
+use Rattle.kept_rows.specs.Stored.{AreAllNoted as AreAllSettledIn, IsAllSettledBy, IsStored}
 use Rattle.kept_rows.specs.Trace.{WireTold}
 use Rattle.ship_core.proofs.Members.{first_there, later_there, none_there}
 use Rattle.ship_core.specs.RowsOver.{AreRowsOver}

@@ -1,6 +1,6 @@
 -- Worked accounts of a file that was closed and opened again: in the same epoch, in the next one since it shrank, and by another path. And
 -- openings that are refused.
-use Rattle.std.proofs.Common.{◌≡◌, ◌≢◌, ◌⊎◌, inl, inr, ℕ, ◌+◌, ◌==◌, ◌<◌, nat_le, Bool, true, false, List, [], ◌∷◌, ◌++◌, Contains, drop, length, map, Option, None, Some, codes, if◌then◌else◌, refl, sym, ap, take, ◌∙◌, arith, lit≤, length-append}
+use Rattle.std.proofs.Common.{◌≡◌, ◌≢◌, ◌⊎◌, inl, inr, ℕ, ◌==◌, ◌<◌, nat_le, Bool, true, false, List, [], ◌∷◌, ◌++◌, Contains, drop, length, map, Option, None, Some, codes, if◌then◌else◌, refl, sym, ap, take, ◌∙◌, arith, lit≤, length-append}
 use Rattle.std.specs.Prelude.{slice_get}
 use Rattle.std.proofs.lemmas.Bool.{leb-true}
 use Rattle.file_looks.specs.Looks.{IsAnswered, IsLook}
