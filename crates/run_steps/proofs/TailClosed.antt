@@ -46,7 +46,8 @@ use Rattle.run_steps.specs.LastEpoch.{HaveOneOver, IsLastOver}
 use Rattle.run_steps.specs.Onward.{Onward}
 use Rattle.run_steps.specs.Releasing.{closing_of, with_events}
 use Rattle.run_steps.specs.RunState.{Finished, Leaving, OutOfEpochs, Phase, Reading, RunState, phase_left, within}
-use Rattle.run_steps.specs.Shown.{HasDone, HasShown, IsNoListing, IsStillOpen, WasClosedWith, WasOnlyAsked, WasOpenedSince, openings_of}
+use Rattle.told_scans.specs.OnlyAsked.{IsNoListing, WasClosedWith, WasOnlyAsked}
+use Rattle.run_steps.specs.Shown.{HasDone, HasShown, IsStillOpen, WasOpenedSince, openings_of}
 use Rattle.run_steps.specs.SoFar.{FilesSoFar, Left, SoFar, books_of, files_in, files_of, files_within, notes_of}
 use Rattle.run_steps.specs.Stands.{AreEachOnce, Books, BooksNow, Files, FilesNow, Further, HaveGiven, IsLeftSo, Notes, Stands}
 use Rattle.run_steps.proofs.Admitting.{booked_by, often_mapped, placed_by, spans_often}
