@@ -1,2 +1,0 @@
-mod stored;
-mod table;
