@@ -112,6 +112,73 @@ const UNOPENED: Case = Case {
     },
 };
 
+/// The first read of a file fails, and the others are shipped.
+const UNREAD: Case = Case {
+    name: "one of three files cannot be read",
+    start: Start {
+        files: &[
+            ("/w/b.log", b"b\n", &[]),
+            ("/w/a.log", b"a\nb\n", &[]),
+            ("/w/c.log", b"c\nd\n", &[]),
+        ],
+        failing: &[(Object::Tail, 1)],
+        ..PLAIN
+    },
+    wanted: Wanted {
+        status: 6,
+        rows: Some(
+            r#"file "filestream::w::path::/w/a.log" 0 0 "/w/a.log"
+file "filestream::w::path::/w/b.log" 0 2 "/w/b.log"
+file "filestream::w::path::/w/c.log" 0 4 "/w/c.log"
+"#,
+        ),
+        printed: "status 6 folder fault\n",
+        sent: Sent::Events(3),
+        moment: None,
+    },
+};
+
+/// A later look fails, and what was told of the file before is shipped, too.
+const READ_IN_PART: Case = Case {
+    name: "one of two files cannot be read on",
+    start: Start {
+        files: &[
+            ("/w/b.log", b"b\n", &[]),
+            ("/w/a.log", b"a\nb\n", &[Later::Grows(3, b"c\n")]),
+        ],
+        failing: &[(Object::Tail, 2)],
+        ..PLAIN
+    },
+    wanted: Wanted {
+        status: 6,
+        rows: Some(
+            r#"file "filestream::w::path::/w/a.log" 0 4 "/w/a.log"
+file "filestream::w::path::/w/b.log" 0 2 "/w/b.log"
+"#,
+        ),
+        printed: "status 6 folder fault\n",
+        sent: Sent::Events(3),
+        moment: None,
+    },
+};
+
+/// The bell rings behind the round in which a read failed.
+const UNREAD_AND_STOPPED: Case = Case {
+    name: "a file cannot be read, and then the run is stopped",
+    start: Start {
+        quiet: 1,
+        failing: &[(Object::Tail, 0)],
+        ..PLAIN
+    },
+    wanted: Wanted {
+        status: 6,
+        rows: Some("file \"filestream::w::path::/w/a.log\" 0 0 \"/w/a.log\"\n"),
+        printed: "status 6 folder fault\n",
+        sent: Sent::Events(0),
+        moment: Some(0),
+    },
+};
+
 const LINES: &[u8] = b"0\n1\n2\n3\n4\n5\n6\n7\n8\n9\n0\n1\n2\n3\n4\n5\n6\n7\n8\n9\n";
 
 /// The queue has room for fewer events than there are, and each window for one.
@@ -158,6 +225,9 @@ const CASES: &[Case] = &[
     TWO_INPUTS_WITH_THREE_FILES,
     COVERED_AND_GONE,
     UNOPENED,
+    UNREAD,
+    READ_IN_PART,
+    UNREAD_AND_STOPPED,
     CREW,
 ];
 
