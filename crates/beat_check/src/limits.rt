@@ -3,7 +3,7 @@ use std::io::Read;
 use std::rt::Files;
 use std::{io, str};
 
-/// Where Linux tells a process its limits.
+/// The file in which Linux shows a process its limits.
 const LIMITS: &str = "/proc/self/limits";
 
 /// What the line of the limit begins with.
@@ -12,7 +12,7 @@ const OPEN_FILES: &str = "Max open files";
 /// So many bytes of the limits are looked at; there are about 1,300.
 const MOST: usize = 4_096;
 
-/// How many files the process may have open; `None` where there is no limit, or none is told.
+/// How many files the process may have open; `None` if there is no limit, or none is known.
 pub(crate) fn open_limit(rt: &impl Files<File = File>) -> Option<u64> {
     let mut buffer = [0u8; MOST];
     let count = read_limits(rt, &mut buffer).ok()?;

@@ -21,6 +21,28 @@ const FILES: &[(u64, &str, &[u8])] = &[
     (10, "/p/closed", b"1\n"),
 ];
 
+/// What has which path; nothing has any other.
+const PLACES: &[(&str, Place)] = &[
+    ("/w", Place::Folder),
+    ("/f", Place::Folder),
+    ("/p", Place::Folder),
+    ("/p/closed", Place::Other),
+];
+
+/// What cannot be read; the second is gone meanwhile.
+const REFUSALS: &[(&str, &str)] = &[
+    ("/p/closed", "not yours"),
+    ("/w/a.log", "no such file"),
+    ("beat.toml", "not here"),
+];
+
+/// What lies below `/p`: a link, a name that is no text, and a folder that cannot be listed.
+const SKIPPED: &[(&str, &str)] = &[
+    ("/p/link", "link"),
+    ("/p", "no text"),
+    ("/p/in", "no entry"),
+];
+
 const GLOBS: &[&str] = &[
     "input w, native: 2 files \"/w/*.log\"\n",
     "input w, native: 0 files \"/w/[!x].log\"\n",
@@ -180,7 +202,9 @@ const CASES: &[Case] = &[
     Case {
         settings: "# nothing\n[output]\nhosts = \n",
         status: 3,
-        told: &["beat.toml:3: invalid value, expected a string, number, boolean, date-time, array or inline table\n"],
+        told: &[
+            "beat.toml:3: invalid value, expected a string, number, boolean, date-time, array or inline table\n",
+        ],
         ..REFUSED
     },
     Case {
@@ -217,45 +241,43 @@ fn files_of(alloc: Global, files: &[(u64, &str, &[u8])]) -> Result<Vec<MemFile>,
     Ok(made)
 }
 
-/// Below `/p` a link, a name that is no text, and a folder that cannot be listed; nothing has the path `/gone`.
-fn skipped(alloc: Global) -> Result<Vec<Skipped>, Fail> {
-    let mut skipped = Vec::new(alloc);
-    skipped.push(Skipped {
-        path: text(alloc, "/p/link")?,
-        why: Why::Link,
-    })?;
-    skipped.push(Skipped {
-        path: text(alloc, "/p")?,
-        why: Why::NoText,
-    })?;
-    skipped.push(Skipped {
-        path: text(alloc, "/p/in")?,
-        why: Why::Unreadable {
-            reason: text(alloc, "no entry")?,
-        },
-    })?;
-    Ok(skipped)
+/// A table of texts.
+fn table(alloc: Global, rows: &[(&str, &str)]) -> Result<BTreeMap<Text, Text>, Fail> {
+    let mut made = BTreeMap::new(alloc);
+    for (key, value) in rows {
+        made.insert(text(alloc, key)?, text(alloc, value)?)?;
+    }
+    Ok(made)
+}
+
+fn skipped(alloc: Global) -> Result<BTreeMap<Text, Vec<Skipped>>, Fail> {
+    let mut below = Vec::new(alloc);
+    for (path, reason) in SKIPPED {
+        let why = match *reason {
+            "link" => Why::Link,
+            "no text" => Why::NoText,
+            reason => Why::Unreadable {
+                reason: text(alloc, reason)?,
+            },
+        };
+        let path = text(alloc, path)?;
+        below.push(Skipped { path, why })?;
+    }
+    let mut made = BTreeMap::new(alloc);
+    made.insert(text(alloc, "/p")?, below)?;
+    Ok(made)
 }
 
 fn system(alloc: Global) -> Result<MemSystem, Fail> {
     let mut places = BTreeMap::new(alloc);
-    for path in ["/w", "/f", "/p"] {
-        places.insert(text(alloc, path)?, Place::Folder)?;
+    for (path, place) in PLACES {
+        places.insert(text(alloc, path)?, *place)?;
     }
-    places.insert(text(alloc, "/p/closed")?, Place::Other)?;
-    let mut below = BTreeMap::new(alloc);
-    below.insert(text(alloc, "/p")?, skipped(alloc)?)?;
-    let mut refusals = BTreeMap::new(alloc);
-    refusals.insert(text(alloc, "/p/closed")?, text(alloc, "not yours")?)?;
-    refusals.insert(text(alloc, "/w/a.log")?, text(alloc, "gone meanwhile")?)?;
-    refusals.insert(text(alloc, "beat.toml")?, text(alloc, "not here")?)?;
-    let mut write_refusals = BTreeMap::new(alloc);
-    write_refusals.insert(text(alloc, "data")?, text(alloc, "full")?)?;
     Ok(MemSystem {
         places,
-        skipped: below,
-        refusals,
-        write_refusals,
+        skipped: skipped(alloc)?,
+        refusals: table(alloc, REFUSALS)?,
+        write_refusals: table(alloc, &[("data", "full")])?,
         open_limit: Some(35),
     })
 }

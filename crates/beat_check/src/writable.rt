@@ -18,7 +18,7 @@ const GROUP_WRITES: u32 = 0o020;
 
 const OTHERS_WRITE: u32 = 0o002;
 
-/// Why the registry of the folder cannot be written; `None` where it can, as far as that shows without a write.
+/// Why the registry of the folder cannot be written; `None` if it can, as far as that shows without a write.
 pub(crate) fn write_refusal(
     rt: &impl Files<File = File>,
     alloc: Global,
@@ -34,7 +34,7 @@ pub(crate) fn write_refusal(
     Ok(None)
 }
 
-/// Opens a registry file for writing, where it is there, and closes it; else looks whether it can be made.
+/// Opens a registry file for writing, if it is there, and closes it; otherwise looks whether it can be made.
 fn try_area(rt: &impl Files<File = File>, path: &str, folder: &str) -> io::Result<()> {
     match OpenOptions::new().read(true).write(true).open(rt, path) {
         Ok(_) => Ok(()),
@@ -43,7 +43,7 @@ fn try_area(rt: &impl Files<File = File>, path: &str, folder: &str) -> io::Resul
     }
 }
 
-/// Looks whether something can be made in the folder, or where it is absent in the first one above it that is there.
+/// Looks whether something can be made in the folder or, if it is absent, in the first one above it that is there.
 fn try_folder(rt: &impl Files<File = File>, folder: &str) -> io::Result<()> {
     let mut path = Path::new(folder);
     for _ in 0..folder.len() {
@@ -68,7 +68,7 @@ fn named(path: Path<'_>) -> &str {
     }
 }
 
-/// Fails where the bits of the mode show that the process cannot write there. The user 0 can; and of a group that the process
+/// Fails if the bits of the mode show that the process cannot write there. The user 0 can; and of a group that the process
 /// has beside its first one nothing is known here, so a folder that its group may write counts as writable.
 fn require_writable(rt: &impl Files<File = File>, found: &Metadata) -> io::Result<()> {
     if !found.is_dir() {

@@ -9,7 +9,7 @@ pub tries_none : (before : Option (List Trial)) → TriesAll before [] [] before
 tries_none None = record { each_once = refl; told = tt }
 tries_none (Some tried) = record { each_once = refl; told = ap (λ (l : List Trial). Some l) (sym (append-nil tried)) }
 
--- where both told, the second trial stands behind those of the first
+-- if both told, the second trial is after those of the first
 told_on : (before middle after : Option (List Trial)) (trials : List Trial) (trial : Trial) → IfSome before (λ tried. middle ≡ Some (tried ++ trials)) → IfSome middle (λ tried. after ≡ Some (tried ++ trial ∷ []))
     → IfSome before (λ tried. after ≡ Some (tried ++ (trials ++ trial ∷ [])))
 told_on None middle after trials trial first second = tt

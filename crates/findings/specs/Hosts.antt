@@ -1,4 +1,4 @@
--- Trying hosts (this project's profile): each connection that is tried stands at the end of those before it.
+-- Trying hosts (this project's profile): each connection that is tried is added after those before it.
 use Rattle.std.specs.Prelude.{◌≡◌, ℕ, List, [], ◌∷◌, ◌++◌, Option, None, Some, Result, Ok, Err}
 use Rattle.findings.specs.declared.trial.Trial.{Trial}
 use Rattle.wire_base.specs.declared.host.Host.{Host}

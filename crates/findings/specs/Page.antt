@@ -1,4 +1,4 @@
--- What a check prints (this project's profile): to standard output a line for each glob, and behind these for each kind of which
+-- What a check prints (this project's profile): to standard output a line for each glob, and then for each kind of which
 -- something was found how often, the names and, of more than 20, how many more; to standard error why it ends as it does.
 use Rattle.std.specs.Prelude.{ℕ, ◌-◌, ◌==◌, ◌||◌, nat_lt, Bool, if◌then◌else◌, List, [], ◌∷◌, ◌++◌, codes, decimal, filter, length, take}
 use Rattle.std.specs.List.{flat_map, list_any}

@@ -28,10 +28,10 @@ pub struct Outside<F, Y, H> {
     pub hosts: H,
 }
 
-/// Checks the settings, the files that they name and, where that is asked for, the hosts, and prints what is found to `out`,
+/// Checks the settings, the files that they name and, if that is asked for, the hosts, and prints what is found to `out`,
 /// and why the check ends as it does to `err`.
 ///
-/// Where it is `Refused`, nothing is printed to `out`, but that a sink which fails may have taken a part; and `err` has the
+/// If it is `Refused`, nothing is printed to `out`, except that a sink which fails may have taken a part; and `err` has the
 /// place of a fault of the settings, as far as it can be found, or why they cannot be read.
 pub fn check<R: Source, F: Folder, Y: System, H: Hosts, S: Sink, E: Sink>(
     alloc: Global,
@@ -72,7 +72,7 @@ pub fn check<R: Source, F: Folder, Y: System, H: Hosts, S: Sink, E: Sink>(
     }
 }
 
-/// The settings of all the source's bytes; where there are none, why is told.
+/// The settings of all the source's bytes; if there are none, why is written to `err`.
 fn settings_of<R: Source, Y: System, E: Sink>(
     alloc: Global,
     asked: &Asked,
@@ -104,8 +104,8 @@ fn settings_of<R: Source, Y: System, E: Sink>(
     }
 }
 
-/// Tells why the settings cannot be read, where the system says it. What cannot be written is left out, since the end of
-/// the check tells it, too.
+/// Writes why the settings cannot be read, if the system says it. What cannot be written is left out: the end of the check
+/// says it, too.
 fn tell_unread<Y: System, E: Sink>(alloc: Global, system: &Y, file: &Text, err: &mut E) {
     if let Ok(Some(refusal)) = system.refusal(alloc, file) {
         let (file, refusal) = (file.as_str(), refusal.as_str());
@@ -210,7 +210,7 @@ fn tell<S: Sink, E: Sink>(
     };
     match write_all(out, &page) {
         Ok(()) => {
-            // What cannot be written is left out, since the end of the check tells it, too.
+            // What cannot be written is left out: the end of the check says it, too.
             let _ = write_all(err, &reasons);
             ending_of(seen.files.failed, &found)
         }

@@ -8,10 +8,10 @@ use wire_base::{Host, NoMemory, Text};
 
 /// The hosts, each of which is tried by a connection that is made and closed again, without a byte.
 pub trait Hosts {
-    /// The connections that were tried so far, in their order, where they are told.
+    /// The connections that were tried so far, in their order, if they are told.
     ghost tried: { Self → Option (List Trial) };
 
-    /// Makes a connection and closes it. Why none could be made, in the system's words; `None` where one was.
+    /// Makes a connection and closes it. Why none could be made, in the system's words; `None` if one was.
     fn try_host(&mut self, alloc: Global, host: &Host) -> Result<Option<Text>, NoMemory>
         ensures { TellsTrial (tried self.old) host.now result (tried self.new) };
 }

@@ -3,7 +3,7 @@
 //!
 //! What the traits of `outside` do not tell is asked of two traits of this crate, `System` and `Hosts`. A check first
 //! gathers what it sees; the findings, the text and the end of the check are definitions of `specs/` over that. It writes
-//! to the two sinks alone: each file that it opens for its key is closed again, and no call of `System` or `Hosts` can
+//! only to the two sinks: each file that it opens for its key is closed again, and no call of `System` or `Hosts` can
 //! write.
 #![tactic(auto)]
 

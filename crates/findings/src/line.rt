@@ -5,10 +5,10 @@ use toml::{Table, Value};
 const LOOKED_THROUGH: usize = 65_536;
 
 /// The line, from 1, on which the value of a dotted key begins, or that of as many of its first parts as there are; `None`
-/// where no part is there, or the settings have too many bytes to look through.
+/// if no part is there, or the settings have too many bytes to look through.
 ///
 /// Whole lines from the first one on are a document, unless they end within a value of several lines. So a value begins
-/// behind the longest such document that does not have it.
+/// after the longest such document that does not have it.
 pub(crate) fn line_of_key(alloc: Global, settings: &[u8], key: &str) -> Option<usize> {
     if LOOKED_THROUGH < settings.len() {
         return None;
@@ -60,7 +60,7 @@ fn member_of<'a>(value: &'a Value, part: &str) -> Option<&'a Value> {
     }
 }
 
-/// The line, from 1, where a document stops being TOML, and why, as far as the reader of TOML tells it.
+/// The line, from 1, where a document stops being TOML, and why, as far as the reader of TOML says it.
 pub(crate) fn line_of_fault(alloc: Global, settings: &[u8]) -> Option<(usize, String)> {
     let Err(fault) = toml::table_from_slice(alloc, settings) else {
         return None;

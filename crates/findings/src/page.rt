@@ -183,7 +183,7 @@ fn shown<'a, 'b>(of: &'a [&'b Finding]) -> &'a [&'b Finding]
     &of[..SHOWN.min(of.len())]
 }
 
-/// How the check ends, where folders could not be listed or files not be read if `failed`.
+/// How the check ends; `failed` if a folder could not be listed or a file not be read.
 pub(crate) fn ending_of(failed: bool, found: &[Finding]) -> Ending
     ensures { result ≡ ending_of failed found.now }
 {

@@ -11,7 +11,7 @@ use report::Status;
 use std::alloc::Global;
 use wire_base::Full;
 
-/// The files that the inputs name now; `None` where a folder could not be listed.
+/// The files that the inputs name now; `None` if a folder could not be listed.
 pub(crate) fn listed_files<F: Folder>(
     alloc: Global,
     folder: &mut F,
@@ -53,7 +53,7 @@ pub struct Marks {
     pub failed: bool,
 }
 
-/// Asks the listed files for their keys, and tells which of them are not followed.
+/// Asks the listed files for their keys, and says which of them are not followed.
 pub(crate) fn marks_of<F: Folder>(
     alloc: Global,
     folder: &mut F,

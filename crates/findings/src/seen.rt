@@ -8,7 +8,7 @@ use wire_base::Text;
 #[derive(Drop)]
 pub struct GlobSeen {
     pub asked: GlobAsked,
-    /// How many files it finds; `None` where a folder could not be listed.
+    /// How many files it finds; `None` if a folder could not be listed.
     pub files: Option<u64>,
     /// What has the path of its root.
     pub root: Place,

@@ -6,9 +6,9 @@ use glob_paths::Glob;
 use std::alloc::Global;
 use wire_base::{NoMemory, Text};
 
-/// What the system tells beside files. No call changes anything.
+/// What the system answers beside what is in files. No call changes anything.
 pub trait System {
-    /// What it answers, where it tells that.
+    /// What it answers, if it tells that.
     ghost told: { Self → Option SystemTold };
 
     fn place(&self, path: &Text) -> Place
@@ -19,17 +19,17 @@ pub trait System {
         ensures { IfOk result
             (λ skipped. IfSome (told self.now) (λ told. skipped.items ≡ told.skipped glob.now)) };
 
-    /// Why the file cannot be opened for reading, in the system's words; `None` where it can.
+    /// Why the file cannot be opened for reading, in the system's words; `None` if it can.
     fn refusal(&self, alloc: Global, path: &Text) -> Result<Option<Text>, NoMemory>
         ensures { IfOk result
             (λ reason. IfSome (told self.now) (λ told. reason ≡ told.refusal path.now)) };
 
-    /// Why the registry of this folder cannot be written; `None` where it can, as far as that shows without a write.
+    /// Why the registry of this folder cannot be written; `None` if it can, as far as that shows without a write.
     fn write_refusal(&self, alloc: Global, folder: &Text) -> Result<Option<Text>, NoMemory>
         ensures { IfOk result
             (λ reason. IfSome (told self.now) (λ told. reason ≡ told.write_refusal folder.now)) };
 
-    /// How many files the process may have open; `None` where there is no limit, or none is told.
+    /// How many files the process may have open; `None` if there is no limit, or none is known.
     fn open_limit(&self) -> Option<u64>
         ensures { IfSome (told self.now) (λ told. result ≡ told.open_limit) };
 }

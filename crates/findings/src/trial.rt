@@ -4,6 +4,6 @@ use wire_base::{Host, Text};
 #[derive(Debug, Drop)]
 pub struct Trial {
     pub host: Host,
-    /// Why no connection was made; `None` where one was.
+    /// Why no connection was made; `None` if one was.
     pub refusal: Option<Text>,
 }
