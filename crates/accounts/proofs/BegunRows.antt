@@ -46,7 +46,7 @@ use Rattle.accounts.proofs.Same.{tells_notes}
 -- ---- rows
 
 -- a row that is found is among them
-found_there : (key : List ℕ) (rows : List Row) (row : Row) → find key rows ≡ Some row → Contains rows row
+pub found_there : (key : List ℕ) (rows : List Row) (row : Row) → find key rows ≡ Some row → Contains rows row
 found_there key [] row is = absurd (let q : None ≡ Some row = is in cc)
 found_there key (first ∷ rows) row is = by_case (compare key first.key) is (found_there key rows row)
   where
@@ -58,7 +58,7 @@ found_there key (first ∷ rows) row is = by_case (compare key first.key) is (fo
         let same : first ≡ row = cc in
         subst (λ (r : Row). Contains (first ∷ rows) r) same (first_there first rows)
 
-found_key : (key : List ℕ) (rows : List Row) (row : Row) → find key rows ≡ Some row → row.key ≡ key
+pub found_key : (key : List ℕ) (rows : List Row) (row : Row) → find key rows ≡ Some row → row.key ≡ key
 found_key key [] row is = absurd (let q : None ≡ Some row = is in cc)
 found_key key (first ∷ rows) row is = by_case (compare key first.key) refl is (found_key key rows row)
   where

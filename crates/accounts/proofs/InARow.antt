@@ -39,7 +39,7 @@ same_rule inputs one other number place key own at there of also =
     (got_each (λ (rule : InputRule). HasNoColon rule.id) inputs place other own.no_colon there) of also)
 
 -- distinct items have one place
-same_place : {A B : Type 0} (f : A → B) (xs : List A) (k other : ℕ) (x y : A) → AreDistinct (map f xs) → slice_get xs k ≡ Some x → slice_get xs other ≡ Some y → f x ≡ f y → k ≡ other
+pub same_place : {A B : Type 0} (f : A → B) (xs : List A) (k other : ℕ) (x y : A) → AreDistinct (map f xs) → slice_get xs k ≡ Some x → slice_get xs other ≡ Some y → f x ≡ f y → k ≡ other
 same_place f [] k other x y apart at there same = absurd (let q : None ≡ Some x = at in cc)
 same_place f (first ∷ xs) zero zero x y apart at there same = refl
 same_place f (first ∷ xs) zero (suc other) x y apart at there same =

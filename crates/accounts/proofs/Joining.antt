@@ -26,10 +26,10 @@ slots_of files = map (λ (turned : Turned). turned.slot) files
 abbrev pub slots_in : List Opened → List Slot
 slots_in files = map (λ (opened : Opened). opened.begin.slot) files
 
-abbrev same_slot : Slot → Slot → Bool
+abbrev pub same_slot : Slot → Slot → Bool
 same_slot one other = one.0 == other.0
 
-tells_slots : TellsSame same_slot
+pub tells_slots : TellsSame same_slot
 tells_slots = record {
   tells = λ one other same. let numbers : one.0 ≡ other.0 = eqb-true one.0 other.0 same in λ k. record { 0 = numbers k };
   itself = λ one. eq-eqb one.0 one.0 refl;

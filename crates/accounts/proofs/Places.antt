@@ -102,7 +102,7 @@ all_parcels wire (parts ∷ all) =
 
 -- ---- acknowledged there
 
-got_mapped : {A B : Type 0} (f : A → B) (xs : List A) (k : ℕ) (x : A) → slice_get xs k ≡ Some x → slice_get (map f xs) k ≡ Some (f x)
+pub got_mapped : {A B : Type 0} (f : A → B) (xs : List A) (k : ℕ) (x : A) → slice_get xs k ≡ Some x → slice_get (map f xs) k ≡ Some (f x)
 got_mapped f [] k x at = absurd cc
 got_mapped f (first ∷ xs) zero x at = let same : first ≡ x = cc in ap (λ y. Some (f y)) same
 got_mapped f (first ∷ xs) (suc k) x at = got_mapped f xs k x at

@@ -39,7 +39,7 @@ cause_itself (Dropped rule) = eq-eqb rule.0 rule.0 refl
 both : (a b : Bool) → a ≡ true → b ≡ true → (a && b) ≡ true
 both a b one other = and_from a b one other
 
-number_itself : (n : ℕ) → (n == n) ≡ true
+pub number_itself : (n : ℕ) → (n == n) ≡ true
 number_itself n = eq-eqb n n refl
 
 bytes_itself : (bytes : List ℕ) → bytes_eq bytes bytes ≡ true

@@ -38,7 +38,7 @@ use Rattle.run_steps.specs.declared.registry_error.RegistryError.{RegistryError}
 use Rattle.run_steps.proofs.Giving.{first_given}
 use Rattle.run_steps.proofs.RunEarly.{early_is_accounted_for, still_is_accounted_for}
 use Rattle.run_steps.proofs.HeldRows.{some_of}
-use Rattle.run_steps.proofs.Members.{some_is}
+use Rattle.told_scans.proofs.Members.{some_is}
 use Rattle.run_steps.proofs.RunRows.{OneChoice}
 use Rattle.beat_run.specs.Accounted.{HasNoRoom, IsAccounted, IsAccountedByNamed, IsFullFor, IsMetFor, IsOpenedFrom, LeavesNoRemoved, RunLent, TellRows, HasNoEpoch}
 use Rattle.beat_run.specs.Ended.{StandsForMet, StandsForRegistry}

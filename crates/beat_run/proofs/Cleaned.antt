@@ -20,7 +20,7 @@ use Rattle.prospect.specs.ListedFiles.{IsKeyed, KeyIsTold}
 use Rattle.prospect.specs.declared.listed.Listed.{Listed}
 use Rattle.report.specs.declared.passing.Passing.{Passing}
 use Rattle.rounds.specs.Words.{DiskWords}
-use Rattle.run_steps.proofs.Members.{some_is}
+use Rattle.told_scans.proofs.Members.{some_is}
 use Rattle.run_steps.specs.AccountedFor.{RunObjects}
 use Rattle.run_steps.specs.AccountedOver.{AccountedOver}
 use Rattle.run_steps.specs.Began.{Began}

@@ -30,7 +30,7 @@ use Rattle.run_steps.specs.Areas.{GiveTheRows}
 use Rattle.run_steps.specs.BeginFor.{row_of}
 use Rattle.run_steps.specs.Registry.{AreRefusedAt}
 use Rattle.run_steps.specs.Starting.{AreFewFiles, IsFirstTooMany, new_files}
-use Rattle.run_steps.proofs.Members.{some_is}
+use Rattle.told_scans.proofs.Members.{some_is}
 use Rattle.run_steps.proofs.RunRows.{OneChoice}
 use Rattle.told_events.specs.Licence.{LieApart}
 use Rattle.wire_base.specs.declared.limits.Full.TheVariants.{Epochs, Files, Slots}

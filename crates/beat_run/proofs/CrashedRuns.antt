@@ -7,7 +7,7 @@ use Rattle.wire_base.specs.declared.limits.Which.{Which}
 use Rattle.wire_base.specs.declared.limits.Which.TheVariants.{A, B}
 use Rattle.run_steps.specs.AccountedFor.{AreImageRows, GiveImageRows, LostInImage, areas_of}
 use Rattle.run_steps.specs.UnusedArea.{IsOfUnusedArea}
-use Rattle.run_steps.proofs.Members.{some_is}
+use Rattle.told_scans.proofs.Members.{some_is}
 use Rattle.run_steps.proofs.RunRows.{OneChoice, same_rows}
 use Rattle.run_steps.proofs.Together.{crash_gives, left_at_end}
 use Rattle.beat_run.specs.AfterCrash.{FindsAreasAsCrashed}

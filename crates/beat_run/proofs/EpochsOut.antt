@@ -22,9 +22,9 @@ use Rattle.run_steps.specs.RunEnds.{HasEnded}
 use Rattle.told_scans.specs.OnlyAsked.{WasClosedWith}
 use Rattle.run_steps.specs.Starting.{IsFirstTooMany, new_files}
 use Rattle.run_steps.specs.declared.met.Met.{Met}
-use Rattle.run_steps.proofs.Members.{some_is}
+use Rattle.told_scans.proofs.Members.{some_is}
 use Rattle.run_steps.proofs.OutOfEpochs.{has_run_out}
-use Rattle.run_steps.proofs.RowsFound.{found_there}
+use Rattle.accounts.proofs.BegunRows.{found_there}
 use Rattle.wire_base.specs.declared.limits.Full.TheVariants.{Epochs, Files, Slots}
 use Rattle.wire_base.specs.declared.row.Row.{Row}
 use Rattle.beat_run.specs.EpochsLeft.{FindsNoEpoch, HaveEpochsLeft, ReadsToTheLast}

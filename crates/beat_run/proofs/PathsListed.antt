@@ -25,7 +25,7 @@ use Rattle.run_steps.specs.SoFar.{FilesSoFar}
 use Rattle.run_steps.specs.declared.beginning.Scanned.{Scanned}
 use Rattle.told_scans.proofs.AskedEvents.{all_asked}
 use Rattle.told_scans.proofs.KeyedFiles.{IsKeyedFrom, KeepsEntry, keeps_entry, keyed_from}
-use Rattle.run_steps.proofs.Members.{some_is}
+use Rattle.told_scans.proofs.Members.{some_is}
 use Rattle.told_scans.specs.OnlyAsked.{HasOnlyAsked}
 use Rattle.run_steps.specs.Unnumbered.{IsUnnumbered, WasOpenedUnnumbered}
 use Rattle.beat_run.specs.Cause.{WasListed, WasUnnumbered}

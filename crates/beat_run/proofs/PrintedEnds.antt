@@ -9,7 +9,7 @@ use Rattle.rounds.specs.Words.{DiskWords}
 use Rattle.beat_run.specs.Cause.{AllSigns, Cause, Signs, without_sink}
 use Rattle.beat_run.specs.Ends.{IsBehindOpening, IsPrintingEnd, IsReportEnd, IsRunEnd}
 use Rattle.beat_run.specs.Printed.{Prints, ReportsStored, StandsBehind}
-use Rattle.run_steps.proofs.Members.{some_is}
+use Rattle.told_scans.proofs.Members.{some_is}
 use Rattle.beat_run.proofs.Causes.{caused_with_sink}
 
 -- a status that is no fault of the sink is the one that was to be printed

@@ -6,9 +6,6 @@ use Rattle.report.specs.declared.passing.Passing.{Passing}
 use Rattle.report.specs.declared.passing.Why.{Why}
 use Rattle.beat_run.specs.Skipped.{skipped_for}
 
-pub one_more : (listed : List Listed) (i : ℕ) (one : Listed) → i < length listed → one ≡ get_or listed i one → take (i + 1) listed ≡ take i listed ++ one ∷ []
-one_more listed i one inside is = take_more listed i one inside ∙ ap (λ (l : Listed). take i listed ++ l ∷ []) (sym is)
-
 pub skipped_more : (why : Why) (passed : List Passing) (front : List Listed) (one : Listed) (all new : List Passing) → all ≡ passed ++ map (skipped_for why) front → new ≡ all ++ skipped_for why one ∷ [] →
     new ≡ passed ++ map (skipped_for why) (front ++ one ∷ [])
 skipped_more why passed front one all new is more =

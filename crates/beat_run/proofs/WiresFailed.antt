@@ -13,7 +13,7 @@ use Rattle.run_steps.specs.declared.met.Met.{Met}
 use Rattle.run_steps.specs.declared.met.Met.TheVariants as met
 use Rattle.beat_run.specs.Cause.{HasFailedSince, Signs}
 use Rattle.beat_run.proofs.Causes.{FailedIn}
-use Rattle.run_steps.proofs.Named.{mapped_at}
+use Rattle.accounts.proofs.Places.{got_mapped}
 
 got_mapped : {A B : Type 0} (f : A → B) (xs : List A) (k : ℕ) (y : B) → slice_get (map f xs) k ≡ Some y → (x : A) × (slice_get xs k ≡ Some x) × (f x ≡ y)
 got_mapped f [] k y is = absurd cc
@@ -44,7 +44,7 @@ module _ {W : Type 0} (wires : WireWords W) (settings : Settings) (old new : Lis
     by_wires before after before_is after_is None told_is = tt
     by_wires before after before_is after_is (Some earlier) told_is =
         let start : slice_get (counts_told wires settings.output.workers old) place ≡ Some (Some (length earlier)) =
-        mapped_at (λ (w : W). count_told (wires.outcomes w)) (take settings.output.workers old) place before (take_got settings.output.workers old place before within before_is)
+        got_mapped (λ (w : W). count_told (wires.outcomes w)) (take settings.output.workers old) place before (take_got settings.output.workers old place before within before_is)
         ∙ ap (λ (o : Option (List Outcome)). Some (count_told o)) told_is in
         let failed = fails (Some (length earlier)) after start after_is in
         record { all = failed.all; tells = failed.tells; failures = failed.failures }

@@ -24,7 +24,7 @@ use Rattle.told_events.proofs.Worked.{a_log}
 use Rattle.run_steps.specs.Starting.{HasRoomAt, HaveRoomBefore}
 use Rattle.run_steps.specs.declared.met.Met.TheVariants as met
 use Rattle.run_steps.proofs.RunRows.{OneChoice}
-use Rattle.run_steps.proofs.Members.{some_is}
+use Rattle.told_scans.proofs.Members.{some_is}
 use Rattle.run_steps.proofs.WorkedAccount.{account, blank, earlier, gives_nothing, is_accounted_for, later, objects, rows_at_end, stored}
 use Rattle.run_steps.proofs.WorkedTogether.{Holding, disks}
 use Rattle.wire_base.specs.declared.row.Row.{Row}

@@ -35,7 +35,7 @@ use Rattle.run_steps.specs.Shown.{HasShown, IsTurnedIn}
 use Rattle.run_steps.specs.SoFar.{Left, SoFar, books_of, files_in, files_of}
 use Rattle.run_steps.specs.Stands.{AreEachOnce, Books, Files, Stands}
 use Rattle.run_steps.proofs.Admitting.{all_of, often_mapped, spans_often}
-use Rattle.run_steps.proofs.Filing.{same_slot, tells_slots}
+use Rattle.accounts.proofs.Joining.{same_slot, tells_slots}
 use Rattle.run_steps.proofs.TailOpened.{opened_now}
 use Rattle.accounts.proofs.Backing.{mapped_there}
 use Rattle.accounts.proofs.Joining.{told_as_often}

@@ -20,6 +20,7 @@ use Rattle.run_steps.specs.Shown.{IsStillOpen}
 use Rattle.prospect.proofs.Lists.{all_append}
 use Rattle.run_steps.proofs.LastOver.{some_behind, some_first}
 use Rattle.told_scans.proofs.Events.{closing_both}
+use Rattle.accounts.proofs.Same.{number_itself}
 
 -- ---- the first closing of an opening
 
@@ -51,9 +52,6 @@ module _ (before : FolderHistory) (more : List Event) where
   open_still opening within still none = behind opening within ∙ ap (λ (o : Option Closing). first_of_two o (closing_in opening more)) still ∙ none
 
 -- ---- one closing
-
-pub number_itself : (n : ℕ) → (n == n) ≡ true
-number_itself n = eq-eqb n n refl
 
 -- what it closes of an opening, by whether it is of that one
 closes_by : Bool → List Look → ℕ → Option Closing

@@ -23,7 +23,7 @@ use Rattle.run_steps.specs.RunOf.{FolderTold, run_of, told_scan}
 use Rattle.run_steps.specs.Scanned.{HasScanned}
 use Rattle.run_steps.specs.Shown.{HasDone}
 use Rattle.run_steps.specs.SoFar.{SoFar, files_of}
-use Rattle.run_steps.proofs.Named.{same_place}
+use Rattle.accounts.proofs.InARow.{same_place}
 use Rattle.run_steps.proofs.NamedInputs.{inputs_have_own_ids}
 use Rattle.told_scans.proofs.NamesApart.{names_apart}
 use Rattle.told_scans.proofs.ScanList.{entry_of, everyone, keyed_files}

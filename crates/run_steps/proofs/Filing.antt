@@ -1,17 +1,15 @@
 -- The files of a run, lane by lane and left, in the order of their slots.
 use Rattle.std.proofs.Common.{◌≡◌, ◌⊎◌, inl, inr, ℕ, ◌+◌, ◌==◌, Bool, List, [], ◌∷◌, ◌++◌, Contains, map, refl, ap, subst, ◌∙◌, arith}
-use Rattle.std.proofs.lemmas.Bool.{eqb-true}
 use Rattle.std.proofs.lemmas.List.{map-append}
 use Rattle.std.specs.List.{AllByRecursion}
 use Rattle.accounts.specs.Opened.{Opened}
-use Rattle.accounts.specs.Same.{TellsSame}
 use Rattle.accounts.specs.Turned.{Turned}
 use Rattle.accounts.proofs.Often.{often_contains, often_counted}
 use Rattle.pass_sums.specs.Weight.{AsOften, weigh}
 use Rattle.pass_sums.proofs.Weights.{weigh-append}
 use Rattle.ship_core.proofs.Members.{first_there, none_there, there_cases}
 use Rattle.wire_base.specs.declared.numbers.Slot.{Slot}
-use Rattle.run_steps.proofs.Closing.{number_itself}
+use Rattle.accounts.proofs.Joining.{same_slot, tells_slots}
 
 -- ---- one of them by its slot
 
@@ -20,15 +18,6 @@ slots_of files = map (λ (turned : Turned). turned.slot) files
 
 abbrev slots_in : List Opened → List Slot
 slots_in opened = map (λ (one : Opened). one.begin.slot) opened
-
-abbrev pub same_slot : Slot → Slot → Bool
-same_slot one other = one.0 == other.0
-
-pub tells_slots : TellsSame same_slot
-tells_slots = record {
-  tells = λ one other is. let n : one.0 ≡ other.0 = eqb-true one.0 other.0 is in (λ k. record { 0 = n k });
-  itself = λ one. number_itself one.0;
-}
 
 -- the one of this slot, and those before and behind it
 record Parted (files : List Turned) (slot : Slot) : Type 0 where

@@ -25,7 +25,7 @@ use Rattle.run_steps.specs.Together.{GiveThroughout}
 use Rattle.run_steps.specs.declared.registry_error.RegistryError.{RegistryError}
 use Rattle.run_steps.proofs.RowsFound.{ordered_after}
 use Rattle.run_steps.proofs.CrashMoments.{weaker}
-use Rattle.run_steps.proofs.Members.{some_is}
+use Rattle.told_scans.proofs.Members.{some_is}
 use Rattle.run_steps.proofs.RunRows.{OneChoice}
 use Rattle.run_steps.proofs.Together.{areas_at}
 

@@ -23,7 +23,7 @@ use Rattle.run_steps.specs.BeginFor.{row_of}
 use Rattle.run_steps.specs.KnownKeys.{BeginsAmong, HasRoomToBegin, KnowsAmong}
 use Rattle.run_steps.specs.Starting.{AreFewFiles, new_files}
 use Rattle.run_steps.specs.Telling.{TellsBegin, TellsNotes, begin_note}
-use Rattle.run_steps.proofs.RowsFound.{found_key, found_there}
+use Rattle.accounts.proofs.BegunRows.{found_key, found_there}
 use Rattle.accounts.proofs.Orderly.{member_is}
 
 abbrev pub IsOfKeys : List (List ℕ) → Listed → Type 0

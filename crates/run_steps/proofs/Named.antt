@@ -18,25 +18,6 @@ use Rattle.accounts.proofs.Orderly.{member_is}
 
 -- ---- lists
 
-pub mapped_at : {A B : Type 0} (f : A → B) (xs : List A) (k : ℕ) (x : A) → slice_get xs k ≡ Some x → slice_get (map f xs) k ≡ Some (f x)
-mapped_at f [] k x at = absurd (let q : None ≡ Some x = at in cc)
-mapped_at f (first ∷ xs) zero x at = let q : Some first ≡ Some x = at in let same : first ≡ x = cc in ap (λ y. Some (f y)) same
-mapped_at f (first ∷ xs) (suc k) x at = mapped_at f xs k x at
-
--- of distinct items, told apart by what they have, two places have one item only where they are one place
-pub same_place : {A B : Type 0} (f : A → B) (xs : List A) (k other : ℕ) (x y : A) → AreDistinct (map f xs) → slice_get xs k ≡ Some x → slice_get xs other ≡ Some y → f x ≡ f y → k ≡ other
-same_place f [] k other x y apart at there same = absurd (let q : None ≡ Some x = at in cc)
-same_place f (first ∷ xs) zero zero x y apart at there same = refl
-same_place f (first ∷ xs) zero (suc other) x y apart at there same =
-    let q : Some first ≡ Some x = at in
-    let here : first ≡ x = cc in
-    absurd (apart.0 (subst (λ b. Contains (map f xs) b) (sym same ∙ ap f (sym here)) (mapped_there f xs y (got_there xs other y there))))
-same_place f (first ∷ xs) (suc k) zero x y apart at there same =
-    let q : Some first ≡ Some y = there in
-    let here : first ≡ y = cc in
-    absurd (apart.0 (subst (λ b. Contains (map f xs) b) (same ∙ ap f (sym here)) (mapped_there f xs x (got_there xs k x at))))
-same_place f (first ∷ xs) (suc k) (suc other) x y apart at there same = ap suc (same_place f xs k other x y apart.1 at there same)
-
 -- no key is that of two places
 pub later_has_other : (listed : List Listed) (k other : ℕ) (one later : Listed) (key : List ℕ) → AreKeysApart listed → k < other → slice_get listed k ≡ Some one → slice_get listed other ≡ Some later →
     one.key ≡ Some key → later.key ≡ Some key → ⊥

@@ -12,11 +12,7 @@ use Rattle.event_tree.specs.declared.settings.Settings.{Settings}
 use Rattle.file_identity.specs.Answers.{IsAskable}
 use Rattle.kept_rows.specs.Scans.{AreDistinct}
 use Rattle.prospect.specs.AskedFiles.{AreAskable}
-
--- of each item what is said of all
-pub each_of : {A : Type 0} (P : A → Type 0) (xs : List A) → All P xs → AllByRecursion P xs
-each_of P [] all = tt
-each_of P (x ∷ xs) all = (all 0 x (omega arith), each_of P xs (λ k d within. all (suc k) d (omega (arith, within))))
+use Rattle.told_scans.proofs.Members.{each_of}
 
 -- no letter, digit or other byte of a name is a colon
 no_colon_there : (bytes : List ℕ) → AllByRecursion (λ byte. IsTrue (is_name_byte byte)) bytes → AllByRecursion (λ byte. byte ≢ 58) bytes

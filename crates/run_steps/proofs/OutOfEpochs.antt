@@ -46,8 +46,7 @@ use Rattle.run_steps.specs.SoFar.{Left, SoFar, files_in, files_of}
 use Rattle.run_steps.specs.Stands.{IsLeftSo}
 use Rattle.run_steps.specs.declared.met.Met.{Met}
 use Rattle.run_steps.specs.declared.met.Met.TheVariants.{Epochs}
-use Rattle.run_steps.proofs.Members.{some_is}
-use Rattle.run_steps.proofs.NamedInputs.{each_of}
+use Rattle.told_scans.proofs.Members.{each_of, some_is}
 use Rattle.run_steps.proofs.RunFiles.{none_turned}
 use Rattle.accounts.proofs.Orderly.{member_is}
 

@@ -14,7 +14,7 @@ use Rattle.settle_box.specs.Collector.{Collector}
 use Rattle.run_steps.specs.Areas.{GiveTheRows, HaveHeldFronts, IsAtRest}
 use Rattle.run_steps.specs.BeginsAll.{IsOfInputs, IsOfRuledInput}
 use Rattle.run_steps.specs.Outset.{Earlier, Outset, SetsOut, began_with}
-use Rattle.run_steps.proofs.NamedInputs.{each_of}
+use Rattle.told_scans.proofs.Members.{each_of}
 use Rattle.run_steps.proofs.OfInputs.{of_ruled_input}
 
 -- ---- the keeper

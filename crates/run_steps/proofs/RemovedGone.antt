@@ -4,7 +4,7 @@ use Rattle.std.proofs.lemmas.Bool.{and_from, cases_lt, eq-eqb, eqb-true, le-leb,
 use Rattle.std.specs.List.{AllByRecursion, filter, filter_map}
 use Rattle.std.specs.Option.{is_some, option_and_then}
 use Rattle.std.specs.Ordering.{is_eq}
-use Rattle.accounts.proofs.BegunRows.{are_notes}
+use Rattle.accounts.proofs.BegunRows.{are_notes, found_there}
 use Rattle.accounts.proofs.Grounded.{each_member}
 use Rattle.accounts.proofs.HiddenSlots.{hidden_found, hidden_from}
 use Rattle.accounts.proofs.Ordered.{IsCollectable, is_collectable}
@@ -32,7 +32,6 @@ use Rattle.run_steps.specs.HiddenRows.{AreAllForgotten, WasTold}
 use Rattle.run_steps.specs.Removed.{IsListedKey, IsRemoved}
 use Rattle.run_steps.proofs.HiddenAmong.{IsHiddenOf}
 use Rattle.run_steps.proofs.KeyNotes.{IsOfFile, IsOfRow, whose, whose_slot}
-use Rattle.run_steps.proofs.RowsFound.{found_there}
 
 first_member : (starts : List Start) (start : Start) → first_start starts ≡ Some start → Contains starts start
 first_member [] start e = absurd (let q : None ≡ Some start = e in cc)

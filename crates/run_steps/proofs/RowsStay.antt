@@ -25,8 +25,8 @@ use Rattle.kept_rows.specs.Account.{SlotAccount}
 use Rattle.kept_rows.specs.Run.{Run}
 use Rattle.run_steps.specs.AccountedFor.{Absences, HasRowOf}
 use Rattle.run_steps.proofs.HeldRows.{some_of}
-use Rattle.run_steps.proofs.Members.{some_is}
-use Rattle.run_steps.proofs.RowsFound.{found_key, found_there}
+use Rattle.told_scans.proofs.Members.{some_is}
+use Rattle.accounts.proofs.BegunRows.{found_key, found_there}
 
 -- ---- a slot that was begun
 

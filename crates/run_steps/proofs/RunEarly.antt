@@ -62,7 +62,7 @@ use Rattle.run_steps.specs.declared.met.Met.TheVariants.{Done}
 use Rattle.told_scans.proofs.AskedEvents.{all_asked, asked_none, event_was, goes_on_asking, some_asked, goes_on_further}
 use Rattle.run_steps.proofs.NamedInputs.{inputs_have_own_ids}
 use Rattle.run_steps.proofs.ImagesHold.{images_hold, ordered_at_rest, together_hold}
-use Rattle.run_steps.proofs.Members.{some_is}
+use Rattle.told_scans.proofs.Members.{some_is}
 use Rattle.run_steps.proofs.RowsStay.{KeepsItsSlots, rows_stay}
 use Rattle.run_steps.proofs.RunFits.{first_since, moments_since}
 use Rattle.run_steps.proofs.RunRows.{OneChoice, given_over_fronts}

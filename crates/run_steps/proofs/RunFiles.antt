@@ -52,7 +52,7 @@ use Rattle.run_steps.specs.Shown.{HasDone, HasShown, WasOpenedSince, openings_of
 use Rattle.run_steps.specs.SoFar.{Left, SoFar, files_in, files_of}
 use Rattle.run_steps.specs.Stands.{AreTurnedIn, IsLeftSo, Stands}
 use Rattle.told_scans.proofs.AskedEvents.{distinct_both, openings_asked, openings_distinct}
-use Rattle.run_steps.proofs.NamedInputs.{each_of}
+use Rattle.told_scans.proofs.Members.{each_of}
 use Rattle.prospect.proofs.Doubled.{keys_apart as files_keys_apart}
 use Rattle.prospect.specs.AskedFiles.{keyed_by}
 use Rattle.run_steps.proofs.Named.{keys_apart}

@@ -3,7 +3,7 @@ use Rattle.std.proofs.Common.{◌≡◌, ◌⊎◌, inl, inr, ℕ, List, ◌∷�
 use Rattle.outside.specs.Times.{EndsWith}
 use Rattle.run_steps.specs.AccountedFor.{AreMomentsSince, BeginWith}
 use Rattle.run_steps.specs.Shown.{GaveSince, HasGiven}
-use Rattle.run_steps.proofs.Members.{some_is}
+use Rattle.told_scans.proofs.Members.{some_is}
 
 -- the first moment was the last one before, or it was appended
 first_so : (before after : List ℕ) (moment : ℕ) (later : List ℕ) → GaveSince before (Some after) moment later →

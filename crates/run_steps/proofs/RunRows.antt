@@ -12,7 +12,7 @@ use Rattle.rounds.specs.Words.{DiskWords}
 use Rattle.wire_base.specs.declared.limits.Which.TheVariants.{A}
 use Rattle.wire_base.specs.declared.note.Note.{Note}
 use Rattle.wire_base.specs.declared.row.Row.{Row}
-use Rattle.run_steps.proofs.Members.{some_is}
+use Rattle.told_scans.proofs.Members.{some_is}
 
 -- whatever bytes two areas have, they make one choice at most, which is a law of the store
 abbrev pub OneChoice : Type 0

@@ -55,7 +55,7 @@ use Rattle.run_steps.proofs.Doubles.{double_has_earlier}
 use Rattle.run_steps.proofs.FollowedOrSkipped.{IsSkippedSince, came_so}
 use Rattle.run_steps.proofs.HiddenAmong.{hidden_slots}
 use Rattle.told_scans.proofs.KeyedFiles.{KeepsEntry, keeps_entry}
-use Rattle.run_steps.proofs.Members.{some_is}
+use Rattle.told_scans.proofs.Members.{some_is}
 use Rattle.run_steps.proofs.RunFiles.{as_listed, done, files, is_joined, joined, moment_is, moment_noted_is, of_entry, path_is, input_is, was_opened}
 use Rattle.run_steps.proofs.RunNotes.{begin_opened, opened_is_in_notes}
 use Rattle.told_scans.proofs.ScanAsked.{asks_for, in_this_run}

@@ -38,7 +38,7 @@ use Rattle.run_steps.specs.SoFar.{SoFar, files_in}
 use Rattle.run_steps.specs.Stands.{Stands}
 use Rattle.run_steps.proofs.FollowedOrSkipped.{each_then_so}
 use Rattle.run_steps.proofs.HiddenAmong.{each_is_hidden_of}
-use Rattle.run_steps.proofs.Members.{some_is}
+use Rattle.told_scans.proofs.Members.{some_is}
 use Rattle.run_steps.proofs.Named.{later_has_other}
 use Rattle.run_steps.proofs.RunFiles.{as_listed, done, files, input_is, path_is, was_opened}
 use Rattle.run_steps.proofs.RunNotes.{opened_is_in_notes}

@@ -15,8 +15,8 @@ use Rattle.wire_base.specs.declared.row.Row.{Row}
 use Rattle.run_steps.specs.BeginFor.{row_of, start_among}
 use Rattle.run_steps.specs.Starting.{HasRoomAt, HaveRoomBefore, IsTooManyAt, RefusesStarts, new_files, starts_among}
 use Rattle.run_steps.proofs.BeginningLists.{take_one}
-use Rattle.run_steps.proofs.Members.{some_is}
-use Rattle.run_steps.proofs.Named.{mapped_at}
+use Rattle.told_scans.proofs.Members.{some_is}
+use Rattle.accounts.proofs.Places.{got_mapped}
 
 -- one file more is no more than there may be
 pub few_next : (row : Option (Bor Row)) (files more : ℕ) → more ≡ files + (if is_none (option_copied row) then 1 else 0) → files ≤ 65_536 → (IsNone row → files < 65_536) → more ≤ 65_536
@@ -31,7 +31,7 @@ as_long rows listed starts place are inside = omega (arith, inside, ap (λ (l : 
 pub start_is : (rows : List Row) (listed : List Listed) (starts : List Start) (place : ℕ) (one : Listed) (start : Start) → starts ≡ starts_among rows listed → slice_get listed place ≡ Some one →
     slice_get starts place ≡ Some start → start ≡ start_among rows one
 start_is rows listed starts place one start are there is =
-    some_is start (start_among rows one) (sym is ∙ ap (λ (l : List Start). slice_get l place) are ∙ mapped_at (start_among rows) listed place one there)
+    some_is start (start_among rows one) (sym is ∙ ap (λ (l : List Start). slice_get l place) are ∙ got_mapped (start_among rows) listed place one there)
 
 module _ (rows : List Row) (listed : List Listed) (place : ℕ) (one : Listed) (there : slice_get listed place ≡ Some one) where
   one_more : take (place + 1) listed ≡ take place listed ++ one ∷ []

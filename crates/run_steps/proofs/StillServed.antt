@@ -33,7 +33,7 @@ use Rattle.run_steps.specs.Served.{AreServed, AreServedFrom, HasBegin, WasSkippe
 use Rattle.run_steps.specs.Telling.{TellMoments, TellsMoment, moment_noted}
 use Rattle.run_steps.proofs.FollowedOrSkipped.{each_then_so}
 use Rattle.run_steps.proofs.HiddenAmong.{hidden_slots, removed_is_hidden}
-use Rattle.run_steps.proofs.NamedInputs.{each_of}
+use Rattle.told_scans.proofs.Members.{each_of}
 use Rattle.run_steps.proofs.Notes.{front_of_both}
 use Rattle.run_steps.proofs.RunNotes.{IsNoBegin}
 use Rattle.run_steps.proofs.Serving.{ServesFrom, begun_in, begun_left, serves_from, with_more}

@@ -53,7 +53,7 @@ use Rattle.run_steps.specs.Stands.{AreEachOnce, Books, BooksNow, Files, FilesNow
 use Rattle.run_steps.proofs.Admitting.{booked_by, often_mapped, placed_by, spans_often}
 use Rattle.run_steps.proofs.Causing.{some_parted}
 use Rattle.run_steps.proofs.Closing.{closed_now, closed_still, closes_its, closes_no_other, open_still}
-use Rattle.run_steps.proofs.Filing.{same_slot, tells_slots}
+use Rattle.accounts.proofs.Joining.{same_slot, tells_slots}
 use Rattle.run_steps.proofs.First.{got_within}
 use Rattle.run_steps.proofs.LastOver.{some_behind, some_first}
 use Rattle.run_steps.proofs.LessOne.{all_in, each_in, less_in, often_in, one_in, some_in}

@@ -11,7 +11,7 @@ use Rattle.ship_core.specs.Rows.{IsInOrder}
 use Rattle.ship_core.specs.RowsOver.{row_among, slot_for, slots_for}
 use Rattle.wire_base.specs.declared.note.Note.{Note}
 use Rattle.wire_base.specs.declared.row.Row.{Row}
-use Rattle.run_steps.proofs.RowsFound.{found_there}
+use Rattle.accounts.proofs.BegunRows.{found_there}
 
 nil_in_front : {A : Type 0} (front rest : List A) → front ++ rest ≡ [] → front ≡ []
 nil_in_front [] rest is = refl

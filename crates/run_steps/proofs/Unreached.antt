@@ -33,7 +33,7 @@ use Rattle.run_steps.specs.declared.begin_error.BeginError.{BeginError}
 use Rattle.run_steps.specs.declared.begin_error.BeginError.TheVariants as begin
 use Rattle.run_steps.specs.declared.met.Met.{Met}
 use Rattle.run_steps.specs.declared.met.Met.TheVariants.{DiskFault, Done, Epochs, FolderFault, NoMemory, Stopped, Unreachable, NoNative}
-use Rattle.run_steps.proofs.Members.{some_is}
+use Rattle.told_scans.proofs.Members.{some_is}
 use Rattle.run_steps.proofs.SettingOut.{first_wires}
 
 -- ---- at a place

@@ -13,7 +13,7 @@ use Rattle.run_steps.specs.Areas.{GiveTheRows}
 use Rattle.run_steps.specs.Together.{Areas, area_in}
 use Rattle.run_steps.specs.UnusedArea.{IsOfUnusedArea}
 use Rattle.run_steps.proofs.HeldRows.{some_of}
-use Rattle.run_steps.proofs.Members.{some_is}
+use Rattle.told_scans.proofs.Members.{some_is}
 use Rattle.run_steps.proofs.RunRows.{OneChoice, chosen_alone}
 
 -- ---- by states

@@ -27,7 +27,7 @@ use Rattle.wire_base.specs.declared.row.Row.{Row}
 use Rattle.accounts.specs.AccountedFor.{followings_in}
 use Rattle.run_steps.specs.AccountedFor.{Absences, AccountedFor, AreImageRows, GiveImageRows, ImagesHoldKeptRows, LostInImage, LostKey, RowsBy, RunObjects, TogetherHoldKeptRows, WereAtRest, areas_of}
 use Rattle.run_steps.specs.declared.met.Met.TheVariants.{Done}
-use Rattle.run_steps.proofs.Members.{some_is}
+use Rattle.told_scans.proofs.Members.{some_is}
 use Rattle.run_steps.proofs.RunRows.{OneChoice}
 use Rattle.run_steps.proofs.WorkedTogether.{Holding, IsAmong, beside_blank, closed, closed_area, disks, first_area}
 
