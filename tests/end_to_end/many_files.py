@@ -23,6 +23,8 @@ OPEN_FILES = 64
 OTHER_DESCRIPTORS = 32
 # the status of a run that could not open a file
 FOLDER_FAULT = 6
+# a process has no byte at the first places of its own memory: the file is listed and opened, and each read of it fails
+UNREADABLE = "/proc/self/mem"
 # seconds that a run over them may take
 PATIENCE = 120
 
@@ -132,6 +134,22 @@ class ManyFiles(Shipping):
         for again in (False, True):
             with self.subTest(again=again):
                 self.assertGreater(self.most_files(again), OPEN_FILES - OTHER_DESCRIPTORS)
+
+    def test_a_file_of_which_reads_fail(self):
+        """The others are shipped, and the row of the one says that nothing was read."""
+        since = now()
+        logs = self.folder / "logs"
+        logs.mkdir()
+        paths = [logs / f"{number}.log" for number in range(3)]
+        for path in paths:
+            path.write_text(f"line of {path.name}\n")
+        with Peer() as peer:
+            settings = program.settings_text(logs / "*.log", peer.host)
+            ran = self.run_settings(settings.replace('"]', f'", "{UNREADABLE}"]', 1))
+            self.assert_wrote(ran, "status 6 folder fault")
+            self.assert_sent(peer, [(str(path), 0, f"line of {path.name}") for path in paths], since)
+        offsets = {it["path"]: it["offset"] for it in self.stored_rows()}
+        self.assertEqual(offsets, {UNREADABLE: 0} | {str(path): path.stat().st_size for path in paths})
 
     def test_events_of_lines(self):
         """Lines that belong together, filters and processors, each over the file of one input."""
