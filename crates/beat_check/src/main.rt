@@ -4,8 +4,6 @@
 mod hosts;
 mod limits;
 mod system;
-#[cfg(test)]
-mod tests;
 mod walk;
 mod writable;
 
