@@ -15,10 +15,10 @@ use Rattle.beat_run.specs.Cause.{HasFailedSince, Signs}
 use Rattle.beat_run.proofs.Causes.{FailedIn}
 use Rattle.accounts.proofs.Places.{got_mapped}
 
-got_mapped : {A B : Type 0} (f : A → B) (xs : List A) (k : ℕ) (y : B) → slice_get (map f xs) k ≡ Some y → (x : A) × (slice_get xs k ≡ Some x) × (f x ≡ y)
-got_mapped f [] k y is = absurd cc
-got_mapped f (x ∷ xs) zero y is = (x, refl, let same : Some (f x) ≡ Some y = is in cc)
-got_mapped f (x ∷ xs) (suc k) y is = got_mapped f xs k y is
+item_mapped : {A B : Type 0} (f : A → B) (xs : List A) (k : ℕ) (y : B) → slice_get (map f xs) k ≡ Some y → (x : A) × (slice_get xs k ≡ Some x) × (f x ≡ y)
+item_mapped f [] k y is = absurd cc
+item_mapped f (x ∷ xs) zero y is = (x, refl, let same : Some (f x) ≡ Some y = is in cc)
+item_mapped f (x ∷ xs) (suc k) y is = item_mapped f xs k y is
 
 take_got : {A : Type 0} (count : ℕ) (xs : List A) (k : ℕ) (x : A) → k < count → slice_get xs k ≡ Some x → slice_get (take count xs) k ≡ Some x
 take_got zero xs k x within is = absurd (omega (arith, within))
@@ -52,8 +52,8 @@ module _ {W : Type 0} (wires : WireWords W) (settings : Settings) (old new : Lis
     pub failed_since : (before after : Seen) → slice_get (all_seen wires old) place ≡ Some before → slice_get (all_seen wires new) place ≡ Some after →
         IfSome before.outcomes (λ earlier. HasFailedSince settings (drop (length first - 1) moments) earlier after)
     failed_since before after before_is after_is =
-        let one = got_mapped its_seen old place before before_is in
-        let other = got_mapped its_seen new place after after_is in
+        let one = item_mapped its_seen old place before before_is in
+        let other = item_mapped its_seen new place after after_is in
         subst (λ (s : Seen). IfSome s.outcomes (λ earlier. HasFailedSince settings (drop (length first - 1) moments) earlier after)) one.2
         (subst (λ (s : Seen). IfSome (wires.outcomes one.0) (λ earlier. HasFailedSince settings (drop (length first - 1) moments) earlier s)) other.2
         (by_wires one.0 other.0 one.1 other.1 (wires.outcomes one.0) refl))
