@@ -1,10 +1,10 @@
 -- Tails that are closed in a row: none, more of one lane, and those of several lanes.
-use Rattle.std.proofs.Common.{◌≡◌, ◌⊎◌, inl, inr, ⊎_elim, ℕ, ◌||◌, Bool, true, false, List, [], ◌∷◌, ◌++◌, Option, Some, None, refl, sym, ap, subst, ◌∙◌, append_assoc}
+use Rattle.std.proofs.Common.{◌≡◌, inl, inr, ⊎_elim, ℕ, ◌||◌, Bool, true, false, List, [], ◌∷◌, ◌++◌, refl, ap, subst, ◌∙◌, append_assoc}
 use Rattle.harvester.specs.declared.harvester.Harvester.{Harvester}
 use Rattle.lanes.specs.Laning.{Laning, ReleasesAt}
-use Rattle.rounds.specs.Pairs.{Pairs, SomeOf}
+use Rattle.rounds.specs.Pairs.{SomeOf}
 use Rattle.rounds.specs.Words.{TailWords}
-use Rattle.run_steps.specs.ClosesTail.{ClosesFailed, ClosesSome, ClosesTail, ClosesTails, HasFailedFile, LetsFailedGo, LetsGoAt, Readers}
+use Rattle.run_steps.specs.ClosesTail.{ClosesFailed, ClosesSome, ClosesTail, ClosesTails, HasFailedFile, Readers}
 use Rattle.run_steps.specs.FolderSeen.{Closes, FolderSeen}
 
 abbrev at : {T : Type 0} → FolderSeen → List (Laning T) → Readers T

@@ -1,24 +1,12 @@
 -- What the folder's list tells of a tail as it is closed.
-use Rattle.std.proofs.Common.{◌≡◌, ◌⊎◌, inl, inr, ⊎_elim, ℕ, suc, ◌<◌, ◌==◌, Bool, true, false, drop, List, [], ◌∷◌, ◌++◌, Contains, length, Option, Some, None, IfSome, refl, sym, ap, ◌∙◌, arith, if◌then◌else◌}
-use Rattle.std.proofs.lemmas.Bool.{eq-eqb, eqb-true}
+use Rattle.std.proofs.Common.{◌≡◌, ℕ, suc, ◌<◌, ◌==◌, Bool, true, false, drop, List, [], ◌∷◌, ◌++◌, length, Option, Some, None, refl, ap, ◌∙◌, arith, if◌then◌else◌}
+use Rattle.std.proofs.lemmas.Bool.{eqb-true}
 use Rattle.std.proofs.lemmas.List.{drop-append-le}
-use Rattle.std.proofs.lemmas.List.Elements.{Contains-append_left, Contains-append_right}
-use Rattle.std.specs.List.{AllByRecursion}
-use Rattle.harvester.specs.declared.harvester.Harvester.{Harvester}
-use Rattle.accounts.specs.Turned.{Turned}
-use Rattle.accounts.specs.Turning.{Pairs}
 use Rattle.kept_rows.specs.Trace.{Closing, closing_in, first_of_two}
-use Rattle.lanes.specs.Laning.{Laning}
-use Rattle.outside.specs.Folders.{Closed, Event, FolderHistory, Listed, ListingFailed, NotThere, Opened, OpeningFailed}
-use Rattle.outside.specs.Tails.{TailHistory}
+use Rattle.outside.specs.Folders.{Closed, Event, FolderHistory}
 use Rattle.outside.specs.declared.history.Look.{Look}
-use Rattle.rounds.specs.Pairs.{SomeOf}
-use Rattle.ship_core.proofs.Members.{first_there, later_there}
-use Rattle.run_steps.specs.SoFar.{Left}
 use Rattle.told_scans.specs.OnlyAsked.{WasClosedWith}
 use Rattle.run_steps.specs.Shown.{IsStillOpen}
-use Rattle.prospect.proofs.Lists.{all_append}
-use Rattle.run_steps.proofs.LastOver.{some_behind, some_first}
 use Rattle.told_scans.proofs.Events.{closing_both}
 use Rattle.accounts.proofs.Same.{number_itself}
 

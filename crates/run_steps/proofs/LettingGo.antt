@@ -3,7 +3,6 @@ use Rattle.std.proofs.Common.{◌≡◌, ◌⊎◌, inl, inr, ⊎_elim, ℕ, zer
 use Rattle.std.proofs.lemmas.List.{length-append}
 use Rattle.std.specs.Prelude.{slice_get}
 use Rattle.std.specs.List.{AllByRecursion}
-use Rattle.accounts.specs.Turned.{Turned}
 use Rattle.accounts.specs.Turning.{Pairs}
 use Rattle.harvester.specs.HasTold.{begin_of}
 use Rattle.harvester.specs.declared.harvester.Harvester.{Harvester}
@@ -21,7 +20,7 @@ use Rattle.wire_base.specs.declared.parcel.Parcel.{Parcel}
 use Rattle.run_steps.specs.ClosesTail.{LetsGoAt}
 use Rattle.run_steps.specs.MetBy.{SomeHarvester}
 use Rattle.run_steps.specs.Releasing.{harvesters_of}
-use Rattle.run_steps.proofs.LessOne.{PairedAt, StandsIn, counted_less, each_less, each_one, less, less_in, paired_at, pairs_less, removed, some_less, some_of_all}
+use Rattle.run_steps.proofs.LessOne.{StandsIn, counted_less, each_less, each_one, less, less_in, paired_at, pairs_less, removed, some_less, some_of_all}
 
 -- ---- lanes of which one has other harvesters
 

@@ -1,8 +1,7 @@
 -- Files that were opened as a scan listed them have each its own key, since no two of those that are followed have one.
-use Rattle.std.proofs.Common.{◌≡◌, ◌⊎◌, inl, inr, ℕ, zero, suc, ◌+◌, ◌≤◌, ◌<◌, List, [], ◌∷◌, Contains, map, Some, None, refl, sym, ap, subst, ◌∙◌, arith}
+use Rattle.std.proofs.Common.{◌≡◌, ◌⊎◌, inl, inr, ℕ, zero, suc, ◌+◌, ◌≤◌, ◌<◌, List, [], ◌∷◌, Contains, map, Some, None, sym, ap, subst, ◌∙◌, arith}
 use Rattle.std.specs.Prelude.{slice_get}
 use Rattle.std.specs.List.{AllByRecursion}
-use Rattle.accounts.proofs.Backing.{mapped_there}
 use Rattle.accounts.proofs.Following.{got_there}
 use Rattle.accounts.proofs.Grounded.{of_map}
 use Rattle.accounts.specs.Filed.{Filed, slot_in}

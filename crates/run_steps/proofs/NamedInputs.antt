@@ -1,5 +1,5 @@
 -- Inputs within the ranges of the settings have their own ids, and their files may be asked for their keys.
-use Rattle.std.proofs.Common.{◌≡◌, ◌≢◌, ℕ, suc, true, false, All, AllPairs, List, [], ◌∷◌, get_or, map, IsTrue, sym, ap, subst, ◌∙◌, arith}
+use Rattle.std.proofs.Common.{◌≡◌, ◌≢◌, ℕ, suc, true, false, AllPairs, List, [], ◌∷◌, get_or, map, IsTrue, sym, ap, subst, ◌∙◌, arith}
 use Rattle.std.specs.List.{AllByRecursion}
 use Rattle.accounts.proofs.Grounded.{of_map}
 use Rattle.accounts.specs.RunsInARow.{HaveOwnIds}

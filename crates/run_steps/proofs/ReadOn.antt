@@ -1,5 +1,5 @@
 -- A round behind which files that failed are closed: the run goes on without them, or has met a fault.
-use Rattle.std.proofs.Common.{◌≡◌, ◌≢◌, ◌⊎◌, inl, inr, ⊎_elim, ℕ, ◌||◌, ◌≤◌, Bool, true, false, List, IfErr, IfOk, IfSome, Option, None, Some, Result, Ok, Err, Vec, refl, sym, ap, subst, arith}
+use Rattle.std.proofs.Common.{◌≡◌, ◌≢◌, ◌⊎◌, inl, inr, ⊎_elim, ℕ, ◌||◌, ◌≤◌, Bool, true, false, IfErr, IfOk, IfSome, Option, None, Some, Vec, refl, sym, ap, subst}
 use Rattle.std.specs.Borrow.{MutBor}
 use Rattle.std.specs.declared.alloc.Global.{Global}
 use Rattle.lanes.specs.declared.lane.Lane.{Lane}
@@ -10,7 +10,7 @@ use Rattle.rounds.specs.Words.{TailWords, Words}
 use Rattle.rounds.specs.declared.crew.Crew.{Crew}
 use Rattle.rounds.specs.declared.storing.Storing.{Storing}
 use Rattle.run_steps.specs.ClosesTail.{ClosesFailed, HasFailedFile, Readers, ReadersGo}
-use Rattle.run_steps.specs.Goes.{Goes, StepWords, Stop, readers_at, stop_at}
+use Rattle.run_steps.specs.Goes.{Goes, StepWords, Stop, stop_at}
 use Rattle.run_steps.specs.MetBy.{HasFaults, HasMetFault, IsEndedBy, IsEndedRound, IsMetBy, Since, SomeHarvester, phase_after, phase_met, phase_reading}
 use Rattle.run_steps.specs.MetIn.{met_behind, read_by}
 use Rattle.run_steps.specs.RunState.{Leaving, Phase, Reading}
@@ -18,7 +18,7 @@ use Rattle.run_steps.specs.declared.context.Context.{Context}
 use Rattle.run_steps.specs.declared.context.System.{System}
 use Rattle.run_steps.specs.declared.met.Met.{Met}
 use Rattle.run_steps.specs.declared.met.Met.TheVariants.{FolderFault, Stopped}
-use Rattle.run_steps.proofs.GoesOn.{goes_as, goes_by_asking, goes_by_two, goes_leaving, goes_then_closes, goes_then_stays}
+use Rattle.run_steps.proofs.GoesOn.{goes_as, goes_by_asking, goes_by_two, goes_then_closes, goes_then_stays}
 use Rattle.run_steps.proofs.MetBy.{ended_behind, ended_round, goes_on_behind, leaves_by_fault}
 use Rattle.run_steps.proofs.ReadersGo.{readers_go_by_some}
 

@@ -1,20 +1,19 @@
 -- What steps keep of lanes and of the folder of their tails: by none, by two, and by the closing of tails.
-use Rattle.std.proofs.Common.{◌≡◌, ◌⊎◌, inl, inr, ⊎_elim, ℕ, ◌+◌, ◌-◌, ◌<◌, ◌≤◌, List, [], ◌∷◌, ◌++◌, length, Option, Some, None, refl, sym, ap, subst, ◌∙◌, arith}
+use Rattle.std.proofs.Common.{◌≡◌, ◌⊎◌, inl, inr, ⊎_elim, ℕ, ◌<◌, ◌≤◌, List, [], ◌∷◌, ◌++◌, Option, Some, None, refl, sym, ap, subst, ◌∙◌, arith}
 use Rattle.std.proofs.Math.Nat.{eq-or-lt_of_le}
 use Rattle.std.proofs.lemmas.List.{append_assoc, append-nil}
 use Rattle.harvester.specs.declared.harvester.Harvester.{Harvester}
 use Rattle.lanes.specs.Laning.{Laning}
 use Rattle.outside.specs.Counts.{Rose, added_counts}
 use Rattle.outside.specs.Folders.{Event, FolderHistory}
-use Rattle.rounds.specs.Staying.{HaveSlot, begins_of}
+use Rattle.rounds.specs.Staying.{begins_of}
 use Rattle.rounds.specs.Words.{TailWords}
 use Rattle.wire_base.specs.declared.note.Begin.{Begin}
-use Rattle.wire_base.specs.declared.numbers.Slot.{Slot}
 use Rattle.rounds.specs.Pairs.{SomeOf}
 use Rattle.run_steps.specs.ClosesTail.{ClosesTail, ClosesTails, Readers, ReadersGo}
 use Rattle.run_steps.specs.FolderSeen.{FolderSeen}
 use Rattle.run_steps.specs.MetBy.{HasFaults, HasMetFault, SomeHarvester}
-use Rattle.run_steps.specs.Releasing.{closing_of, harvesters_of, with_events}
+use Rattle.run_steps.specs.Releasing.{closing_of, with_events}
 use Rattle.run_steps.proofs.LettingGo.{OfSlot, have_slot, one_less, slot_had, some_kept, some_was}
 use Rattle.run_steps.proofs.RunTails.{as_many_harvesters}
 

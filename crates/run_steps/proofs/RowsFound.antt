@@ -1,14 +1,8 @@
 -- Rows that are found by their keys, and rows after operations.
-use Rattle.std.proofs.Common.{◌≡◌, Bool, true, false, ℕ, List, [], ◌∷◌, Contains, None, Some, if◌then◌else◌, refl, sym, ap, subst, ◌∙◌}
-use Rattle.std.specs.Ordering.{is_eq}
-use Rattle.std.specs.declared.cmp.Ordering.{Ordering}
-use Rattle.std.specs.declared.cmp.Ordering.TheVariants.{Equal, Greater, Less}
-use Rattle.ship_core.proofs.Members.{first_there, later_there}
+use Rattle.std.proofs.Common.{List, [], ◌∷◌}
 use Rattle.ship_core.specs.Replay.{after_op, replay_on}
-use Rattle.ship_core.specs.Rows.{IsInOrder, find, key_of}
-use Rattle.wire_base.proofs.ByteOrder.{same_key}
+use Rattle.ship_core.specs.Rows.{IsInOrder, key_of}
 use Rattle.wire_base.proofs.Keyed.{in_order-with, in_order-without}
-use Rattle.wire_base.specs.KeyOrder.{compare}
 use Rattle.wire_base.specs.declared.row.Op.{Op}
 use Rattle.wire_base.specs.declared.row.Op.TheVariants.{Remove, Set}
 use Rattle.wire_base.specs.declared.row.Row.{Row}

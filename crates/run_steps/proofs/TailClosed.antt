@@ -1,7 +1,7 @@
 -- Tails that are closed keep what stands of a run: their files are left, with what the tails told.
 use Rattle.std.proofs.Common.{◌≡◌, ◌≢◌, ◌⊎◌, inl, inr, ⊎_elim, ℕ, zero, suc, ◌+◌, ◌≤◌, ◌<◌, ◌^◌, ◌-◌, List, [], ◌∷◌, ◌++◌, Contains, length, map, append_assoc, Option, Some, None, IsSome, IfSome, refl, sym, ap, subst, ◌∙◌, arith}
 use Rattle.std.proofs.lemmas.List.{map-append}
-use Rattle.std.proofs.lemmas.List.Elements.{Contains-append_cases, Contains-append_left}
+use Rattle.std.proofs.lemmas.List.Elements.{Contains-append_left}
 use Rattle.std.specs.Prelude.{Vec, slice_get}
 use Rattle.std.specs.declared.alloc.Global.{Global}
 use Rattle.std.specs.List.{AllByRecursion, flat_map}
@@ -9,7 +9,7 @@ use Rattle.accounts.specs.Once.{AreOnce}
 use Rattle.accounts.specs.Opened.{IsTailOf, Opened}
 use Rattle.accounts.specs.ToldFile.{IsReadThrough}
 use Rattle.accounts.specs.Turned.{Turned, notes_told, parcels_told, spans_in}
-use Rattle.accounts.specs.Turning.{IsTurnedSo, Pairs}
+use Rattle.accounts.specs.Turning.{IsTurnedSo}
 use Rattle.accounts.proofs.Backing.{mapped_there}
 use Rattle.accounts.proofs.Grounded.{each_member}
 use Rattle.accounts.proofs.Joining.{told_as_often}

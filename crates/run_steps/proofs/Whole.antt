@@ -1,5 +1,5 @@
 -- What a run does behind the beginning of its files, step by step.
-use Rattle.std.proofs.Common.{◌≡◌, ◌⊎◌, inl, inr, ⊎_elim, ℕ, zero, suc, ◌≤◌, ◌<◌, true, false, All, List, [], ◌∷◌, ◌++◌, length, map, Option, Some, IfErr, IfOk, Result, Ok, Err, Vec, refl, sym, ap, subst, ◌∙◌, arith}
+use Rattle.std.proofs.Common.{◌≡◌, ◌⊎◌, inl, inr, ⊎_elim, ℕ, zero, suc, ◌≤◌, ◌<◌, true, false, All, List, [], ◌∷◌, length, map, Option, Some, IfErr, IfOk, Result, Ok, Err, Vec, refl, sym, ap, subst, ◌∙◌, arith}
 use Rattle.std.proofs.lemmas.List.Elements.{recursion_from_All}
 use Rattle.std.specs.Prelude.{slice_get}
 use Rattle.std.specs.List.{AllByRecursion}

@@ -1,4 +1,3 @@
-use Rattle.std.proofs.Common.{◌∷◌, []}
 use Rattle.lanes.specs.Laning.{laning}
 use Rattle.rounds.specs.WordsOf.{tails_of}
 use Rattle.run_steps.specs.FolderSeen.{seen_in}

@@ -1,9 +1,8 @@
-use Rattle.std.proofs.Common.{List, Option, Result, Bool, IfErr, IfOk, None, Some, subst, sym, refl, ◌≡◌, ◌⊎◌, true}
+use Rattle.std.proofs.Common.{Result, Bool, IfErr, IfOk, None, Some, subst, sym, refl, ◌≡◌, ◌⊎◌, true}
 use Rattle.std.specs.Vec.{with_items}
 use Rattle.rounds.specs.Crewed.{lanings}
 use Rattle.rounds.specs.Crewing.{crewing}
 use Rattle.rounds.specs.WordsOf.{disks_of, tails_of}
-use Rattle.run_steps.specs.ClosesTail.{ClosesFailed, readers}
 use Rattle.run_steps.specs.FolderSeen.{seen_in}
 use Rattle.run_steps.specs.Goes.{Goes, step_words, stop_at}
 use Rattle.run_steps.specs.MetBy.{HasMetFault, IsEndedBy, IsEndedRound, IsMetBy, phase_met, phase_reading}
