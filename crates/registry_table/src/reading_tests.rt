@@ -1,12 +1,8 @@
-ghost use Rattle.std.specs.Prelude.{IfOk};
-ghost use Rattle.wire_base.specs.Ranges.{IsOp};
-
+use crate::tests::{CHANGED, setting};
 use outside_mem::MemDisk;
 use registry_log::{Area, append, read_area};
 use std::alloc::Global;
-use std::process::Abort;
 use std::test::Fail;
-use wire_base::{Epoch, Moment, Op, Row, Text};
 
 const VERSION_1: &[u8] =
     b"{beat 1 00000000000000000001\n{0000091 [{\"epoch\":0,\"key\":\"filestream::w::path::/w/a.log\",\"offset\":4,\"op\":\"set\",\"path\":\"/w/a.log\"}]\n.";
@@ -48,21 +44,6 @@ fn reading_of(alloc: Global, bytes: &[u8]) -> Result<Reading, Fail> {
             }
         }
     })
-}
-
-fn later_row(rt: &impl Abort, alloc: Global) -> Result<Op, Fail>
-    ensures { IfOk result IsOp }
-{
-    let key = b"filestream::w::path::/w/a.log";
-    let path = b"/w/a.log";
-    assert!(rt; key.len() <= 8_192 && path.len() <= 4_096);
-    Ok(Op::Set(Row {
-        key: Text::from_bytes(alloc, key)?,
-        path: Text::from_bytes(alloc, path)?,
-        epoch: Epoch(0),
-        offset: 6,
-        changed: Moment(5),
-    }))
 }
 
 #[test]
@@ -126,7 +107,7 @@ fn append_with_torn_gate(rt: HostRuntime) -> Result<(), Fail> {
         (4, [after, after, after, after]),
     ];
     for (calls, expected) in cases {
-        let op = later_row(&rt, alloc)?;
+        let op = setting(&rt, alloc, CHANGED)?;
         let mut disk = MemDisk::new(alloc, VERSION_1)?;
         disk.stop_after(calls);
         let appended = append(alloc, &mut disk, 130, &[op]);
@@ -142,7 +123,7 @@ fn append_with_torn_gate(rt: HostRuntime) -> Result<(), Fail> {
 #[test]
 fn appended_area_has_exactly_these_bytes(rt: HostRuntime) -> Result<(), Fail> {
     let alloc = rt.alloc();
-    let op = later_row(&rt, alloc)?;
+    let op = setting(&rt, alloc, CHANGED)?;
     let mut disk = MemDisk::new(alloc, VERSION_1)?;
     assert_eq!(rt; append(alloc, &mut disk, 130, &[op]), Ok(243));
     assert_eq!(rt; disk.bytes(), TWO_RECORDS);

@@ -1,14 +1,14 @@
 ghost use Rattle.std.specs.Prelude.{All, IfOk};
 ghost use Rattle.wire_base.specs.Ranges.{IsOp};
 
-use crate::tests::long_key;
+use crate::tests::{AT_6, begun, long_key, setting};
 use outside_mem::MemDisk;
 use registry_store::{Pick, PickError, Store, StoreError, checkpoint, few_by_length, pick};
 use ship_core::Rows;
 use std::alloc::Global;
 use std::process::Abort;
 use std::test::Fail;
-use wire_base::{Epoch, Moment, Op, Row, Text, Which};
+use wire_base::{Op, Which};
 
 const FIRST: &[u8] =
     b"{beat 2 00000000000000000001\n{0000091 [{\"epoch\":0,\"key\":\"filestream::w::path::/w/a.log\",\"offset\":4,\"op\":\"set\",\"path\":\"/w/a.log\"}]\n.";
@@ -26,35 +26,35 @@ const RECORD: &[u8] =
 
 const NO_AREA: &[u8] = b"{\"x\":1}";
 
-fn setting(rt: &impl Abort, alloc: Global, offset: u64) -> Result<Op, Fail>
-    ensures { IfOk result IsOp }
-{
-    let key = b"filestream::w::path::/w/a.log";
-    let path = b"/w/a.log";
-    assert!(rt; key.len() <= 8_192 && path.len() <= 4_096 && offset < 1 << 63);
-    Ok(Op::Set(Row {
-        key: Text::from_bytes(alloc, key)?,
-        path: Text::from_bytes(alloc, path)?,
-        epoch: Epoch(0),
-        offset,
-        changed: Moment(0),
-    }))
+/// A store with its areas.
+#[derive(Drop)]
+struct Stored {
+    store: Store,
+    a: MemDisk,
+    b: MemDisk,
 }
 
-fn commit(
-    rt: &impl Abort,
-    alloc: Global,
-    store: &mut Store,
-    a: &mut MemDisk,
-    b: &mut MemDisk,
-    ops: &[Op],
-) -> Result<(), StoreError>
-    requires { All IsOp ops.now }
-{
-    few_by_length();
-    let rows = store.rows().len();
-    assert!(rt; rows <= 1_000 && ops.len() <= 1_000);
-    store.commit(alloc, a, b, ops)
+impl Stored {
+    /// Opened over a first area of these bytes and an empty second one.
+    fn over(alloc: Global, bytes: &[u8]) -> Result<Stored, Fail> {
+        let mut a = MemDisk::new(alloc, bytes)?;
+        let mut b = MemDisk::new(alloc, b"")?;
+        let store = Store::open(alloc, &mut a, &mut b)?;
+        Ok(Stored { store, a, b })
+    }
+
+    fn commit(&mut self, rt: &impl Abort, alloc: Global, ops: &[Op]) -> Result<(), StoreError>
+        requires { All IsOp ops.now }
+    {
+        few_by_length();
+        let rows = self.store.rows().len();
+        assert!(rt; rows <= 1_000 && ops.len() <= 1_000);
+        self.store.commit(alloc, &mut self.a, &mut self.b, ops)
+    }
+
+    fn lengths(&self) -> (usize, usize) {
+        (self.a.bytes().len(), self.b.bytes().len())
+    }
 }
 
 /// The offset of the one row that two areas choose; 0 where there is none.
@@ -94,7 +94,7 @@ fn both_areas_broken(rt: HostRuntime) -> Result<(), Fail> {
 fn abandoned_checkpoint_is_never_chosen(rt: HostRuntime) -> Result<(), Fail> {
     let alloc = rt.alloc();
     let mut rows = Rows::new(alloc);
-    rows.apply(alloc, setting(&rt, alloc, 6)?)?;
+    rows.apply(alloc, setting(&rt, alloc, AT_6)?)?;
     assert!(rt; rows.len() == 1);
     for calls in 0..9 {
         let mut b = MemDisk::new(alloc, ABANDONED)?;
@@ -110,54 +110,53 @@ fn abandoned_checkpoint_is_never_chosen(rt: HostRuntime) -> Result<(), Fail> {
     Ok(())
 }
 
-/// An image with the bytes of the last sync shows each sync: whether it has the record, and what it is opened with.
+/// What an empty commit, one of the offset 6 and another empty one come to where the disk of the first area stops after so
+/// many calls, and the image that has the bytes of the last sync.
+fn commits_over(
+    rt: &impl Abort,
+    alloc: Global,
+    calls: u64,
+) -> Result<([Result<(), StoreError>; 3], MemDisk), Fail> {
+    let mut stored = Stored::over(alloc, FIRST)?;
+    stored.a = MemDisk::new(alloc, FIRST)?;
+    stored.a.stop_after(calls);
+    stored.b.stop_after(0);
+    let ops = [setting(rt, alloc, AT_6)?];
+    let empty = stored.commit(rt, alloc, &[]);
+    let first = stored.commit(rt, alloc, &ops);
+    let again = stored.commit(rt, alloc, &[]);
+    Ok(([empty, first, again], stored.a.image(1)?))
+}
+
+/// After so many calls: whether the record is synced, and what the area is opened with.
+const LEFTS: [(u64, bool, u64); 5] = [
+    (0, false, 4),
+    (1, false, 4),
+    (2, true, 4),
+    (3, true, 4),
+    (4, true, 6),
+];
+
 #[test]
 fn commit_is_two_writes_and_two_syncs(rt: HostRuntime) -> Result<(), Fail> {
     let alloc = rt.alloc();
-    let lefts = [(false, 4), (false, 4), (true, 4), (true, 4), (true, 6)];
-    for (calls, (recorded, offset)) in lefts.iter().enumerate() {
-        let mut a = MemDisk::new(alloc, FIRST)?;
-        let mut b = MemDisk::new(alloc, b"")?;
-        let mut store = Store::open(alloc, &mut a, &mut b)?;
-        a = MemDisk::new(alloc, FIRST)?;
-        a.stop_after(calls as u64);
-        b.stop_after(0);
-        let ops = [setting(&rt, alloc, 6)?];
-        let empty = commit(&rt, alloc, &mut store, &mut a, &mut b, &[]);
-        let first = commit(&rt, alloc, &mut store, &mut a, &mut b, &ops);
-        let again = commit(&rt, alloc, &mut store, &mut a, &mut b, &[]);
-        let answers = if calls == 4 {
-            (Ok(()), Ok(()), Ok(()))
+    for (calls, recorded, offset) in LEFTS {
+        let (answers, image) = commits_over(&rt, alloc, calls)?;
+        let wanted = if calls == 4 {
+            [Ok(()), Ok(()), Ok(())]
         } else {
-            (Ok(()), Err(StoreError::DiskFault), Err(StoreError::Closed))
+            [Ok(()), Err(StoreError::DiskFault), Err(StoreError::Closed)]
         };
-        assert_eq!(rt; (empty, first, again), answers, "after {calls} calls");
-        let image = a.image(1)?;
+        assert_eq!(rt; answers, wanted, "after {calls} calls");
         assert_eq!(rt;
             image.bytes().ends_with(RECORD),
-            *recorded,
+            recorded,
             "after {calls} calls"
         );
-        assert_eq!(rt;
-            offset_of(alloc, image.bytes(), b""),
-            Ok(*offset),
-            "after {calls} calls"
-        );
+        let found = offset_of(alloc, image.bytes(), b"");
+        assert_eq!(rt; found, Ok(offset), "after {calls} calls");
     }
     Ok(())
-}
-
-fn setting_key(rt: &impl Abort, alloc: Global, key: &[u8]) -> Result<Op, Fail>
-    ensures { IfOk result IsOp }
-{
-    assert!(rt; key.len() <= 8_192);
-    Ok(Op::Set(Row {
-        key: Text::from_bytes(alloc, key)?,
-        path: Text::from_bytes(alloc, b"/p")?,
-        epoch: Epoch(0),
-        offset: 0,
-        changed: Moment(0),
-    }))
 }
 
 /// Operations whose body has 1,048,566 bytes, so that their record has 1,048,576.
@@ -167,10 +166,10 @@ fn full_record(rt: &impl Abort, alloc: Global) -> Result<Vec<Op>, Fail>
     let mut ops = Vec::new(alloc);
     for first in b'a'..b'v' {
         let key = long_key(alloc, first, 8_191, 0)?;
-        ops.push(setting_key(rt, alloc, &key)?)?;
+        ops.push(setting(rt, alloc, begun(&key))?)?;
     }
     let key = long_key(alloc, b'z', 2_000, 3_267)?;
-    ops.push(setting_key(rt, alloc, &key)?)?;
+    ops.push(setting(rt, alloc, begun(&key))?)?;
     Ok(ops)
 }
 
@@ -196,21 +195,24 @@ fn chosen_of(
 #[test]
 fn checkpoint_behind_ten_full_records(rt: HostRuntime) -> Result<(), Fail> {
     let alloc = rt.alloc();
-    let mut a = MemDisk::new(alloc, b"")?;
-    let mut b = MemDisk::new(alloc, b"")?;
-    let mut store = Store::open(alloc, &mut a, &mut b)?;
+    let mut stored = Stored::over(alloc, b"")?;
     let full = full_record(&rt, alloc)?;
     for _ in 0..10 {
-        commit(&rt, alloc, &mut store, &mut a, &mut b, &full)?;
+        stored.commit(&rt, alloc, &full)?;
     }
-    assert_eq!(rt; (a.bytes().len(), b.bytes().len()), (10_485_790, 0));
-    let ops = [setting(&rt, alloc, 6)?];
-    commit(&rt, alloc, &mut store, &mut a, &mut b, &ops)?;
-    assert_eq!(rt; (a.bytes().len(), b.bytes().len()), (10_485_891, 0));
-    commit(&rt, alloc, &mut store, &mut a, &mut b, &ops)?;
-    assert_eq!(rt; a.bytes().len(), 10_485_891);
-    assert!(rt; b.bytes().starts_with(b"{beat 2 00000000000000000002\n"));
-    let chosen = chosen_of(alloc, &mut a, &mut b)?;
+    assert_eq!(rt; stored.lengths(), (10_485_790, 0));
+    let ops = [setting(&rt, alloc, AT_6)?];
+    stored.commit(&rt, alloc, &ops)?;
+    assert_eq!(rt; stored.lengths(), (10_485_891, 0));
+    stored.commit(&rt, alloc, &ops)?;
+    assert_eq!(rt; stored.lengths().0, 10_485_891);
+    assert!(rt;
+        stored
+            .b
+            .bytes()
+            .starts_with(b"{beat 2 00000000000000000002\n")
+    );
+    let chosen = chosen_of(alloc, &mut stored.a, &mut stored.b)?;
     assert_eq!(rt; chosen, Some((Which::B, 2, 23)));
     Ok(())
 }

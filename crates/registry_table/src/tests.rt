@@ -1,3 +1,6 @@
+ghost use Rattle.std.specs.Prelude.{IfOk};
+ghost use Rattle.wire_base.specs.Ranges.{IsOp};
+
 mod bodies;
 mod headers;
 
@@ -7,39 +10,67 @@ use ship_core::Rows;
 use std::alloc::Global;
 use std::process::Abort;
 use std::test::Fail;
-use wire_base::{Epoch, Moment, Op, Row, Text};
+use wire_base::{Epoch, MAX_KEY, MAX_MOMENT, MAX_PATH, MAX_PLACE, Moment, Op, Row, Text};
 
 pub(crate) const WORKED: &[u8] =
     b"{beat 2 00000000000000000001\n{0000091 [{\"epoch\":0,\"key\":\"filestream::w::path::/w/a.log\",\"offset\":4,\"op\":\"set\",\"path\":\"/w/a.log\"}]\n.";
 
 const EMPTY: &[u8] = b"{beat 2 00000000000000000007\n.";
 
-fn put(
-    rt: &impl Abort,
-    alloc: Global,
-    rows: &mut Rows,
-    key: &[u8],
-    path: &[u8],
-    offset: u64,
-) -> Result<(), Fail> {
-    assert!(rt; key.len() <= 8_192 && path.len() <= 4_096 && offset < 1 << 63);
-    let row = Row {
-        key: Text::from_bytes(alloc, key)?,
-        path: Text::from_bytes(alloc, path)?,
-        epoch: Epoch(0),
-        offset,
-        changed: Moment(0),
-    };
-    rows.apply(alloc, Op::Set(row))?;
-    Ok(())
+/// A row, which need not be in range.
+#[derive(Clone, Copy)]
+pub(crate) struct Line<'a> {
+    pub(crate) key: &'a [u8],
+    pub(crate) path: &'a [u8],
+    pub(crate) epoch: u32,
+    pub(crate) offset: u64,
+    pub(crate) changed: u64,
+}
+
+/// The row of `/w/a.log` at its offset 4, at 6, and there with a moment of change.
+pub(crate) const AT_4: Line<'static> = Line {
+    key: b"filestream::w::path::/w/a.log",
+    path: b"/w/a.log",
+    epoch: 0,
+    offset: 4,
+    changed: 0,
+};
+
+pub(crate) const AT_6: Line<'static> = Line { offset: 6, ..AT_4 };
+
+pub(crate) const CHANGED: Line<'static> = Line { changed: 5, ..AT_6 };
+
+/// The row of this key at the offset 0.
+pub(crate) fn begun(key: &[u8]) -> Line<'_> {
+    Line {
+        key,
+        path: b"/p",
+        epoch: 0,
+        offset: 0,
+        changed: 0,
+    }
+}
+
+/// The operation that sets the row, where it is in range.
+pub(crate) fn setting(rt: &impl Abort, alloc: Global, line: Line<'_>) -> Result<Op, Fail>
+    ensures { IfOk result IsOp }
+{
+    assert!(rt; line.key.len() <= MAX_KEY && line.path.len() <= MAX_PATH);
+    assert!(rt; line.offset <= MAX_PLACE && line.changed <= MAX_MOMENT);
+    Ok(Op::Set(Row {
+        key: Text::from_bytes(alloc, line.key)?,
+        path: Text::from_bytes(alloc, line.path)?,
+        epoch: Epoch(line.epoch),
+        offset: line.offset,
+        changed: Moment(line.changed),
+    }))
 }
 
 #[test]
 fn started_area_has_exactly_these_bytes(rt: HostRuntime) -> Result<(), Fail> {
     let alloc = rt.alloc();
     let mut rows = Rows::new(alloc);
-    let key = b"filestream::w::path::/w/a.log";
-    put(&rt, alloc, &mut rows, key, b"/w/a.log", 4)?;
+    rows.apply(alloc, setting(&rt, alloc, AT_4)?)?;
     assert!(rt; rows.len() == 1);
     let befores: [&[u8]; 4] = [b"", b"{", b".", b".beat 1 and more"];
     for before in befores {
@@ -56,10 +87,10 @@ fn many_rows(rt: &impl Abort, alloc: Global, plain: usize) -> Result<Rows, Fail>
     let mut rows = Rows::new(alloc);
     for first in b'a'..b'v' {
         let key = long_key(alloc, first, 8_191, 0)?;
-        put(rt, alloc, &mut rows, &key, b"/p", 0)?;
+        rows.apply(alloc, setting(rt, alloc, begun(&key))?)?;
     }
     let key = long_key(alloc, b'z', 2_000, plain)?;
-    put(rt, alloc, &mut rows, &key, b"/p", 0)?;
+    rows.apply(alloc, setting(rt, alloc, begun(&key))?)?;
     Ok(rows)
 }
 
@@ -69,9 +100,14 @@ pub(crate) fn long_key(
     escaped: usize,
     plain: usize,
 ) -> Result<Vec<u8>, Fail> {
-    let mut key = vec![in alloc; first]?;
-    key.extend_from_slice(&vec![in alloc; 1u8; escaped]?)?;
-    key.extend_from_slice(&vec![in alloc; b'x'; plain]?)?;
+    let mut key = Vec::new(alloc);
+    key.push(first)?;
+    for _ in 0..escaped {
+        key.push(1)?;
+    }
+    for _ in 0..plain {
+        key.push(b'x')?;
+    }
     Ok(key)
 }
 

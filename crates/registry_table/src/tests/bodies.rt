@@ -1,87 +1,66 @@
 ghost use Rattle.std.specs.Prelude.{IfOk};
-ghost use Rattle.wire_base.specs.Ranges.{IsKey, IsMoment, IsOp, IsPath, IsPlace};
+ghost use Rattle.wire_base.specs.Ranges.{IsOp};
 
-use registry_frame::{BodyError, MAX_OPERATION, body, front_body, read_body};
+use crate::tests::{AT_4, CHANGED, Line, setting};
+use registry_frame::{BodyError, body, read_body};
 use std::alloc::Global;
+use std::process::Abort;
 use std::test::Fail;
-use wire_base::{Epoch, MAX_MOMENT, MAX_PLACE, Moment, Op, Row, Text};
+use wire_base::{MAX_KEY, MAX_MOMENT, MAX_PLACE, Op, Text};
 
-fn set(
-    alloc: Global,
-    key: &[u8],
-    path: &[u8],
-    epoch: u32,
-    offset: u64,
-    changed: u64,
-) -> Result<Op, Fail>
-    requires key { IsKey key.now }
-    requires path { IsPath path.now }
-    requires offset { IsPlace offset }
-    requires changed { IsMoment (record { 0 = changed }) }
+const PLAIN_BODY: &[u8] =
+    b"[{\"epoch\":0,\"key\":\"filestream::w::path::/w/a.log\",\"offset\":4,\"op\":\"set\",\"path\":\"/w/a.log\"}]";
+
+const CHANGED_BODY: &[u8] =
+    b"[{\"changed\":5,\"epoch\":0,\"key\":\"filestream::w::path::/w/a.log\",\"offset\":6,\"op\":\"set\",\"path\":\"/w/a.log\"}]";
+
+const ESCAPED_BODY: &[u8] =
+    b"[{\"changed\":250000000000000,\"epoch\":4294967295,\"key\":\"k\",\"offset\":9223372036854775807,\"op\":\"set\",\"path\":\"/\\\"\\\\\\u0001\\u001f\\n\\t\x7f\xc3\xa9\"}]";
+
+fn removing(rt: &impl Abort, alloc: Global, key: &[u8]) -> Result<Op, Fail>
     ensures { IfOk result IsOp }
 {
-    Ok(Op::Set(Row {
-        key: Text::from_bytes(alloc, key)?,
-        path: Text::from_bytes(alloc, path)?,
-        epoch: Epoch(epoch),
-        offset,
-        changed: Moment(changed),
-    }))
-}
-
-fn remove(alloc: Global, key: &[u8]) -> Result<Op, Fail>
-    requires { IsKey key.now }
-    ensures { IfOk result IsOp }
-{
+    assert!(rt; key.len() <= MAX_KEY);
     Ok(Op::Remove(Text::from_bytes(alloc, key)?))
 }
+
+/// Its texts have a character of each kind that is escaped, and its numbers are the greatest.
+const ESCAPED: Line<'static> = Line {
+    key: b"k",
+    path: b"/\"\\\x01\x1f\n\t\x7f\xc3\xa9",
+    epoch: u32::MAX,
+    offset: MAX_PLACE,
+    changed: MAX_MOMENT,
+};
+
+/// The body of this operation alone is this.
+fn check(rt: &impl Abort, alloc: Global, op: Op, wanted: &[u8]) -> Result<(), Fail>
+    requires { IsOp op }
+{
+    let ops = [op];
+    assert_eq!(rt; body(alloc, &ops)?.bytes(), wanted);
+    Ok(())
+}
+
+const BODIES: [(Line<'static>, &[u8]); 3] = [
+    (AT_4, PLAIN_BODY),
+    (CHANGED, CHANGED_BODY),
+    (ESCAPED, ESCAPED_BODY),
+];
 
 #[test]
 fn bodies_have_one_spelling(rt: HostRuntime) -> Result<(), Fail> {
     let alloc = rt.alloc();
-    let key = b"filestream::w::path::/w/a.log";
-    let plain = set(alloc, key, b"/w/a.log", 0, 4, 0)?;
-    let changed = set(alloc, key, b"/w/a.log", 0, 6, 5)?;
-    let escaped = set(
+    for (line, wanted) in BODIES {
+        check(&rt, alloc, setting(&rt, alloc, line)?, wanted)?;
+    }
+    let removed = removing(&rt, alloc, b"a\"b")?;
+    check(
+        &rt,
         alloc,
-        b"k",
-        b"/\"\\\x01\x1f\n\t\x7f\xc3\xa9",
-        u32::MAX,
-        MAX_PLACE,
-        MAX_MOMENT,
-    )?;
-    let removed = remove(alloc, b"a\"b")?;
-    assert_eq!(rt;
-        body(alloc, &[plain])?.bytes(),
-        b"[{\"epoch\":0,\"key\":\"filestream::w::path::/w/a.log\",\"offset\":4,\"op\":\"set\",\"path\":\"/w/a.log\"}]".as_slice()
-    );
-    assert_eq!(rt;
-        body(alloc, &[changed])?.bytes(),
-        b"[{\"changed\":5,\"epoch\":0,\"key\":\"filestream::w::path::/w/a.log\",\"offset\":6,\"op\":\"set\",\"path\":\"/w/a.log\"}]".as_slice()
-    );
-    assert_eq!(rt;
-        body(alloc, &[escaped, removed])?.bytes(),
-        b"[{\"changed\":250000000000000,\"epoch\":4294967295,\"key\":\"k\",\"offset\":9223372036854775807,\"op\":\"set\",\"path\":\"/\\\"\\\\\\u0001\\u001f\\n\\t\x7f\xc3\xa9\"},{\"key\":\"a\\\"b\",\"op\":\"remove\"}]".as_slice()
-    );
-    Ok(())
-}
-
-#[test]
-fn a_front_has_what_one_body_has_room_for(rt: HostRuntime) -> Result<(), Fail> {
-    let alloc = rt.alloc();
-    let short = remove(alloc, b"k")?;
-    // each byte of such a key is written as six
-    let long = remove(alloc, &[1; 8_192])?;
-    let other = remove(alloc, &[2; 8_192])?;
-    let fitting = body(alloc, &[remove(alloc, b"k")?, remove(alloc, &[1; 8_192])?])?;
-    let ops = [short, long, other];
-    let front = front_body(alloc, &ops, MAX_OPERATION + 2)?;
-    assert_eq!(rt; front.count, 2);
-    assert_eq!(rt; front.body.bytes(), fitting.bytes());
-    let front = front_body(alloc, &ops, 2 * MAX_OPERATION)?;
-    assert_eq!(rt; front.count, 3);
-    assert_eq!(rt; front.body.bytes(), body(alloc, &ops)?.bytes());
-    Ok(())
+        removed,
+        b"[{\"key\":\"a\\\"b\",\"op\":\"remove\"}]",
+    )
 }
 
 #[test]
