@@ -23,12 +23,14 @@ use crate::worker::{Carrier, carry};
 use outside_real::{FileDisk, SystemClock, TcpWire};
 use std::alloc::Global;
 use std::env;
+use std::fs::File;
 use std::net::{Net, TcpStream};
 use std::process::ExitCode;
+use std::rt::Files;
 use std::sync::Wait;
 use wire_base::{Text, read_decimal};
 
-fn carried<R: Wait + Net<Stream = TcpStream> + std::time::Clock>(
+fn carried<R: Wait + Net<Stream = TcpStream> + std::time::Clock + Files<File = File>>(
     rt: &R,
     alloc: Global,
     port: u64,
