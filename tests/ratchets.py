@@ -25,7 +25,7 @@ LIMITS = {
     "functions with more than six parameters": 1,
     "functions above 40 lines of body": 0,
     "files above 500 lines": 4,
-    "ghost use lines for each 1,000 lines of code": 52,
+    "ghost use lines for each 1,000 lines of code": 51,
     "lemma signatures that are there before": 187,
 }
 
