@@ -63,5 +63,8 @@ pub mod WorkedHidden
 pub mod WorkedInARow
 pub mod WorkedNative
 pub mod WorkedNumbers
+pub mod WorkedOpenings
+pub mod WorkedRenamed
 pub mod WorkedReopened
 pub mod WorkedRun
+pub mod WorkedShrunk

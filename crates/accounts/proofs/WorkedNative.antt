@@ -25,13 +25,13 @@ use Rattle.accounts.proofs.WorkedRun.{file_by, own_looks, told_file}
 
 -- ---- the run
 
-abbrev key : List ℕ
+abbrev pub key : List ℕ
 key = codes "filestream::w::native::18-2049"
 
 abbrev other_key : List ℕ
 other_key = codes "filestream::w::native::17-2049"
 
-key_is : named_key (codes "w") Native a_log (Some (18, 2049)) ≡ Some key
+pub key_is : named_key (codes "w") Native a_log (Some (18, 2049)) ≡ Some key
 unfolding digits
 key_is = refl
 
