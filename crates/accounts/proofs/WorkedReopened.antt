@@ -1,6 +1,6 @@
 -- A worked account of a file that was closed and opened again in the same epoch: it goes on from the end of what was told, not from where
--- it was begun. And openings that are refused. Beside it, the file shrank between its openings (WorkedShrunk), and was renamed
--- (WorkedRenamed).
+-- it was begun. And openings that are refused. A file that shrank between its openings is in WorkedShrunk, one that was renamed in
+-- WorkedRenamed.
 use Rattle.std.proofs.Common.{◌≡◌, inl, inr, ℕ, ◌<◌, nat_le, Bool, true, false, List, [], ◌∷◌, None, Some, codes, if◌then◌else◌, refl, ap, arith}
 use Rattle.std.specs.Prelude.{slice_get}
 use Rattle.std.proofs.lemmas.Bool.{leb-true}
