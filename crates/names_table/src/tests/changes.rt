@@ -202,6 +202,35 @@ fn a_forgotten_file_begins_anew(rt: HostRuntime) -> Result<(), Fail> {
     Ok(())
 }
 
+/// Whether the file of this key has this slot, path and size; with `None`, whether neither the slot nor the key has a file.
+fn knows(prospector: &Prospector, slot: Slot, key: &str, place: Option<(&str, u64)>) -> bool {
+    let by_key = prospector.slot_of(key.as_bytes());
+    match (prospector.file_of(slot), place) {
+        (Some(file), Some((path, size))) => {
+            by_key == Some(slot)
+                && file.slot == slot
+                && file.key.as_str() == key
+                && file.path.as_str() == path
+                && file.size == size
+        }
+        (None, None) => by_key.is_none(),
+        _ => false,
+    }
+}
+
+#[test]
+fn found_by_slot_and_by_key(rt: HostRuntime) -> Result<(), Fail> {
+    let mut prospector = Prospector::begin(rt.alloc(), &[], 0)?;
+    assert!(rt; tells(rt.alloc(), &mut prospector, &FORGOTTEN[0])?);
+    assert!(rt; knows(&prospector, Slot(0), "c", Some(("/c", 1))));
+    assert!(rt; knows(&prospector, Slot(1), "x", Some(("/x", 1))));
+    assert!(rt; knows(&prospector, Slot(2), "d", None));
+    prospector.gone(Slot(0));
+    assert!(rt; knows(&prospector, Slot(0), "c", None));
+    assert!(rt; knows(&prospector, Slot(1), "x", Some(("/x", 1))));
+    Ok(())
+}
+
 /// A prospector that remembers the file `a`, beside all but one of the rows that there may be.
 fn nearly_full(alloc: Global) -> Result<Prospector, Fail> {
     let begin = Begin {
