@@ -33,7 +33,7 @@ pub const fn still_file(bytes: &'static [u8]) -> File {
     }
 }
 
-fn text(alloc: Global, chars: &str) -> Result<Text, NoMemory>
+pub fn text(alloc: Global, chars: &str) -> Result<Text, NoMemory>
     ensures { IfOk result (λ text. text ≡ chars.now) }
 {
     Ok(Text::from_string(String::from_str(alloc, chars)?))

@@ -8,11 +8,9 @@ use batch_worker::{Failure, WorkerTurn};
 use outside::Wire;
 use outside_real::TcpWire;
 use std::alloc::Global;
-use std::fs::File;
 use std::io;
 use std::io::{ErrorKind, Read, Write};
-use std::net::{Net, TcpListener, TcpStream};
-use std::rt::Files;
+use std::net::{TcpListener, TcpStream};
 use std::sync::Wait;
 use std::test::Fail;
 use std::thread::{Threads, join};
@@ -111,14 +109,7 @@ struct Rounds {
 }
 
 /// Two workers, of which the second sends so many bytes to a peer that nobody accepts.
-fn meet_dead_peer<R>(rt: &R, alloc: Global, length: usize) -> Result<Rounds, Fail>
-where
-    R: Threads
-        + Wait
-        + Sync
-        + Clock
-        + Net<Listener = TcpListener, Stream = TcpStream>
-        + Files<File = File>,
+fn meet_dead_peer(rt: &HostRuntime, alloc: Global, length: usize) -> Result<Rounds, Fail>
     requires { length ≤ MAX_PAYLOAD }
 {
     let living = TcpListener::bind(rt, "127.0.0.1:0")?;
