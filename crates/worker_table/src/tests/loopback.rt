@@ -10,7 +10,7 @@ use outside_real::TcpWire;
 use std::alloc::Global;
 use std::io;
 use std::io::{ErrorKind, Read, Write};
-use std::net::{TcpListener, TcpStream};
+use std::net::{Net, TcpListener, TcpStream};
 use std::sync::Wait;
 use std::test::Fail;
 use std::thread::{Threads, join};
@@ -109,21 +109,39 @@ struct Rounds {
 }
 
 /// Two workers, of which the second sends so many bytes to a peer that nobody accepts.
-fn meet_dead_peer(rt: &HostRuntime, alloc: Global, length: usize) -> Result<Rounds, Fail>
+fn meet_dead_peer<R, W: Wire + Send>(
+    rt: &R,
+    alloc: Global,
+    wires: (&mut W, &mut W),
+    length: usize,
+) -> Result<Rounds, Fail>
+where
+    R: Threads + Wait + Sync + Clock + Net<Listener = TcpListener, Stream = TcpStream>,
+    W::Link: Send,
     requires { length ≤ MAX_PAYLOAD }
 {
+    let (wire, dead_wire) = wires;
     let living = TcpListener::bind(rt, "127.0.0.1:0")?;
     let dead = TcpListener::bind(rt, "127.0.0.1:0")?;
     let ports = (living.local_addr()?.port(), dead.local_addr()?.port());
-    let (mut wire, mut dead_wire) = (TcpWire::new(rt), TcpWire::new(rt));
-    let (mut first, mut other) = two(alloc, ports, &mut wire)?;
+    let (mut first, mut other) = two(alloc, ports, wire)?;
     let loaded = first.load(rt, alloc, b"a", 1) && other.load(rt, alloc, b"a", length);
-    let sent = round(rt, (&mut first, &mut wire), (&mut other, &mut dead_wire), 0);
+    let sent = round(
+        rt,
+        (&mut first, &mut *wire),
+        (&mut other, &mut *dead_wire),
+        0,
+    );
     let peer = serve(&living);
-    let answered = round(rt, (&mut first, &mut wire), (&mut other, &mut dead_wire), 1);
+    let answered = round(
+        rt,
+        (&mut first, &mut *wire),
+        (&mut other, &mut *dead_wire),
+        1,
+    );
     let posted = first.has_posted(rt, b"a");
-    first.end(&mut wire);
-    other.end(&mut dead_wire);
+    first.end(wire);
+    other.end(dead_wire);
     let _peer = peer?;
     Ok(Rounds {
         sent,
@@ -135,11 +153,12 @@ fn meet_dead_peer(rt: &HostRuntime, alloc: Global, length: usize) -> Result<Roun
 // The peer stays silent. A receiving behind one that found nothing waits 10 milliseconds.
 #[test]
 fn silent_peer_holds_a_round_for_hundredths_of_a_second(rt: HostRuntime) -> Result<(), Fail> {
+    let (mut wire, mut dead_wire) = (TcpWire::new(&rt), TcpWire::new(&rt));
     let Rounds {
         sent,
         answered,
         posted,
-    } = meet_dead_peer(&rt, rt.alloc(), 1)?;
+    } = meet_dead_peer(&rt, rt.alloc(), (&mut wire, &mut dead_wire), 1)?;
     assert!(rt; posted);
     assert_eq!(rt;
         (sent.living, sent.dead),
@@ -160,11 +179,12 @@ fn silent_peer_holds_a_round_for_hundredths_of_a_second(rt: HostRuntime) -> Resu
 // Nobody reads what is sent. A sending gives up 5 seconds after the system last took a byte.
 #[test]
 fn peer_that_never_reads_holds_a_round_for_five_seconds(rt: HostRuntime) -> Result<(), Fail> {
+    let (mut wire, mut dead_wire) = (TcpWire::new(&rt), TcpWire::new(&rt));
     let Rounds {
         sent,
         answered,
         posted,
-    } = meet_dead_peer(&rt, rt.alloc(), UNREAD)?;
+    } = meet_dead_peer(&rt, rt.alloc(), (&mut wire, &mut dead_wire), UNREAD)?;
     let failed = WorkerTurn::Failed(Failure::Send);
     let resting = WorkerTurn::Resting {
         until: Moment(1_000),
