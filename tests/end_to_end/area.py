@@ -23,10 +23,10 @@ def native_row(path, offset):
     return {**row(str(path), offset), "key": f"filestream::w::native::{told.st_ino}-{told.st_dev}"}
 
 
-def fingerprint_row(path, offset, input_id="w"):
-    """The row of a file that is known by the SHA-256 of its first 1,024 bytes."""
+def fingerprint_row(path, offset, input_id="w", length=1_024):
+    """The row of a file that is known by the SHA-256 of so many of its first bytes."""
     with open(path, "rb") as file:
-        digest = hashlib.sha256(file.read(1_024)).hexdigest()
+        digest = hashlib.sha256(file.read(length)).hexdigest()
     return {**row(str(path), offset), "key": f"filestream::{input_id}::fingerprint::{digest}"}
 
 

@@ -22,7 +22,9 @@ class Generated(Shipping):
         self.assertEqual([it.name for it in self.folder.iterdir()], ["beat.toml"])
 
     def test_example_is_that_of_the_stored_run(self):
-        self.assertEqual(SETTINGS.read_text(), (program.CRATE / "data" / "generated.toml").read_text())
+        """But for its comments."""
+        stored = (program.CRATE / "data" / "generated.toml").read_text().splitlines()
+        self.assertEqual([it for it in SETTINGS.read_text().splitlines() if not it.startswith("#")], stored)
 
     def test_generated_ten(self):
         self.assert_generates(10, 34, 4)

@@ -1,5 +1,6 @@
 """Several inputs, globs and files."""
 
+import functools
 import json
 import os
 import shutil
@@ -7,7 +8,7 @@ from pathlib import Path
 
 import example
 import program
-from area import MAX_BODY, key_of, row
+from area import MAX_BODY, fingerprint_row, key_of, row
 from peer import Peer
 from shipping import ONCE, Shipping, lines_of, now
 
@@ -16,6 +17,8 @@ EXAMPLE = {
     "services": ("orders/billing.log", "orders/orders.log"),
     "web": ("web/shop-1/access.log", "web/shop-2/access.log"),
 }
+# the bytes of its fingerprints
+EXAMPLE_FINGERPRINT = 128
 SMALL_FILES = 2_000
 # so many files may be open at once in a run that is to follow more of them
 OPEN_FILES = 64
@@ -54,13 +57,13 @@ class ManyFiles(Shipping):
         self.write_settings(settings)
         return program.finish(program.start(self.tested, words or ONCE, self.folder), PATIENCE)
 
-    def assert_shipped(self, ran, peer, files, since):
-        """Each complete line of these files was sent or dropped."""
+    def assert_shipped(self, ran, peer, files, since, row_of=row):
+        """Each complete line of these files was sent or dropped, and each has such a row."""
         rows, events, dropped = [], [], 0
         for input_id, path in sorted(files, key=lambda it: key_of(it[1], it[0]).encode()):
             content = Path(path).read_bytes()
             lines = lines_of(content)
-            rows.append(row(path, content.rfind(b"\n") + 1, input_id))
+            rows.append(row_of(path, content.rfind(b"\n") + 1, input_id))
             events += [(path, offset, line) for offset, line in lines if line]
             dropped += sum(not line for _, line in lines)
         self.assert_sent(peer, events, since)
@@ -73,7 +76,8 @@ class ManyFiles(Shipping):
         with Peer() as peer:
             ran = self.run_settings(example.settings_for(logs, peer.host))
         files = [(input_id, str(logs / name)) for input_id, names in EXAMPLE.items() for name in names]
-        self.assert_shipped(ran, peer, files, since)
+        row_of = functools.partial(fingerprint_row, length=EXAMPLE_FINGERPRINT)
+        self.assert_shipped(ran, peer, files, since, row_of)
 
     def test_two_thousand_small_files(self):
         """Of no line, of one, of two with an empty one between them, and with a rest that waits. Their names are so long
