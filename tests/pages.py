@@ -1,8 +1,7 @@
 #!/usr/bin/env python3
-"""Compares the pages with the repository: the table of crates in docs/architecture.md with crates.txt, the files and
-headings that pages link to with those that are there, the names in backticks with those of the code, the tests and the
-settings, a clause that is linked with its file, the example that has every key with docs/settings.md, and the version that
-programs and pages state with the file VERSION.
+"""Compares the pages with the repository: the files and headings that pages link to with those that are there, the names in
+backticks with those of the code, the tests and the settings, a clause that is linked with its file, the example that has
+every key with docs/settings.md, and the version that programs and pages state with the file VERSION.
 """
 
 import re
@@ -10,16 +9,14 @@ import sys
 from pathlib import Path
 
 ROOT = Path(__file__).resolve().parents[1]
-PAGES = [*ROOT.glob("*.md"), *ROOT.glob("docs/*.md")]
-BASE = "wire_base"
-NOT_YET = "not yet"
+PAGES = [*ROOT.glob("*.md"), *ROOT.glob("docs/**/*.md")]
 
 # where names stand, and how a comment begins there; what a comment alone says is no name
 COMMENTS = {".rt": "//", ".rs": "//", ".c": "//", ".antt": "--", ".py": "#", ".toml": "#", ".txt": "#", "": "#"}
 PLACES = ("crates", "tests", "bench", "examples", "package", ".ci", "Makefile", "VERSION", "crates.txt")
 BUILT = {"out", "__pycache__"}
 # pages whose names are compared; the changelog and results of measurements speak of other days, too
-NAMING = [ROOT / "README.md", ROOT / "CONTRIBUTING.md", *sorted(ROOT.glob("docs/*.md"))]
+NAMING = [ROOT / "README.md", ROOT / "CONTRIBUTING.md", *sorted(ROOT.glob("docs/**/*.md"))]
 FENCE = re.compile(r"^```.*?^```$", re.MULTILINE | re.DOTALL)
 # an identifier, a call, a dotted key, or an option
 NAME = re.compile(r"[A-Za-z_]\w*(?:(?:::|\.)\w+)*(?:\(\))?|--\w[\w-]*")
@@ -58,48 +55,6 @@ SETTINGS_TABLES = {
     "The table `multiline`": "inputs.multiline.",
     "Output, queue, harvest": "",
 }
-
-
-def crates():
-    """Each crate of crates.txt with those of this repository that it names."""
-    named = {}
-    for line in (ROOT / "crates.txt").read_text().splitlines():
-        if line and not line.startswith("#"):
-            name, _, others = line.partition(":")
-            named[name.split()[0]] = others.split()
-    return {name: {other for other in others if other in named} for name, others in named.items()}
-
-
-def rows():
-    """The rows of the table of crates: floor, crate, what it stands on, what belongs there, state."""
-    for line in (ROOT / "docs" / "architecture.md").read_text().splitlines():
-        cells = [cell.strip() for cell in line.strip().strip("|").split("|")]
-        if len(cells) == 5 and re.fullmatch(r"`\w+`", cells[1]):
-            yield cells
-
-
-def stands_on(cell):
-    """The crates that a cell names; where it tells what is so today, those alone."""
-    return set(re.findall(r"`(\w+)`", cell.split("today")[-1]))
-
-
-def faults_of_crates():
-    known = crates()
-    told = {}
-    for _, crate, below, _, state in rows():
-        told[crate.strip("`")] = (stands_on(below), state)
-    if [name for name in told if name in known] != [name for name in known if name in told]:
-        yield "docs/architecture.md has crates in another order than crates.txt"
-    for name in known.keys() - told.keys():
-        yield f"docs/architecture.md has no row for {name}"
-    for name, (below, state) in told.items():
-        if name not in known:
-            if state != NOT_YET:
-                yield f"docs/architecture.md says that {name} is there, and crates.txt has it not"
-        elif state == NOT_YET:
-            yield f"docs/architecture.md says that {name} is not there yet, and crates.txt has it"
-        elif below != known[name] - {BASE}:
-            yield f"docs/architecture.md: {name} stands on {sorted(known[name] - {BASE})}, not on {sorted(below)}"
 
 
 def anchors_of(page):
@@ -215,7 +170,7 @@ def faults_of_example():
 
 
 def faults_of_names():
-    words = words_of_code() | {crate.strip("`") for _, crate, _, _, state in rows() if state == NOT_YET}
+    words = words_of_code()
     for page in NAMING:
         for name in dict.fromkeys(names_in(page)):
             if not is_there(name, words):
@@ -242,7 +197,7 @@ def faults_of_version():
 
 
 def main():
-    faults = [*faults_of_crates(), *faults_of_links(), *faults_of_example(), *faults_of_names(), *faults_of_version()]
+    faults = [*faults_of_links(), *faults_of_example(), *faults_of_names(), *faults_of_version()]
     for fault in faults:
         print(fault)
     print(f"pages: {len(faults)} faults")
