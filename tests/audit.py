@@ -335,8 +335,8 @@ HEAD = """# What the promise rests on
 
 The clauses of `ship` ([shipping.rt](../crates/beat_run/src/shipping.rt)) name definitions, and these name others. This
 page lists all of them, {definitions} in {files} files, {lines} lines without comments, from the lowest crate up: so each
-is read after those that it names. What the kit's std defines is not listed. Of a type that contracts see as another
-value (`impl Model`) only that value counts.
+follows those that it names. What the kit's std defines is not listed. Of a type that contracts see as another value
+(`impl Model`) only that value counts.
 
 `python3 -B tests/audit.py` prints each definition with its lines, and with `--write` it writes this page; the gate
 refuses one that differs.

@@ -25,10 +25,10 @@ BLOCK = re.compile(r"(?:(?:abbrev|unfoldable)\s+)?(?:mutual|module)\b")
 
 HEAD = """# Definitions
 
-Contracts name definitions, which stand in `specs/` of their crate, one concept a file. This page has the first comment
-of each file, which names the source of its rule, and the names that the file makes public. "Filebeat reference" is
+Contracts name definitions, which are in `specs/` of their crate, one concept a file. This page has the first comment of
+each file, which names the source of its rule, and the names that the file makes public. "Filebeat reference" is
 Elastic's, with the section named; "this project's profile" is a choice of this project ([DECISIONS.md](DECISIONS.md)).
-Crates come in the order of `crates.txt`; those without definitions are left out. Worked values are computed by the
+Crates are in the order of `crates.txt`; those without definitions are left out. Worked values are computed by the
 definitions in `proofs/Worked.antt` of a crate; [promises.md](promises.md) names the tests.
 
 The page is made by `tests/definitions.py`; the gate refuses one that differs.
