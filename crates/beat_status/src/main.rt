@@ -1,4 +1,4 @@
-//! The program: looks how far each file is, beside a run, and prints that. It changes nothing.
+//! The program: shows how far each file is, during a run or without one. It changes nothing.
 #![tactic(auto)]
 
 use clap::Error;
