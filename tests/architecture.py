@@ -36,7 +36,7 @@ def main_file(crate):
 
 
 def first_sentence(crate):
-    """The first sentence of the comment in front; None where there is none."""
+    """The first sentence of the comment in front, or None."""
     said = []
     for line in main_file(crate).read_text().splitlines():
         if not line.startswith("//!"):

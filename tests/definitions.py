@@ -17,10 +17,10 @@ PAGE = ROOT / "docs" / "definitions.md"
 COLUMNS = 120
 # lists the files beside it, and defines nothing
 INDEX = "Lib.antt"
-# what Markdown would read as its own, where it stands outside of backticks
+# what Markdown would read as its own, outside of backticks
 SIGNS = re.compile(r"([*_<>\[\]|])")
 PUBLIC = re.compile(r"(  )?(?:(?:abbrev|unfoldable)\s+)?pub\s+(?:(?:record|data)\s+)?(?!mod\b|use\b)([^\s:({]+)")
-# names that are two columns in stand below one of these; else they are fields of a record
+# names that are two columns in are below one of these; else they are fields of a record
 BLOCK = re.compile(r"(?:(?:abbrev|unfoldable)\s+)?(?:mutual|module)\b")
 
 HEAD = """# Definitions
@@ -47,7 +47,7 @@ def files_of(crate):
 
 
 def first_comment(text):
-    """The comment in front, as one line; empty where there is none."""
+    """The comment in front, as one line; empty if there is none."""
     lines = []
     for line in text.splitlines():
         if not line.startswith("--"):
@@ -57,7 +57,7 @@ def first_comment(text):
 
 
 def escaped(text):
-    """The text as Markdown: what stands in backticks as it is."""
+    """The text as Markdown: what is in backticks stays as it is."""
     parts = text.split("`")
     return "`".join(part if inside % 2 else SIGNS.sub(r"\\\1", part) for inside, part in enumerate(parts))
 

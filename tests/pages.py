@@ -11,7 +11,7 @@ from pathlib import Path
 ROOT = Path(__file__).resolve().parents[1]
 PAGES = [*ROOT.glob("*.md"), *ROOT.glob("docs/**/*.md")]
 
-# where names stand, and how a comment begins there; what a comment alone says is no name
+# the places of names, and how a comment begins there; what only a comment says is no name
 COMMENTS = {".rt": "//", ".rs": "//", ".c": "//", ".antt": "--", ".py": "#", ".toml": "#", ".txt": "#", "": "#"}
 PLACES = ("crates", "tests", "bench", "examples", "package", ".ci", "Makefile", "VERSION", "crates.txt")
 BUILT = {"out", "__pycache__"}
@@ -24,7 +24,7 @@ PATH = re.compile(r"[\w.*-]+(?:/[\w.*-]*)+")
 # what a link shows, the file that it names, which may be absent, and the heading in it
 LINK = re.compile(r"\[([^\[\]]*)\]\(([^)#:]*)(?:#([^)]*))?\)")
 TARGET = re.compile(r"make (\w+)\b.*")
-# such words, as NAME or ID, stand for any other
+# such words, as NAME or ID, are placeholders
 PLACEHOLDER = re.compile(r"\b[A-Z]+\b")
 # the page that compares with Filebeat: the first cell of each of its rows has Filebeat's names
 COMPARING = "coming_from_filebeat.md"
@@ -48,7 +48,7 @@ REFERENCE = {
     "prospector.scanner.fingerprint.length",
     "prospector.scanner.fingerprint.offset",
 }
-# the tables of docs/settings.md, by their headings, and what stands in front of their keys
+# the tables of docs/settings.md, by their headings, and what comes before their keys
 SETTINGS_TABLES = {
     "The document": "",
     "An input": "inputs.",
@@ -58,7 +58,7 @@ SETTINGS_TABLES = {
 
 
 def anchors_of(page):
-    """What a link to a heading of this page may have behind its #."""
+    """What a link to a heading of this page may have after its #."""
     for heading in re.findall(r"^#+ (.*)$", FENCE.sub("", page.read_text()), re.MULTILINE):
         yield re.sub(r"[^\w -]", "", LINK.sub(r"\1", heading)).lower().replace(" ", "-")
 
@@ -86,7 +86,7 @@ def files_of_code():
 
 
 def words_of_file(file):
-    """Each word of a file that stands outside of comments."""
+    """Each word of a file outside of comments."""
     words = set()
     for line in file.read_text(errors="replace").splitlines():
         code = line.partition(COMMENTS[file.suffix])[0]
@@ -95,7 +95,7 @@ def words_of_file(file):
 
 
 def words_of_code():
-    """Each word that stands outside of comments, and each name of a file or folder."""
+    """Each word outside of comments, and each name of a file or folder."""
     words = set()
     for file in files_of_code():
         words.update(re.findall(r"[\w-]+", " ".join(file.relative_to(ROOT).with_suffix("").parts)))
@@ -121,7 +121,7 @@ def is_there(named, words):
 
 
 def names_in(page):
-    """What stands in backticks and looks like a name or a path of this repository."""
+    """What is in backticks and looks like a name or a path of this repository."""
     text = FENCE.sub("", page.read_text())
     if page.name == COMPARING:
         text = re.sub(r"^\|[^|]*\|", "|", text, flags=re.MULTILINE)
@@ -158,7 +158,7 @@ def example_keys():
 def faults_of_example():
     there = example_keys()
     documented = dict(documented_keys())
-    # it belongs to tables of the other type, where the rest of the example would be unknown
+    # it belongs to tables of the other type, in which the rest of the example would be unknown
     del documented["inputs.multiline.count_lines"]
     for key, default in documented.items():
         if key not in there:
