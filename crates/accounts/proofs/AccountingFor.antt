@@ -17,18 +17,18 @@ use Rattle.accounts.specs.Hidden.{Hidden, hidden_begin, hidden_key, hidden_slot,
 use Rattle.accounts.specs.Places.{ArePlaces}
 use Rattle.accounts.specs.RunTold.{RunNotes, RunTold}
 use Rattle.accounts.specs.Taken.{Taken, acknowledged_in}
-use Rattle.accounts.proofs.Accounts.{are_filed, are_in_epochs, have_slots, is_account, told_once}
+use Rattle.accounts.proofs.Accounts.{are_filed, are_in_epochs, are_slot_accounts, have_slots, told_once}
 use Rattle.accounts.proofs.Acknowledged.{acknowledged_once}
 use Rattle.accounts.proofs.Apart.{EachAdjoins}
 use Rattle.accounts.proofs.Backed.{are_backed}
 use Rattle.accounts.proofs.BegunRows.{are_notes, begun_keys_have_rows, files_apart}
 use Rattle.accounts.proofs.Beginning.{are_begun}
 use Rattle.accounts.proofs.Following.{are_followed}
-use Rattle.accounts.proofs.HiddenAccounts.{account_with_hidden, in_rows_with_hidden, sent_with_hidden}
-use Rattle.accounts.proofs.HiddenFollowed.{followed_with_hidden, premises_before}
+use Rattle.accounts.proofs.HiddenAccounts.{in_rows_with_hidden, sent_with_hidden, slots_with_hidden}
+use Rattle.accounts.proofs.HiddenFollowed.{followed_with_hidden}
 use Rattle.accounts.proofs.HiddenSlots.{accounts_below, has_with_hidden}
 use Rattle.accounts.proofs.Keeping.{images_hold_kept_rows, rows_are_kept}
-use Rattle.accounts.proofs.OneSlot.{slot_is_numbered}
+use Rattle.accounts.proofs.OneSlot.{slot_has_epochs}
 use Rattle.accounts.proofs.Openings.{file_in_epochs}
 use Rattle.accounts.proofs.Ordered.{slots_apart, turned_apart}
 use Rattle.accounts.proofs.Orderly.{are_in_rows, member_is}
@@ -42,7 +42,7 @@ module _ (run : Run) (scan : Scan) (files : List Filed) (hiddens : List Hidden) 
 
   each_is_numbered : (placed : Parcel → Option Place) (some : List Filed) → AllByRecursion (IsFollowedFile run scan) some → AllByRecursion AreNumbered (accounts_of placed some)
   each_is_numbered placed [] each = tt
-  each_is_numbered placed (file ∷ some) each = (slot_is_numbered run scan told.by placed file each.0, each_is_numbered placed some each.1)
+  each_is_numbered placed (file ∷ some) each = ((slot_has_epochs run scan told.by placed file each.0).numbered, each_is_numbered placed some each.1)
 
   module _ (placed : Parcel → Option Place) (places : ArePlaces placed workers run.trace.wires) where
     abbrev account : List SlotAccount
@@ -75,8 +75,7 @@ module _ (run : Run) (scan : Scan) (files : List Filed) (hiddens : List Hidden) 
     accounts_for = record {
       followed = followed_with_hidden run scan hiddens told.may_go (accounts_of placed files) told.behind.least below told.behind.slots (files_apart run scan files hiddens workers notes told placed)
           (are_followed run scan told.by placed files told.followed);
-      is = λ premises. account_with_hidden run scan hiddens told.may_go (accounts_of placed files) told.behind.least below told.behind.slots (files_apart run scan files hiddens workers notes told placed)
-          (is_account run scan told.by placed files told.followed places.one_each (premises_before run scan hiddens told.may_go (accounts_of placed files) premises));
+      slots = slots_with_hidden run scan hiddens told.may_go (accounts_of placed files) (are_slot_accounts run scan told.by placed files told.followed places.one_each);
       sent = sent_with_hidden (accounts_of placed files) hiddens run.trace.wires
           (sent_only placed run.trace.wires files (slots_apart 0 files told.followed.slots) (are_filed run scan files told.followed.each)
           (turned_apart files told.followed.slots (have_slots run scan files told.followed.each)) (are_in_epochs run scan files told.followed.each)

@@ -1,10 +1,11 @@
--- The account that is made of the files of a run is one of the run, where identities are kept and truncations are seen.
-use Rattle.std.proofs.Common.{◌≡◌, List, [], ◌∷◌, map, Option, Some}
+-- The account that is made of the files of a run is one of the run, slot by slot.
+use Rattle.std.proofs.Common.{◌≡◌, List, [], ◌∷◌, Option, Some}
 use Rattle.std.specs.List.{AllByRecursion, flat_map}
 use Rattle.kept_rows.specs.Account.{Place, SlotAccount}
-use Rattle.kept_rows.specs.Premises.{KeepsIdentity, Premises, SeesTruncationsOf}
+use Rattle.kept_rows.specs.Epochs.{AreEpochs}
+use Rattle.kept_rows.specs.Premises.{SlotPremises}
 use Rattle.kept_rows.specs.Run.{Run, Scan}
-use Rattle.kept_rows.specs.Telling.{IsAccount, IsSlotAccount}
+use Rattle.kept_rows.specs.Telling.{AreSlotAccounts, IsSlotAccount}
 use Rattle.wire_base.specs.declared.parcel.Parcel.{Parcel}
 use Rattle.accounts.specs.Filed.{Filed, HasItsSlot, IsFiled, accounts_of, turned_of}
 use Rattle.accounts.specs.FollowedFile.{AreFollowedFiles, IsFollowedFile}
@@ -13,8 +14,7 @@ use Rattle.accounts.specs.OneScan.{IsByOneScan}
 use Rattle.accounts.specs.Same.{same_parcel}
 use Rattle.accounts.specs.Turned.{parcels_told}
 use Rattle.accounts.proofs.Apart.{IsInEpochs, parcels_are_once}
-use Rattle.accounts.proofs.Following.{are_followed, followings_of}
-use Rattle.accounts.proofs.OneSlot.{slot_is_account}
+use Rattle.accounts.proofs.OneSlot.{slot_has_epochs, slot_is_account}
 use Rattle.accounts.proofs.Openings.{file_in_epochs, is_filed}
 use Rattle.accounts.proofs.Ordered.{turned_apart}
 use Rattle.accounts.proofs.Placing.{places_apart}
@@ -38,18 +38,20 @@ module _ (run : Run) (scan : Scan) where
       parcels_are_once (turned_of files) (turned_apart files are.slots (have_slots files are.each)) (are_in_epochs files are.each)
 
   module _ (by : IsByOneScan run scan) (placed : Parcel → Option Place) where
-    slots_are_accounts : (files : List Filed) → AllByRecursion (IsFollowedFile run scan) files → AllByRecursion (KeepsIdentity run) (followings_of placed files) →
-        AllByRecursion SeesTruncationsOf (followings_of placed files) → AllByRecursion (IsSlotAccount run) (accounts_of placed files)
-    slots_are_accounts [] each keeps sees = tt
-    slots_are_accounts (file ∷ files) each keeps sees =
-        (slot_is_account run scan by placed file each.0 keeps.0 sees.0, slots_are_accounts files each.1 keeps.1 sees.1)
+    slots_have_epochs : (files : List Filed) → AllByRecursion (IsFollowedFile run scan) files → AllByRecursion (AreEpochs run) (accounts_of placed files)
+    slots_have_epochs [] each = tt
+    slots_have_epochs (file ∷ files) each = (slot_has_epochs run scan by placed file each.0, slots_have_epochs files each.1)
+
+    slots_are_accounts : (files : List Filed) → AllByRecursion (IsFollowedFile run scan) files →
+        AllByRecursion (λ (one : SlotAccount). SlotPremises run one.following → IsSlotAccount run one) (accounts_of placed files)
+    slots_are_accounts [] each = tt
+    slots_are_accounts (file ∷ files) each = (slot_is_account run scan by placed file each.0, slots_are_accounts files each.1)
 
     -- one place has one parcel
-    pub is_account : (files : List Filed) → AreFollowedFiles run scan files →
-        ((parcel other : Parcel) (place : Place) → placed parcel ≡ Some place → placed other ≡ Some place → parcel ≡ other) →
-        Premises run (map (λ (one : SlotAccount). one.following) (accounts_of placed files)) → IsAccount run (accounts_of placed files)
-    is_account files are one_place premises = record {
-      followed = are_followed run scan by placed files are;
-      each = slots_are_accounts files are.each premises.identities premises.truncations;
+    pub are_slot_accounts : (files : List Filed) → AreFollowedFiles run scan files →
+        ((parcel other : Parcel) (place : Place) → placed parcel ≡ Some place → placed other ≡ Some place → parcel ≡ other) → AreSlotAccounts run (accounts_of placed files)
+    are_slot_accounts files are one_place = record {
+      epochs = slots_have_epochs files are.each;
+      each = slots_are_accounts files are.each;
       places_apart = places_apart placed one_place files (are_filed files are.each) (told_once files are);
     }

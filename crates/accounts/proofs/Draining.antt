@@ -1,15 +1,13 @@
 -- A run that is done drained its folder: each entry that an input covers was skipped, or its file was found with another key, or it has a
 -- row that stands at the end of its last complete line.
-use Rattle.std.proofs.Common.{◌≡◌, ◌⊎◌, inl, inr, ℕ, List, [], ◌∷◌, ◌++◌, Contains, map, Option, Some, refl, sym, ap, subst, ◌∙◌, append-nil}
+use Rattle.std.proofs.Common.{◌≡◌, ◌⊎◌, inl, inr, ℕ, List, [], ◌∷◌, ◌++◌, Contains, map, Option, Some, refl, sym, ap, subst, ◌∙◌}
 use Rattle.std.specs.Prelude.{slice_get}
 use Rattle.event_tree.specs.declared.input_rule.InputRule.{InputRule}
 use Rattle.file_identity.specs.AskedAgain.{HasOtherKey}
-use Rattle.file_looks.specs.Segment.{segments_of}
-use Rattle.file_looks.specs.Truncation.{SeesTruncations}
 use Rattle.harvester.specs.History.{Changed, History, Telling, told_to}
 use Rattle.kept_rows.specs.Account.{Place, SlotAccount}
-use Rattle.kept_rows.specs.Drained.{HasRow, IsChanged, IsDoneWith, IsDrained, IsPassedOver, IsReadToItsEnd}
-use Rattle.kept_rows.specs.Premises.{Premises, SeesTruncationsOf, segments_in}
+use Rattle.kept_rows.specs.Drained.{HasRow, IsChanged, IsDoneWith, IsDrainedBySlots, IsPassedOver, IsReadToItsEnd}
+use Rattle.kept_rows.specs.Premises.{SeesTruncationsOf}
 use Rattle.kept_rows.specs.Run.{Run, Scan}
 use Rattle.kept_rows.specs.Scans.{IsCovered, IsWhole, ShowsEntry, ShowsFileTo}
 use Rattle.kept_rows.specs.Trace.{IsTail}
@@ -25,7 +23,7 @@ use Rattle.wire_base.specs.declared.parcel.Parcel.{Parcel}
 use Rattle.wire_base.specs.declared.row.Row.{Row}
 use Rattle.accounts.specs.RunDone.{IsAmongFiles, IsFullScan, RunDone, IsToldWhole}
 use Rattle.accounts.specs.Accounted.{followed_tail}
-use Rattle.accounts.specs.Filed.{Filed, Opening, account_of, accounts_of, following_of, slot_in, tail_by, told_over, turned_in}
+use Rattle.accounts.specs.Filed.{Filed, Opening, account_of, accounts_of, slot_in, tail_by, told_over, turned_in}
 use Rattle.accounts.specs.FollowedFile.{IsFollowedFile, key_in, tail_of}
 use Rattle.accounts.specs.Hidden.{Hidden, with_hidden}
 use Rattle.accounts.specs.OneScan.{IsByOneScan}
@@ -35,9 +33,8 @@ use Rattle.accounts.specs.Taken.{Taken, acknowledged_in}
 use Rattle.accounts.specs.ToldFile.{IsReadThrough, IsToldToItsEnd}
 use Rattle.accounts.proofs.Accounts.{are_in_epochs, have_slots}
 use Rattle.accounts.proofs.BegunRows.{are_notes, begun_row, collected_in_all}
-use Rattle.accounts.proofs.Backing.{mapped_there, slot_found}
+use Rattle.accounts.proofs.Backing.{slot_found}
 use Rattle.accounts.proofs.Ends.{is_read_to_its_end}
-use Rattle.accounts.proofs.Following.{followings_of}
 use Rattle.accounts.proofs.LastEpoch.{epoch_is, offset_is}
 use Rattle.accounts.proofs.LastNotes.{moment_is}
 use Rattle.accounts.proofs.Lists.{last_of_each}
@@ -69,7 +66,7 @@ no_look : (fall : Look) (later : List Look) → fall ∷ later ≡ [] → ⊥
 no_look fall later none = cc
 
 module _ (run : Run) (scan : Scan) (files : List Filed) (hiddens : List Hidden) (workers : List Taken) (notes : RunNotes) (told : RunTold run scan files hiddens workers notes)
-    (done : RunDone run scan files workers notes) (placed : Parcel → Option Place) (premises : Premises run (followings_of placed files))
+    (done : RunDone run scan files workers notes) (placed : Parcel → Option Place)
     (rows : List Row) (over : AreRowsOver run.opening notes.all rows) where
   is_whole : IsWhole run scan
   is_whole = whole_by_entries run scan told.by done.full
@@ -80,11 +77,6 @@ module _ (run : Run) (scan : Scan) (files : List Filed) (hiddens : List Hidden) 
 
     whole : IsToldWhole run scan notes.all file
     whole = member_is (IsToldWhole run scan notes.all) files file done.whole among
-
-    sees : SeesTruncationsOf (account_of placed file).following
-    sees =
-        member_is SeesTruncationsOf (followings_of placed files) (account_of placed file).following premises.truncations
-        (mapped_there (λ (one : SlotAccount). one.following) (accounts_of placed files) (account_of placed file) (mapped_there (account_of placed) files file among))
 
     abbrev present : Telling
     present = (turned_in file).history.present
@@ -124,12 +116,10 @@ module _ (run : Run) (scan : Scan) (files : List Filed) (hiddens : List Hidden) 
           },
         )
 
-    row_is_read : IsToldToItsEnd file.turned.history → (row : Row) → IsItsRow row → IsReadToItsEnd run file.opened.rule (accounts_of placed files) row
+    row_is_read : IsToldToItsEnd file.turned.history → (row : Row) → IsItsRow row → IsReadToItsEnd SeesTruncationsOf run file.opened.rule (accounts_of placed files) row
     row_is_read ended row is =
-        is_read_to_its_end run placed files file.opened file.turned (tail_of file) file.changed sees.last_read (slots_apart 0 files told.followed.slots) once_there followed.told followed.gave
+        is_read_to_its_end run placed files file.opened file.turned (tail_of file) file.changed (slots_apart 0 files told.followed.slots) once_there followed.told followed.gave
         followed.in_range followed.file_is
-        (subst (SeesTruncations sees.last_read) (append-nil (segments_of file.opened.begin.base (kept_looks file.turned.history file.looks)))
-        (subst (λ (later : List Opening). SeesTruncations sees.last_read (segments_in (following_of (record file { later = later })))) whole.alone sees.seen))
         ended row (sym is.key_is) (is.epoch_so ∙ ap (λ (h : History). h.present.epoch) told_once) (is.offset_so ∙ ap (λ (h : History). told_to h.present) told_once)
       where
         -- it was opened once
@@ -145,7 +135,7 @@ module _ (run : Run) (scan : Scan) (files : List Filed) (hiddens : List Hidden) 
       rule_same : file.opened.rule ≡ rule
       rule_same = same_rule run.settings.inputs file.opened.begin.input input file.opened.rule rule followed.rule_is rule_is input_is
 
-      has_row : IsToldToItsEnd file.turned.history → HasRow run rule (accounts_of placed files) rows scan shown input
+      has_row : IsToldToItsEnd file.turned.history → HasRow SeesTruncationsOf run rule (accounts_of placed files) rows scan shown input
       has_row ended =
           let row = has_its_row.0 in
           let is = has_its_row.1 in
@@ -160,7 +150,7 @@ module _ (run : Run) (scan : Scan) (files : List Filed) (hiddens : List Hidden) 
             lists = whole.moment.entry;
             same_path = whole.moment.path_is ∙ path_is;
             moment_is = is.moment_so ∙ whole.moment.changed_is;
-            read = subst (λ (r : InputRule). IsReadToItsEnd run r (accounts_of placed files) row) rule_same (row_is_read ended row is);
+            read = subst (λ (r : InputRule). IsReadToItsEnd SeesTruncationsOf run r (accounts_of placed files) row) rule_same (row_is_read ended row is);
           }
 
       is_changed : file.turned.history.stage ≡ Changed → IsChanged run rule (accounts_of placed files) scan shown input
@@ -187,13 +177,13 @@ module _ (run : Run) (scan : Scan) (files : List Filed) (hiddens : List Hidden) 
             other_key = subst (λ (r : InputRule). HasOtherKey r file.opened.begin.key file.opened.begin.path file.opened.file lost.later) rule_same lost.other;
           }
 
-      is_done_with : IsReadThrough file.turned.history → IsDoneWith run (accounts_of placed files) rows rule scan shown input
+      is_done_with : IsReadThrough file.turned.history → IsDoneWith SeesTruncationsOf run (accounts_of placed files) rows rule scan shown input
       is_done_with (inl ended) = inr (inr (has_row ended))
       is_done_with (inr changed) = inr (inl (is_changed changed))
 
   -- ---- all entries
 
-  files_drained : IsDrained run (accounts_of placed files) rows
+  files_drained : IsDrainedBySlots run (accounts_of placed files) rows
   files_drained = record {
     scan = scan;
     first = ap (λ (l : List Scan). slice_get l 0) told.by.only;
@@ -202,7 +192,7 @@ module _ (run : Run) (scan : Scan) (files : List Filed) (hiddens : List Hidden) 
   }
     where
       by_case : (shown : Shown) (input : ℕ) (rule : InputRule) → ShowsEntry run.trace scan shown → slice_get run.settings.inputs input ≡ Some rule →
-          IsCovered rule.paths shown.entry.path → IsAmongFiles run scan files shown input ⊎ IsPassedOver run rule scan shown input → IsDoneWith run (accounts_of placed files) rows rule scan shown input
+          IsCovered rule.paths shown.entry.path → IsAmongFiles run scan files shown input ⊎ IsPassedOver run rule scan shown input → IsDoneWith SeesTruncationsOf run (accounts_of placed files) rows rule scan shown input
       by_case shown input rule entry rule_is covered (inr passed) = inl passed
       by_case shown input rule entry rule_is covered (inl here) =
           is_done_with here.file here.of_files shown input rule rule_is here.input_is here.path_is here.number here.shows (whole here.file here.of_files).read_through
@@ -234,7 +224,7 @@ module _ (run : Run) (scan : Scan) (files : List Filed) (hiddens : List Hidden) 
       other_key = changed.other_key;
     }
 
-    read_with_hidden : (row : Row) → IsReadToItsEnd run rule (accounts_of placed files) row → IsReadToItsEnd run rule account row
+    read_with_hidden : (row : Row) → IsReadToItsEnd SeesTruncationsOf run rule (accounts_of placed files) row → IsReadToItsEnd SeesTruncationsOf run rule account row
     read_with_hidden row read = record {
       slot = read.slot;
       one = read.one;
@@ -251,7 +241,7 @@ module _ (run : Run) (scan : Scan) (files : List Filed) (hiddens : List Hidden) 
       offset_is = read.offset_is;
     }
 
-    row_with_hidden : HasRow run rule (accounts_of placed files) rows scan shown input → HasRow run rule account rows scan shown input
+    row_with_hidden : HasRow SeesTruncationsOf run rule (accounts_of placed files) rows scan shown input → HasRow SeesTruncationsOf run rule account rows scan shown input
     row_with_hidden has = record {
       key = has.key;
       number = has.number;
@@ -266,12 +256,12 @@ module _ (run : Run) (scan : Scan) (files : List Filed) (hiddens : List Hidden) 
       read = read_with_hidden has.row has.read;
     }
 
-    done_with_hidden : IsDoneWith run (accounts_of placed files) rows rule scan shown input → IsDoneWith run account rows rule scan shown input
+    done_with_hidden : IsDoneWith SeesTruncationsOf run (accounts_of placed files) rows rule scan shown input → IsDoneWith SeesTruncationsOf run account rows rule scan shown input
     done_with_hidden (inl passed) = inl passed
     done_with_hidden (inr (inl changed)) = inr (inl (changed_with_hidden changed))
     done_with_hidden (inr (inr has)) = inr (inr (row_with_hidden has))
 
-  pub is_drained : IsDrained run account rows
+  pub is_drained : IsDrainedBySlots run account rows
   unfolding files_drained
   is_drained = record {
     scan = scan;

@@ -20,6 +20,7 @@ use Rattle.harvester.specs.Looked.{IsReadBy}
 use Rattle.kept_rows.specs.Account.{EpochAccount, Place, Reading, epoch_at}
 use Rattle.kept_rows.specs.Drained.{IsReadToItsEnd}
 use Rattle.kept_rows.specs.Epochs.{first_sight_of}
+use Rattle.kept_rows.specs.Premises.{SeesTruncationsOf}
 use Rattle.kept_rows.specs.Run.{Run}
 use Rattle.kept_rows.specs.Scans.{AreDistinct}
 use Rattle.line_cutter.specs.Lines.{complete_lines}
@@ -42,7 +43,7 @@ use Rattle.told_events.specs.Told.{ToldEvent, spans_of}
 use Rattle.wire_base.specs.declared.parcel.Parcel.{Parcel}
 use Rattle.wire_base.specs.declared.row.Row.{Row}
 use Rattle.accounts.specs.Accounted.{place_in}
-use Rattle.accounts.specs.Filed.{Filed, account_of, accounts_of, slot_in}
+use Rattle.accounts.specs.Filed.{Filed, account_of, accounts_of, following_of, slot_in}
 use Rattle.accounts.specs.FollowedFile.{MayReopenAt}
 use Rattle.accounts.specs.Opened.{Opened}
 use Rattle.accounts.specs.Parted.{kept_looks}
@@ -199,14 +200,14 @@ ends_there h file part in_range tells all_told read some = by_bytes h.present.by
 -- ---- the row
 
 -- a file that was opened once and told to its end
-pub is_read_to_its_end : (run : Run) (placed : Parcel → Option Place) (files : List Filed) (opened : Opened) (turned : Turned) (told : TailHistory) (changed last : ℕ) →
+pub is_read_to_its_end : (run : Run) (placed : Parcel → Option Place) (files : List Filed) (opened : Opened) (turned : Turned) (told : TailHistory) (changed : ℕ) →
     AreDistinct (map slot_in files) → Contains files (record { opened = opened; turned = turned; looks = told.looks; changed = changed; later = [] }) →
     IsToldFile run.settings.processors opened run.trace.moments turned (Some told) → GivesKey opened.rule opened.begin.key opened.begin.path opened.file opened.asked →
     IsGroupRule opened.rule.multiline → slice_get run.trace.files opened.number ≡ Some opened.file →
-    SeesTruncations last (segments_of opened.begin.base (kept_looks turned.history told.looks)) → IsToldToItsEnd turned.history →
+    IsToldToItsEnd turned.history →
     (row : Row) → opened.begin.key ≡ row.key → row.epoch.0 ≡ turned.history.present.epoch → row.offset ≡ told_to turned.history.present →
-    IsReadToItsEnd run opened.rule (accounts_of placed files) row
-is_read_to_its_end run placed files opened turned told changed last apart among is gave in_range file_is seen ended row key epoch offset =
+    IsReadToItsEnd SeesTruncationsOf run opened.rule (accounts_of placed files) row
+is_read_to_its_end run placed files opened turned told changed apart among is gave in_range file_is ended row key epoch offset =
     let joined = told_joined run.settings.processors opened run.trace.moments turned told gave.asking is in
     let h = (joined_turned turned).history in
     let looked = joined.looked in
@@ -216,8 +217,6 @@ is_read_to_its_end run placed files opened turned told changed last apart among 
     (subst MayReopenAt (sym ended.ended) tt) in
     let on = (file_is_read run.settings.processors opened run.trace.moments turned told gave is).on in
     let looks : AreLooks opened.file told.begun kept = kept_are_looks h opened.file told.begun told.looks (subst (λ (f : File). AreLooks f told.begun told.looks) is.tail.file is.tells) in
-    let lives = each_reads opened.file told.begun opened.begin.base last kept looks on seen in
-    let some = last_reads opened.file last exact.front exact.last [] (subst (EachReadsLife opened.file last) exact.segments lives) in
     let found : HasLast (place_in placed opened.begin.slot) (part_of opened.opening opened.rule.multiline h.present exact.last) h.present.start
     (epoch_at h.present.epoch (account_of placed filed).epochs) =
     subst (λ (l : List Segment). HasLast (place_in placed opened.begin.slot) (part_of opened.opening opened.rule.multiline h.present exact.last) h.present.start
@@ -229,7 +228,11 @@ is_read_to_its_end run placed files opened turned told changed last apart among 
     let part = part_of opened.opening opened.rule.multiline h.present exact.last in
     let reading : Reading = record { opening = opened.opening; segment = exact.last } in
     let present_told = last_of_each (IsTelling (rules_in h)) h.past h.present is.epochs in
-    let ends = ends_there h opened.file part (subst (λ (r : InputRule). IsGroupRule r.multiline) (sym is.history.rule) in_range) present_told ended.all_told exact.present some in
+    let ends : SeesTruncationsOf (following_of filed) → whole_lines_end h.rule.lines (life_of opened.file (life_by (part ∷ []))) h.present.start (read_to h.present) ≡ told_to h.present = λ sees.
+        let seen : SeesTruncations sees.last_read (segments_of opened.begin.base kept) = subst (SeesTruncations sees.last_read) (append-nil (segments_of opened.begin.base kept)) sees.seen in
+        let lives = each_reads opened.file told.begun opened.begin.base sees.last_read kept looks on seen in
+        let some = last_reads opened.file sees.last_read exact.front exact.last [] (subst (EachReadsLife opened.file sees.last_read) exact.segments lives) in
+        ends_there h opened.file part (subst (λ (r : InputRule). IsGroupRule r.multiline) (sym is.history.rule) in_range) present_told ended.all_told exact.present some in
     record {
       slot = slot_in filed;
       one = account_of placed filed;
@@ -243,7 +246,7 @@ is_read_to_its_end run placed files opened turned told changed last apart among 
       found = exact.end_look ended.ended;
       file = opened.file;
       file_is = file_is;
-      offset_is = offset ∙ sym ends
+      offset_is = λ sees. offset ∙ sym (ends sees)
           ∙ ap (λ (lines : LineRule). whole_lines_end lines (life_of opened.file (life_by (part ∷ []))) h.present.start (read_to h.present)) (ap (λ (r : InputRule). r.lines) is.history.rule)
           ∙ (λ k. whole_lines_end opened.rule.lines (life_of opened.file (life_by (sym found.parts_are k))) (sym found.start_is k) (read_to h.present));
     }

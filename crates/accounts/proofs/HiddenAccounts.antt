@@ -1,24 +1,25 @@
 -- The account of a run is one with the slots of hidden rows: each of them is accounted for, and what was there is as it was.
-use Rattle.std.proofs.Common.{◌≡◌, inl, ℕ, ◌<◌, List, [], ◌∷◌, ◌++◌, Option, Some, None, refl, sym, ap, subst, arith, append-nil, ◌∙◌}
+use Rattle.std.proofs.Common.{◌≡◌, inl, ℕ, List, [], ◌∷◌, ◌++◌, Option, Some, None, refl, sym, ap, subst, arith, append-nil, ◌∙◌}
 use Rattle.std.specs.List.{AllByRecursion, Contains, flat_map}
 use Rattle.std.specs.Option.{option_map_or}
 use Rattle.kept_rows.proofs.Growing.{each_on, stays_told}
-use Rattle.kept_rows.specs.Account.{AccountedEvent, EpochAccount, Place, SlotAccount, places_in, places_in_epoch, slot_of}
+use Rattle.kept_rows.specs.Account.{AccountedEvent, EpochAccount, Place, SlotAccount, places_in, places_in_epoch}
 use Rattle.kept_rows.specs.Acknowledged.{talks_of}
 use Rattle.kept_rows.specs.Backed.{AreInRows, IsInOneRow}
 use Rattle.kept_rows.specs.Epochs.{AreEpochs, AreNumbered}
 use Rattle.kept_rows.specs.Going.{AccountGoesOn, EpochGoesOn, EpochsGoOn, PlaceGoesOn, ToldGoesOn}
 use Rattle.kept_rows.specs.Lost.{WasRemovedRightly}
+use Rattle.kept_rows.specs.Premises.{SlotPremises}
 use Rattle.kept_rows.specs.Run.{Run, Scan}
 use Rattle.kept_rows.specs.Scans.{AreDistinct}
 use Rattle.kept_rows.specs.Sent.{IsSentOnly, SendOnlyTold}
-use Rattle.kept_rows.specs.Telling.{IsAccount, IsSlotAccount}
+use Rattle.kept_rows.specs.Telling.{AreSlotAccounts, IsSlotAccount}
 use Rattle.kept_rows.specs.Trace.{WireTold}
 use Rattle.wire_base.specs.declared.row.Row.{Row}
 use Rattle.wire_base.specs.declared.talk.Piece.{Piece}
-use Rattle.accounts.specs.Hidden.{AreHiddenFrom, Hidden, IsApartFrom, MayAllGo, MayGo, hidden_account, hidden_accounts, with_hidden}
+use Rattle.accounts.specs.Hidden.{Hidden, MayAllGo, MayGo, hidden_account, hidden_accounts, with_hidden}
 use Rattle.accounts.specs.Numbers.{AreAllCounted, AreNumbersOf, ArePlacedIn, IsPlacedAs, all_events, told_in_slot}
-use Rattle.accounts.proofs.HiddenFollowed.{each_may_go, first_scan, followed_with_hidden}
+use Rattle.accounts.proofs.HiddenFollowed.{each_may_go, first_scan}
 use Rattle.accounts.proofs.HiddenSlots.{found_with_hidden, has_with_hidden}
 use Rattle.accounts.proofs.Lists.{flat_map_both}
 use Rattle.accounts.proofs.Numbers.{counted_with, numbers_with}
@@ -108,12 +109,12 @@ module _ (run : Run) (scan : Scan) (hiddens : List Hidden) (may : MayAllGo run s
         went = record { why = inl (removed_rightly run.trace.wires hidden goes, omega arith) };
       }
 
-  pub account_with_hidden : (account : List SlotAccount) (least : ℕ) → AllByRecursion (λ (one : SlotAccount). slot_of one < least) account → AreHiddenFrom least hiddens →
-      AllByRecursion (IsApartFrom hiddens) account → IsAccount run account → IsAccount run (with_hidden account hiddens)
-  account_with_hidden account least below rise apart is = record {
-    followed = followed_with_hidden run scan hiddens may account least below rise apart is.followed;
-    each = has_with_hidden (IsSlotAccount run) account hiddens is.each hidden_is_accounted;
-    places_apart = subst AreDistinct (sym (same_places account hiddens)) is.places_apart;
+  -- nothing is supposed of them
+  pub slots_with_hidden : (account : List SlotAccount) → AreSlotAccounts run account → AreSlotAccounts run (with_hidden account hiddens)
+  slots_with_hidden account are = record {
+    epochs = has_with_hidden (AreEpochs run) account hiddens are.epochs (λ hidden there. its_epochs run hidden);
+    each = has_with_hidden (λ (one : SlotAccount). SlotPremises run one.following → IsSlotAccount run one) account hiddens are.each (λ hidden there premises. hidden_is_accounted hidden there);
+    places_apart = subst AreDistinct (sym (same_places account hiddens)) are.places_apart;
   }
 
 -- ---- only told events were sent

@@ -23,10 +23,6 @@ unmapped : (P : Following → Type 0) (account : List SlotAccount) → AllByRecu
 unmapped P [] each = tt
 unmapped P (one ∷ account) each = (each.0, unmapped P account each.1)
 
-in_front : (P : Following → Type 0) (account more : List SlotAccount) → AllByRecursion P (followings_in (account ++ more)) → AllByRecursion P (followings_in account)
-in_front P [] more each = tt
-in_front P (one ∷ account) more each = (each.0, in_front P account more each.1)
-
 front_and_behind : (P : Following → Type 0) (account more : List SlotAccount) → AllByRecursion P (followings_in account) → AllByRecursion P (followings_in more) →
     AllByRecursion P (followings_in (account ++ more))
 front_and_behind P [] more front behind = behind
@@ -154,12 +150,6 @@ module _ (run : Run) (scan : Scan) (hiddens : List Hidden) (may : MayAllGo run s
         }
 
   -- ---- what is supposed of files is the same
-
-  pub premises_before : (account : List SlotAccount) → Premises run (followings_in (with_hidden account hiddens)) → Premises run (followings_in account)
-  premises_before account premises = record {
-    identities = in_front (KeepsIdentity run) account (hidden_accounts hiddens) premises.identities;
-    truncations = in_front SeesTruncationsOf account (hidden_accounts hiddens) premises.truncations;
-  }
 
   hidden_keeps_identity : (hidden : Hidden) → Contains hiddens hidden → KeepsIdentity run (hidden_account hidden).following
   hidden_keeps_identity hidden there = record {

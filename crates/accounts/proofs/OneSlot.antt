@@ -6,8 +6,8 @@ use Rattle.std.proofs.lemmas.Bool.{cases_order}
 use Rattle.event_tree.specs.declared.input_rule.InputRule.{InputRule}
 use Rattle.harvester.specs.History.{IsTelling}
 use Rattle.kept_rows.specs.Account.{FollowedTail, Place, SlotAccount}
-use Rattle.kept_rows.specs.Epochs.{AreNumbered}
-use Rattle.kept_rows.specs.Premises.{KeepsIdentity, SeesTruncationsOf, TailKeepsIdentity}
+use Rattle.kept_rows.specs.Epochs.{AreEpochs}
+use Rattle.kept_rows.specs.Premises.{KeepsIdentity, SlotPremises, TailKeepsIdentity}
 use Rattle.kept_rows.specs.Run.{Run, Scan}
 use Rattle.kept_rows.specs.Scans.{IsBefore, IsFirstPath, ShowsFile, ShowsKey, moment_in}
 use Rattle.kept_rows.specs.Telling.{IsNotedMoment, IsSlotAccount, IsTailOf, MayEnd, opening_moment}
@@ -175,13 +175,14 @@ module _ (run : Run) (scan : Scan) (by : IsByOneScan run scan) (placed : Parcel 
             },
           )
 
-  pub slot_is_numbered : AreNumbered (account_of placed file)
-  slot_is_numbered =
-      (account_has_epochs run file.opened.rule.multiline (place_in placed file.opened.begin.slot) (following_of file) file.opened.number file.changed (tails_in file) refl
-      (file_goes_on run scan file is by)).numbered
+  pub slot_has_epochs : AreEpochs run (account_of placed file)
+  slot_has_epochs =
+      account_has_epochs run file.opened.rule.multiline (place_in placed file.opened.begin.slot) (following_of file) file.opened.number file.changed (tails_in file) refl
+      (file_goes_on run scan file is by)
 
-  pub slot_is_account : KeepsIdentity run (following_of file) → SeesTruncationsOf (following_of file) → IsSlotAccount run (account_of placed file)
-  slot_is_account keeps sees =
+  pub slot_is_account : SlotPremises run (following_of file) → IsSlotAccount run (account_of placed file)
+  slot_is_account premises =
+      let keeps = premises.identity in
       let openings = first_opening file ∷ file.later in
       let of : AllByRecursion (IsShownOpening run file.opened) openings = (
         record { is = first_is_opening run scan file is; shown = first_shown run scan file is by },
@@ -198,9 +199,9 @@ module _ (run : Run) (scan : Scan) (by : IsByOneScan run scan) (placed : Parcel 
         rule_is = is.rule_is;
         moment = is_noted_moment;
         of_one_file = of_one_file run by.once placed file keeps same_first is.file_is openings of own;
-        epochs = account_has_epochs run file.opened.rule.multiline (place_in placed file.opened.begin.slot) (following_of file) file.opened.number file.changed (tails_in file) refl on;
+        epochs = slot_has_epochs;
         told = account_is_told run (rules_of file.opened.rule run.settings.processors) (place_in placed file.opened.begin.slot) (following_of file) file.opened.number file.changed (tails_in file)
             file.opened.file is.in_range is.file_is refl on (are_told run by.once placed file keeps same_first is.file_is openings of own)
-            (are_looked run by.once placed file keeps same_first is.file_is openings of own) sees (are_shown run by.once placed file keeps same_first is.file_is openings of own);
+            (are_looked run by.once placed file keeps same_first is.file_is openings of own) premises.truncations (are_shown run by.once placed file keeps same_first is.file_is openings of own);
         went = tt;
       }

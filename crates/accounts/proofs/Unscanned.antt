@@ -48,7 +48,7 @@ module _ (run : Run) (is : IsUnscanned run) where
   pub unscanned_is_accounted_for : AccountsFor run [] []
   unscanned_is_accounted_for = record {
     followed = follows_nothing;
-    is = λ premises. record { followed = follows_nothing; each = tt; places_apart = tt };
+    slots = record { epochs = tt; each = tt; places_apart = tt };
     sent = silent_send_nothing run.trace.wires is.silent;
     orderly = none_orderly;
     ends = rows_are_kept [] run.opening run.trace.wires [] tt tt tt;

@@ -1,5 +1,5 @@
--- A run that an account accounts for (this project's profile): its files are followed so, the account is one of the run where files
--- keep their identities and truncations are seen, only told events were sent, and rows over its notes are kept, one for each key that
+-- A run that an account accounts for (this project's profile): its files are followed so, each slot is as the run told it where its file
+-- keeps its identity and its truncations are seen, only told events were sent, and rows over its notes are kept, one for each key that
 -- was begun and has not lost it rightly. The notes are those of its keeper.
 use Rattle.std.specs.Prelude.{◌≡◌, ◌⊎◌, Contains, List, map}
 use Rattle.std.specs.List.{AllByRecursion}
@@ -8,10 +8,9 @@ use Rattle.kept_rows.specs.Backed.{AreRowsOverFronts}
 use Rattle.kept_rows.specs.Followed.{AreFollowed}
 use Rattle.kept_rows.specs.Kept.{IsKept, IsKeptInImage}
 use Rattle.kept_rows.specs.Lost.{IsRightlyLost}
-use Rattle.kept_rows.specs.Premises.{Premises}
 use Rattle.kept_rows.specs.Run.{Run}
 use Rattle.kept_rows.specs.Sent.{SendOnlyTold}
-use Rattle.kept_rows.specs.Telling.{IsAccount}
+use Rattle.kept_rows.specs.Telling.{AreSlotAccounts}
 use Rattle.ship_core.specs.Orderly.{AreOrderly}
 use Rattle.ship_core.specs.RowsOver.{AreRowsOver}
 use Rattle.wire_base.specs.declared.note.Note.{Note}
@@ -28,7 +27,7 @@ followings_in account = map (λ (one : SlotAccount). one.following) account
 
 pub record AccountsFor (run : Run) (account : List SlotAccount) (notes : List Note) : Type 0 where
   pub followed : AreFollowed run (followings_in account)
-  pub is : Premises run (followings_in account) → IsAccount run account
+  pub slots : AreSlotAccounts run account
   pub sent : SendOnlyTold account run.trace.wires
   pub orderly : AreOrderly notes
   -- rows over all the notes, with which a run ends

@@ -15,7 +15,7 @@ use Rattle.told_events.specs.Licence.{whole_lines_end}
 use Rattle.wire_base.specs.declared.row.Row.{Row}
 use Rattle.kept_rows.specs.Account.{EpochAccount, FollowedTail, Reading, SlotAccount}
 use Rattle.kept_rows.specs.Acknowledged.{WiresGoOn}
-use Rattle.kept_rows.specs.Drained.{HasRow, IsChanged, IsDoneWith, IsDrained, IsOfNoOther, IsPassedOver, IsReadToItsEnd, WasOpenedWith}
+use Rattle.kept_rows.specs.Drained.{HasRow, IsChanged, IsDoneWith, IsDrained, IsOfNoOther, IsPassedOver, IsReadToItsEnd, NothingSupposed, WasOpenedWith}
 use Rattle.file_identity.specs.AskedAgain.{HasOtherKey}
 use Rattle.kept_rows.specs.Going.{AccountReadsOn, EpochReadsOn, EpochRests, EpochsGoOn, IsMadeFrom, ReadingsGoOn, RunGoesOn, SlotRests, TailGoesOn, TailsGoOn}
 use Rattle.kept_rows.specs.Kept.{ClosesSettled}
@@ -192,7 +192,7 @@ same_end before now lines one same epoch grown file place on =
     ∙ ap (λ (s : ℕ). whole_lines_end lines (life_of file epoch.life) s place) on.goes_on.same_start
 
 row_stays : (before now : Run) (rule : InputRule) (account later : List SlotAccount) (row : Row) → RunGoesOn before now → AccountReadsOn account later →
-    IsReadToItsEnd before rule account row → IsReadToItsEnd now rule later row
+    IsReadToItsEnd NothingSupposed before rule account row → IsReadToItsEnd NothingSupposed now rule later row
 row_stays before now rule account later row on reads read =
     let one = reads read.slot read.one read.slot_is in
     let epoch = epoch_on EpochReadsOn keeps_epoch read.one.epochs one.now.epochs row.epoch.0 read.epoch one.on.epochs read.epoch_is in
@@ -210,11 +210,11 @@ row_stays before now rule account later row on reads read =
       found = end_look_stays read.reading.segment reading.now.segment read.place reading.on read.found;
       file = read.file;
       file_is = ap (λ (l : List File). slice_get l one.now.number) on.trace.same_files ∙ ap (slice_get before.trace.files) one.on.same_number ∙ read.file_is;
-      offset_is = read.offset_is ∙ sym (same_end before now rule.lines read.one one.now read.epoch epoch.now read.file read.place epoch.on);
+      offset_is = λ none. read.offset_is none ∙ sym (same_end before now rule.lines read.one one.now read.epoch epoch.now read.file read.place epoch.on);
     }
 
 has_row_stays : (before now : Run) (rule : InputRule) (account later : List SlotAccount) (rows : List Row) (scan : Scan) (shown : Shown) (input : ℕ) → RunGoesOn before now →
-    AccountReadsOn account later → IsWhole before scan → HasRow before rule account rows scan shown input → HasRow now rule later rows scan shown input
+    AccountReadsOn account later → IsWhole before scan → HasRow NothingSupposed before rule account rows scan shown input → HasRow NothingSupposed now rule later rows scan shown input
 has_row_stays before now rule account later rows scan shown input on reads whole has = record {
   key = has.key;
   number = has.number;
@@ -231,7 +231,7 @@ has_row_stays before now rule account later rows scan shown input on reads whole
 
 done_with_stays : (before now : Run) (account later : List SlotAccount) (rows : List Row) (rule : InputRule) (scan : Scan) (shown : Shown) (input : ℕ) → RunGoesOn before now →
     AccountReadsOn account later → IsWhole before scan → slice_get before.settings.inputs input ≡ Some rule →
-    IsDoneWith before account rows rule scan shown input → IsDoneWith now later rows rule scan shown input
+    IsDoneWith NothingSupposed before account rows rule scan shown input → IsDoneWith NothingSupposed now later rows rule scan shown input
 done_with_stays before now account later rows rule scan shown input on reads whole rule_is (inl passed) = inl (passed_over_stays before now rule scan shown input on whole rule_is passed)
 done_with_stays before now account later rows rule scan shown input on reads whole rule_is (inr (inl changed)) =
     inr (inl (changed_stays before now rule account later scan shown input on reads whole changed))

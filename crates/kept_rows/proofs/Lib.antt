@@ -10,6 +10,7 @@ pub mod Keys
 pub mod Links
 pub mod Showing
 pub mod Storing
+pub mod Supposing
 pub mod Worked
 mod Lives
 mod Older

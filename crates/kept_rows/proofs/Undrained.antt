@@ -17,7 +17,7 @@ use Rattle.told_events.specs.Licence.{whole_lines_end}
 use Rattle.wire_base.specs.declared.row.Row.{Row}
 use Rattle.wire_base.specs.KeyOrder.{compare}
 use Rattle.kept_rows.specs.Account.{EpochAccount, FollowedTail, Reading, SlotAccount}
-use Rattle.kept_rows.specs.Drained.{HasRow, IsChanged, IsDoneWith, IsDrained, IsPassedOver, WasOpenedWith}
+use Rattle.kept_rows.specs.Drained.{HasRow, IsChanged, IsDoneWith, IsDrained, IsPassedOver, NothingSupposed, WasOpenedWith}
 use Rattle.kept_rows.specs.Run.{Asking, Scan}
 use Rattle.kept_rows.specs.Scans.{Gave, ShowsEntry, ShowsFileTo}
 use Rattle.kept_rows.proofs.Backing.{epoch_in, slot_in}
@@ -95,7 +95,7 @@ changed_no changed =
     let same = only_one tail changed.tail of_slot in
     changed.lost (ap (λ (t : FollowedTail). t.beyond) (sym same))
 
-row_no : HasRow run input (slot_account ∷ []) (short_row ∷ []) scan shown 0 → ⊥
+row_no : HasRow NothingSupposed run input (slot_account ∷ []) (short_row ∷ []) scan shown 0 → ⊥
 row_no has =
     let read = has.read in
     let one = only_one slot_account read.one (slot_in (slot_account ∷ []) read.slot read.one read.slot_is).0 in
@@ -109,13 +109,13 @@ row_no has =
     let same_file : file ≡ read.file = cc in
     let same_row = only_one short_row has.row has.of_rows in
     let two : 2 ≡ 4 =
-    ap (λ (r : Row). r.offset) same_row ∙ read.offset_is
+    ap (λ (r : Row). r.offset) same_row ∙ read.offset_is tt
     ∙ ap (λ (n : ℕ). whole_lines_end input.lines (life_of read.file read.epoch.life) read.epoch.start n) four
     ∙ ap (λ (e : EpochAccount). whole_lines_end input.lines (life_of read.file e.life) e.start 4) (sym epoch)
     ∙ ap (λ (f : File). whole_lines_end input.lines (life_of f 0) 0 4) (sym same_file) in
     absurd (omega (arith, two))
 
-done_no : IsDoneWith run (slot_account ∷ []) (short_row ∷ []) input scan shown 0 → ⊥
+done_no : IsDoneWith NothingSupposed run (slot_account ∷ []) (short_row ∷ []) input scan shown 0 → ⊥
 done_no (inl passed) = passed_over_no passed
 done_no (inr (inl changed)) = changed_no changed
 done_no (inr (inr has)) = row_no has
@@ -124,5 +124,5 @@ pub undrained_is_refused : IsDrained run (slot_account ∷ []) (short_row ∷ []
 undrained_is_refused drained =
     let q : Some scan ≡ Some drained.scan = drained.first in
     let same : scan ≡ drained.scan = cc in
-    done_no (subst (λ (s : Scan). IsDoneWith run (slot_account ∷ []) (short_row ∷ []) input s shown 0) (sym same)
+    done_no (subst (λ (s : Scan). IsDoneWith NothingSupposed run (slot_account ∷ []) (short_row ∷ []) input s shown 0) (sym same)
     (drained.each shown 0 input (subst (λ (s : Scan). ShowsEntry trace s shown) same entry) refl is_covered))

@@ -42,17 +42,18 @@ use Rattle.wire_base.specs.KeyOrder.{compare}
 use Rattle.kept_rows.specs.Account.{AccountedEvent, EpochAccount, FollowedTail, Following, Place, Reading, SlotAccount}
 use Rattle.kept_rows.specs.Acknowledged.{IsAcknowledgedAt}
 use Rattle.kept_rows.specs.Askings.{AsksInOrder}
-use Rattle.kept_rows.specs.Drained.{IsDoneWith, IsDrained}
+use Rattle.kept_rows.specs.Drained.{IsDoneWith, IsDrained, IsDrainedBySlots, NothingSupposed}
 use Rattle.kept_rows.specs.Epochs.{GoesOnFrom, WasListedWith}
 use Rattle.file_identity.specs.AskedAgain.{StillHasKey}
 use Rattle.kept_rows.specs.Followed.{AreFollowed, EachOpeningServes}
 use Rattle.kept_rows.specs.Kept.{IsKept}
-use Rattle.kept_rows.specs.Premises.{Premises, TailKeepsIdentity, WasKnown}
+use Rattle.kept_rows.specs.Premises.{Premises, SeesTruncationsOf, TailKeepsIdentity, WasKnown}
 use Rattle.kept_rows.specs.Run.{Asking, Run, Scan}
 use Rattle.kept_rows.specs.Scans.{AllButTheLast, AreAsked, AsksFor, Gave, IsAsked, IsCovered, IsFirstPath, IsNoFingerprint, IsWhole, ShowsEntry, ShowsFile, ShowsFileTo}
 use Rattle.kept_rows.specs.Sent.{SendOnlyTold, Sending, ToldAt}
-use Rattle.kept_rows.specs.Telling.{AreToldIn, IsAccount, IsPathOf, IsToldOf}
+use Rattle.kept_rows.specs.Telling.{AreSlotAccounts, AreToldIn, IsAccount, IsPathOf, IsToldOf}
 use Rattle.kept_rows.specs.Trace.{IsTail, Trace, WireTold}
+use Rattle.kept_rows.proofs.Supposing.{still_drained}
 
 -- ---- the run
 
@@ -394,6 +395,10 @@ is_account = record {
       | inr nothing ↦ none_there (at 0) nothing
     ]
 
+-- so it is slot by slot
+pub are_slot_accounts : AreSlotAccounts run (slot_account ∷ [])
+are_slot_accounts = record { epochs = (is_account.each.0.epochs, tt); each = ((λ supposed. is_account.each.0), tt); places_apart = is_account.places_apart }
+
 -- ---- the row at the end is kept
 
 pub window : IsWindow payloads
@@ -431,7 +436,7 @@ end_look = record {
   stands_there = refl;
 }
 
-done_with : IsDoneWith run (slot_account ∷ []) (row ∷ []) input scan shown 0
+done_with : IsDoneWith NothingSupposed run (slot_account ∷ []) (row ∷ []) input scan shown 0
 done_with = inr (inr (record {
   key = key;
   number = 0;
@@ -456,7 +461,7 @@ done_with = inr (inr (record {
     found = end_look;
     file = file;
     file_is = refl;
-    offset_is = refl;
+    offset_is = λ none. refl;
   };
 }))
 
@@ -464,13 +469,17 @@ pub is_drained : IsDrained run (slot_account ∷ []) (row ∷ [])
 is_drained = record { scan = scan; first = refl; whole = whole; each = by_input }
   where
     by_input : (other : Shown) (number : ℕ) (rule : InputRule) → ShowsEntry trace scan other → slice_get settings.inputs number ≡ Some rule →
-        IsCovered rule.paths other.entry.path → IsDoneWith run (slot_account ∷ []) (row ∷ []) rule scan other number
+        IsCovered rule.paths other.entry.path → IsDoneWith NothingSupposed run (slot_account ∷ []) (row ∷ []) rule scan other number
     by_input other zero rule shows is in_glob =
         let q : Some input ≡ Some rule = is in
         let same : input ≡ rule = cc in
-        subst (λ (s : Shown). IsDoneWith run (slot_account ∷ []) (row ∷ []) rule scan s 0) (only_entry other shows)
-        (subst (λ (r : InputRule). IsDoneWith run (slot_account ∷ []) (row ∷ []) r scan shown 0) same done_with)
+        subst (λ (s : Shown). IsDoneWith NothingSupposed run (slot_account ∷ []) (row ∷ []) rule scan s 0) (only_entry other shows)
+        (subst (λ (r : InputRule). IsDoneWith NothingSupposed run (slot_account ∷ []) (row ∷ []) r scan shown 0) same done_with)
     by_input other (suc number) rule shows is in_glob = absurd (let q : None ≡ Some rule = is in cc)
+
+-- so it is slot by slot
+pub drained_by_slots : IsDrainedBySlots run (slot_account ∷ []) (row ∷ [])
+drained_by_slots = still_drained NothingSupposed SeesTruncationsOf run (slot_account ∷ []) (row ∷ []) (λ one there sees. tt) is_drained
 
 -- ---- only told events were sent
 

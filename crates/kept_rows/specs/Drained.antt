@@ -1,7 +1,7 @@
 -- A drained folder (this project's profile): the first scan is whole, and each entry that a glob of an input covers was
 -- skipped for its named reason, or its file was found with another key in a new life, or its key has a row that stands
--- at the end of the last complete line before the file's end.
-use Rattle.std.specs.Prelude.{◌≡◌, ◌≢◌, ◌⊎◌, ℕ, max, List, [], ◌∷◌, ◌++◌, Contains, slice_get, Option, Some, None}
+-- at the end of the last complete line before the file's end. Only that it stands there may suppose something, of its slot.
+use Rattle.std.specs.Prelude.{◌≡◌, ◌≢◌, ◌⊎◌, ℕ, max, List, [], ◌∷◌, ◌++◌, map, Contains, slice_get, Option, Some, None}
 use Rattle.std.specs.List.{AllByRecursion}
 use Rattle.std.specs.declared.cmp.Ordering.TheVariants.{Less}
 use Rattle.event_tree.specs.declared.input_rule.InputRule.{InputRule}
@@ -13,12 +13,14 @@ use Rattle.outside.specs.Files.{File, life_of}
 use Rattle.told_events.specs.Licence.{whole_lines_end}
 use Rattle.wire_base.specs.KeyOrder.{compare}
 use Rattle.wire_base.specs.declared.row.Row.{Row}
-use Rattle.kept_rows.specs.Account.{EpochAccount, FollowedTail, Reading, SlotAccount, epoch_at, key_of, slot_at}
+use Rattle.kept_rows.specs.Account.{EpochAccount, FollowedTail, Following, Reading, SlotAccount, epoch_at, key_of, slot_at}
 use Rattle.file_identity.specs.AskedAgain.{HasOtherKey}
 use Rattle.file_identity.specs.Answers.{IsFingerprint}
+use Rattle.kept_rows.specs.Followed.{AreFollowed}
+use Rattle.kept_rows.specs.Premises.{Premises, SeesTruncationsOf}
 use Rattle.kept_rows.specs.Run.{Asking, Run, Scan}
 use Rattle.kept_rows.specs.Scans.{AsksFor, Gave, IsBefore, IsCovered, IsOld, IsWhole, ShowsEntry, ShowsFile, ShowsFileTo, moment_in}
-use Rattle.kept_rows.specs.Telling.{opening_moment}
+use Rattle.kept_rows.specs.Telling.{AreSlotAccounts, IsAccount, opening_moment}
 use Rattle.kept_rows.specs.Trace.{IsTail, WasGone}
 
 -- ---- the reasons for which a path is skipped
@@ -104,8 +106,8 @@ pub record IsChanged (run : Run) (rule : InputRule) (account : List SlotAccount)
   pub told : IsTail run.trace tail.opening path one.number (tail.looks ++ fall ∷ later)
   pub other_key : HasOtherKey rule key path file later
 
--- its file's end was found, and the row stands at the end of the last complete line before it
-pub record IsReadToItsEnd (run : Run) (rule : InputRule) (account : List SlotAccount) (row : Row) : Type 0 where
+-- its file's end was found, and the row stands at the end of the last complete line before it, where this is supposed of its slot
+pub record IsReadToItsEnd (Supposed : Following → Type 0) (run : Run) (rule : InputRule) (account : List SlotAccount) (row : Row) : Type 0 where
   pub slot : ℕ
   pub one : SlotAccount
   pub slot_is : slot_at slot account ≡ Some one
@@ -118,10 +120,10 @@ pub record IsReadToItsEnd (run : Run) (rule : InputRule) (account : List SlotAcc
   pub found : HasEndLook reading.segment place
   pub file : File
   pub file_is : slice_get run.trace.files one.number ≡ Some file
-  pub offset_is : row.offset ≡ whole_lines_end rule.lines (life_of file epoch.life) epoch.start place
+  pub offset_is : Supposed one.following → row.offset ≡ whole_lines_end rule.lines (life_of file epoch.life) epoch.start place
 
 -- its key has a row, with the greater of the opening row's moment and one with which the path was listed
-pub record HasRow (run : Run) (rule : InputRule) (account : List SlotAccount) (rows : List Row) (scan : Scan) (shown : Shown) (input : ℕ) : Type 0 where
+pub record HasRow (Supposed : Following → Type 0) (run : Run) (rule : InputRule) (account : List SlotAccount) (rows : List Row) (scan : Scan) (shown : Shown) (input : ℕ) : Type 0 where
   pub key : List ℕ
   pub number : ℕ
   pub shows : ShowsFileTo run scan input key number shown
@@ -132,7 +134,7 @@ pub record HasRow (run : Run) (rule : InputRule) (account : List SlotAccount) (r
   pub lists : ShowsEntry run.trace scan listed
   pub same_path : listed.entry.path ≡ shown.entry.path
   pub moment_is : row.changed.0 ≡ max (opening_moment run.opening key) (moment_in listed)
-  pub read : IsReadToItsEnd run rule account row
+  pub read : IsReadToItsEnd Supposed run rule account row
 
 -- ---- together
 
@@ -144,15 +146,34 @@ IsPassedOver run rule scan shown input =
     ⊎ (IsMoved run rule scan shown input
     ⊎ IsSmall run rule scan shown input)))
 
-abbrev pub IsDoneWith : Run → List SlotAccount → List Row → InputRule → Scan → Shown → ℕ → Type 0
-IsDoneWith run account rows rule scan shown input =
+abbrev pub IsDoneWith : (Following → Type 0) → Run → List SlotAccount → List Row → InputRule → Scan → Shown → ℕ → Type 0
+IsDoneWith Supposed run account rows rule scan shown input =
     IsPassedOver run rule scan shown input
-    ⊎ (IsChanged run rule account scan shown input ⊎ HasRow run rule account rows scan shown input)
+    ⊎ (IsChanged run rule account scan shown input ⊎ HasRow Supposed run rule account rows scan shown input)
 
-pub record IsDrained (run : Run) (account : List SlotAccount) (rows : List Row) : Type 0 where
+pub record IsDrainedWhere (Supposed : Following → Type 0) (run : Run) (account : List SlotAccount) (rows : List Row) : Type 0 where
   pub scan : Scan
   pub first : slice_get run.scans 0 ≡ Some scan
   pub whole : IsWhole run scan
   pub each : (shown : Shown) (input : ℕ) (rule : InputRule) → ShowsEntry run.trace scan shown →
       slice_get run.settings.inputs input ≡ Some rule → IsCovered rule.paths shown.entry.path →
-      IsDoneWith run account rows rule scan shown input
+      IsDoneWith Supposed run account rows rule scan shown input
+
+-- nothing is supposed
+abbrev pub NothingSupposed : Following → Type 0
+NothingSupposed following = Unit {0}
+
+abbrev pub IsDrained : Run → List SlotAccount → List Row → Type 0
+IsDrained run account rows = IsDrainedWhere NothingSupposed run account rows
+
+-- of each row by itself, that its slot's truncations are seen
+abbrev pub IsDrainedBySlots : Run → List SlotAccount → List Row → Type 0
+IsDrainedBySlots run account rows = IsDrainedWhere SeesTruncationsOf run account rows
+
+-- ---- of all slots
+
+-- where the premises hold of all slots, what is said slot by slot is said of the run as a whole
+pub record SlotsGiveTheWhole (run : Run) (account : List SlotAccount) (rows : List Row) : Type 0 where
+  pub is_account : Premises run (map (λ one. one.following) account) → AreFollowed run (map (λ one. one.following) account) →
+      AreSlotAccounts run account → IsAccount run account
+  pub is_drained : Premises run (map (λ one. one.following) account) → IsDrainedBySlots run account rows → IsDrained run account rows

@@ -1,7 +1,7 @@
--- The two premises of the promise (this project's profile). Identities are kept: while a key is known, each file that is
--- listed or opened with it is one, and each life of which bytes are read under it has it. Truncations are seen: at each
--- look the life that is present is the one that was last read under the key, or it is shorter than the position, or the
--- position is the file's first byte.
+-- The two premises of the promise (this project's profile), of one slot each. Identities are kept: while its key is known,
+-- each file that is listed or opened with it is one, and each life of which bytes are read under it has it. Truncations
+-- are seen: at each look the life that is present is the one that was last read under the key, or it is shorter than the
+-- position, or the position is the file's first byte.
 use Rattle.std.specs.Prelude.{◌≡◌, ℕ, ◌<◌, ◌≤◌, List, ◌++◌, flat_map, slice_get, Some, IfSome}
 use Rattle.std.specs.List.{AllByRecursion}
 use Rattle.event_tree.specs.declared.input_rule.InputRule.{InputRule}
@@ -49,6 +49,12 @@ pub record SeesTruncationsOf (following : Following) : Type 0 where
   pub last_read : ℕ
   pub seen : SeesTruncations last_read (segments_in following)
 
+-- both of one slot: nothing is supposed of the files and keys of others
+pub record SlotPremises (run : Run) (following : Following) : Type 0 where
+  pub identity : KeepsIdentity run following
+  pub truncations : SeesTruncationsOf following
+
+-- of all slots
 pub record Premises (run : Run) (followings : List Following) : Type 0 where
   pub identities : AllByRecursion (KeepsIdentity run) followings
   pub truncations : AllByRecursion SeesTruncationsOf followings

@@ -17,6 +17,7 @@ use Rattle.kept_rows.specs.Account.{AccountedEvent, EpochAccount, FollowedTail, 
 use Rattle.kept_rows.specs.Epochs.{AreEpochs}
 use Rattle.kept_rows.specs.Followed.{AreFollowed}
 use Rattle.kept_rows.specs.Lost.{WentBy}
+use Rattle.kept_rows.specs.Premises.{SlotPremises}
 use Rattle.kept_rows.specs.Run.{Run, Scan}
 use Rattle.kept_rows.specs.Scans.{AreDistinct, IsBefore, IsBehind, IsFirstPath, IsWhole, ShowsFile, ShowsFileAt, moment_in}
 use Rattle.kept_rows.specs.Trace.{IsTail}
@@ -111,7 +112,14 @@ pub record IsSlotAccount (run : Run) (one : SlotAccount) : Type 0 where
 
 -- ---- the whole account
 
--- no two events were acknowledged at one place
+-- slot by slot: each is as the run told it where its own premises hold. Which epochs it had, and that no two events were acknowledged
+-- at one place, supposes nothing
+pub record AreSlotAccounts (run : Run) (account : List SlotAccount) : Type 0 where
+  pub epochs : AllByRecursion (AreEpochs run) account
+  pub each : AllByRecursion (λ one. SlotPremises run one.following → IsSlotAccount run one) account
+  pub places_apart : AreDistinct (places_in account)
+
+-- of the run as a whole; no two events were acknowledged at one place
 pub record IsAccount (run : Run) (account : List SlotAccount) : Type 0 where
   pub followed : AreFollowed run (map (λ one. one.following) account)
   pub each : AllByRecursion (IsSlotAccount run) account

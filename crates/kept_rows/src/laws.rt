@@ -3,7 +3,7 @@ ghost use Rattle.event_tree.specs.declared.input_rule.InputRule.{InputRule};
 ghost use Rattle.kept_rows.specs.Account.{Place, SlotAccount};
 ghost use Rattle.kept_rows.specs.Acknowledged.{IsAcknowledgedAt, TalksGoOn, WiresGoOn, talks_of};
 ghost use Rattle.kept_rows.specs.Backed.{AreBacked, AreBegun, AreInRows, AreRowsOverFronts};
-ghost use Rattle.kept_rows.specs.Drained.{IsDrained};
+ghost use Rattle.kept_rows.specs.Drained.{IsDrained, SlotsGiveTheWhole};
 ghost use Rattle.kept_rows.specs.Going.{AccountGoesOn, AccountReadsOn, RunGoesOn, SlotRests};
 ghost use Rattle.kept_rows.specs.InARow.{Adjoined, GoesOnBehind, Part};
 ghost use Rattle.kept_rows.specs.Kept.{IsKept, IsKeptInImage, IsToldRow};
@@ -42,6 +42,13 @@ pub fn rows_over_backed_notes_are_kept()
 {
     covered_end_closes_a_prefix();
 }
+
+/// Where the premises hold of all slots, what is said slot by slot is said of the run as a whole: its account, and that its
+/// folder is drained. A law; it computes nothing.
+pub fn premises_of_all_slots_give_the_whole()
+    ensures { (run : Run) (account : List SlotAccount) (rows : List Row) →
+        SlotsGiveTheWhole run account rows }
+{}
 
 /// Where a run goes on from the row that the run before left, in its epoch and life, the events up to its own row are those
 /// of both, each dropped by its rule or acknowledged in one of the two. A law; it computes nothing.

@@ -13,6 +13,6 @@ mod laws;
 
 pub use laws::{
     drained_folders_stay_drained, kept_rows_stay_kept, links_go_on, lost_rows_stay_lost,
-    payloads_stay_acknowledged, rows_over_backed_notes_are_kept, runs_in_a_row_adjoin,
-    told_events_are_sent_still,
+    payloads_stay_acknowledged, premises_of_all_slots_give_the_whole,
+    rows_over_backed_notes_are_kept, runs_in_a_row_adjoin, told_events_are_sent_still,
 };

@@ -332,13 +332,14 @@ module _ {D : Type 0} (disks : DiskWords D) (start : Began D) (folder : FolderTo
         wires = refl;
       };
       followed = early_accounts.followed;
+      slots = early_accounts.slots;
       sent = early_accounts.sent;
       opened = gave;
       given = λ at_rest first second a_is b_is. given_by ((areas at_rest).both first second a_is b_is);
       rows = λ at_rest first second rows a_is b_is gives. rows_by (ordered_at_rest disks start.a start.b start.opening at_rest gave) met rows (given_over_fronts one start.opening [] first second rows ((areas at_rest).both first second a_is b_is) gives);
       images = λ at_rest. images_hold one early_run [] disks early_objects at_rest start.opening gave [] (areas at_rest) (image_rows LostInImage (ordered_at_rest disks start.a start.b start.opening at_rest gave));
       together = λ at_rest. together_hold one early_run [] disks early_objects at_rest start.opening gave [] (areas at_rest) (image_rows LostInImage (ordered_at_rest disks start.a start.b start.opening at_rest gave));
-      supposing = λ premises. record { is = early_accounts.is premises; drained = λ at_rest is_done. absurd (not_done is_done) };
+      drained = λ at_rest is_done. absurd (not_done is_done);
     }
 
 -- ---- a run that made no scan
@@ -418,11 +419,12 @@ module _ {D : Type 0} (disks : DiskWords D) (settings : Settings) (opening : Lis
         wires = refl;
       };
       followed = still_accounts.followed;
+      slots = still_accounts.slots;
       sent = still_accounts.sent;
       opened = gave;
       given = λ at_rest first second a_is b_is. given_by ((areas at_rest).both first second a_is b_is);
       rows = λ at_rest first second rows a_is b_is gives. still_rows (ordered_at_rest disks from_a from_b opening at_rest gave) met rows (given_over_fronts one opening [] first second rows ((areas at_rest).both first second a_is b_is) gives);
       images = λ at_rest. images_hold one still_run [] disks still_objects at_rest opening gave [] (areas at_rest) (still_image_rows LostInImage (ordered_at_rest disks from_a from_b opening at_rest gave));
       together = λ at_rest. together_hold one still_run [] disks still_objects at_rest opening gave [] (areas at_rest) (still_image_rows LostInImage (ordered_at_rest disks from_a from_b opening at_rest gave));
-      supposing = λ premises. record { is = still_accounts.is premises; drained = λ at_rest is_done. absurd (not_done is_done) };
+      drained = λ at_rest is_done. absurd (not_done is_done);
     }

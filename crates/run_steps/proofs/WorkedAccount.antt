@@ -8,7 +8,7 @@ use Rattle.std.proofs.lemmas.List.Elements.{All-cons, All-nil}
 use Rattle.event_json.specs.Json.{escape}
 use Rattle.kept_rows.proofs.Worked as worked
 use Rattle.kept_rows.specs.Account.{EpochAccount, SlotAccount, epoch_at}
-use Rattle.kept_rows.specs.Drained.{IsDrained}
+use Rattle.kept_rows.specs.Drained.{IsDrainedBySlots}
 use Rattle.kept_rows.specs.Kept.{IsKept, IsKeptInImage, IsToldRow}
 use Rattle.kept_rows.specs.Premises.{Premises}
 use Rattle.kept_rows.specs.Stored.{IsStored, WaitsAt}
@@ -244,6 +244,7 @@ module _ (one : OneChoice) where
       wires = refl;
     };
     followed = worked.is_account.followed;
+    slots = worked.are_slot_accounts;
     sent = worked.sends_only_told;
     opened = λ first second a_is b_is.
         subst (λ (l : List ℕ). GivesRows l second []) (some_is [] first a_is) (subst (λ (l : List ℕ). GivesRows [] l []) (some_is [] second b_is) gives_nothing);
@@ -255,10 +256,7 @@ module _ (one : OneChoice) where
     rows = λ at_rest first second rows a_is b_is gives. subst (RowsBy worked.run account Done) (rows_at_end one first second rows a_is b_is gives) rows_are;
     images = λ at_rest. images;
     together = λ at_rest. together;
-    supposing = λ premises. record {
-      is = worked.is_account;
-      drained = λ at_rest done first second rows a_is b_is gives. subst (IsDrained worked.run account) (rows_at_end one first second rows a_is b_is gives) worked.is_drained;
-    };
+    drained = λ at_rest done first second rows a_is b_is gives. subst (IsDrainedBySlots worked.run account) (rows_at_end one first second rows a_is b_is gives) worked.drained_by_slots;
   }
 
 -- ---- what is supposed

@@ -2,23 +2,22 @@
 -- an account of it. Its opening rows are those that its areas gave. Its files are followed so, only told events were sent, and the rows that
 -- its areas give are kept. So are those that both areas gave together since it began, in one order of its writes, and those of each image of one
 -- area by itself, but for an area that it did not use then and that is as it was. A key that had a row has one or lost it rightly, the same one where it was not
--- begun; and so has one that was begun, where the last steps were made. Where files keep their identities and truncations are seen, the
--- account is one of the run, and a run that is done drained its folder. It is said where the folder, the clock and each wire tell.
+-- begun; and so has one that was begun, where the last steps were made. Each slot is as the run told it where its own file keeps its identity
+-- and its own truncations are seen, and a run that is done drained its folder. It is said where the folder, the clock and each wire tell.
 use Rattle.std.specs.Prelude.{◌≡◌, ◌⊎◌, ℕ, ◌≤◌, true, Contains, List, [], ◌∷◌, ◌++◌, length, map, Option, Some, None}
 use Rattle.std.specs.List.{AllByRecursion}
 use Rattle.accounts.specs.AccountedFor.{HasItsRow, followings_in}
 use Rattle.batch_worker.specs.Standing.{length_of}
 use Rattle.event_tree.specs.declared.settings.Settings.{Settings}
 use Rattle.kept_rows.specs.Account.{SlotAccount, key_of}
-use Rattle.kept_rows.specs.Drained.{IsDrained}
+use Rattle.kept_rows.specs.Drained.{IsDrainedBySlots}
 use Rattle.kept_rows.specs.Followed.{AreFollowed}
 use Rattle.kept_rows.specs.Kept.{IsKept, IsKeptInImage, IsUnbegun}
 use Rattle.kept_rows.specs.Lost.{IsRightlyLost, IsRightlyLostInImage}
-use Rattle.kept_rows.specs.Premises.{Premises}
 use Rattle.kept_rows.specs.Run.{Run}
 use Rattle.kept_rows.specs.Sent.{SendOnlyTold}
 use Rattle.kept_rows.specs.Stored.{IsStored}
-use Rattle.kept_rows.specs.Telling.{IsAccount}
+use Rattle.kept_rows.specs.Telling.{AreSlotAccounts}
 use Rattle.kept_rows.specs.Trace.{Trace}
 use Rattle.outside.specs.Folders.{FolderHistory}
 use Rattle.outside.specs.Times.{EndsWith}
@@ -167,14 +166,6 @@ TogetherHoldKeptRows disks objects run account = GiveThroughout disks (GiveImage
 abbrev pub WereAtRest : {D : Type 0} → DiskWords D → RunObjects D → Type 0
 WereAtRest disks objects = AreAtRest disks.contents disks.images objects.before.a objects.before.b
 
--- ---- under the premises
-
--- where files keep their identities and truncations are seen
-pub record AreAccounted {D : Type 0} (disks : DiskWords D) (objects : RunObjects D) (met : Met) (run : Run) (account : List SlotAccount) : Type 0 where
-  pub is : IsAccount run account
-  -- a run that is done drained its folder
-  pub drained : WereAtRest disks objects → met ≡ Done → AreRowsBy disks objects.after (IsDrained run account)
-
 -- ---- together
 
 pub record AccountedFor {D : Type 0} (disks : DiskWords D) (settings : Settings) (objects : RunObjects D) (met : Met) : Type 0 where
@@ -183,10 +174,12 @@ pub record AccountedFor {D : Type 0} (disks : DiskWords D) (settings : Settings)
   pub account : List SlotAccount
   pub fits : FitsObjects objects run
   pub followed : AreFollowed run (followings_in account)
+  pub slots : AreSlotAccounts run account
   pub sent : SendOnlyTold account run.trace.wires
   pub opened : GiveTheRows disks objects.before.a objects.before.b run.opening
   pub given : WereAtRest disks objects → GiveRows disks objects.after
   pub rows : WereAtRest disks objects → AreRowsBy disks objects.after (RowsBy run account met)
   pub images : WereAtRest disks objects → (area : Which) → ImagesHoldKeptRows disks objects run account area
   pub together : WereAtRest disks objects → TogetherHoldKeptRows disks objects run account
-  pub supposing : Premises run (followings_in account) → AreAccounted disks objects met run account
+  -- a run that is done drained its folder
+  pub drained : WereAtRest disks objects → met ≡ Done → AreRowsBy disks objects.after (IsDrainedBySlots run account)
