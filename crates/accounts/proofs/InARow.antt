@@ -148,21 +148,18 @@ module _ (accounted : AccountedRun) (row : Row) (is : IsRowOf accounted row) whe
   of_account : Contains accounted.account is.one
   of_account = (slot_in accounted.account is.slot is.one is.slot_is).0
 
-  slot_told : IsSlotAccount accounted.run is.one
-  slot_told = member_is (IsSlotAccount accounted.run) accounted.account is.one accounted.is.each of_account
-
   slot_followed : IsFollowing accounted.run is.one.following
   slot_followed =
-      member_is (IsFollowing accounted.run) (followings_in accounted.account) is.one.following accounted.is.followed.each
+      member_is (IsFollowing accounted.run) (followings_in accounted.account) is.one.following accounted.followed.each
       (mapped_there (λ (one : SlotAccount). one.following) accounted.account is.one of_account)
 
   -- the input that it is followed by has the row's key
   of_its_input : IsKeyOf slot_followed.rule.id row.key
   of_its_input = subst (IsKeyOf slot_followed.rule.id) is.key_is slot_followed.key_of_input
 
-  row_told : (life : List ℕ) → IsOfLife accounted.run is.one is.epoch life →
+  row_told : (slot_told : IsSlotAccount accounted.run is.one) (life : List ℕ) → IsOfLife accounted.run is.one is.epoch life →
       AreTold (rules_of slot_followed.rule accounted.run.settings.processors) is.epoch.licences life is.epoch.start (events_of is.epoch.told)
-  row_told life of =
+  row_told slot_told life of =
       let q : Some slot_told.rule ≡ Some slot_followed.rule = sym slot_told.rule_is ∙ slot_followed.rule_is in
       let same : slot_told.rule ≡ slot_followed.rule = cc in
       let rules = rules_of slot_told.rule accounted.run.settings.processors in
@@ -184,7 +181,7 @@ adjoin_by_accounts earlier later life left reached up =
     (subst (IsKeyOf second.rule.id) up.same_key (of_its_input later reached up.reached_is)) (of_its_input earlier left up.left_is) in
     let key_is : left.key ≡ one.following.key = sym (up.reached_is.key_is ∙ up.same_key) in
     let there : up.reached_is.epoch.start ≡ left.offset =
-    starts_there later.run one up.found.opened up.reached_is.epoch second (slot_told later reached up.reached_is).epochs.numbered up.known_at_first
+    starts_there later.run one up.found.opened up.reached_is.epoch second up.slot_after.epochs.numbered up.known_at_first
     (subst (λ (key : List ℕ). find key later.run.opening ≡ Some up.found.opened) key_is up.found.found)
     (subst (λ (epoch : ℕ). epoch_at epoch one.epochs ≡ Some up.reached_is.epoch) (up.same_epoch ∙ up.found.same_epoch) up.reached_is.epoch_is)
     ∙ sym up.found.same_offset in
@@ -192,7 +189,7 @@ adjoin_by_accounts earlier later life left reached up =
     let second_told : AreTold rules up.reached_is.epoch.licences life up.reached_is.epoch.start (events_of up.reached_is.epoch.told) =
     subst (λ (settings : Settings). AreTold (rules_of first.rule settings.processors) up.reached_is.epoch.licences life up.reached_is.epoch.start (events_of up.reached_is.epoch.told)) up.same_settings
     (subst (λ (rule : InputRule). AreTold (rules_of rule later.run.settings.processors) up.reached_is.epoch.licences life up.reached_is.epoch.start (events_of up.reached_is.epoch.told)) same
-    (row_told later reached up.reached_is life up.life_after)) in
+    (row_told later reached up.reached_is up.slot_after life up.life_after)) in
     record {
       rule = first.rule;
       rule_before = first.rule_is;
@@ -204,7 +201,7 @@ adjoin_by_accounts earlier later life left reached up =
             epoch_found reached.epoch.0 one.epochs up.reached_is.epoch up.reached_is.epoch_is ∙ up.same_epoch
             ∙ sym (epoch_found left.epoch.0 up.left_is.one.epochs up.left_is.epoch up.left_is.epoch_is);
         left = record {
-          told = row_told earlier left up.left_is life up.life_before;
+          told = row_told earlier left up.left_is up.slot_before life up.life_before;
           closes = subst (ClosesSettled earlier.run.trace.wires up.left_is.epoch) (sym there) up.left_is.closes;
         };
         reached = record { told = second_told; closes = up.reached_is.closes };
@@ -229,7 +226,7 @@ pub known_at_first : (accounted : AccountedRun) (one : SlotAccount) (row : Row) 
     NoneWentBefore accounted.account one → one.following.known_from ≡ 0
 known_at_first accounted one row there found none =
     by_case one.following.known_from refl
-    (member_is (IsNewlyKnown accounted.run (followings_in accounted.account)) (followings_in accounted.account) one.following accounted.is.followed.newly_known
+    (member_is (IsNewlyKnown accounted.run (followings_in accounted.account)) (followings_in accounted.account) one.following accounted.followed.newly_known
     (mapped_there (λ (other : SlotAccount). other.following) accounted.account one there))
   where
     by_case : (number : ℕ) → one.following.known_from ≡ number → IsNewlyKnown accounted.run (followings_in accounted.account) one.following → one.following.known_from ≡ 0
@@ -240,7 +237,7 @@ known_at_first accounted one row there found none =
 pub known_by_one_scan : (accounted : AccountedRun) (scan : Scan) (one : SlotAccount) → accounted.run.scans ≡ scan ∷ [] → Contains accounted.account one → one.following.known_from ≡ 0
 known_by_one_scan accounted scan one only there =
     by_case one.following.known_from refl
-    (member_is (IsFollowing accounted.run) (followings_in accounted.account) one.following accounted.is.followed.each
+    (member_is (IsFollowing accounted.run) (followings_in accounted.account) one.following accounted.followed.each
     (mapped_there (λ (other : SlotAccount). other.following) accounted.account one there)).begun
   where
     by_case : (number : ℕ) → one.following.known_from ≡ number → IsBegun accounted.run one.following → one.following.known_from ≡ 0

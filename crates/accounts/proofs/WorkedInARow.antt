@@ -44,7 +44,7 @@ use Rattle.accounts.proofs.WorkedRun.{acknowledged}
 -- ---- the earlier run, and the row that its crash left
 
 abbrev earlier : AccountedRun
-earlier = record { run = worked.run; account = worked.slot_account ∷ []; is = worked.is_account }
+earlier = record { run = worked.run; account = worked.slot_account ∷ []; followed = worked.is_account.followed }
 
 abbrev left : Row
 left = record worked.row { offset = 2 }
@@ -333,7 +333,7 @@ is_account = record {
 }
 
 abbrev later : AccountedRun
-later = record { run = run; account = slot_account ∷ []; is = is_account }
+later = record { run = run; account = slot_account ∷ []; followed = is_account.followed }
 
 -- ---- its row at the end
 
@@ -375,6 +375,8 @@ takes_up = record {
   left_is = left_is;
   found = record { opened = left; found = refl; same_epoch = refl; same_offset = refl };
   reached_is = reached_is;
+  slot_before = worked.is_account.each.0;
+  slot_after = is_account.each.0;
   same_key = refl;
   same_epoch = refl;
   known_at_first = refl;

@@ -5,22 +5,22 @@ use Rattle.std.specs.Prelude.{◌≡◌, ◌≢◌, ◌⊎◌, ℕ, ◌<◌, Con
 use Rattle.std.specs.List.{AllByRecursion}
 use Rattle.event_tree.specs.declared.input_rule.InputRule.{InputRule}
 use Rattle.kept_rows.specs.Account.{EpochAccount, SlotAccount, key_of, slot_of}
-use Rattle.kept_rows.specs.Followed.{IsKeyOf}
+use Rattle.kept_rows.specs.Followed.{AreFollowed, IsKeyOf}
 use Rattle.kept_rows.specs.InARow.{Adjoined, Part}
 use Rattle.kept_rows.specs.Kept.{IsToldRow, StandsAsOpened}
 use Rattle.kept_rows.specs.Run.{Run}
 use Rattle.kept_rows.specs.Scans.{AreDistinct}
-use Rattle.kept_rows.specs.Telling.{IsAccount}
+use Rattle.kept_rows.specs.Telling.{IsSlotAccount}
 use Rattle.outside.specs.Files.{File, life_of}
 use Rattle.ship_core.specs.Rows.{find}
 use Rattle.told_events.specs.Rules.{rules_of}
 use Rattle.wire_base.specs.declared.row.Row.{Row}
 
--- a run with an account of it
+-- a run with an account that follows its files so
 pub record AccountedRun : Type 0 where
   pub run : Run
   pub account : List SlotAccount
-  pub is : IsAccount run account
+  pub followed : AreFollowed run (map (λ one. one.following) account)
 
 -- no colon, which is byte 58, stands in the id of an input, and no two have one id: so a key is of one input. The settings' ranges
 -- give it
@@ -54,6 +54,9 @@ pub record TakesUp (earlier later : AccountedRun) (life : List ℕ) (left reache
   -- the row stood so as the later run opened its registry, also where runs between the two let it stand
   pub found : StandsAsOpened later.run.opening left
   pub reached_is : IsRowOf later reached
+  -- the slots of both rows are as the runs told them
+  pub slot_before : IsSlotAccount earlier.run left_is.one
+  pub slot_after : IsSlotAccount later.run reached_is.one
   pub same_key : reached.key ≡ left.key
   pub same_epoch : reached.epoch.0 ≡ left.epoch.0
   -- its slot was known from the first scan on: a key whose row went is begun anew, from the first byte
