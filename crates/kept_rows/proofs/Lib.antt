@@ -18,3 +18,5 @@ mod Refused
 mod Removed
 mod Undrained
 mod WorkedAskings
+mod WorkedPair
+mod WorkedPremises

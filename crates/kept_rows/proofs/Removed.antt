@@ -28,13 +28,13 @@ use Rattle.kept_rows.specs.Telling.{IsPathOf}
 use Rattle.kept_rows.specs.Trace.{Trace}
 use Rattle.kept_rows.proofs.Worked.{input, key, looks, reading, row, run, scan, settings, shows_file, sight, slot_account, wires}
 
-only_one : {A : Type 0} (one other : A) → Contains (one ∷ []) other → one ≡ other
+pub only_one : {A : Type 0} (one other : A) → Contains (one ∷ []) other → one ≡ other
 only_one one other there = elim (there_cases one other [] there) [
   | inl same ↦ same
   | inr nothing ↦ absurd (none_there other nothing)
 ]
 
-abbrev entries_in : Event → List Shown
+abbrev pub entries_in : Event → List Shown
 entries_in (Listed root depth entries) = entries
 entries_in _ = []
 
@@ -119,7 +119,7 @@ listed_row_does_not_go lost =
 
 -- ---- renamed while it is open: the first scan shows `/w/a.log`, the second `/w/b.log`
 
-abbrev b_log : List ℕ
+abbrev pub b_log : List ℕ
 b_log = codes "/w/b.log"
 
 abbrev native_input : InputRule
@@ -156,7 +156,7 @@ second_scan = record { moment = 0; listings = 2 ∷ []; askings = asking_of b_lo
 abbrev renamed_run : Run
 renamed_run = record { settings = record settings { inputs = native_input ∷ [] }; once = false; opening = []; trace = renamed_trace; scans = first_scan ∷ second_scan ∷ [] }
 
-b_covered : Covers (codes "/w/*") b_log
+pub b_covered : Covers (codes "/w/*") b_log
 unfolding is_utf8 encode_utf8 tokens signs chars
 b_covered = (IsUtf8-from_is_utf8 b_log refl, refl, (tt, ((refl, tt), ((5, omega arith, tt), tt))))
 
@@ -191,7 +191,7 @@ only_b shown shows =
     let event : listing_of b_log ≡ Listed shows.root shows.depth shows.entries = cc in
     only_one (shown_as b_log) shown (subst (λ (l : List Shown). Contains l shown) (sym (ap entries_in event)) shows.among)
 
-b_not_before_itself : compare b_log b_log ≢ Less
+pub b_not_before_itself : compare b_log b_log ≢ Less
 b_not_before_itself less = absurd cc
 
 first_is_b : IsFirstPath renamed_run second_scan numbers_key 0 b_log
