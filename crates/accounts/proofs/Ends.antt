@@ -7,7 +7,6 @@ use Rattle.std.proofs.lemmas.Bool.{cond-false, cond-true, eq-eqb, ne_eqb}
 use Rattle.event_tree.specs.declared.group_rule.GroupRule.{GroupRule}
 use Rattle.event_tree.specs.declared.input_rule.InputRule.{InputRule}
 use Rattle.event_tree.specs.declared.line_rule.LineRule.{LineRule}
-use Rattle.event_tree.specs.declared.processor_rule.ProcessorRule.{ProcessorRule}
 use Rattle.file_identity.specs.AskedAgain.{GivesKey}
 use Rattle.file_looks.proofs.OneLife.{each_reads}
 use Rattle.file_looks.specs.Looks.{AreLooks}
@@ -49,6 +48,8 @@ use Rattle.accounts.specs.Opened.{Opened}
 use Rattle.accounts.specs.Parted.{kept_looks}
 use Rattle.accounts.specs.ToldFile.{AreEpochsFrom, IsToldFile, IsToldToItsEnd}
 use Rattle.accounts.specs.Turned.{Turned}
+use Rattle.accounts.specs.Watch.{Watch}
+use Rattle.accounts.specs.Watched.{watch_in}
 use Rattle.accounts.proofs.Apart.{IsInEpochs}
 use Rattle.accounts.proofs.Backing.{slot_found}
 use Rattle.accounts.proofs.JoinedFile.{joined_opened, joined_turned, told_joined}
@@ -59,11 +60,11 @@ use Rattle.accounts.proofs.Slots.{file_is_read, kept_are_looks}
 
 -- ---- of what was told of a file
 
-module _ (processors : List ProcessorRule) (opened : Opened) (moments : List ℕ) (turned : Turned) (in_range : IsGroupRule opened.rule.multiline) where
-  rule_in_range : (told : Option TailHistory) → IsToldFile processors opened moments turned told → IsGroupRule turned.history.rule.multiline
+module _ (watch : Watch) (opened : Opened) (moments : List ℕ) (turned : Turned) (in_range : IsGroupRule opened.rule.multiline) where
+  rule_in_range : (told : Option TailHistory) → IsToldFile watch opened moments turned told → IsGroupRule turned.history.rule.multiline
   rule_in_range told is = subst (λ (r : InputRule). IsGroupRule r.multiline) (sym is.history.rule) in_range
 
-  pub is_in_epochs : (told : Option TailHistory) → IsToldFile processors opened moments turned told → IsInEpochs turned
+  pub is_in_epochs : (told : Option TailHistory) → IsToldFile watch opened moments turned told → IsInEpochs turned
   is_in_epochs told is = record {
     epoch = opened.begin.epoch.0;
     base = opened.begin.base;
@@ -202,20 +203,20 @@ ends_there h file part in_range tells all_told read some = by_bytes h.present.by
 -- a file that was opened once and told to its end
 pub is_read_to_its_end : (run : Run) (placed : Parcel → Option Place) (files : List Filed) (opened : Opened) (turned : Turned) (told : TailHistory) (changed : ℕ) →
     AreDistinct (map slot_in files) → Contains files (record { opened = opened; turned = turned; looks = told.looks; changed = changed; later = [] }) →
-    IsToldFile run.settings.processors opened run.trace.moments turned (Some told) → GivesKey opened.rule opened.begin.key opened.begin.path opened.file opened.asked →
+    IsToldFile (watch_in run) opened run.trace.moments turned (Some told) → GivesKey opened.rule opened.begin.key opened.begin.path opened.file opened.asked →
     IsGroupRule opened.rule.multiline → slice_get run.trace.files opened.number ≡ Some opened.file →
     IsToldToItsEnd turned.history →
     (row : Row) → opened.begin.key ≡ row.key → row.epoch.0 ≡ turned.history.present.epoch → row.offset ≡ told_to turned.history.present →
     IsReadToItsEnd SeesTruncationsOf run opened.rule (accounts_of placed files) row
 is_read_to_its_end run placed files opened turned told changed apart among is gave in_range file_is ended row key epoch offset =
-    let joined = told_joined run.settings.processors opened run.trace.moments turned told gave.asking is in
+    let joined = told_joined (watch_in run) opened run.trace.moments turned told gave.asking is in
     let h = (joined_turned turned).history in
     let looked = joined.looked in
     let kept = kept_looks h told.looks in
     let filed : Filed = record { opened = opened; turned = turned; looks = told.looks; changed = changed; later = [] } in
     let exact = read_exactly h (joined_opened opened) told joined.tail.file joined.history.begin joined.history.rule looked joined.history.asked_before opened.asked gave
     (subst MayReopenAt (sym ended.ended) tt) in
-    let on = (file_is_read run.settings.processors opened run.trace.moments turned told gave is).on in
+    let on = (file_is_read (watch_in run) opened run.trace.moments turned told gave is).on in
     let looks : AreLooks opened.file told.begun kept = kept_are_looks h opened.file told.begun told.looks (subst (λ (f : File). AreLooks f told.begun told.looks) is.tail.file is.tells) in
     let found : HasLast (place_in placed opened.begin.slot) (part_of opened.opening opened.rule.multiline h.present exact.last) h.present.start
     (epoch_at h.present.epoch (account_of placed filed).epochs) =

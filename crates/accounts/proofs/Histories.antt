@@ -1,10 +1,9 @@
--- The history of a file, and what its tail tells, as its harvester makes one turn.
-use Rattle.std.proofs.Common.{◌≡◌, ◌⊎◌, inl, inr, ℕ, ◌+◌, Bool, true, ◌||◌, List, [], ◌∷◌, ◌++◌, Contains, Option, Some, None, IfSome, refl, sym, ap, subst, ◌∙◌}
+-- The history of a file, and what its tail tells, as its harvester makes one turn, is asked to end, or is given another path.
+use Rattle.std.proofs.Common.{◌≡◌, ◌⊎◌, inl, inr, ℕ, ◌+◌, ◌<◌, Bool, false, true, ◌||◌, List, [], ◌∷◌, ◌++◌, Contains, Option, Some, None, IfSome, refl, sym, ap, subst, ◌∙◌, arith}
 use Rattle.std.specs.List.{AllByRecursion}
-use Rattle.event_tree.specs.declared.processor_rule.ProcessorRule.{ProcessorRule}
 use Rattle.file_looks.specs.Looks.{AreLooks, TellsLooks}
 use Rattle.harvester.specs.HasTold.{HasTold}
-use Rattle.harvester.specs.History.{Ended, History, IsTelling, beginning, rules_in}
+use Rattle.harvester.specs.History.{Ended, History, IsTelling, beginning, rules_in, with_ending, with_path}
 use Rattle.harvester.specs.Looked.{AreLookedAt, IsLookedAt}
 use Rattle.harvester.specs.Standing.{EndsAt}
 use Rattle.harvester.specs.TurnLooks.{LooksOn}
@@ -17,13 +16,16 @@ use Rattle.outside.specs.Files.{File, latest}
 use Rattle.outside.specs.Tails.{TailHistory}
 use Rattle.outside.specs.declared.history.Look.{Look}
 use Rattle.outside.specs.declared.history.Sight.{Sight}
-use Rattle.told_events.proofs.Going.{all_behind}
+use Rattle.told_events.specs.Told.{ToldEvent}
 use Rattle.accounts.specs.Opened.{IsTailOf, Opened}
-use Rattle.slot_parts.specs.Tellings.{AreToldBy, IsToldBy, tellings_in}
-use Rattle.accounts.specs.ToldFile.{IsHistoryOf, IsToldFile, IsToldToItsEnd}
+use Rattle.slot_parts.specs.Tellings.{tellings_in}
+use Rattle.accounts.specs.ToldFile.{AreToldInTurn, IsHistoryOf, IsToldBy, IsToldFile, events_in}
 use Rattle.accounts.specs.Turned.{Turned}
+use Rattle.accounts.specs.Turning.{IsAtItsEnd}
+use Rattle.accounts.specs.Watch.{MayFindEnd, Name, Watch, last_path}
 use Rattle.accounts.proofs.Given.{epochs_more, epochs_next}
-use Rattle.accounts.proofs.Lists.{each_front, each_last, ends_there, in_order_then, last_of_each}
+use Rattle.accounts.proofs.Lists.{each_last, ends_there, in_order_then}
+use Rattle.accounts.proofs.Names.{events_more, events_next, in_turn_more, in_turn_renamed, last_is, names_then}
 
 -- ---- what the tail tells
 
@@ -54,7 +56,13 @@ looked_with : (h : History) (opened : Opened) (numbers : Option (ℕ × ℕ)) (t
 looked_with h opened numbers None are looked = tt
 looked_with h opened numbers (Some told) are looked = subst (λ (n : Option (ℕ × ℕ)). IsLookedAt n h told) are looked
 
-module _ (processors : List ProcessorRule) (moments : List ℕ) where
+-- a turn might find the end where one before it might, or it is made so, or the file is to end
+which_may : (before last ends : Bool) → (before || (last || ends)) ≡ true → (before ≡ true) ⊎ ((last ≡ true) ⊎ (ends ≡ true))
+which_may true last ends is = inl refl
+which_may false true ends is = inr (inl refl)
+which_may false false ends is = inr (inr is)
+
+module _ (watch : Watch) (moments : List ℕ) where
   -- ---- the history
 
   told_by : (path given : List ℕ) (now : ℕ) (answer : Turn) → given ≡ path → Contains moments now → AllByRecursion (IsToldBy path moments) (events_told given now answer)
@@ -62,43 +70,101 @@ module _ (processors : List ProcessorRule) (moments : List ℕ) where
   told_by path given now (turn.Passed span rule) is there = (record { path_is = is; given = there }, tt)
   told_by path given now answer is there = tt
 
-  pub history_on : (opened : Opened) (now : ℕ) (last : Bool) (answer : Turn) (did : Did) (h : History) → EndsAt moments now →
-      IsHistoryOf processors opened moments h → IsHistoryOf processors opened moments (after_did now answer did (with_turn now last h))
-  history_on opened now last (turn.NewLife epoch) did h ends is = record {
-    rule = is.rule;
-    processors_are = is.processors_are;
-    begin = is.begin;
-    asked_before = is.asked_before;
-    path = is.path;
-    not_ending = is.not_ending;
-    not_forgotten = is.not_forgotten;
-    epochs = epochs_next opened.begin.epoch.0 opened.begin.base h.past h.present (beginning (h.present.epoch + 1) 0) refl refl is.epochs;
-    at = in_order_then h.moments moments now ends is.at;
-    told = each_last (AreToldBy opened.begin.path moments) (tellings_in h) (beginning (h.present.epoch + 1) 0) is.told tt;
-  }
-  history_on opened now last answer did h ends is = record {
-    rule = is.rule;
-    processors_are = is.processors_are;
-    begin = is.begin;
-    asked_before = is.asked_before;
-    path = is.path;
-    not_ending = is.not_ending;
-    not_forgotten = is.not_forgotten;
-    epochs = epochs_more opened.begin.epoch.0 opened.begin.base h.past h.present
-        (did_with now (events_told h.path now answer) did (with_turn now last h)).present refl refl is.epochs;
-    at = in_order_then h.moments moments now ends is.at;
-    told = each_last (AreToldBy opened.begin.path moments) h.past (did_with now (events_told h.path now answer) did (with_turn now last h)).present
-        (each_front (AreToldBy opened.begin.path moments) h.past h.present is.told)
-        (all_behind (IsToldBy opened.begin.path moments) h.present.told (events_told h.path now answer)
-        (last_of_each (AreToldBy opened.begin.path moments) h.past h.present is.told)
-        (told_by opened.begin.path h.path now answer is.path (ends_there moments now ends)));
-  }
+  module _ (opened : Opened) where
+    abbrev InTurn : List Name → List ToldEvent → Type 0
+    InTurn names told = AreToldInTurn moments opened.begin.path names told
+
+    -- by a turn that may find the end where files are read once, or where this one is to end
+    may_end_on : (last : Bool) (h : History) → last ≡ watch.once → IsHistoryOf watch opened moments h → (h.may_end || (last || h.ends)) ≡ true → MayFindEnd watch opened
+    may_end_on last h same is may = by_case (which_may h.may_end last h.ends may)
+      where
+        by_case : (h.may_end ≡ true) ⊎ ((last ≡ true) ⊎ (h.ends ≡ true)) → MayFindEnd watch opened
+        by_case (inl before) = is.may_end before
+        by_case (inr (inl once)) = inl (sym same ∙ once)
+        by_case (inr (inr ends)) = is.ends ends
+
+    pub history_on : (now : ℕ) (last : Bool) (answer : Turn) (did : Did) (h : History) → last ≡ watch.once → EndsAt moments now →
+        IsHistoryOf watch opened moments h → IsHistoryOf watch opened moments (after_did now answer did (with_turn now last h))
+    history_on now last (turn.NewLife epoch) did h same ends is = record {
+      rule = is.rule;
+      processors_are = is.processors_are;
+      begin = is.begin;
+      asked_before = is.asked_before;
+      names = is.names;
+      rise = is.rise;
+      renamed = is.renamed;
+      path = is.path;
+      ends = is.ends;
+      may_end = may_end_on last h same is;
+      not_forgotten = is.not_forgotten;
+      epochs = epochs_next opened.begin.epoch.0 opened.begin.base h.past h.present (beginning (h.present.epoch + 1) 0) refl refl is.epochs;
+      at = in_order_then h.moments moments now ends is.at;
+      told = subst (InTurn is.names) (sym (events_next (with_turn now last h))) is.told;
+    }
+    history_on now last answer did h same ends is = record {
+      rule = is.rule;
+      processors_are = is.processors_are;
+      begin = is.begin;
+      asked_before = is.asked_before;
+      names = is.names;
+      rise = is.rise;
+      renamed = is.renamed;
+      path = is.path;
+      ends = is.ends;
+      may_end = may_end_on last h same is;
+      not_forgotten = is.not_forgotten;
+      epochs = epochs_more opened.begin.epoch.0 opened.begin.base h.past h.present
+          (did_with now (events_told h.path now answer) did (with_turn now last h)).present refl refl is.epochs;
+      at = in_order_then h.moments moments now ends is.at;
+      told = subst (InTurn is.names) (sym (events_more now (events_told h.path now answer) did (with_turn now last h)))
+          (in_turn_more moments opened.begin.path is.names (events_in h) (events_told h.path now answer) is.told
+          (told_by (last_path opened.begin.path is.names) h.path now answer is.path (ends_there moments now ends)));
+    }
+
+    -- it was asked to end
+    pub history_ending : (h : History) → MayFindEnd watch opened → IsHistoryOf watch opened moments h → IsHistoryOf watch opened moments (with_ending false h)
+    history_ending h may is = record {
+      rule = is.rule;
+      processors_are = is.processors_are;
+      begin = is.begin;
+      asked_before = is.asked_before;
+      names = is.names;
+      rise = is.rise;
+      renamed = is.renamed;
+      path = is.path;
+      ends = λ ends. may;
+      may_end = is.may_end;
+      not_forgotten = refl;
+      epochs = is.epochs;
+      at = is.at;
+      told = is.told;
+    }
+
+    -- a later scan showed it by this path
+    pub history_renamed : (h : History) (name : Name) (is : IsHistoryOf watch opened moments h) → watch.renamed opened name →
+        AllByRecursion (λ (one : Name). one.scan < name.scan) is.names → IsHistoryOf watch opened moments (with_path name.path h)
+    history_renamed h name is renamed later = record {
+      rule = is.rule;
+      processors_are = is.processors_are;
+      begin = is.begin;
+      asked_before = is.asked_before;
+      names = is.names ++ name ∷ [];
+      rise = names_then 0 is.names name (omega arith) later is.rise;
+      renamed = each_last (watch.renamed opened) is.names name is.renamed renamed;
+      path = sym (last_is opened.begin.path is.names name);
+      ends = is.ends;
+      may_end = is.may_end;
+      not_forgotten = is.not_forgotten;
+      epochs = is.epochs;
+      at = is.at;
+      told = in_turn_renamed moments opened.begin.path is.names name (events_in h) is.told;
+    }
 
   module _ {T : Type 0} (numbers : T → Option (ℕ × ℕ)) (told : T → Option TailHistory) where
     pub told_file : (opened : Opened) (turned : Turned) (harvester : Harvester T) → HasTold numbers told turned.history harvester →
-        turned.slot ≡ opened.begin.slot → IsHistoryOf processors opened moments turned.history → IfSome (told harvester.tail) (IsTailOf opened) →
+        turned.slot ≡ opened.begin.slot → IsHistoryOf watch opened moments turned.history → IfSome (told harvester.tail) (IsTailOf opened) →
         IfSome (told harvester.tail) TellsLooks → IfSome (told harvester.tail) (λ tail. numbers harvester.tail ≡ opened.file.numbers) →
-        IsToldFile processors opened moments turned (told harvester.tail)
+        IsToldFile watch opened moments turned (told harvester.tail)
     told_file opened turned harvester has slot history tail tells numbers_are = record {
       slot = slot;
       history = history;
@@ -110,15 +176,18 @@ module _ (processors : List ProcessorRule) (moments : List ℕ) where
 
     -- ---- the end
 
-    module _ (now : ℕ) (last : Bool) (h : History) (old new : Harvester T) (last_is : last ≡ true) where
+    module _ (now : ℕ) (last : Bool) (h : History) (old new : Harvester T) where
       pub at_end : (answer : Turn) → answer ≡ turn.AtEnd → (g : Goes numbers told 16_384 now (last || h.ends) (with_turn now last h) old answer new) →
-          IsToldToItsEnd (after_did now answer g.did (with_turn now last h))
-      at_end turn.AtEnd e g = record { ended = ends; all_told = g.caused.all_told ends }
+          IsAtItsEnd last (after_did now answer g.did (with_turn now last h))
+      at_end turn.AtEnd e g = record {
+        asks_nothing = g.caused.none_asked;
+        told = λ may. record { ended = ends may; all_told = g.caused.all_told (ends may) };
+      }
         where
-          by_case : (h.stage ≡ Ended) ⊎ EndsNow told now (last || h.ends) (with_turn now last h) g.did (after_did now turn.AtEnd g.did (with_turn now last h)) old new → g.did.stage ≡ Ended
-          by_case (inl already) = g.stays_ended already
-          by_case (inr found) = found.ends (ap (λ (b : Bool). b || h.ends) last_is)
-
-          ends : g.did.stage ≡ Ended
-          ends = by_case g.caused.which
+          ends : (last || h.ends) ≡ true → g.did.stage ≡ Ended
+          ends may = by_case g.caused.which
+            where
+              by_case : (h.stage ≡ Ended) ⊎ EndsNow told now (last || h.ends) (with_turn now last h) g.did (after_did now turn.AtEnd g.did (with_turn now last h)) old new → g.did.stage ≡ Ended
+              by_case (inl already) = g.stays_ended already
+              by_case (inr found) = found.ends may
       at_end answer e g = absurd cc

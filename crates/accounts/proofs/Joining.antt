@@ -3,7 +3,6 @@ use Rattle.std.proofs.Common.{◌≡◌, ◌⊎◌, inl, inr, ℕ, ◌+◌, ◌�
 use Rattle.std.specs.List.{AllByRecursion, flat_map}
 use Rattle.std.proofs.lemmas.Bool.{eq-eqb, eqb-true}
 use Rattle.std.proofs.lemmas.List.Elements.{Contains-append_cases, Contains-append_left, Contains-append_right}
-use Rattle.event_tree.specs.declared.processor_rule.ProcessorRule.{ProcessorRule}
 use Rattle.outside.specs.Tails.{TailHistory}
 use Rattle.outside.specs.declared.history.Look.{Look}
 use Rattle.pass_sums.proofs.Weights.{weigh-append, weigh-flat_map, weigh-map}
@@ -16,6 +15,7 @@ use Rattle.accounts.specs.Opened.{Opened}
 use Rattle.accounts.specs.Same.{TellsSame}
 use Rattle.accounts.specs.ToldFile.{IsToldFile}
 use Rattle.accounts.specs.Turned.{Turned}
+use Rattle.accounts.specs.Watch.{Watch}
 use Rattle.accounts.proofs.Grounded.{of_map}
 use Rattle.accounts.proofs.Parts.{parts_at}
 use Rattle.accounts.proofs.Often.{often_contains}
@@ -132,9 +132,9 @@ pub joined_in_slots : (least : ℕ) (files : List Filed) (opened : List Opened) 
 joined_in_slots least files opened are rise = rising least files (subst (AreOpenedInSlots least) (sym are) rise)
 
 -- what is told of a file by its tail is told by what the file has of it
-pub told_by_its_tail : (processors : List ProcessorRule) (moments : List ℕ) (file : Filed) (tail : TailHistory) → tail.looks ≡ file.looks →
-    IsToldFile processors file.opened moments file.turned (Some tail) → IsToldFile processors file.opened moments file.turned (Some (tail_of file))
-told_by_its_tail processors moments file tail looks is =
+pub told_by_its_tail : (watch : Watch) (moments : List ℕ) (file : Filed) (tail : TailHistory) → tail.looks ≡ file.looks →
+    IsToldFile watch file.opened moments file.turned (Some tail) → IsToldFile watch file.opened moments file.turned (Some (tail_of file))
+told_by_its_tail watch moments file tail looks is =
     let same : tail ≡ tail_of file =
     λ k. record { opening = is.tail.opening k; number = is.tail.number k; file = is.tail.file k; begun = is.tail.begun k; looks = looks k } in
-    subst (λ (t : TailHistory). IsToldFile processors file.opened moments file.turned (Some t)) same is
+    subst (λ (t : TailHistory). IsToldFile watch file.opened moments file.turned (Some t)) same is

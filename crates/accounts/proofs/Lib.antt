@@ -17,6 +17,7 @@ pub mod Following
 pub mod Given
 pub mod Ground
 pub mod Grounded
+pub mod Hearing
 pub mod HiddenAccounts
 pub mod HiddenFollowed
 pub mod HiddenLost
@@ -33,6 +34,7 @@ pub mod Lists
 pub mod Located
 pub mod MomentsApart
 pub mod NamedKeys
+pub mod Names
 pub mod Numbers
 pub mod Often
 pub mod OneSlot
@@ -61,6 +63,7 @@ pub mod Worked
 pub mod WorkedFingerprint
 pub mod WorkedHidden
 pub mod WorkedInARow
+pub mod WorkedNames
 pub mod WorkedNative
 pub mod WorkedNumbers
 pub mod WorkedOpenings

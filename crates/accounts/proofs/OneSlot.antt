@@ -9,7 +9,7 @@ use Rattle.kept_rows.specs.Account.{FollowedTail, Place, SlotAccount}
 use Rattle.kept_rows.specs.Epochs.{AreEpochs}
 use Rattle.kept_rows.specs.Premises.{KeepsIdentity, SlotPremises, TailKeepsIdentity}
 use Rattle.kept_rows.specs.Run.{Run, Scan}
-use Rattle.kept_rows.specs.Scans.{IsBefore, IsFirstPath, ShowsFile, ShowsKey, moment_in}
+use Rattle.kept_rows.specs.Scans.{IsBefore, IsBehind, IsFirstPath, ShowsFile, ShowsKey, moment_in}
 use Rattle.kept_rows.specs.Telling.{IsNotedMoment, IsSlotAccount, IsTailOf, MayEnd, opening_moment}
 use Rattle.kept_rows.specs.Trace.{IsTail}
 use Rattle.multiline_core.specs.Rule.{timeout_of}
@@ -17,21 +17,27 @@ use Rattle.outside.specs.Files.{File}
 use Rattle.ship_core.proofs.Members.{first_there}
 use Rattle.slot_parts.proofs.Made.{account_has_epochs, account_is_told}
 use Rattle.slot_parts.proofs.Shown.{parts_shown}
-use Rattle.slot_parts.specs.Account.{IsLookedTail, IsShownAs, IsShownPart}
+use Rattle.slot_parts.specs.Account.{IsLookedTail, IsShownAs, IsShownBy, IsShownPart}
 use Rattle.slot_parts.specs.Tails.{IsToldTail, parts_by, parts_in, segments_by, tails_of}
 use Rattle.slot_parts.specs.Tellings.{AreReadFirst, tellings_in}
 use Rattle.told_events.proofs.Going.{all_behind}
 use Rattle.told_events.specs.Licence.{LieApart}
 use Rattle.told_events.specs.Rules.{Rules, rules_of}
+use Rattle.told_events.specs.Told.{ToldEvent}
 use Rattle.wire_base.specs.declared.parcel.Parcel.{Parcel}
 use Rattle.accounts.specs.Accounted.{place_in}
 use Rattle.accounts.specs.Filed.{Filed, Opening, account_of, first_opening, following_of, tail_by, tails_in}
 use Rattle.accounts.specs.FollowedFile.{IsFollowedFile, IsMomentOf, IsOpeningOf, WasShownLast}
 use Rattle.accounts.specs.OneScan.{IsByOneScan}
 use Rattle.accounts.specs.Opened.{Opened}
+use Rattle.accounts.specs.ToldFile.{IsToldBy, events_in}
+use Rattle.accounts.specs.Watch.{MayFindEnd, Name}
+use Rattle.accounts.specs.Watched.{WasRenamedSince, watch_in}
 use Rattle.accounts.proofs.Lists.{each_then}
 use Rattle.accounts.proofs.MomentsApart.{lie_apart_among}
+use Rattle.accounts.proofs.Names.{each_telling, in_turn_each}
 use Rattle.accounts.proofs.Openings.{each_reopened, file_goes_on, first_is_opening, first_shown, looks_at_file, opens_with_key, reads_so}
+use Rattle.accounts.proofs.Orderly.{member_is}
 use Rattle.accounts.proofs.Slots.{tells_both}
 
 got_behind : {A : Type 0} (front : List A) (x : A) (behind : List A) → slice_get (front ++ x ∷ behind) (length front) ≡ Some x
@@ -46,7 +52,7 @@ pub record IsShownOpening (run : Run) (first : Opened) (one : Opening) : Type 0 
   pub is : IsOpeningOf run first one
   pub shown : WasShownLast run one.opened
 
-module _ (run : Run) (once : run.once ≡ true) (placed : Parcel → Option Place) (file : Filed) (keeps : KeepsIdentity run (following_of file)) (same_first : file.opened.number ≡ keeps.number)
+module _ (run : Run) (placed : Parcel → Option Place) (file : Filed) (keeps : KeepsIdentity run (following_of file)) (same_first : file.opened.number ≡ keeps.number)
     (file_is : slice_get run.trace.files file.opened.number ≡ Some file.opened.file) where
   abbrev account : SlotAccount
   account = account_of placed file
@@ -84,10 +90,22 @@ module _ (run : Run) (once : run.once ≡ true) (placed : Parcel → Option Plac
       read = subst (λ (f : File). AreReadFirst (tail_by one).history f (tellings_in one.history) (segments_by (tail_by one))) same_file (reads_so run file.opened one of.is).first;
       tells = subst (λ (r : Rules). AllByRecursion (IsTelling r) (tellings_in one.history)) (λ k. rules_of (rule_is k) (of.is.told.history.processors_are k)) of.is.told.epochs;
       same_lines = ap (λ (r : InputRule). r.lines) rule_is;
-      may_end = λ ends. inl once;
+      may_end = λ may. by_case (of.is.told.history.may_end may);
       has_waited = λ some waited. lie_apart_among one.history.moments run.trace.moments (timeout_of rules.events) some of.is.told.history.at
           (subst (λ (r : InputRule). LieApart one.history.moments (timeout_of r.multiline)) rule_is waited);
     }
+      where
+        by_case : MayFindEnd (watch_in run) one.opened → MayEnd run account one.opened.opening
+        by_case (inl once) = inl once
+        by_case (inr removed) = inr (record {
+          scan = removed.scan;
+          of_run = removed.of_run;
+          whole = removed.whole;
+          later = removed.later;
+          hidden = λ path shows. removed.hidden path
+              (subst (λ (n : ℕ). ShowsFile run removed.scan one.opened.begin.key n path) (sym same_number)
+              (subst (λ (key : List ℕ). ShowsFile run removed.scan key file.opened.number path) (sym of.is.same_key) shows));
+        })
 
     is_looked_tail : IsLookedTail file.opened.file (tail_by one).tail
     is_looked_tail = subst (λ (f : File). IsLookedTail f (tail_by one).tail) same_file
@@ -117,9 +135,50 @@ module _ (run : Run) (once : run.once ≡ true) (placed : Parcel → Option Plac
           of.shown.none_nearer;
     }
 
+    -- and so is one that a later scan showed
+    is_shown_since : (name : Name) → WasRenamedSince run one.opened name → IsShownAs run account one.opened.opening name.path
+    is_shown_since name was = record {
+      before = was.front;
+      scan = was.scan;
+      behind = was.behind;
+      scans_are = was.scans_are;
+      first = subst (λ (n : ℕ). IsFirstPath run was.scan file.opened.begin.key n name.path) number_is first;
+      none_nearer = each_then (IsBehind one.opened.opening)
+          (λ (other : Scan). (path : List ℕ) → ShowsFile run other file.opened.begin.key file.opened.number path → IsBefore one.opened.opening other → ⊥) was.behind
+          (λ other later path shows before.
+          let entry = shows.shows.1.asks.entry in
+          let behind = member_is (λ (listing : ℕ). one.opened.opening < listing) other.listings entry.listing later entry.of_scan in
+          let front = member_is (λ (listing : ℕ). listing < one.opened.opening) other.listings entry.listing before entry.of_scan in
+          omega (arith, behind, front))
+          was.later.1;
+    }
+      where
+        first : IsFirstPath run was.scan file.opened.begin.key was.number name.path
+        first = subst (λ (key : List ℕ). IsFirstPath run was.scan key was.number name.path) of.is.same_key was.first
+
+        number_is : was.number ≡ file.opened.number
+        number_is = keeps.listed was.scan (length was.front) was.number name.path
+            (ap (λ (l : List Scan). slice_get l (length was.front)) was.scans_are ∙ got_behind was.front was.scan was.behind)
+            (record { since = omega arith; until = tt }) first.shows
+            ∙ sym same_first
+
+    -- each event was told by the path of the opening, or by one of these
+    events_are_shown : AllByRecursion (IsShownBy run account one.opened.opening) (events_in one.history)
+    events_are_shown =
+        in_turn_each run.trace.moments (IsShownBy run account one.opened.opening) one.opened.begin.path of.is.told.history.names (events_in one.history)
+        (shown_by one.opened.begin.path is_shown_as)
+        (each_then (WasRenamedSince run one.opened) (λ (name : Name). (event : ToldEvent) → IsToldBy name.path run.trace.moments event → IsShownBy run account one.opened.opening event)
+        of.is.told.history.names (λ name was. shown_by name.path (is_shown_since name was)) of.is.told.history.renamed)
+        of.is.told.history.told
+      where
+        shown_by : (path : List ℕ) → IsShownAs run account one.opened.opening path → (event : ToldEvent) → IsToldBy path run.trace.moments event →
+            IsShownBy run account one.opened.opening event
+        shown_by path shown event told = record { path = subst (IsShownAs run account one.opened.opening) (sym told.path_is) shown; given = told.given }
+
     parts_are_shown : AllByRecursion (IsShownPart run account) (parts_by rules.events (tail_by one))
     parts_are_shown =
-        parts_shown run account one.opened.opening one.opened.begin.path is_shown_as rules.events 0 (tellings_in one.history) (segments_by (tail_by one)) of.is.told.history.told
+        parts_shown run account one.opened.opening rules.events 0 (tellings_in one.history) (segments_by (tail_by one))
+        (each_telling (IsShownBy run account one.opened.opening) (tellings_in one.history) events_are_shown)
 
   -- ---- all of them
 
@@ -198,10 +257,10 @@ module _ (run : Run) (scan : Scan) (by : IsByOneScan run scan) (placed : Parcel 
         rule = file.opened.rule;
         rule_is = is.rule_is;
         moment = is_noted_moment;
-        of_one_file = of_one_file run by.once placed file keeps same_first is.file_is openings of own;
+        of_one_file = of_one_file run placed file keeps same_first is.file_is openings of own;
         epochs = slot_has_epochs;
         told = account_is_told run (rules_of file.opened.rule run.settings.processors) (place_in placed file.opened.begin.slot) (following_of file) file.opened.number file.changed (tails_in file)
-            file.opened.file is.in_range is.file_is refl on (are_told run by.once placed file keeps same_first is.file_is openings of own)
-            (are_looked run by.once placed file keeps same_first is.file_is openings of own) premises.truncations (are_shown run by.once placed file keeps same_first is.file_is openings of own);
+            file.opened.file is.in_range is.file_is refl on (are_told run placed file keeps same_first is.file_is openings of own)
+            (are_looked run placed file keeps same_first is.file_is openings of own) premises.truncations (are_shown run placed file keeps same_first is.file_is openings of own);
         went = tt;
       }

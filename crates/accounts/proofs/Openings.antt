@@ -31,6 +31,7 @@ use Rattle.accounts.specs.Opened.{Opened}
 use Rattle.accounts.specs.Parted.{kept_looks}
 use Rattle.accounts.specs.ToldFile.{AreEpochsFrom}
 use Rattle.accounts.specs.Turned.{Turned}
+use Rattle.accounts.specs.Watched.{watch_in}
 use Rattle.accounts.proofs.Apart.{EachAdjoins, IsInEpochs}
 use Rattle.accounts.proofs.JoinedFile.{joined_opened, joined_turned, told_joined}
 use Rattle.accounts.proofs.Lists.{each_then}
@@ -49,7 +50,7 @@ module _ (run : Run) (first : Opened) (one : Opening) (is : IsOpeningOf run firs
   tail = tail_with one.opened one.looks
 
   pub reads_so : IsReadSo (joined_turned turned).history (joined_opened one.opened) one.looks
-  reads_so = file_is_read run.settings.processors one.opened run.trace.moments turned tail is.gave is.told
+  reads_so = file_is_read (watch_in run) one.opened run.trace.moments turned tail is.gave is.told
 
   -- as its tail was opened, the file gave its key
   pub opens_with_key : StillHasKey first.rule first.begin.key one.opened.begin.path one.opened.file (kept_looks one.history one.looks)
@@ -80,7 +81,7 @@ module _ (run : Run) (first : Opened) (one : Opening) (is : IsOpeningOf run firs
 
   pub reads_exactly : MayReopenAt one.history.stage → IsReadExactly (joined_turned turned).history (joined_opened one.opened) one.looks
   reads_exactly may =
-      let joined = told_joined run.settings.processors one.opened run.trace.moments turned tail is.gave.asking is.told in
+      let joined = told_joined (watch_in run) one.opened run.trace.moments turned tail is.gave.asking is.told in
       read_exactly (joined_turned turned).history (joined_opened one.opened) tail joined.tail.file joined.history.begin joined.history.rule joined.looked
       joined.history.asked_before one.opened.asked is.gave may
 

@@ -1,6 +1,5 @@
 -- A tail that followed a slot's file, by what it told: it kept the file's key as far as it is said to have, and its looks read its epochs so.
 use Rattle.std.proofs.Common.{ℕ, List, [], ◌∷◌, ◌++◌, Some, sym, subst}
-use Rattle.event_tree.specs.declared.processor_rule.ProcessorRule.{ProcessorRule}
 use Rattle.file_identity.specs.AskedAgain.{GivesKey}
 use Rattle.file_looks.specs.Looks.{AreLooks}
 use Rattle.harvester.specs.History.{History}
@@ -14,6 +13,7 @@ use Rattle.accounts.specs.Opened.{Opened}
 use Rattle.accounts.specs.Parted.{kept_looks, lost_looks}
 use Rattle.accounts.specs.ToldFile.{IsToldFile}
 use Rattle.accounts.specs.Turned.{Turned}
+use Rattle.accounts.specs.Watch.{Watch}
 use Rattle.accounts.proofs.JoinedFile.{joined_opened, joined_turned, told_joined}
 use Rattle.accounts.proofs.Parting.{parts_together}
 use Rattle.accounts.proofs.Segmented.{IsReadSo, read_so}
@@ -35,9 +35,9 @@ tells_both run opened h looks tail = subst (IsTail run.trace opened.opening open
 
 -- ---- by which of its looks its epochs were read
 
-pub file_is_read : (processors : List ProcessorRule) (opened : Opened) (moments : List ℕ) (turned : Turned) (told : TailHistory) →
-    GivesKey opened.rule opened.begin.key opened.begin.path opened.file opened.asked → IsToldFile processors opened moments turned (Some told) →
+pub file_is_read : (watch : Watch) (opened : Opened) (moments : List ℕ) (turned : Turned) (told : TailHistory) →
+    GivesKey opened.rule opened.begin.key opened.begin.path opened.file opened.asked → IsToldFile watch opened moments turned (Some told) →
     IsReadSo (joined_turned turned).history (joined_opened opened) told.looks
-file_is_read processors opened moments turned told gave is =
-    let joined = told_joined processors opened moments turned told gave.asking is in
+file_is_read watch opened moments turned told gave is =
+    let joined = told_joined watch opened moments turned told gave.asking is in
     read_so (joined_turned turned).history (joined_opened opened) told joined.tail.file joined.history.begin joined.history.rule joined.looked joined.history.asked_before opened.asked gave

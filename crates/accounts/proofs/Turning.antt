@@ -2,7 +2,6 @@
 use Rattle.std.proofs.Common.{◌≡◌, ◌⊎◌, inl, inr, ℕ, zero, suc, ◌+◌, Bool, true, false, ◌||◌, List, [], ◌∷◌, ◌++◌, length, map, Option, Some, refl, sym, ap, subst, ◌∙◌, arith}
 use Rattle.std.specs.Prelude.{slice_get, slice_set}
 use Rattle.std.specs.List.{AllByRecursion, flat_map}
-use Rattle.event_tree.specs.declared.processor_rule.ProcessorRule.{ProcessorRule}
 use Rattle.harvester.specs.HasTold.{begin_of}
 use Rattle.harvester.specs.History.{History}
 use Rattle.harvester.specs.Standing.{EndsAt}
@@ -31,12 +30,13 @@ use Rattle.wire_base.specs.declared.numbers.Slot.{Slot}
 use Rattle.wire_base.specs.declared.parcel.Parcel.{Parcel}
 use Rattle.accounts.specs.Opened.{Opened}
 use Rattle.accounts.specs.Turned.{Turned, notes_told, parcels_of, parcels_told, spans_told}
-use Rattle.accounts.specs.Turning.{IsTurnedSo, Pairs, TellOn}
+use Rattle.accounts.specs.Turning.{IsAtItsEnd, IsTurnedSo, Pairs, TellOn}
+use Rattle.accounts.specs.Watch.{Watch}
 use Rattle.accounts.proofs.Given.{notes_by, notes_on, of_slot, parcels_on, spans_on}
 use Rattle.accounts.proofs.Histories.{at_end, history_on, numbers_on, tail_on, tells_on, told_file}
 use Rattle.accounts.proofs.Often.{behind_more, front_more, more_then, none_more}
 
-module _ (processors : List ProcessorRule) (moments : List ℕ) where
+module _ (watch : Watch) (moments : List ℕ) where
   module _ {T : Type 0} (numbers : T → Option (ℕ × ℕ)) (told : T → Option TailHistory) where
     -- ---- what it gave
 
@@ -95,7 +95,7 @@ module _ (processors : List ProcessorRule) (moments : List ℕ) where
 
     module _ (files : List Opened) where
       abbrev Stands : Turned → Harvester T → Type 0
-      Stands = IsTurnedSo numbers told processors files moments
+      Stands = IsTurnedSo numbers told watch files moments
 
       record TurnsOn (before : Turned) (new : Harvester T) (what : Given) : Type 0 where
         after : Turned
@@ -106,15 +106,15 @@ module _ (processors : List ProcessorRule) (moments : List ℕ) where
         spans : spans_told after ≡ spans_told before + spans_of what
 
       turns_on : (faults : T → ℕ) (now : Moment) (last : Bool) (before : Turned) (old : Harvester T) (answer : Turn) (new : Harvester T) (what : Given) →
-          last ≡ true → EndsAt moments now.0 → HasTurned numbers told faults now last old answer new → Gives numbers told new answer what →
+          last ≡ watch.once → EndsAt moments now.0 → HasTurned numbers told faults now last old answer new → Gives numbers told new answer what →
           Stands before old → TurnsOn before new what
-      turns_on faults now last before old answer new what last_is ends t gives stands =
+      turns_on faults now last before old answer new what same ends t gives stands =
           let h = before.history in
           let g = t.goes h stands.has_told in
           let of = t.of_file h stands.has_told in
           let turned = with_turn now.0 last h in
           let next = of_slot before.slot (after_did now.0 answer g.did turned) in
-          let history = history_on processors moments stands.opened now.0 last answer g.did h ends stands.is_told.history in
+          let history = history_on watch moments stands.opened now.0 last answer g.did h same ends stands.is_told.history in
           let follows = stands.has_told.held.holds.follows in
           let slot_is : before.slot ≡ (begin_of old).slot =
           stands.is_told.slot ∙ ap (λ (b : Begin). b.slot) (sym stands.is_told.history.begin ∙ sym follows.begin) in
@@ -127,11 +127,11 @@ module _ (processors : List ProcessorRule) (moments : List ℕ) where
               has_told = g.has_told;
               opened = stands.opened;
               of_files = stands.of_files;
-              is_told = told_file processors moments numbers told stands.opened next new g.has_told stands.is_told.slot history
+              is_told = told_file watch moments numbers told stands.opened next new g.has_told stands.is_told.slot history
                   (tail_on Are (numbers old.tail) stands.opened (told old.tail) (told new.tail) t.looks stands.is_told.tail)
                   (tells_on Are (numbers old.tail) (told old.tail) (told new.tail) t.looks stands.is_told.tells) numbers_are;
               numbers_are = numbers_are;
-              rests = λ rests. at_end processors moments numbers told now.0 last h old new last_is answer (t.rests.0 rests) g;
+              rests = λ rests. subst (λ (once : Bool). IsAtItsEnd once next.history) same (at_end watch moments numbers told now.0 last h old new answer (t.rests.0 rests) g);
             };
             slot = refl;
             parcels = parcels_on before.slot now.0 g.did turned answer
@@ -145,7 +145,7 @@ module _ (processors : List ProcessorRule) (moments : List ℕ) where
       -- ---- one of several
 
       front_turns : (turned : Turned) (before : List Turned) (olds : List (Harvester T)) (new : Harvester T) (what : Given) → TurnsOn turned new what → Pairs Stands before olds →
-          TellOn numbers told processors files moments (turned ∷ before) (new ∷ olds) (lane.parcels_in what) (lane.notes_in what) (spans_of what)
+          TellOn numbers told watch files moments (turned ∷ before) (new ∷ olds) (lane.parcels_in what) (lane.notes_in what) (spans_of what)
       front_turns turned before olds new what on others = record {
         after = on.after ∷ before;
         stand = (on.stands, others);
@@ -159,7 +159,7 @@ module _ (processors : List ProcessorRule) (moments : List ℕ) where
 
       one_turns : (before : List Turned) (olds : List (Harvester T)) (index : ℕ) (old new : Harvester T) (what : Given) → Pairs Stands before olds →
           slice_get olds index ≡ Some old → ((turned : Turned) → Stands turned old → TurnsOn turned new what) →
-          TellOn numbers told processors files moments before (slice_set olds index new) (lane.parcels_in what) (lane.notes_in what) (spans_of what)
+          TellOn numbers told watch files moments before (slice_set olds index new) (lane.parcels_in what) (lane.notes_in what) (spans_of what)
       one_turns [] [] index old new what all at turns = absurd cc
       one_turns [] (first ∷ olds) index old new what all at turns = absurd all
       one_turns (turned ∷ before) [] index old new what all at turns = absurd all
@@ -181,21 +181,21 @@ module _ (processors : List ProcessorRule) (moments : List ℕ) where
 
       module _ (faults : T → ℕ) where
         -- a turn of one of them
-        pub step_tells : (step : Step) (before : List Turned) (olds news : List (Harvester T)) → step.last ≡ true → EndsAt moments step.now.0 →
-            IsMade numbers told faults step olds news → Pairs (IsTurnedSo numbers told processors files moments) before olds →
-            TellOn numbers told processors files moments before news (lane.parcels_in step.given) (lane.notes_in step.given) (spans_of step.given)
-        step_tells step before olds news last ends made all =
-            subst (λ (l : List (Harvester T)). TellOn numbers told processors files moments before l (lane.parcels_in step.given) (lane.notes_in step.given) (spans_of step.given)) (sym made.is)
+        pub step_tells : (step : Step) (before : List Turned) (olds news : List (Harvester T)) → step.last ≡ watch.once → EndsAt moments step.now.0 →
+            IsMade numbers told faults step olds news → Pairs (IsTurnedSo numbers told watch files moments) before olds →
+            TellOn numbers told watch files moments before news (lane.parcels_in step.given) (lane.notes_in step.given) (spans_of step.given)
+        step_tells step before olds news same ends made all =
+            subst (λ (l : List (Harvester T)). TellOn numbers told watch files moments before l (lane.parcels_in step.given) (lane.notes_in step.given) (spans_of step.given)) (sym made.is)
             (one_turns before olds step.index made.before made.after step.given all made.was
-            (λ turned stands. turns_on faults step.now step.last turned made.before step.turn made.after step.given last ends made.turned made.gives stands))
+            (λ turned stands. turns_on faults step.now step.last turned made.before step.turn made.after step.given same ends made.turned made.gives stands))
 
         -- turns of some, in a round at this moment
-        pub run_tells : (when : When) (ss : List Step) (before : List Turned) (olds news : List (Harvester T)) → when.last ≡ true → EndsAt moments when.now.0 →
-            AllByRecursion (IsAt when) ss → Run numbers told faults ss olds news → Pairs (IsTurnedSo numbers told processors files moments) before olds →
-            TellOn numbers told processors files moments before news (issued_in ss) (noted_in ss) (steps.spans_in ss)
-        run_tells when [] before olds news last ends at run all = record {
+        pub run_tells : (when : When) (ss : List Step) (before : List Turned) (olds news : List (Harvester T)) → when.last ≡ watch.once → EndsAt moments when.now.0 →
+            AllByRecursion (IsAt when) ss → Run numbers told faults ss olds news → Pairs (IsTurnedSo numbers told watch files moments) before olds →
+            TellOn numbers told watch files moments before news (issued_in ss) (noted_in ss) (steps.spans_in ss)
+        run_tells when [] before olds news same ends at run all = record {
           after = before;
-          stand = subst (λ (l : List (Harvester T)). Pairs (IsTurnedSo numbers told processors files moments) before l) (sym run) all;
+          stand = subst (λ (l : List (Harvester T)). Pairs (IsTurnedSo numbers told watch files moments) before l) (sym run) all;
           gave = record {
             slots = refl;
             parcels_are = none_more (flat_map parcels_told before);
@@ -203,10 +203,10 @@ module _ (processors : List ProcessorRule) (moments : List ℕ) where
             spans_are = omega arith;
           };
         }
-        run_tells when (step ∷ ss) before olds news last ends at run all =
+        run_tells when (step ∷ ss) before olds news same ends at run all =
             let now : step.now.0 ≡ when.now.0 = ap (λ (m : Moment). m.0) at.0.now in
-            let on = step_tells step before olds run.0 (at.0.last ∙ last) (subst (λ (n : ℕ). EndsAt moments n) (sym now) ends) run.1 all in
-            let then = run_tells when ss on.after run.0 news last ends at.1 run.2 on.stand in
+            let on = step_tells step before olds run.0 (at.0.last ∙ same) (subst (λ (n : ℕ). EndsAt moments n) (sym now) ends) run.1 all in
+            let then = run_tells when ss on.after run.0 news same ends at.1 run.2 on.stand in
             record {
               after = then.after;
               stand = then.stand;

@@ -31,6 +31,7 @@ use Rattle.accounts.specs.Parted.{kept_looks, lost_looks}
 use Rattle.accounts.specs.RunDone.{IsAmongFiles, RunDone}
 use Rattle.accounts.specs.RunTold.{RunTold}
 use Rattle.accounts.proofs.WorkedNative.{depth_in, entries_in, root_in}
+use Rattle.accounts.specs.Watched.{watch_in}
 use Rattle.accounts.proofs.WorkedRun.{file_by, has_talks, in_order_by, is_look, notes_by, own_looks, parcels, told_file, worker}
 
 -- ---- the run
@@ -181,7 +182,7 @@ file_is_followed = record {
   in_range = (lit≤ tt, lit≤ tt);
   file_is = refl;
   tail = is_tail;
-  told = told_file input.paths (Fingerprint 0 2) None key 3 asked (
+  told = told_file input.paths (Fingerprint 0 2) None key 3 asked (watch_in run) refl refl (
     is_look input.paths (Fingerprint 0 2) None key 3 asked (look (ReadAt 0 2)) refl (λ some. lit≤ tt, λ none. cc),
     own_looks input.paths (Fingerprint 0 2) None key 3 asked,
   );

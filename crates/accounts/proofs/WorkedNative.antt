@@ -21,6 +21,7 @@ use Rattle.wire_base.specs.KeyOrder.{compare}
 use Rattle.accounts.specs.Filed.{Filed}
 use Rattle.accounts.specs.FollowedFile.{IsFollowedFile}
 use Rattle.accounts.specs.RunDone.{EachEntryIsServed, IsAmongFiles}
+use Rattle.accounts.specs.Watched.{watch_in}
 use Rattle.accounts.proofs.WorkedRun.{file_by, own_looks, told_file}
 
 -- ---- the run
@@ -169,7 +170,7 @@ file_is_followed = record {
   in_range = (lit≤ tt, lit≤ tt);
   file_is = refl;
   tail = is_tail;
-  told = told_file input.paths Native (Some (18, 2049)) key 2 [] (own_looks input.paths Native (Some (18, 2049)) key 2 []);
+  told = told_file input.paths Native (Some (18, 2049)) key 2 [] (watch_in run) refl refl (own_looks input.paths Native (Some (18, 2049)) key 2 []);
   shown = behind;
   listed = record { number = 0; shows = shows_behind; path_is = refl; first = first_path; before = (lit≤ tt, (lit≤ tt, tt)); starts = refl };
   moment = inl refl;

@@ -1,6 +1,6 @@
 -- What worked accounts of a file that was opened twice share: two scans list it. Its first tail told one line, and was closed where it
--- read on, before the second scan; its second tail told one line, and found its file's end.
-use Rattle.std.proofs.Common.{◌≡◌, ◌≢◌, inl, inr, ℕ, ◌==◌, List, [], ◌∷◌, ◌++◌, Contains, drop, length, Option, None, Some, codes, if◌then◌else◌, refl, sym, ap, subst, take, false, ◌∙◌, arith, lit≤, length-append}
+-- read on, before the second scan; its second tail told one line, and reads on at its file's end.
+use Rattle.std.proofs.Common.{◌≡◌, ◌≢◌, inl, inr, ℕ, ◌==◌, List, [], ◌∷◌, ◌++◌, Contains, drop, length, Option, None, Some, codes, if◌then◌else◌, refl, sym, ap, subst, take, false, ◌∙◌, arith, lit≤, length-append, true}
 use Rattle.std.specs.Option.{unwrap_or}
 use Rattle.std.specs.Prelude.{slice_get}
 use Rattle.std.specs.declared.cmp.Ordering.TheVariants.{Less}
@@ -43,6 +43,7 @@ use Rattle.accounts.specs.FollowedFile.{IsFollowedFile, start_in, tail_with}
 use Rattle.accounts.specs.Opened.{Opened}
 use Rattle.accounts.specs.ToldFile.{IsToldFile}
 use Rattle.accounts.specs.Turned.{Turned}
+use Rattle.accounts.specs.Watched.{watch_in}
 use Rattle.accounts.proofs.Worked as accounted
 use Rattle.accounts.proofs.WorkedNative.{entries_in, root_in}
 
@@ -142,6 +143,8 @@ module _ (own : Twice) where
     begin = next_begin;
     path = own.path;
     present = record { epoch = own.start.epoch; start = own.start.base; bytes = own.bytes; licences = []; told = next_event ∷ [] };
+    stage = Reads;
+    may_end = false;
   }
 
   abbrev pub next_opened : Opened
@@ -281,7 +284,7 @@ module _ (own : Twice) where
   first_is_telling in_life has =
       one_line_is_told a_log in_life first_line has.more first_event.fate (codes "a\n") has.behind refl refl first_fate
 
-  first_told : IsToldFile [] (first_opened own) (0 ∷ []) (first_turned own) (Some (tail_with (first_opened own) first_looks))
+  first_told : IsToldFile (watch_in (run own)) (first_opened own) (0 ∷ []) (first_turned own) (Some (tail_with (first_opened own) first_looks))
   first_told = record {
     slot = refl;
     history = record {
@@ -289,12 +292,16 @@ module _ (own : Twice) where
       processors_are = refl;
       begin = refl;
       asked_before = refl;
+      names = [];
+      rise = tt;
+      renamed = tt;
       path = refl;
-      not_ending = refl;
+      ends = λ ends. absurd (let no : false ≡ true = ends in cc);
+      may_end = λ may. absurd (let no : false ≡ true = may in cc);
       not_forgotten = refl;
       epochs = (refl, refl, tt);
       at = ([], [], refl, tt);
-      told = ((record { path_is = refl; given = (0, omega arith, refl) }, tt), tt);
+      told = (record { path_is = refl; given = (0, omega arith, refl) }, tt);
     };
     epochs = (first_is_telling, tt);
     looked = record {
@@ -314,7 +321,7 @@ module _ (own : Twice) where
   }
 
   abbrev pub IsToldAgain : Type 0
-  IsToldAgain = IsToldFile [] (next_opened own) (0 ∷ []) (record { slot = record { 0 = 0 }; history = next_history own }) (Some (next_tail own))
+  IsToldAgain = IsToldFile (watch_in (run own)) (next_opened own) (0 ∷ []) (record { slot = record { 0 = 0 }; history = next_history own }) (Some (next_tail own))
 
   pub next_told : IsTelling (rules_in (next_history own)) (next_history own).present → IsLookedAt own.numbers (next_history own) (next_tail own) →
       TellsLooks (next_tail own) → IsToldAgain
@@ -325,12 +332,16 @@ module _ (own : Twice) where
       processors_are = refl;
       begin = refl;
       asked_before = refl;
+      names = [];
+      rise = tt;
+      renamed = tt;
       path = refl;
-      not_ending = refl;
+      ends = λ ends. absurd (let no : false ≡ true = ends in cc);
+      may_end = λ may. absurd (let no : false ≡ true = may in cc);
       not_forgotten = refl;
       epochs = (refl, refl, tt);
       at = ([], [], refl, tt);
-      told = ((record { path_is = refl; given = (0, omega arith, refl) }, tt), tt);
+      told = (record { path_is = refl; given = (0, omega arith, refl) }, tt);
     };
     epochs = (telling, tt);
     looked = looked;
@@ -439,17 +450,7 @@ module _ (identity : IdentityRule) (numbers : Option (ℕ × ℕ)) (key path : L
     past = tt;
     present = record { place = refl; to = refl; bytes = refl; on = (λ e. tt, (λ e. refl, (λ e. tt, (λ e. refl, tt)))); kept_key = inl refl; licensed = tt };
     stand_behind = refl;
-    end_look = λ ended. record {
-      front = look_at worked.sight Length ∷ look_at worked.sight (ReadAt 2 2) ∷ [];
-      asked = look_at worked.sight Length;
-      read = look_at worked.sight (ReadAt 4 0);
-      behind = [];
-      looks_are = refl;
-      asks = refl;
-      not_below = lit≤ tt;
-      gives_nothing = refl;
-      stands_there = refl;
-    };
+    end_look = λ ended. absurd cc;
   }
 
   going_on_tells : TellsLooks (next_tail own)

@@ -1,5 +1,5 @@
 -- All that is asked of a run that is done holds of one at once: two plain lines that were read to their end, acknowledged in one talk.
-use Rattle.std.proofs.Common.{◌≡◌, ◌≢◌, ◌⊎◌, inl, inr, ℕ, zero, suc, List, [], ◌∷◌, ◌++◌, length, Option, Some, None, refl, sym, ap, subst, append-nil, arith, lit≤, codes, length-append}
+use Rattle.std.proofs.Common.{◌≡◌, ◌≢◌, ◌⊎◌, inl, inr, ℕ, zero, suc, List, [], ◌∷◌, ◌++◌, length, Option, Some, None, refl, sym, ap, subst, append-nil, arith, lit≤, codes, length-append, true, false}
 use Rattle.std.specs.Prelude.{slice_get}
 use Rattle.batch_worker.specs.Ending.{HasTalks}
 use Rattle.event_tree.specs.declared.group_rule.GroupRule.TheVariants.{Single}
@@ -40,6 +40,8 @@ use Rattle.accounts.specs.FollowedFile.{IsFollowedFile, tail_of}
 use Rattle.accounts.specs.RunTold.{RunNotes, RunTold}
 use Rattle.accounts.specs.Taken.{Taken}
 use Rattle.accounts.specs.ToldFile.{IsToldFile}
+use Rattle.accounts.specs.Watch.{Watch}
+use Rattle.accounts.specs.Watched.{watch_in}
 use Rattle.accounts.proofs.Worked.{begin, history, opened, telling}
 
 -- ---- what was told of its file
@@ -129,23 +131,26 @@ module _ (globs : List (List ℕ)) (identity : IdentityRule) (numbers : Option (
     ),
   )
 
-  pub told_file : AreLooks file_by.opened.file worked.sight (asked ++ worked.looks) → IsToldFile [] file_by.opened (0 ∷ []) file_by.turned (Some (tail_of file_by))
-  told_file tells = record {
+  -- in a run that reads files once
+  pub told_file : (watch : Watch) → watch.processors ≡ [] → watch.once ≡ true → AreLooks file_by.opened.file worked.sight (asked ++ worked.looks) →
+      IsToldFile watch file_by.opened (0 ∷ []) file_by.turned (Some (tail_of file_by))
+  told_file watch none once tells = record {
     slot = refl;
     history = record {
       rule = refl;
-      processors_are = refl;
+      processors_are = sym none;
       begin = refl;
       asked_before = refl;
+      names = [];
+      rise = tt;
+      renamed = tt;
       path = refl;
-      not_ending = refl;
+      ends = λ ends. absurd (let no : false ≡ true = ends in cc);
+      may_end = λ may. inl once;
       not_forgotten = refl;
       epochs = (refl, refl, tt);
       at = ([], [], refl, tt);
-      told = (
-        (record { path_is = refl; given = (0, omega arith, refl) }, (record { path_is = refl; given = (0, omega arith, refl) }, tt)),
-        tt,
-      );
+      told = (record { path_is = refl; given = (0, omega arith, refl) }, (record { path_is = refl; given = (0, omega arith, refl) }, tt));
     };
     epochs = (is_telling, tt);
     looked = looked;
@@ -165,7 +170,7 @@ followed_file = record {
   in_range = (lit≤ tt, lit≤ tt);
   file_is = refl;
   tail = record { in_this_run = lit≤ tt; begun = worked.sight; opened = refl; tells = refl };
-  told = told_file worked.input.paths Path None worked.key 2 [] (own_looks worked.input.paths Path None worked.key 2 []);
+  told = told_file worked.input.paths Path None worked.key 2 [] (watch_in worked.run) refl refl (own_looks worked.input.paths Path None worked.key 2 []);
   shown = worked.shown;
   listed = record { number = 0; shows = worked.shows_to; path_is = refl; first = worked.first_path; before = (lit≤ tt, tt); starts = refl };
   moment = inl refl;

@@ -58,17 +58,7 @@ looked = record {
   past = tt;
   present = record { place = refl; to = refl; bytes = refl; on = (λ e. tt, (λ e. refl, (λ e. tt, (λ e. refl, tt)))); kept_key = inl refl; licensed = tt };
   stand_behind = refl;
-  end_look = λ ended. record {
-    front = look_at grown Length ∷ look_at grown (ReadAt 0 2) ∷ [];
-    asked = look_at grown Length;
-    read = look_at grown (ReadAt 2 0);
-    behind = [];
-    looks_are = refl;
-    asks = refl;
-    not_below = lit≤ tt;
-    gives_nothing = refl;
-    stands_there = refl;
-  };
+  end_look = λ ended. absurd cc;
 }
 
 is_look : (length : ℕ) → length ≤ 2 → (question : Question) → IsAnswered question grown →

@@ -22,6 +22,7 @@ use Rattle.slot_parts.specs.Account.{goes_on}
 use Rattle.accounts.specs.Filed.{Filed, Opening, first_opening, slot_in, tail_by, told_both}
 use Rattle.accounts.specs.Opened.{Opened}
 use Rattle.accounts.specs.ToldFile.{IsToldFile}
+use Rattle.accounts.specs.Watched.{watch_in}
 
 -- what the tail told, in its own words; the folder's closing has its looks once it is closed
 abbrev pub tail_with : Opened → List Look → TailHistory
@@ -91,7 +92,7 @@ pub record IsOpeningOf (run : Run) (first : Opened) (one : Opening) : Type 0 whe
   pub gave : GivesKey one.opened.rule one.opened.begin.key one.opened.begin.path one.opened.file one.opened.asked
   pub file_is : slice_get run.trace.files one.opened.number ≡ Some one.opened.file
   pub tail : IsTail run.trace one.opened.opening one.opened.begin.path one.opened.number one.looks
-  pub told : IsToldFile run.settings.processors one.opened run.trace.moments (record { slot = first.begin.slot; history = one.history }) (Some (tail_with one.opened one.looks))
+  pub told : IsToldFile (watch_in run) one.opened run.trace.moments (record { slot = first.begin.slot; history = one.history }) (Some (tail_with one.opened one.looks))
 
 -- behind the opening before it, where so much was told so far
 pub record IsReopened (run : Run) (first : Opened) (last : Opening) (so_far : History) (next : Opening) : Type 0 where
@@ -114,7 +115,7 @@ pub record IsFollowedFile (run : Run) (scan : Scan) (file : Filed) : Type 0 wher
   pub in_range : IsGroupRule file.opened.rule.multiline
   pub file_is : slice_get run.trace.files file.opened.number ≡ Some file.opened.file
   pub tail : IsTail run.trace file.opened.opening file.opened.begin.path file.opened.number file.looks
-  pub told : IsToldFile run.settings.processors file.opened run.trace.moments file.turned (Some (tail_of file))
+  pub told : IsToldFile (watch_in run) file.opened run.trace.moments file.turned (Some (tail_of file))
   pub shown : Shown
   pub listed : IsListedAs run scan file.opened shown
   pub moment : IsMomentOf run file shown

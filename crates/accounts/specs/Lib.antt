@@ -21,3 +21,5 @@ pub mod ToldNotes
 pub mod Turned
 pub mod Turning
 pub mod Unscanned
+pub mod Watch
+pub mod Watched

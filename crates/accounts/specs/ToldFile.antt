@@ -1,35 +1,61 @@
--- What was told of a file in a run that reads files once (this project's profile): its history goes on from how it was opened and asked
--- for its key, at moments that the clock gave; its epochs are told by the path by which it was opened; and its
--- looks are those of its tail. This outlives the harvester.
-use Rattle.std.specs.Prelude.{◌≡◌, ◌⊎◌, ℕ, false, List, [], ◌∷◌, Option, IfSome}
+-- What was told of a file (this project's profile): its history goes on from how it was opened and asked for its key, at moments that the
+-- clock gave; each event is told by the path that the file had then; its end may be found where files are read once, or where it was
+-- removed; and its looks are those of its tail. This outlives the harvester.
+use Rattle.std.specs.Prelude.{◌≡◌, ◌⊎◌, ℕ, false, true, List, [], ◌∷◌, ◌++◌, Contains, Option, IfSome, flat_map}
 use Rattle.std.specs.List.{AllByRecursion}
-use Rattle.event_tree.specs.declared.processor_rule.ProcessorRule.{ProcessorRule}
 use Rattle.file_looks.specs.Looks.{TellsLooks}
 use Rattle.harvester.specs.History.{Changed, Ended, History, IsTelling, Telling, left_to_tell, rules_in}
 use Rattle.harvester.specs.Looked.{AreLookedAt}
 use Rattle.kept_rows.specs.Scans.{StandInOrder}
 use Rattle.outside.specs.Tails.{TailHistory}
-use Rattle.slot_parts.specs.Tellings.{AreNumberedFrom, AreToldBy, tellings_in}
+use Rattle.slot_parts.specs.Tellings.{AreNumberedFrom, tellings_in}
+use Rattle.told_events.specs.Told.{ToldEvent}
 use Rattle.accounts.specs.Opened.{IsTailOf, Opened}
 use Rattle.accounts.specs.Turned.{Turned}
+use Rattle.accounts.specs.Watch.{AreNamesFrom, MayFindEnd, Name, Watch, last_path}
 
 -- the first is the one with which the file was begun, and is told from the place with which it was
 abbrev pub AreEpochsFrom : ℕ → ℕ → List Telling → Type 0
 AreEpochsFrom epoch base [] = ⊥
 AreEpochsFrom epoch base (first ∷ later) = (first.epoch ≡ epoch) × (first.start ≡ base) × AreNumberedFrom epoch later
 
--- the history of a file that was opened so, which nothing was told but turns at some of these moments
-pub record IsHistoryOf (processors : List ProcessorRule) (opened : Opened) (moments : List ℕ) (history : History) : Type 0 where
+-- ---- by which paths
+
+-- the event was told by this path, at one of these moments
+pub record IsToldBy (path moments : List ℕ) (event : ToldEvent) : Type 0 where
+  pub path_is : event.path ≡ path
+  pub given : Contains moments event.now
+
+-- in order: first those that were told before it had the next name, and then those that were told since
+abbrev pub AreToldInTurn : List ℕ → List ℕ → List Name → List ToldEvent → Type 0
+AreToldInTurn moments path [] told = AllByRecursion (IsToldBy path moments) told
+AreToldInTurn moments path (next ∷ names) told =
+    (before : List ToldEvent) × (since : List ToldEvent) × (told ≡ before ++ since)
+    × AllByRecursion (IsToldBy path moments) before × AreToldInTurn moments next.path names since
+
+abbrev pub events_in : History → List ToldEvent
+events_in history = flat_map (λ telling. telling.told) (tellings_in history)
+
+-- ---- its history
+
+-- the history of a file that was opened so, which nothing was told but turns at some of these moments, and what scans told
+pub record IsHistoryOf (watch : Watch) (opened : Opened) (moments : List ℕ) (history : History) : Type 0 where
   pub rule : history.rule ≡ opened.rule
-  pub processors_are : history.processors ≡ processors
+  pub processors_are : history.processors ≡ watch.processors
   pub begin : history.begin ≡ opened.begin
   pub asked_before : history.before ≡ opened.asked
-  pub path : history.path ≡ opened.begin.path
-  pub not_ending : history.ends ≡ false
+  -- its names since it was opened, and the one that was given last
+  pub names : List Name
+  pub rise : AreNamesFrom 0 names
+  pub renamed : AllByRecursion (watch.renamed opened) names
+  pub path : history.path ≡ last_path opened.begin.path names
+  -- later turns may find its end, and some turn might, only where files are read once or it was removed
+  pub ends : history.ends ≡ true → MayFindEnd watch opened
+  pub may_end : history.may_end ≡ true → MayFindEnd watch opened
   pub not_forgotten : history.forgets ≡ false
   pub epochs : AreEpochsFrom opened.begin.epoch.0 opened.begin.base (tellings_in history)
   pub at : StandInOrder history.moments moments
-  pub told : AllByRecursion (AreToldBy opened.begin.path moments) (tellings_in history)
+  pub told : AreToldInTurn moments opened.begin.path names (events_in history)
 
 -- its end was found, and all complete lines are told
 pub record IsToldToItsEnd (history : History) : Type 0 where
@@ -41,9 +67,9 @@ abbrev pub IsReadThrough : History → Type 0
 IsReadThrough history = IsToldToItsEnd history ⊎ (history.stage ≡ Changed)
 
 -- of what its tail tells, where that does
-pub record IsToldFile (processors : List ProcessorRule) (opened : Opened) (moments : List ℕ) (turned : Turned) (told : Option TailHistory) : Type 0 where
+pub record IsToldFile (watch : Watch) (opened : Opened) (moments : List ℕ) (turned : Turned) (told : Option TailHistory) : Type 0 where
   pub slot : turned.slot ≡ opened.begin.slot
-  pub history : IsHistoryOf processors opened moments turned.history
+  pub history : IsHistoryOf watch opened moments turned.history
   pub epochs : AllByRecursion (IsTelling (rules_in turned.history)) (tellings_in turned.history)
   pub looked : AreLookedAt opened.file.numbers turned.history told
   pub tail : IfSome told (IsTailOf opened)

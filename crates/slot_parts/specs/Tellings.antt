@@ -1,6 +1,5 @@
 -- What one epoch of a harvester's history told, as a part of its slot.
-use Rattle.std.specs.Prelude.{◌≡◌, ℕ, ◌+◌, List, [], ◌∷◌, ◌++◌, Contains}
-use Rattle.std.specs.List.{AllByRecursion}
+use Rattle.std.specs.Prelude.{◌≡◌, ℕ, ◌+◌, List, [], ◌∷◌, ◌++◌}
 use Rattle.event_tree.specs.declared.group_rule.GroupRule.{GroupRule}
 use Rattle.event_tree.specs.declared.group_rule.GroupRule.TheVariants.{Count, Pattern, Single}
 use Rattle.file_looks.specs.Segment.{Segment}
@@ -60,11 +59,3 @@ AreReadFirst h file (telling ∷ tellings) (segment ∷ segments) = IsReadBy h f
 abbrev pub AreNumberedFrom : ℕ → List Telling → Type 0
 AreNumberedFrom before [] = Unit {0}
 AreNumberedFrom before (telling ∷ later) = (telling.epoch ≡ before + 1) × (telling.start ≡ 0) × AreNumberedFrom (before + 1) later
-
--- the event was told by this path, at one of these moments
-pub record IsToldBy (path moments : List ℕ) (event : ToldEvent) : Type 0 where
-  pub path_is : event.path ≡ path
-  pub given : Contains moments event.now
-
-abbrev pub AreToldBy : List ℕ → List ℕ → Telling → Type 0
-AreToldBy path moments telling = AllByRecursion (IsToldBy path moments) telling.told
