@@ -213,7 +213,7 @@ module _ {D : Type 0} (disks : DiskWords D) (one : OneChoice) (settings : Settin
   early None after before later moment status some clock gives scans ends full = absurd (nothing FolderHistory some)
   early (Some history) after before later moment status some clock gives scans ends full =
       let first = first_given moment before later gives in
-      let start : Began D = record { settings = settings; opening = opening; listed = []; doubled = []; moment = moment; shown = Some scans.scanned; moments = before; heard = []; a = from_a; b = from_b } in
+      let start : Began D = record { settings = settings; once = true; opening = opening; listed = []; doubled = []; moment = moment; shown = Some scans.scanned; moments = before; heard = []; a = from_a; b = from_b } in
       record {
         what = early_met status;
         met_for = early_met_for status ends;

@@ -23,7 +23,7 @@ module _ {W D : Type 0} (disks : DiskWords D) (wires : WireWords W) (settings : 
     (listed doubled : List Listed) (moment : ℕ) (before later : Option (List ℕ)) (gives : GivesMoment before moment later) (scanned : Option FolderHistory)
     (of_inputs : All (IsOfInputs settings) listed) where
   abbrev pub outset : Outset W D
-  outset = record { settings = settings; listed = listed; doubled = doubled; moment = moment; shown = scanned; moments = later; wires = items; keeper = keeper; a = a; b = b }
+  outset = record { settings = settings; once = true; listed = listed; doubled = doubled; moment = moment; shown = scanned; moments = later; wires = items; keeper = keeper; a = a; b = b }
 
   abbrev pub earlier : Earlier D
   earlier = record { moments = before; a = from.a; b = from.b }

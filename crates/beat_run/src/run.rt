@@ -280,6 +280,7 @@ where
             queue: &queue,
             desk: &desk,
         },
+        once: true,
     };
     let worked = {
         let mut storing = Storing {

@@ -5,10 +5,10 @@ use Rattle.std.specs.List.{AllByRecursion, flat_map}
 use Rattle.accounts.specs.Opened.{Opened}
 use Rattle.accounts.specs.Turned.{Turned, spans_in, spans_told as spans_of}
 use Rattle.accounts.specs.Turning.{IsTurnedSo, Pairs}
+use Rattle.accounts.specs.Watch.{Watch}
 use Rattle.accounts.proofs.Lists.{each_last}
 use Rattle.accounts.proofs.Onward.{each_stands_later}
 use Rattle.batch_worker.specs.Held.{notes_of}
-use Rattle.event_tree.specs.declared.processor_rule.ProcessorRule.{ProcessorRule}
 use Rattle.harvester.specs.declared.harvester.Harvester.{Harvester}
 use Rattle.lanes.specs.Giving.{notes_in, parcels_in}
 use Rattle.lanes.specs.Laning.{Laning}
@@ -121,14 +121,14 @@ module _ {T : Type 0} (old new : List (Laning T)) (parcels_are : held_parcels ne
 -- ---- files
 
 -- the lanes stand for such files, of which one came
-pub record TurnedWith {T : Type 0} (tails : TailWords T) (processors : List ProcessorRule) (opened : List Opened) (moments : List ℕ) (before : List (List Turned)) (turned : Turned) (lanes : List (Laning T)) : Type 0 where
+pub record TurnedWith {T : Type 0} (tails : TailWords T) (watch : Watch) (opened : List Opened) (moments : List ℕ) (before : List (List Turned)) (turned : Turned) (lanes : List (Laning T)) : Type 0 where
   pub after : List (List Turned)
-  pub stand : Pairs (AreTurnedIn tails processors opened moments) after lanes
+  pub stand : Pairs (AreTurnedIn tails watch opened moments) after lanes
   pub are : AsOften (all_of after) (turned ∷ all_of before)
 
-module _ {T : Type 0} (tails : TailWords T) (processors : List ProcessorRule) (opened : List Opened) (moments : List ℕ) where
+module _ {T : Type 0} (tails : TailWords T) (watch : Watch) (opened : List Opened) (moments : List ℕ) where
   abbrev So : Turned → Harvester T → Type 0
-  So = IsTurnedSo tails.numbers tails.told processors opened moments
+  So = IsTurnedSo tails.numbers tails.told watch opened moments
 
   pairs_last : (ts : List Turned) (hs : List (Harvester T)) (turned : Turned) (harvester : Harvester T) → Pairs So ts hs → So turned harvester → Pairs So (ts ++ turned ∷ []) (hs ++ harvester ∷ [])
   pairs_last [] [] turned harvester stand last = (last, tt)
@@ -137,8 +137,8 @@ module _ {T : Type 0} (tails : TailWords T) (processors : List ProcessorRule) (o
   pairs_last (t ∷ ts) (h ∷ hs) turned harvester stand last = (stand.0, pairs_last ts hs turned harvester stand.1 last)
 
   pub turned_at : (harvester : Harvester T) (turned : Turned) → So turned harvester → (files : List (List Turned)) (front : List (Laning T)) (lane : Laning T) (back : List (Laning T)) →
-      Pairs (AreTurnedIn tails processors opened moments) files (front ++ lane ∷ back) →
-      TurnedWith tails processors opened moments files turned (front ++ (record lane { harvesters = lane.harvesters ++ harvester ∷ [] }) ∷ back)
+      Pairs (AreTurnedIn tails watch opened moments) files (front ++ lane ∷ back) →
+      TurnedWith tails watch opened moments files turned (front ++ (record lane { harvesters = lane.harvesters ++ harvester ∷ [] }) ∷ back)
   turned_at harvester turned is [] [] lane back stand = absurd stand
   turned_at harvester turned is [] (first ∷ front) lane back stand = absurd stand
   turned_at harvester turned is (ts ∷ files) [] lane back stand = record {
@@ -155,13 +155,13 @@ module _ {T : Type 0} (tails : TailWords T) (processors : List ProcessorRule) (o
       }
 
   -- as further files are opened
-  pub opened_later : (others : List Opened) (files : List (List Turned)) (lanes : List (Laning T)) → Pairs (AreTurnedIn tails processors opened moments) files lanes →
-      Pairs (AreTurnedIn tails processors (opened ++ others) moments) files lanes
+  pub opened_later : (others : List Opened) (files : List (List Turned)) (lanes : List (Laning T)) → Pairs (AreTurnedIn tails watch opened moments) files lanes →
+      Pairs (AreTurnedIn tails watch (opened ++ others) moments) files lanes
   opened_later others [] [] stand = tt
   opened_later others [] (lane ∷ lanes) stand = absurd stand
   opened_later others (ts ∷ files) [] stand = absurd stand
   opened_later others (ts ∷ files) (lane ∷ lanes) stand = (
-    subst (λ (l : List ℕ). AreTurnedIn tails processors (opened ++ others) l ts lane) (append-nil moments)
-        (each_stands_later tails.numbers tails.told processors opened moments others [] ts lane.harvesters stand.0),
+    subst (λ (l : List ℕ). AreTurnedIn tails watch (opened ++ others) l ts lane) (append-nil moments)
+        (each_stands_later tails.numbers tails.told watch opened moments others [] ts lane.harvesters stand.0),
     opened_later others files lanes stand.1,
   )

@@ -43,7 +43,7 @@ use Rattle.run_steps.specs.Releasing.{closing_of, with_events}
 use Rattle.run_steps.specs.RunState.{Finished, Leaving, Reading}
 use Rattle.run_steps.specs.Shown.{HasShown}
 use Rattle.run_steps.specs.SoFar.{SoFar, files_of}
-use Rattle.run_steps.specs.Stands.{Further, Stands}
+use Rattle.run_steps.specs.Stands.{Further, Stands, watch_of}
 use Rattle.run_steps.specs.Telling.{TellsBegin, TellsNotes}
 use Rattle.run_steps.specs.declared.begin_error.BeginError.{BeginError}
 use Rattle.run_steps.specs.declared.begin_error.BeginError.TheVariants as error
@@ -177,9 +177,9 @@ module _ {T W L D : Type 0} (words : Words T W L D) (reads : (disk : D) → IfSo
 
       -- a harvester over it stands for it
       turns : (harvester : Harvester T) → IsOpenedFor words.tails start.settings (file_at start.opening slot listed now) tail harvester →
-          IsTurnedSo words.tails.numbers words.tails.told start.settings.processors (begins.so_far.opened ++ has.one ∷ []) begins.so_far.moments (opened_now start.settings.processors has.one now.0) harvester
+          IsTurnedSo words.tails.numbers words.tails.told (watch_of start) (begins.so_far.opened ++ has.one ∷ []) begins.so_far.moments (opened_now start.settings.processors has.one now.0) harvester
       turns harvester is =
-          stands_opened words.tails.numbers words.tails.told start.settings.processors (begins.so_far.opened ++ has.one ∷ []) begins.so_far.moments has.one now.0 harvester
+          stands_opened words.tails.numbers words.tails.told (watch_of start) (begins.so_far.opened ++ has.one ∷ []) begins.so_far.moments has.one now.0 harvester
           (Contains-append_right begins.so_far.opened (has.one ∷ []) has.one (first_there has.one [])) begins.ends told_so
           (subst (λ (t : T). IfSome (words.tails.told t) (IsTailOf has.one)) (sym is.tail_kept) has.tail_is)
           (subst (λ (t : T). IfSome (words.tails.told t) TellsLooks) (sym is.tail_kept) has.tells)

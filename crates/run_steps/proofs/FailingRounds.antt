@@ -1,5 +1,5 @@
 -- The workers of a run fail so over a round, turn by turn.
-use Rattle.std.proofs.Common.{◌≡◌, ◌⊎◌, ⊎_elim, inl, inr, ℕ, ◌<◌, ◌≤◌, List, [], ◌∷◌, ◌++◌, length, drop, Option, Some, None, IfNone, refl, sym, subst, append-nil, arith}
+use Rattle.std.proofs.Common.{◌≡◌, ◌⊎◌, ⊎_elim, inl, inr, ℕ, Bool, ◌<◌, ◌≤◌, List, [], ◌∷◌, ◌++◌, length, drop, Option, Some, None, IfNone, refl, sym, subst, append-nil, arith}
 use Rattle.std.specs.List.{AllByRecursion}
 use Rattle.std.proofs.lemmas.List.{drop-append-le, length-append}
 use Rattle.std.proofs.lemmas.List.Elements.{recursion_from_All}
@@ -259,6 +259,6 @@ pub fail_after : {W L : Type 0} (links : LinkWords L) (wires : WireWords W) (att
 unfolding FailOn
 fail_after links wires attempts before after timeout earlier starts some none on failing = on timeout earlier starts some none failing
 
-pub none_failed_in : {T W L : Type 0} (attempts : ℕ) (crew : Crew T W L) (keeper : Keeping) (round : Round) (result : Option Met) → IsMetIn attempts crew keeper round result → IfNone result (NoneFailed attempts crew.carriers.items)
-none_failed_in attempts crew keeper round None is = is.0.none_failed
-none_failed_in attempts crew keeper round (Some met) is = tt
+pub none_failed_in : {T W L : Type 0} (once : Bool) (attempts : ℕ) (crew : Crew T W L) (keeper : Keeping) (round : Round) (result : Option Met) → IsMetIn once attempts crew keeper round result → IfNone result (NoneFailed attempts crew.carriers.items)
+none_failed_in once attempts crew keeper round None is = is.0.none_failed
+none_failed_in once attempts crew keeper round (Some met) is = tt

@@ -1,12 +1,12 @@
 -- Where all lanes are done, each file is read through: it is told to its end, or was found to have another key.
-use Rattle.std.proofs.Common.{◌≢◌, inl, inr, ⊎_elim, ℕ, List, [], ◌∷◌, ◌++◌, Contains, Option, sym, ap, ◌∙◌}
+use Rattle.std.proofs.Common.{◌≢◌, ◌≡◌, inl, inr, ⊎_elim, ℕ, Bool, true, ◌||◌, List, [], ◌∷◌, ◌++◌, Contains, Option, sym, ap, ◌∙◌}
 use Rattle.std.proofs.lemmas.List.Elements.{All-contains}
 use Rattle.std.specs.List.{AllByRecursion, flat_map}
 use Rattle.accounts.specs.Opened.{Opened}
 use Rattle.accounts.specs.ToldFile.{IsReadThrough}
 use Rattle.accounts.specs.Turned.{Turned}
 use Rattle.accounts.specs.Turning.{IsTurnedSo, Pairs}
-use Rattle.event_tree.specs.declared.processor_rule.ProcessorRule.{ProcessorRule}
+use Rattle.accounts.specs.Watch.{Watch}
 use Rattle.harvester.specs.Standing.{stage_of}
 use Rattle.harvester.specs.declared.harvester.Harvester.{Harvester}
 use Rattle.harvester.specs.declared.stage.Stage.TheVariants as stage
@@ -17,9 +17,9 @@ use Rattle.ship_core.proofs.Members.{first_there, later_there}
 
 -- ---- one by one
 
-module _ {T : Type 0} (numbers : T → Option (ℕ × ℕ)) (told : T → Option TailHistory) (processors : List ProcessorRule) (files : List Opened) (moments : List ℕ) where
+module _ {T : Type 0} (numbers : T → Option (ℕ × ℕ)) (told : T → Option TailHistory) (watch : Watch) (files : List Opened) (moments : List ℕ) (once : watch.once ≡ true) where
   abbrev Stands : Turned → Harvester T → Type 0
-  Stands = IsTurnedSo numbers told processors files moments
+  Stands = IsTurnedSo numbers told watch files moments
 
   abbrev ReadThrough : Turned → Type 0
   ReadThrough turned = IsReadThrough turned.history
@@ -27,7 +27,7 @@ module _ {T : Type 0} (numbers : T → Option (ℕ × ℕ)) (told : T → Option
   -- one that rests is told to its end, and one that is changed is read no further
   one_ends : (turned : Turned) (harvester : Harvester T) → Stands turned harvester → harvester.reader.stage ≢ stage.Over → IsThrough harvester → ReadThrough turned
   one_ends turned harvester stands not_over through =
-      ⊎_elim (λ rests. inl (stands.rests rests.rests))
+      ⊎_elim (λ rests. inl ((stands.rests rests.rests).told (ap (λ (b : Bool). b || turned.history.ends) once)))
       (λ changed. ⊎_elim (λ other. inr (sym stands.has_told.held.holds.follows.stage ∙ ap stage_of other)) (λ over. absurd (not_over over)) changed) through
 
   each_ends : (ts : List Turned) (harvesters : List (Harvester T)) → Pairs Stands ts harvesters →

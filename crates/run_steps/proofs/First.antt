@@ -6,10 +6,10 @@ use Rattle.accounts.specs.Opened.{Opened as OpenedFile}
 use Rattle.accounts.proofs.Ordered.{none_orderly}
 use Rattle.accounts.specs.Turned.{Turned, notes_told, parcels_told, spans_in}
 use Rattle.accounts.specs.Turning.{IsTurnedSo, Pairs}
+use Rattle.accounts.specs.Watch.{Watch}
 use Rattle.batch_worker.specs.Held.{carried_in, notes_of, owed_by}
 use Rattle.batch_worker.specs.Standing.{length_of}
 use Rattle.batch_worker.specs.Working.{Working}
-use Rattle.event_tree.specs.declared.processor_rule.ProcessorRule.{ProcessorRule}
 use Rattle.event_tree.specs.declared.output_rule.OutputRule.{OutputRule}
 use Rattle.harvester.specs.declared.harvester.Harvester.{Harvester}
 use Rattle.harvester.specs.declared.stage.Stage.TheVariants as stage
@@ -46,7 +46,7 @@ use Rattle.run_steps.specs.Began.{Began}
 use Rattle.run_steps.specs.RunState.{Finished, Reading, RunState}
 use Rattle.run_steps.specs.Shown.{HasShown}
 use Rattle.run_steps.specs.SoFar.{SoFar, files_in, files_of}
-use Rattle.run_steps.specs.Stands.{AreCounted, AreTurnedIn, Stands}
+use Rattle.run_steps.specs.Stands.{AreCounted, AreTurnedIn, Stands, watch_of}
 use Rattle.run_steps.proofs.Giving.{FirstGiven, first_given}
 
 posted_both : (xs ys : List Sender) → posted_by (xs ++ ys) ≡ posted_by xs ++ posted_by ys
@@ -94,12 +94,12 @@ module _ {T : Type 0} where
   no_spans [] none = refl
   no_spans (lane ∷ lanes) none = let rest = no_spans lanes none.1 in let here = none.0.2 in omega (arith, rest, here)
 
-  turned_none : (tails : TailWords T) (processors : List ProcessorRule) (opened : List OpenedFile) (moments : List ℕ) (lanes : List (Laning T)) → AllByRecursion HasNone lanes →
-      Pairs (AreTurnedIn tails processors opened moments) (none_in lanes) lanes
-  turned_none tails processors opened moments [] none = tt
-  turned_none tails processors opened moments (lane ∷ lanes) none = (
-    subst (λ (hs : List (Harvester T)). Pairs (IsTurnedSo tails.numbers tails.told processors opened moments) [] hs) (sym none.0.0) tt,
-    turned_none tails processors opened moments lanes none.1,
+  turned_none : (tails : TailWords T) (watch : Watch) (opened : List OpenedFile) (moments : List ℕ) (lanes : List (Laning T)) → AllByRecursion HasNone lanes →
+      Pairs (AreTurnedIn tails watch opened moments) (none_in lanes) lanes
+  turned_none tails watch opened moments [] none = tt
+  turned_none tails watch opened moments (lane ∷ lanes) none = (
+    subst (λ (hs : List (Harvester T)). Pairs (IsTurnedSo tails.numbers tails.told watch opened moments) [] hs) (sym none.0.0) tt,
+    turned_none tails watch opened moments lanes none.1,
   )
 
   each_of_none : (P : Harvester T → Type 0) (lanes : List (Laning T)) → AllByRecursion HasNone lanes → AllByRecursion (λ (lane : Laning T). AllByRecursion P lane.harvesters) lanes
@@ -255,7 +255,7 @@ module _ {T W L D : Type 0} (words : Words T W L D) (start : Began D) (crew : Cr
         opened = tt;
         keyed = λ some. tt;
         each_once = record { rise = tt; are = subst (λ (l : List Turned). AsOften (map (λ (t : Turned). t.slot) l) []) (sym no_files) (λ h. refl) };
-        turned = turned_none words.tails start.settings.processors [] given.since (lanings crew.lanes.items) none;
+        turned = turned_none words.tails (watch_of start) [] given.since (lanings crew.lanes.items) none;
         left = tt;
         reading = λ is. record { none_left = refl; none_over = each_of_none (λ (h : Harvester T). h.reader.stage ≢ stage.Over) (lanings crew.lanes.items) none };
         finished = λ is some. absurd (let no : Reading ≡ Finished = is in cc);

@@ -5,11 +5,11 @@ use Rattle.std.specs.List.{AllByRecursion, flat_map}
 use Rattle.accounts.specs.Opened.{Opened}
 use Rattle.accounts.specs.Turned.{Turned, notes_told, parcels_told, spans_in}
 use Rattle.accounts.specs.Turning.{GaveMore, IsTurnedSo, Pairs, TellOn}
+use Rattle.accounts.specs.Watch.{Watch}
 use Rattle.accounts.proofs.Lists.{flat_map_both}
 use Rattle.accounts.proofs.Often.{often_same, often_then}
 use Rattle.accounts.proofs.Onward.{each_stands_later}
 use Rattle.accounts.proofs.Turning.{run_tells}
-use Rattle.event_tree.specs.declared.processor_rule.ProcessorRule.{ProcessorRule}
 use Rattle.harvester.specs.Standing.{EndsAt}
 use Rattle.harvester.specs.declared.harvester.Harvester.{Harvester}
 use Rattle.lanes.specs.Laning.{Laning, without_passes}
@@ -96,23 +96,23 @@ gave_both a a' b b' ps qs ns ms n m first second = record {
 -- ---- all lanes
 
 -- the lanes stand for such files, which gave this in addition
-pub record LanesTellOn {T : Type 0} (tails : TailWords T) (processors : List ProcessorRule) (opened : List Opened) (moments : List ℕ) (before : List (List Turned)) (lanes : List (Laning T)) (turns : List Step) : Type 0 where
+pub record LanesTellOn {T : Type 0} (tails : TailWords T) (watch : Watch) (opened : List Opened) (moments : List ℕ) (before : List (List Turned)) (lanes : List (Laning T)) (turns : List Step) : Type 0 where
   pub after : List (List Turned)
-  pub stand : Pairs (AreTurnedIn tails processors opened moments) after lanes
+  pub stand : Pairs (AreTurnedIn tails watch opened moments) after lanes
   pub gave : GaveMore (flat_map (λ turned. turned) before) (flat_map (λ turned. turned) after) (issued_in turns) (noted_in turns) (steps.spans_in turns)
 
-module _ {T : Type 0} (tails : TailWords T) (processors : List ProcessorRule) (opened : List Opened) (moments : List ℕ) (queue box : ℕ) (when : When) where
+module _ {T : Type 0} (tails : TailWords T) (watch : Watch) (opened : List Opened) (moments : List ℕ) (queue box : ℕ) (when : When) where
   abbrev Stand : List Turned → Laning T → Type 0
-  Stand = AreTurnedIn tails processors opened moments
+  Stand = AreTurnedIn tails watch opened moments
 
   abbrev Tells : List (List Turned) → List (Laning T) → List Step → Type 0
-  Tells = LanesTellOn tails processors opened moments
+  Tells = LanesTellOn tails watch opened moments
 
   abbrev all_of : List (List Turned) → List Turned
   all_of before = flat_map (λ (turned : List Turned). turned) before
 
   lane_and_others : (turned : List Turned) (before : List (List Turned)) (new : Laning T) (news : List (Laning T)) (first rest all : List Step) → all ≡ first ++ rest →
-      TellOn tails.numbers tails.told processors opened moments turned new.harvesters (issued_in first) (noted_in first) (steps.spans_in first) →
+      TellOn tails.numbers tails.told watch opened moments turned new.harvesters (issued_in first) (noted_in first) (steps.spans_in first) →
       Tells before news rest → Tells (turned ∷ before) (new ∷ news) all
   lane_and_others turned before new news first rest all are on others = record {
     after = on.after ∷ others.after;
@@ -132,7 +132,7 @@ module _ {T : Type 0} (tails : TailWords T) (processors : List ProcessorRule) (o
           (subst (λ (l : List Note). G (issued_in (first ++ rest)) l (steps.spans_in first + steps.spans_in rest)) (sym (noted_both first rest))
           (subst (λ (l : List Parcel). G l (noted_in first ++ noted_in rest) (steps.spans_in first + steps.spans_in rest)) (sym (issued_both first rest)) put))
 
-  pub lanes_tell : (all : List Step) (before : List (List Turned)) (olds news : List (Laning T)) → when.last ≡ true → EndsAt moments when.now.0 →
+  pub lanes_tell : (all : List Step) (before : List (List Turned)) (olds news : List (Laning T)) → when.last ≡ watch.once → EndsAt moments when.now.0 →
       AreStepsOf tails queue box when all olds news → Pairs Stand before olds → Tells before news all
   lanes_tell all [] [] [] last ends are stand = record {
     after = [];
@@ -146,7 +146,7 @@ module _ {T : Type 0} (tails : TailWords T) (processors : List ProcessorRule) (o
   lanes_tell all (turned ∷ before) (old ∷ olds) (new ∷ news) last ends are stand =
       let keeps = are.0.keeps in
       lane_and_others turned before new news keeps.steps are.1 all are.2
-      (run_tells processors moments tails.numbers tails.told opened tails.faults when keeps.steps turned old.harvesters new.harvesters last ends are.0.at keeps.ran stand.0)
+      (run_tells watch moments tails.numbers tails.told opened tails.faults when keeps.steps turned old.harvesters new.harvesters last ends are.0.at keeps.ran stand.0)
       (lanes_tell are.1 before olds news last ends are.3 stand.1)
 
 -- ---- lanes that differ in their passes alone
@@ -164,19 +164,19 @@ module _ {T : Type 0} where
       let later : bare_lanes others ≡ bare_lanes lanes = cc in
       (carry lane other here each.0, same_but_passes P carry lanes others later each.1)
 
-  pub pairs_but_passes : (tails : TailWords T) (processors : List ProcessorRule) (opened : List Opened) (moments : List ℕ) (files : List (List Turned)) (lanes others : List (Laning T)) →
-      bare_lanes others ≡ bare_lanes lanes → Pairs (AreTurnedIn tails processors opened moments) files lanes → Pairs (AreTurnedIn tails processors opened moments) files others
-  pairs_but_passes tails processors opened moments [] [] [] same stand = tt
-  pairs_but_passes tails processors opened moments [] [] (other ∷ others) same stand = absurd cc
-  pairs_but_passes tails processors opened moments [] (lane ∷ lanes) others same stand = absurd stand
-  pairs_but_passes tails processors opened moments (turned ∷ files) [] others same stand = absurd stand
-  pairs_but_passes tails processors opened moments (turned ∷ files) (lane ∷ lanes) [] same stand = absurd cc
-  pairs_but_passes tails processors opened moments (turned ∷ files) (lane ∷ lanes) (other ∷ others) same stand =
+  pub pairs_but_passes : (tails : TailWords T) (watch : Watch) (opened : List Opened) (moments : List ℕ) (files : List (List Turned)) (lanes others : List (Laning T)) →
+      bare_lanes others ≡ bare_lanes lanes → Pairs (AreTurnedIn tails watch opened moments) files lanes → Pairs (AreTurnedIn tails watch opened moments) files others
+  pairs_but_passes tails watch opened moments [] [] [] same stand = tt
+  pairs_but_passes tails watch opened moments [] [] (other ∷ others) same stand = absurd cc
+  pairs_but_passes tails watch opened moments [] (lane ∷ lanes) others same stand = absurd stand
+  pairs_but_passes tails watch opened moments (turned ∷ files) [] others same stand = absurd stand
+  pairs_but_passes tails watch opened moments (turned ∷ files) (lane ∷ lanes) [] same stand = absurd cc
+  pairs_but_passes tails watch opened moments (turned ∷ files) (lane ∷ lanes) (other ∷ others) same stand =
       let bare : without_passes other ≡ without_passes lane = cc in
       let here : lane.harvesters ≡ other.harvesters = ap (λ (l : Laning T). l.harvesters) (sym bare) in
       let later : bare_lanes others ≡ bare_lanes lanes = cc in (
-        subst (λ (hs : List (Harvester T)). Pairs (IsTurnedSo tails.numbers tails.told processors opened moments) turned hs) here stand.0,
-        pairs_but_passes tails processors opened moments files lanes others later stand.1,
+        subst (λ (hs : List (Harvester T)). Pairs (IsTurnedSo tails.numbers tails.told watch opened moments) turned hs) here stand.0,
+        pairs_but_passes tails watch opened moments files lanes others later stand.1,
       )
 
   pub spans_but_passes : (lanes others : List (Laning T)) → bare_lanes others ≡ bare_lanes lanes → spans_told others ≡ spans_told lanes
@@ -204,15 +204,15 @@ module _ {T : Type 0} where
 
   -- ---- as further moments come
 
-  module _ (tails : TailWords T) (processors : List ProcessorRule) (opened : List Opened) (moments : List ℕ) where
-    one_later : (more : List ℕ) (turned : List Turned) (lane : Laning T) → AreTurnedIn tails processors opened moments turned lane →
-        AreTurnedIn tails processors opened (moments ++ more) turned lane
+  module _ (tails : TailWords T) (watch : Watch) (opened : List Opened) (moments : List ℕ) where
+    one_later : (more : List ℕ) (turned : List Turned) (lane : Laning T) → AreTurnedIn tails watch opened moments turned lane →
+        AreTurnedIn tails watch opened (moments ++ more) turned lane
     one_later more turned lane stand =
-        subst (λ (l : List Opened). AreTurnedIn tails processors l (moments ++ more) turned lane) (append-nil opened)
-        (each_stands_later tails.numbers tails.told processors opened moments [] more turned lane.harvesters stand)
+        subst (λ (l : List Opened). AreTurnedIn tails watch l (moments ++ more) turned lane) (append-nil opened)
+        (each_stands_later tails.numbers tails.told watch opened moments [] more turned lane.harvesters stand)
 
-    pub lanes_later : (more : List ℕ) (files : List (List Turned)) (lanes : List (Laning T)) → Pairs (AreTurnedIn tails processors opened moments) files lanes →
-        Pairs (AreTurnedIn tails processors opened (moments ++ more)) files lanes
+    pub lanes_later : (more : List ℕ) (files : List (List Turned)) (lanes : List (Laning T)) → Pairs (AreTurnedIn tails watch opened moments) files lanes →
+        Pairs (AreTurnedIn tails watch opened (moments ++ more)) files lanes
     lanes_later more [] [] stand = tt
     lanes_later more [] (lane ∷ lanes) stand = absurd stand
     lanes_later more (turned ∷ files) [] stand = absurd stand

@@ -28,7 +28,7 @@ use Rattle.run_steps.proofs.Settling.{some_still, none_still, settled_still}
 module _ {T W L D : Type 0} {words : Words T W L D} {context : Context} where
   pub hands_on_nothing : (met : Option Met) (now : Crewing T W L D) → IsAbleIn words.tails context now → (GoesOn met → IsReadyIn words.tails context now) → HandsOn words context met now now
   hands_on_nothing met now able ready = record {
-    onward = λ shown moments phase. onward_by_nothing words (state_in shown moments phase now);
+    onward = λ shown moments phase. onward_by_nothing words context.once (state_in shown moments phase now);
     at_rest = λ goes rest. rest;
     ready = ready;
     able = able;
@@ -50,7 +50,7 @@ module _ {T W L D : Type 0} {words : Words T W L D} {context : Context} where
   -- if the first met nothing
   pub hands_on_by_two : {met : Option Met} {first mid last : Crewing T W L D} → HandsOn words context None first mid → HandsOn words context met mid last → HandsOn words context met first last
   hands_on_by_two {met = met} {first = first} {mid = mid} {last = last} one then = record {
-    onward = λ shown moments phase. onward_by_two words (state_in shown moments phase first) (state_in shown moments phase mid) (state_in shown moments phase last)
+    onward = λ shown moments phase. onward_by_two words context.once (state_in shown moments phase first) (state_in shown moments phase mid) (state_in shown moments phase last)
         (one.at_rest tt) (one.onward shown moments phase) (then.onward shown moments phase);
     at_rest = λ goes rest. then.at_rest goes (one.at_rest tt rest);
     ready = then.ready;
@@ -135,7 +135,7 @@ module _ {T W L D : Type 0} (words : Words T W L D) (context : Context) (reads :
     (keeps : SettlingKeeps words context.outlets.queue.now context.outlets.desk.now (crewing old before) (crewing new after) round) where
   pub hands_on_by_round : (met : Option Met) → IsStoredAs round met → HandsOn words context met (crewing old before) (crewing new after)
   hands_on_by_round met is = record {
-    onward = λ shown moments phase. settle_onward words reads counts context.outlets.queue.now context.outlets.desk.now old new before after round shown moments phase keeps;
+    onward = λ shown moments phase. settle_onward words reads counts context.outlets.queue.now context.outlets.desk.now old new before after round shown context.once moments phase keeps;
     at_rest = λ goes rest. let well = well_stored round met is goes in
         let after = keeps.at_rest well.0 well.1 (record { settled = rest.settled; committed = rest.committed }) in
         record { settled = after.settled; committed = after.committed };

@@ -4,7 +4,7 @@ use Rattle.std.specs.List.{flat_map}
 use Rattle.accounts.specs.Opened.{Opened}
 use Rattle.accounts.specs.Turned.{Turned}
 use Rattle.accounts.specs.Turning.{IsTurnedSo, Pairs}
-use Rattle.event_tree.specs.declared.processor_rule.ProcessorRule.{ProcessorRule}
+use Rattle.accounts.specs.Watch.{Watch}
 use Rattle.harvester.specs.Standing.{stage_of}
 use Rattle.harvester.specs.declared.harvester.Harvester.{Harvester}
 use Rattle.lanes.specs.Laning.{Laning}
@@ -30,8 +30,8 @@ some_behind P (x ∷ xs) ys some = inr (some_behind P xs ys some)
 
 -- ---- a file by its harvester
 
-module _ {T : Type 0} (tails : TailWords T) (processors : List ProcessorRule) (opened : List Opened) (moments : List ℕ) (slot : Slot) where
-  last_over : (turned : Turned) (harvester : Harvester T) → IsTurnedSo tails.numbers tails.told processors opened moments turned harvester → IsOverOf slot harvester → IsLastOver slot turned
+module _ {T : Type 0} (tails : TailWords T) (watch : Watch) (opened : List Opened) (moments : List ℕ) (slot : Slot) where
+  last_over : (turned : Turned) (harvester : Harvester T) → IsTurnedSo tails.numbers tails.told watch opened moments turned harvester → IsOverOf slot harvester → IsLastOver slot turned
   last_over turned harvester so is =
       let follows = so.has_told.held.holds.follows in
       record {
@@ -40,7 +40,7 @@ module _ {T : Type 0} (tails : TailWords T) (processors : List ProcessorRule) (o
         last = sym follows.epoch ∙ is.last;
       }
 
-  over_in_lane : (turned : List Turned) (harvesters : List (Harvester T)) → Pairs (IsTurnedSo tails.numbers tails.told processors opened moments) turned harvesters → SomeOf (IsOverOf slot) harvesters →
+  over_in_lane : (turned : List Turned) (harvesters : List (Harvester T)) → Pairs (IsTurnedSo tails.numbers tails.told watch opened moments) turned harvesters → SomeOf (IsOverOf slot) harvesters →
       SomeOf (IsLastOver slot) turned
   over_in_lane [] [] stand some = absurd some
   over_in_lane [] (harvester ∷ harvesters) stand some = absurd stand
@@ -48,7 +48,7 @@ module _ {T : Type 0} (tails : TailWords T) (processors : List ProcessorRule) (o
   over_in_lane (one ∷ turned) (harvester ∷ harvesters) stand some =
       ⊎_elim (λ here. inl (last_over one harvester stand.0 here)) (λ later. inr (over_in_lane turned harvesters stand.1 later)) some
 
-  pub over_in_lanes : (files : List (List Turned)) (lanes : List (Laning T)) → Pairs (AreTurnedIn tails processors opened moments) files lanes → SomeHarvester (IsOverOf slot) lanes →
+  pub over_in_lanes : (files : List (List Turned)) (lanes : List (Laning T)) → Pairs (AreTurnedIn tails watch opened moments) files lanes → SomeHarvester (IsOverOf slot) lanes →
       SomeOf (IsLastOver slot) (flat_map (λ (turned : List Turned). turned) files)
   over_in_lanes [] [] stand some = absurd some
   over_in_lanes [] (lane ∷ lanes) stand some = absurd stand

@@ -1,5 +1,5 @@
 -- The steps of a run that keep what stands of it, as the relation that their contracts name; and none, and two of them.
-use Rattle.std.proofs.Common.{◌≡◌, ◌⊎◌, ℕ, ◌≤◌, true, List, Option, None, IfSome}
+use Rattle.std.proofs.Common.{◌≡◌, ◌⊎◌, ℕ, ◌≤◌, Bool, true, List, Option, None, IfSome}
 use Rattle.std.specs.List.{AllByRecursion}
 use Rattle.lanes.specs.Done.{IsDone}
 use Rattle.lanes.specs.declared.run.When.{When}
@@ -25,32 +25,32 @@ use Rattle.run_steps.proofs.Rounding.{stands_on}
 use Rattle.run_steps.proofs.Settling.{stands_settled}
 
 module _ {T W L D : Type 0} (words : Words T W L D) where
-  pub onward_by_nothing : (state : RunState T W L D) → Onward words state state
+  pub onward_by_nothing : (once : Bool) (state : RunState T W L D) → Onward words once state state
   unfolding Onward
-  onward_by_nothing state start so_far stands at_rest = record { so_far = so_far; stands = stands }
+  onward_by_nothing once state start so_far same stands at_rest = record { so_far = so_far; stands = stands }
 
   -- where the areas are at rest behind the first
-  pub onward_by_two : (first mid last : RunState T W L D) → (IsAtRest words.disks first.keeper first.a first.b → IsAtRest words.disks mid.keeper mid.a mid.b) →
-      Onward words first mid → Onward words mid last → Onward words first last
+  pub onward_by_two : (once : Bool) (first mid last : RunState T W L D) → (IsAtRest words.disks first.keeper first.a first.b → IsAtRest words.disks mid.keeper mid.a mid.b) →
+      Onward words once first mid → Onward words once mid last → Onward words once first last
   unfolding Onward
-  onward_by_two first mid last at_rest one other start so_far stands began =
-      let further = one start so_far stands began in other start further.so_far further.stands (λ at_start. at_rest (began at_start))
+  onward_by_two once first mid last at_rest one other start so_far same stands began =
+      let further = one start so_far same stands began in other start further.so_far same further.stands (λ at_start. at_rest (began at_start))
 
   module _ (reads : (disk : D) → IfSome (words.disks.contents disk) (words.disks.images disk))
       (counts : (disk : D) (since : ℕ) (image : List ℕ) → since ≤ words.disks.moment disk → words.disks.images disk image → words.disks.images_since disk since image)
       (queue : BoundedQueue) (desk : BoundedBox) (old new : Crew T W L) (before after : Storing D) (round : Round) (shown : Option FolderHistory) where
-    pub round_onward : (when : When) → when.last ≡ true → (moments later : Option (List ℕ)) (from phase : Phase) → GivesMoment moments when.now.0 later →
+    pub round_onward : (when : When) (moments later : Option (List ℕ)) (from phase : Phase) → GivesMoment moments when.now.0 later →
         Rounds words queue desk when (crewing old before) (crewing new after) round → RoundKeeps words queue desk when (crewing old before) (crewing new after) round →
         ((phase ≡ Reading) ⊎ (phase ≡ Finished) → from ≡ Reading) →
-        ((phase ≡ Reading) ⊎ (phase ≡ Finished) → round.epochs ≡ None) → (phase ≡ Finished → AllByRecursion IsDone (lanings new.lanes.items)) →
+        ((phase ≡ Reading) ⊎ (phase ≡ Finished) → round.epochs ≡ None) → (phase ≡ Finished → (when.last ≡ true) × AllByRecursion IsDone (lanings new.lanes.items)) →
         ((slot : Slot) → phase ≡ OutOfEpochs slot → SomeHarvester (IsOverOf slot) (lanings new.lanes.items)) →
-        Onward words (within shown moments old before from) (within shown later new after phase)
+        Onward words when.last (within shown moments old before from) (within shown later new after phase)
     unfolding Onward
-    round_onward when last moments later from phase gives ran keeps read none_out done out start so_far stands began =
-        stands_on words queue desk when last (crewing old before) (crewing new after) round ran keeps from start so_far shown moments later stands gives phase read none_out done out reads counts began
+    round_onward when moments later from phase gives ran keeps read none_out done out start so_far same stands began =
+        stands_on words queue desk when (crewing old before) (crewing new after) round ran keeps from start so_far shown moments later stands gives same phase read none_out done out reads counts began
 
-    pub settle_onward : (moments : Option (List ℕ)) (phase : Phase) → SettlingKeeps words queue desk (crewing old before) (crewing new after) round →
-        Onward words (within shown moments old before phase) (within shown moments new after phase)
+    pub settle_onward : (once : Bool) (moments : Option (List ℕ)) (phase : Phase) → SettlingKeeps words queue desk (crewing old before) (crewing new after) round →
+        Onward words once (within shown moments old before phase) (within shown moments new after phase)
     unfolding Onward
-    settle_onward moments phase keeps start so_far stands began =
+    settle_onward once moments phase keeps start so_far same stands began =
         stands_settled words queue desk (crewing old before) (crewing new after) round keeps start so_far shown moments phase stands reads counts began

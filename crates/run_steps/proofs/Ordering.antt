@@ -10,6 +10,7 @@ use Rattle.accounts.specs.Same.{same_note}
 use Rattle.accounts.specs.ToldNotes.{AreMixed}
 use Rattle.accounts.specs.Turned.{Turned}
 use Rattle.accounts.specs.Turning.{IsTurnedSo, Pairs}
+use Rattle.accounts.specs.Watch.{Watch}
 use Rattle.accounts.proofs.Apart.{IsInEpochs}
 use Rattle.accounts.proofs.Backing.{mapped_there}
 use Rattle.accounts.proofs.Begins.{HasItsBegin}
@@ -29,7 +30,6 @@ use Rattle.ship_core.specs.RowOver.{span_in}
 use Rattle.wire_base.specs.declared.numbers.Slot.{Slot}
 use Rattle.wire_base.specs.declared.note.Note.{Note}
 use Rattle.wire_base.specs.declared.parcel.Parcel.{Parcel}
-use Rattle.event_tree.specs.declared.processor_rule.ProcessorRule.{ProcessorRule}
 use Rattle.event_tree.specs.declared.settings.Settings.{Settings}
 use Rattle.prospect.specs.declared.listed.Listed.{Listed}
 use Rattle.wire_base.specs.declared.row.Row.{Row}
@@ -48,38 +48,35 @@ slots_of files = map (λ (turned : Turned). turned.slot) files
 
 -- ---- epochs
 
-module _ {T : Type 0} (tails : TailWords T) (settings : Settings) (rows : List Row) (listed : List Listed) (opened : List Opened) (moments : List ℕ)
+module _ {T : Type 0} (tails : TailWords T) (settings : Settings) (rows : List Row) (listed : List Listed) (watch : Watch) (opened : List Opened) (moments : List ℕ)
     (are : AllByRecursion (IsOpenedAsListed settings rows listed) opened) where
-  abbrev processors : List ProcessorRule
-  processors = settings.processors
-
-  in_epochs_one : (ts : List Turned) (hs : List (Harvester T)) → Pairs (IsTurnedSo tails.numbers tails.told processors opened moments) ts hs → AllByRecursion IsInEpochs ts
+  in_epochs_one : (ts : List Turned) (hs : List (Harvester T)) → Pairs (IsTurnedSo tails.numbers tails.told watch opened moments) ts hs → AllByRecursion IsInEpochs ts
   in_epochs_one [] hs stand = tt
   in_epochs_one (t ∷ ts) [] stand = absurd stand
   in_epochs_one (t ∷ ts) (h ∷ hs) stand =
       let of = stand.0.opened in
       let range = (member_is (IsOpenedAsListed settings rows listed) opened of are stand.0.of_files).in_range in
-      (is_in_epochs processors of moments t range (tails.told h.tail) stand.0.is_told, in_epochs_one ts hs stand.1)
+      (is_in_epochs watch of moments t range (tails.told h.tail) stand.0.is_told, in_epochs_one ts hs stand.1)
 
   both_in : (first second : List Turned) → AllByRecursion IsInEpochs first → AllByRecursion IsInEpochs second → AllByRecursion IsInEpochs (first ++ second)
   both_in [] second one other = other
   both_in (t ∷ first) second one other = (one.0, both_in first second one.1 other)
 
-  in_epochs_lanes : (files : List (List Turned)) (lanes : List (Laning T)) → Pairs (AreTurnedIn tails processors opened moments) files lanes →
+  in_epochs_lanes : (files : List (List Turned)) (lanes : List (Laning T)) → Pairs (AreTurnedIn tails watch opened moments) files lanes →
       AllByRecursion IsInEpochs (flat_map (λ (ts : List Turned). ts) files)
   in_epochs_lanes [] lanes stand = tt
   in_epochs_lanes (ts ∷ files) [] stand = absurd stand
   in_epochs_lanes (ts ∷ files) (lane ∷ lanes) stand =
       both_in ts (flat_map (λ (l : List Turned). l) files) (in_epochs_one ts lane.harvesters stand.0) (in_epochs_lanes files lanes stand.1)
 
-  in_epochs_left : (left : List Left) → AllByRecursion (IsLeftSo processors opened moments) left → AllByRecursion IsInEpochs (map (λ (one : Left). one.turned) left)
+  in_epochs_left : (left : List Left) → AllByRecursion (IsLeftSo watch opened moments) left → AllByRecursion IsInEpochs (map (λ (one : Left). one.turned) left)
   in_epochs_left [] each = tt
   in_epochs_left (one ∷ left) each =
       let range = (member_is (IsOpenedAsListed settings rows listed) opened each.0.file are each.0.among).in_range in
-      (is_in_epochs processors each.0.file moments one.turned range one.told each.0.is_told, in_epochs_left left each.1)
+      (is_in_epochs watch each.0.file moments one.turned range one.told each.0.is_told, in_epochs_left left each.1)
 
-  pub all_in_epochs : (files : List (List Turned)) (lanes : List (Laning T)) (left : List Left) → Pairs (AreTurnedIn tails processors opened moments) files lanes →
-      AllByRecursion (IsLeftSo processors opened moments) left → AllByRecursion IsInEpochs (flat_map (λ (ts : List Turned). ts) files ++ map (λ (one : Left). one.turned) left)
+  pub all_in_epochs : (files : List (List Turned)) (lanes : List (Laning T)) (left : List Left) → Pairs (AreTurnedIn tails watch opened moments) files lanes →
+      AllByRecursion (IsLeftSo watch opened moments) left → AllByRecursion IsInEpochs (flat_map (λ (ts : List Turned). ts) files ++ map (λ (one : Left). one.turned) left)
   all_in_epochs files lanes left stand each =
       both_in (flat_map (λ (ts : List Turned). ts) files) (map (λ (one : Left). one.turned) left) (in_epochs_lanes files lanes stand) (in_epochs_left left each)
 

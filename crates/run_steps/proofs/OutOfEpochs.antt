@@ -43,7 +43,7 @@ use Rattle.run_steps.specs.RunState.{Phase}
 use Rattle.told_scans.specs.OnlyAsked.{WasClosedWith}
 use Rattle.run_steps.specs.Shown.{HasDone, HasShown, WasOpenedSince}
 use Rattle.run_steps.specs.SoFar.{Left, SoFar, files_in, files_of}
-use Rattle.run_steps.specs.Stands.{IsLeftSo}
+use Rattle.run_steps.specs.Stands.{IsLeftSo, watch_of}
 use Rattle.run_steps.specs.declared.met.Met.{Met}
 use Rattle.run_steps.specs.declared.met.Met.TheVariants.{Epochs}
 use Rattle.told_scans.proofs.Members.{each_of, some_is}
@@ -113,7 +113,7 @@ module _ {T W L D : Type 0} (words : Words T W L D) (start : Began D) (ending : 
   all_left : files_in so_far ≡ map (λ (one : Left). one.turned) so_far.left
   all_left =
       ap (λ (l : List Turned). l ++ map (λ (one : Left). one.turned) so_far.left)
-      (none_turned words.tails start.settings.processors so_far.opened so_far.moments so_far.lanes (lanings ended.ends.crew.lanes.items) ended.ends.stands.files.turned
+      (none_turned words.tails (watch_of start) so_far.opened so_far.moments so_far.lanes (lanings ended.ends.crew.lanes.items) ended.ends.stands.files.turned
       (each_of HasNoHarvesters (lanings ended.ends.crew.lanes.items) ended.left.released))
 
   last_over : Found (IsLastOver slot) (λ (one : Left). one.turned) so_far.left
@@ -124,8 +124,8 @@ module _ {T W L D : Type 0} (words : Words T W L D) (start : Began D) (ending : 
   abbrev left : Left
   left = last_over.one
 
-  is_left : IsLeftSo start.settings.processors so_far.opened so_far.moments left
-  is_left = member_is (IsLeftSo start.settings.processors so_far.opened so_far.moments) so_far.left left ended.ends.stands.files.left last_over.among
+  is_left : IsLeftSo (watch_of start) so_far.opened so_far.moments left
+  is_left = member_is (IsLeftSo (watch_of start) so_far.opened so_far.moments) so_far.left left ended.ends.stands.files.left last_over.among
 
   abbrev file : Opened
   file = is_left.file
@@ -152,7 +152,7 @@ module _ {T W L D : Type 0} (words : Words T W L D) (start : Began D) (ending : 
     opened_since : WasOpenedSince before after file
     opened_since = member_is (WasOpenedSince before after) so_far.opened file done.opened is_left.among
 
-    module _ (tail : TailHistory) (told : IsToldFile start.settings.processors file so_far.moments left.turned (Some tail)) where
+    module _ (tail : TailHistory) (told : IsToldFile (watch_of start) file so_far.moments left.turned (Some tail)) where
       abbrev h : History
       h = left.turned.history
 
@@ -178,7 +178,7 @@ module _ {T W L D : Type 0} (words : Words T W L D) (start : Began D) (ending : 
       kept_key =
           subst (λ (l : List Look). AllByRecursion (KeepsKey file.rule file.begin.key file.begin.path file.file) (segments_of file.begin.base l))
           (all_kept (joined_turned left.turned).history tail.looks keeps)
-          (file_is_read start.settings.processors file so_far.moments left.turned tail keyed told).kept
+          (file_is_read (watch_of start) file so_far.moments left.turned tail keyed told).kept
         where
           keyed : IsKeyed file
           keyed = member_is IsKeyed so_far.opened file (ended.ends.stands.files.keyed tells) is_left.among
@@ -207,7 +207,7 @@ module _ {T W L D : Type 0} (words : Words T W L D) (start : Began D) (ending : 
             (subst (λ (n : ℕ). file.begin.epoch.0 + falls_in n tail.looks ≡ MAX_EPOCH + 1) base_is all_epochs);
       }
 
-    by_told : (told : Option TailHistory) → IsSome told → IsToldFile start.settings.processors file so_far.moments left.turned told → IfSome told (λ tail. WasClosedWith after tail.opening tail.looks) →
+    by_told : (told : Option TailHistory) → IsSome told → IsToldFile (watch_of start) file so_far.moments left.turned told → IfSome told (λ tail. WasClosedWith after tail.opening tail.looks) →
         RanOutOfEpochs start.settings.inputs start.opening one before after
     by_told None some told closed = absurd cc
     by_told (Some tail) some told closed = by_tail tail told closed

@@ -9,14 +9,16 @@ use Rattle.accounts.proofs.Backing.{mapped_there}
 use Rattle.accounts.proofs.Following.{got_there}
 use Rattle.accounts.proofs.Grounded.{each_member, of_map}
 use Rattle.accounts.proofs.Joining.{AreJoined, AreOpenedInSlots, IsJoined, join, joined_in_slots, told_by_its_tail}
+use Rattle.accounts.proofs.Onward.{told_by_other}
 use Rattle.accounts.proofs.Orderly.{member_is, same_item}
 use Rattle.accounts.specs.Filed.{Filed, Opening, first_opening}
-use Rattle.accounts.specs.FollowedFile.{AreFollowedFiles, AreInSlots, AreReopened, EachOpeningIsOne, IsFollowedFile, IsListedAs, moment_by, openings_in, start_in}
+use Rattle.accounts.specs.FollowedFile.{AreFollowedFiles, AreInSlots, AreReopened, EachOpeningIsOne, IsFollowedFile, IsListedAs, moment_by, openings_in, start_in, tail_of}
 use Rattle.accounts.specs.Opened.{Opened}
 use Rattle.accounts.specs.ToldFile.{IsToldFile}
 use Rattle.accounts.specs.Turned.{Turned}
 use Rattle.accounts.specs.Turning.{IsTurnedSo, Pairs}
-use Rattle.event_tree.specs.declared.processor_rule.ProcessorRule.{ProcessorRule}
+use Rattle.accounts.specs.Watch.{Watch}
+use Rattle.accounts.specs.Watched.{watch_in}
 use Rattle.harvester.specs.declared.harvester.Harvester.{Harvester}
 use Rattle.kept_rows.specs.Followed.{OnlyReads, Start as StartBy, asked_openings, start_by}
 use Rattle.kept_rows.specs.Run.{Run, Scan}
@@ -50,7 +52,7 @@ use Rattle.run_steps.specs.Scanned.{HasScanned}
 use Rattle.told_scans.specs.OnlyAsked.{WasClosedWith, WasOnlyAsked}
 use Rattle.run_steps.specs.Shown.{HasDone, HasShown, WasOpenedSince, openings_of}
 use Rattle.run_steps.specs.SoFar.{Left, SoFar, files_in, files_of}
-use Rattle.run_steps.specs.Stands.{AreTurnedIn, IsLeftSo, Stands}
+use Rattle.run_steps.specs.Stands.{AreTurnedIn, IsLeftSo, Stands, watch_of}
 use Rattle.told_scans.proofs.AskedEvents.{distinct_both, openings_asked, openings_distinct}
 use Rattle.told_scans.proofs.Members.{each_of}
 use Rattle.prospect.proofs.Doubled.{keys_apart as files_keys_apart}
@@ -114,29 +116,29 @@ none_of_one : {A B : Type 0} (R : A → B → Type 0) (xs : List A) → Pairs R 
 none_of_one R [] pairs = refl
 none_of_one R (x ∷ xs) pairs = absurd pairs
 
-module _ {T : Type 0} (tails : TailWords T) (processors : List ProcessorRule) (opened : List Opened) (moments : List ℕ) where
-  pub none_turned : (files : List (List Turned)) (lanes : List (Laning T)) → Pairs (AreTurnedIn tails processors opened moments) files lanes → AllByRecursion HasNoHarvesters lanes →
+module _ {T : Type 0} (tails : TailWords T) (watch : Watch) (opened : List Opened) (moments : List ℕ) where
+  pub none_turned : (files : List (List Turned)) (lanes : List (Laning T)) → Pairs (AreTurnedIn tails watch opened moments) files lanes → AllByRecursion HasNoHarvesters lanes →
       flat_map (λ (turned : List Turned). turned) files ≡ []
   none_turned [] lanes pairs none = refl
   none_turned (turned ∷ files) [] pairs none = absurd pairs
   none_turned (turned ∷ files) (lane ∷ lanes) pairs none =
       let here : turned ≡ [] =
-      none_of_one (IsTurnedSo tails.numbers tails.told processors opened moments) turned
-      (subst (λ (hs : List (Harvester T)). Pairs (IsTurnedSo tails.numbers tails.told processors opened moments) turned hs) none.0 pairs.0) in
+      none_of_one (IsTurnedSo tails.numbers tails.told watch opened moments) turned
+      (subst (λ (hs : List (Harvester T)). Pairs (IsTurnedSo tails.numbers tails.told watch opened moments) turned hs) none.0 pairs.0) in
       ap (λ (l : List Turned). l ++ flat_map (λ (ts : List Turned). ts) files) here ∙ none_turned files lanes pairs.1 none.1
 
 -- ---- a tail that was closed
 
 -- what it told then
-pub record HasTail (processors : List ProcessorRule) (moments : List ℕ) (ended : FolderHistory) (opened : Opened) (turned : Turned) : Type 0 where
+pub record HasTail (watch : Watch) (moments : List ℕ) (ended : FolderHistory) (opened : Opened) (turned : Turned) : Type 0 where
   pub tail : TailHistory
-  pub told : IsToldFile processors opened moments turned (Some tail)
+  pub told : IsToldFile watch opened moments turned (Some tail)
   pub closed : WasClosedWith ended tail.opening tail.looks
 
-has_tail : (processors : List ProcessorRule) (moments : List ℕ) (ended : FolderHistory) (opened : Opened) (turned : Turned) (told : Option TailHistory) → IsSome told →
-    IsToldFile processors opened moments turned told → IfSome told (λ tail. WasClosedWith ended tail.opening tail.looks) → HasTail processors moments ended opened turned
-has_tail processors moments ended opened turned None tells is closed = absurd (cc)
-has_tail processors moments ended opened turned (Some tail) tells is closed = record { tail = tail; told = is; closed = closed }
+has_tail : (watch : Watch) (moments : List ℕ) (ended : FolderHistory) (opened : Opened) (turned : Turned) (told : Option TailHistory) → IsSome told →
+    IsToldFile watch opened moments turned told → IfSome told (λ tail. WasClosedWith ended tail.opening tail.looks) → HasTail watch moments ended opened turned
+has_tail watch moments ended opened turned None tells is closed = absurd (cc)
+has_tail watch moments ended opened turned (Some tail) tells is closed = record { tail = tail; told = is; closed = closed }
 
 module _ {T W L D : Type 0} (words : Words T W L D) (start : Began D) (state : RunState T W L D) (so_far : SoFar) (stands : Stands words start state so_far)
     (released : All HasNoHarvesters (lanings state.crew.lanes.items)) (folder : FolderTold) (has : HasScanned start folder) (shown : state.shown ≡ Some folder.ended)
@@ -147,8 +149,8 @@ module _ {T W L D : Type 0} (words : Words T W L D) (start : Began D) (state : R
   abbrev scan : Scan
   scan = scan_of start folder
 
-  abbrev processors : List ProcessorRule
-  processors = start.settings.processors
+  abbrev watch : Watch
+  watch = watch_of start
 
   abbrev looks : Opened → List Look
   looks = looks_in folder.ended
@@ -177,7 +179,7 @@ module _ {T W L D : Type 0} (words : Words T W L D) (start : Began D) (state : R
   pub files_are : files_in so_far ≡ map (λ (one : Left). one.turned) so_far.left
   files_are =
       ap (λ (l : List Turned). l ++ map (λ (one : Left). one.turned) so_far.left)
-      (none_turned words.tails processors so_far.opened so_far.moments so_far.lanes (lanings state.crew.lanes.items) stands.files.turned
+      (none_turned words.tails watch so_far.opened so_far.moments so_far.lanes (lanings state.crew.lanes.items) stands.files.turned
       (each_of HasNoHarvesters (lanings state.crew.lanes.items) released))
 
   pub joined : AreJoined looks changed so_far.opened (files_in so_far)
@@ -208,18 +210,18 @@ module _ {T W L D : Type 0} (words : Words T W L D) (start : Began D) (state : R
     left_there = subst (λ (l : List Turned). Contains l file.turned) files_are is_joined.among
 
     -- what its tail told as it was closed
-    pub its_tail : HasTail processors so_far.moments folder.ended one file.turned
+    pub its_tail : HasTail watch so_far.moments folder.ended one file.turned
     its_tail =
         let of = of_map (λ (l : Left). l.turned) so_far.left file.turned left_there in
-        let so = member_is (IsLeftSo processors so_far.opened so_far.moments) so_far.left of.item stands.files.left of.among in
+        let so = member_is (IsLeftSo watch so_far.opened so_far.moments) so_far.left of.item stands.files.left of.among in
         let same_number : slot_number so.file ≡ slot_number one =
         sym (ap (λ s. s.0) so.is_told.slot) ∙ ap (λ (t : Turned). t.slot.0) of.is ∙ ap (λ s. s.0) is_joined.slot in
         let same : so.file ≡ one =
         same_item slot_number so_far.opened so.file one (slots_distinct 0 so_far.opened stands.files.each_once.rise) so.among was_opened same_number in
-        let told : IsToldFile processors one so_far.moments file.turned of.item.told =
-        subst (λ (t : Turned). IsToldFile processors one so_far.moments t of.item.told) of.is
-        (subst (λ (o : Opened). IsToldFile processors o so_far.moments of.item.turned of.item.told) same so.is_told) in
-        has_tail processors so_far.moments folder.ended one file.turned of.item.told
+        let told : IsToldFile watch one so_far.moments file.turned of.item.told =
+        subst (λ (t : Turned). IsToldFile watch one so_far.moments t of.item.told) of.is
+        (subst (λ (o : Opened). IsToldFile watch o so_far.moments of.item.turned of.item.told) same so.is_told) in
+        has_tail watch so_far.moments folder.ended one file.turned of.item.told
         (member_is (λ (l : Left). IsSome l.told) so_far.left of.item (stands.files.left_tell tells) of.among) told
         (member_is (λ (l : Left). IfSome l.told (λ tail. WasClosedWith folder.ended tail.opening tail.looks)) so_far.left of.item done.closed of.among)
 
@@ -323,7 +325,8 @@ module _ {T W L D : Type 0} (words : Words T W L D) (start : Began D) (state : R
         opened = opened_since.stands;
         tells = tells_looks;
       };
-      told = told_by_its_tail processors so_far.moments file its_tail.tail looks_are its_tail.told;
+      told = told_by_other watch (watch_in run) one so_far.moments file.turned (Some (tail_of file)) refl (λ name renamed. absurd renamed) (λ may. inl refl)
+          (told_by_its_tail watch so_far.moments file its_tail.tail looks_are its_tail.told);
       shown = its_entry;
       listed = is_listed;
       moment = inr moment_noted_is;

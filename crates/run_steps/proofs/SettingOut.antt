@@ -1,5 +1,5 @@
 -- A crew as it is made may make rounds, and what stands of a run stands as it sets out and once its files are begun.
-use Rattle.std.proofs.Common.{◌≡◌, ℕ, ◌≤◌, ◌+◌, All, List, [], ◌∷◌, ◌++◌, length, map, take, drop, Option, None, IfSome, IsSome, Result, Ok, Err, IfOk, IfErr, Vec, Global, refl, sym, ap, subst, ◌∙◌, arith}
+use Rattle.std.proofs.Common.{◌≡◌, ℕ, Bool, ◌≤◌, ◌+◌, All, List, [], ◌∷◌, ◌++◌, length, map, take, drop, Option, None, IfSome, IsSome, Result, Ok, Err, IfOk, IfErr, Vec, Global, refl, sym, ap, subst, ◌∙◌, arith}
 use Rattle.std.specs.List.{AllByRecursion}
 use Rattle.std.proofs.Math.Seq.{take-append_seam}
 use Rattle.std.proofs.lemmas.List.{length-map, length-append, take-append-drop}
@@ -129,9 +129,9 @@ module _ {T W L : Type 0} (told : L → Option Talk) (queue desk : TableId) (set
 
 module _ {T W L D : Type 0} (words : Words T W L D) (reads : (disk : D) → IfSome (words.disks.contents disk) (words.disks.images disk))
     (counts : (disk : D) (at : ℕ) (image : List ℕ) → at ≤ words.disks.moment disk → words.disks.images disk image → words.disks.images_since disk at image)
-    (queue desk : TableId) (settings : Settings) (listed doubled : List Listed) (now : Moment) (moments : Option (List ℕ)) (wires left : List W) (a b : D) (old : Beginning T W L) (earlier : Earlier D) where
+    (queue desk : TableId) (settings : Settings) (once : Bool) (listed doubled : List Listed) (now : Moment) (moments : Option (List ℕ)) (wires left : List W) (a b : D) (old : Beginning T W L) (earlier : Earlier D) where
   abbrev outset : Outset W D
-  outset = record { settings = settings; listed = listed; doubled = doubled; moment = now.0; shown = old.folder.told; moments = moments; wires = wires; keeper = old.keeper; a = a; b = b }
+  outset = record { settings = settings; once = once; listed = listed; doubled = doubled; moment = now.0; shown = old.folder.told; moments = moments; wires = wires; keeper = old.keeper; a = a; b = b }
 
   abbrev start : Began D
   start = began_with words.wires outset earlier

@@ -10,13 +10,13 @@ use Rattle.accounts.specs.Opened.{IsTailOf, Opened}
 use Rattle.accounts.specs.ToldFile.{IsReadThrough}
 use Rattle.accounts.specs.Turned.{Turned, notes_told, parcels_told, spans_in}
 use Rattle.accounts.specs.Turning.{IsTurnedSo}
+use Rattle.accounts.specs.Watch.{Watch}
 use Rattle.accounts.proofs.Backing.{mapped_there}
 use Rattle.accounts.proofs.Grounded.{each_member}
 use Rattle.accounts.proofs.Joining.{told_as_often}
 use Rattle.accounts.proofs.Lists.{each_last}
 use Rattle.accounts.proofs.Often.{often_back, often_contains, often_then, once_apart, once_more, once_none, once_often}
 use Rattle.accounts.proofs.Orderly.{member_is}
-use Rattle.event_tree.specs.declared.processor_rule.ProcessorRule.{ProcessorRule}
 use Rattle.harvester.specs.declared.harvester.Harvester.{Harvester}
 use Rattle.kept_rows.specs.Scans.{AreDistinct}
 use Rattle.lanes.specs.declared.lane.Lane.{Lane}
@@ -49,7 +49,7 @@ use Rattle.run_steps.specs.RunState.{Finished, Leaving, OutOfEpochs, Phase, Read
 use Rattle.told_scans.specs.OnlyAsked.{IsNoListing, WasClosedWith, WasOnlyAsked}
 use Rattle.run_steps.specs.Shown.{HasDone, HasShown, IsStillOpen, WasOpenedSince, openings_of}
 use Rattle.run_steps.specs.SoFar.{FilesSoFar, Left, SoFar, books_of, files_in, files_of, files_within, notes_of}
-use Rattle.run_steps.specs.Stands.{AreEachOnce, Books, BooksNow, Files, FilesNow, Further, HaveGiven, IsLeftSo, Notes, Stands}
+use Rattle.run_steps.specs.Stands.{AreEachOnce, Books, BooksNow, Files, FilesNow, Further, HaveGiven, IsLeftSo, Notes, Stands, watch_of}
 use Rattle.run_steps.proofs.Admitting.{booked_by, often_mapped, placed_by, spans_often}
 use Rattle.run_steps.proofs.Causing.{some_parted}
 use Rattle.run_steps.proofs.Closing.{closed_now, closed_still, closes_its, closes_no_other, open_still}
@@ -140,14 +140,14 @@ module _ {T W L D : Type 0} (words : Words T W L D) (start : Began D) (moments :
 
   module _ (not_reading : phase ≢ Reading) where
     module _ (so_far : SoFar) (one : Harvester T) (old new : Readers T) (closes : ClosesTail words.tails one old new) (reads : Reads so_far old) where
-      abbrev processors : List ProcessorRule
-      processors = start.settings.processors
+      abbrev watch : Watch
+      watch = watch_of start
 
       abbrev go : LetsGoAt one old.lanes new.lanes
       go = closes.lets_go
 
       abbrev So : Turned → Harvester T → Type 0
-      So = IsTurnedSo words.tails.numbers words.tails.told processors so_far.opened so_far.moments
+      So = IsTurnedSo words.tails.numbers words.tails.told watch so_far.opened so_far.moments
 
       its : StandsFor one old.lanes new.lanes go So so_far.lanes
       its = stands_for one old.lanes new.lanes go So so_far.lanes reads.files.turned
@@ -190,8 +190,8 @@ module _ {T W L D : Type 0} (words : Words T W L D) (start : Began D) (moments :
             (often_mapped (λ (t : Turned). t.slot) (files_in after) (files_in so_far) (often_back (files_in so_far) (files_in after) same_files)) reads.files.each_once.are;
       }
 
-      left : AllByRecursion (IsLeftSo processors so_far.opened so_far.moments) (so_far.left ++ left_one ∷ [])
-      left = each_last (IsLeftSo processors so_far.opened so_far.moments) so_far.left left_one reads.files.left (record { file = its.is.opened; among = its.is.of_files; is_told = its.is.is_told })
+      left : AllByRecursion (IsLeftSo watch so_far.opened so_far.moments) (so_far.left ++ left_one ∷ [])
+      left = each_last (IsLeftSo watch so_far.opened so_far.moments) so_far.left left_one reads.files.left (record { file = its.is.opened; among = its.is.of_files; is_told = its.is.is_told })
 
       abbrev ReadThrough : Turned → Type 0
       ReadThrough turned = IsReadThrough turned.history
@@ -260,7 +260,7 @@ module _ {T W L D : Type 0} (words : Words T W L D) (start : Began D) (moments :
             by_case : (o : Option TailHistory) → l.told ≡ o → IfSome o (λ tail. WasClosedWith (then_told tells) tail.opening tail.looks)
             by_case None is = tt
             by_case (Some tail) is =
-                let of = member_is (IsLeftSo processors so_far.opened so_far.moments) so_far.left l reads.files.left there in
+                let of = member_is (IsLeftSo watch so_far.opened so_far.moments) so_far.left l reads.files.left there in
                 let tail_is : IsTailOf of.file tail = subst (λ (o : Option TailHistory). IfSome o (IsTailOf of.file)) is of.is_told.tail in
                 let below : tail.opening < length now.events = subst (λ (n : ℕ). n < length now.events) (sym tail_is.opening) (stands_within of.file of.among) in
                 closed_still now (events tells) tail.opening tail.looks below
@@ -425,9 +425,9 @@ module _ {T W L D : Type 0} (words : Words T W L D) where
   abbrev pub GoesOnStanding : RunState T W L D → RunState T W L D → Type 0
   GoesOnStanding before after = (start : Began D) (so_far : SoFar) → Stands words start before so_far → Further words start after
 
-  pub onward_then : (first mid last : RunState T W L D) → Onward words first mid → GoesOnStanding mid last → Onward words first last
+  pub onward_then : (once : Bool) (first mid last : RunState T W L D) → Onward words once first mid → GoesOnStanding mid last → Onward words once first last
   unfolding Onward
-  onward_then first mid last one then start so_far stands began = let further = one start so_far stands began in then start further.so_far further.stands
+  onward_then once first mid last one then start so_far same stands began = let further = one start so_far same stands began in then start further.so_far further.stands
 
   -- whatever it was
   pub leaving_onward : (shown : Option FolderHistory) (moments : Option (List ℕ)) (crew : Crew T W L) (storing : Storing D) (phase : Phase) →

@@ -3,9 +3,10 @@ use Rattle.std.proofs.Common.{◌≡◌, ℕ, zero, suc, ◌+◌, ◌-◌, List,
 use Rattle.std.specs.Prelude.{slice_get}
 use Rattle.std.specs.List.{AllByRecursion}
 use Rattle.accounts.specs.Opened.{IsTailOf, Opened as OpenedFile}
-use Rattle.accounts.specs.ToldFile.{IsHistoryOf, IsToldFile}
+use Rattle.accounts.specs.ToldFile.{IsToldFile}
 use Rattle.accounts.specs.Turned.{Turned}
-use Rattle.accounts.proofs.Lists.{in_order_then}
+use Rattle.accounts.specs.Watch.{Watch}
+use Rattle.accounts.proofs.Onward.{history_opened}
 use Rattle.event_tree.specs.declared.input_rule.IdentityRule.{IdentityRule}
 use Rattle.event_tree.specs.declared.input_rule.IdentityRule.TheVariants.{Fingerprint, Native, Path}
 use Rattle.event_tree.specs.declared.input_rule.InputRule.{InputRule}
@@ -167,29 +168,15 @@ module _ {T : Type 0} (tails : TailWords T) (settings : Settings) (file : Listed
 abbrev pub opened_now : List ProcessorRule → OpenedFile → ℕ → Turned
 opened_now processors one now = record { slot = one.begin.slot; history = history.opened one.rule processors one.begin one.asked now }
 
-module _ (processors : List ProcessorRule) (one : OpenedFile) (moments : List ℕ) (now : ℕ) (ends : EndsAt moments now) where
-  is_history : IsHistoryOf processors one moments (history.opened one.rule processors one.begin one.asked now)
-  is_history = record {
-    rule = refl;
-    processors_are = refl;
-    begin = refl;
-    asked_before = refl;
-    path = refl;
-    not_ending = refl;
-    not_forgotten = refl;
-    epochs = (refl, refl, tt);
-    at = in_order_then [] moments now ends tt;
-    told = (tt, tt);
-  }
-
+module _ (watch : Watch) (one : OpenedFile) (moments : List ℕ) (now : ℕ) (ends : EndsAt moments now) where
   -- of a tail that was closed before its harvester read it
-  pub told_unread : (told : Option TailHistory) → looks_so_far told ≡ one.asked → IfSome told (IsTailOf one) → IfSome told TellsLooks → IsToldFile processors one moments (opened_now processors one now) told
+  pub told_unread : (told : Option TailHistory) → looks_so_far told ≡ one.asked → IfSome told (IsTailOf one) → IfSome told TellsLooks → IsToldFile watch one moments (opened_now watch.processors one now) told
   told_unread told are tail tells = record {
     slot = refl;
-    history = is_history;
+    history = history_opened watch one moments now ends;
     epochs = ((λ life has. record { partition = tt; fates = tt }), tt);
-    looked = subst (λ (l : List Look). AreLookedAt one.file.numbers (history.opened one.rule processors one.begin l now) told) are
-        (looked_at_opening one.file.numbers one.rule processors one.begin now told);
+    looked = subst (λ (l : List Look). AreLookedAt one.file.numbers (history.opened one.rule watch.processors one.begin l now) told) are
+        (looked_at_opening one.file.numbers one.rule watch.processors one.begin now told);
     tail = tail;
     tells = tells;
   }

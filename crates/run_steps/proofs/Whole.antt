@@ -1,5 +1,5 @@
 -- What a run does behind the beginning of its files, step by step.
-use Rattle.std.proofs.Common.{◌≡◌, ◌⊎◌, inl, inr, ⊎_elim, ℕ, zero, suc, ◌≤◌, ◌<◌, true, false, All, List, [], ◌∷◌, length, map, Option, Some, IfErr, IfOk, Result, Ok, Err, Vec, refl, sym, ap, subst, ◌∙◌, arith}
+use Rattle.std.proofs.Common.{◌≡◌, ◌⊎◌, inl, inr, ⊎_elim, ℕ, Bool, zero, suc, ◌≤◌, ◌<◌, true, false, All, List, [], ◌∷◌, length, map, Option, Some, IfErr, IfOk, Result, Ok, Err, Vec, refl, sym, ap, subst, ◌∙◌, arith}
 use Rattle.std.proofs.lemmas.List.Elements.{recursion_from_All}
 use Rattle.std.specs.Prelude.{slice_get}
 use Rattle.std.specs.List.{AllByRecursion}
@@ -119,14 +119,14 @@ out_by (Err error) met slot first is = absurd (not_epochs error slot (sym first 
 
 -- ---- the end
 
-module _ {T W L D : Type 0} (words : Words T W L D) (start : Began D) (begun : Result (Vec Passing Global) BeginError)
+module _ {T W L D : Type 0} (words : Words T W L D) (start : Began D) (begun : Result (Vec Passing Global) BeginError) (once : Bool)
     (shown later : Option FolderHistory) (moments then : Option (List ℕ)) (crew one two three : Crew T W L) (storing first second : Storing D) (met now : Met) (old new : List W) where
   -- what each step gave
   pub record Steps : Type 0 where
-    pub followed : Onward words (within shown moments crew storing (phase_begun begun)) (within later then two first (phase_left (phase_worked begun met)))
+    pub followed : Onward words once (within shown moments crew storing (phase_begun begun)) (within later then two first (phase_left (phase_worked begun met)))
     pub at_rest : AreLeft met → IsAtRest words.disks storing.keeper.now storing.a.now storing.b.now → IsAtRest words.disks first.keeper.now first.a.now first.b.now
     pub as_many_spans : spans_told (lanings two.lanes.items) ≡ spans_told (lanings one.lanes.items)
-    pub settled : (at : Option FolderHistory) (given : Option (List ℕ)) (phase : Phase) → Onward words (within at given two first phase) (within at given three second phase)
+    pub settled : (at : Option FolderHistory) (given : Option (List ℕ)) (phase : Phase) → Onward words once (within at given two first phase) (within at given three second phase)
     pub still : (¬ AreLeft met) → (three ≡ two) × (second ≡ first)
     pub left_before : AreLeft now → AreLeft met
     pub stored : AreLeft now → AreSettledIn three second.keeper.now
@@ -140,18 +140,18 @@ module _ {T W L D : Type 0} (words : Words T W L D) (start : Began D) (begun : R
     pub finished : now ≡ Done → phase_left (phase_worked begun met) ≡ Finished
     pub out_of_epochs : (slot : Slot) → now ≡ Epochs slot → phase_left (phase_worked begun met) ≡ OutOfEpochs slot
 
-  module _ (steps : Steps) (so_far : SoFar) (stands : Stands words start (within shown moments crew storing (phase_begun begun)) so_far)
+  module _ (steps : Steps) (so_far : SoFar) (same : start.once ≡ once) (stands : Stands words start (within shown moments crew storing (phase_begun begun)) so_far)
       (began : BeganAtRest words.disks start → IsAtRest words.disks storing.keeper.now storing.a.now storing.b.now) where
     abbrev phase : Phase
     phase = phase_left (phase_worked begun met)
 
     after_rounds : Further words start (within later then two first phase)
     unfolding Onward
-    after_rounds = steps.followed start so_far stands began
+    after_rounds = steps.followed start so_far same stands began
 
     after_all : Further words start (within later then three second phase)
     unfolding Onward
-    after_all = ⊎_elim (λ left. steps.settled later then phase start after_rounds.so_far after_rounds.stands (λ at_start. steps.at_rest left (began at_start)))
+    after_all = ⊎_elim (λ left. steps.settled later then phase start after_rounds.so_far same after_rounds.stands (λ at_start. steps.at_rest left (began at_start)))
         (λ not. let same = steps.still not in
         subst (λ (s : Storing D). Further words start (within later then three s phase)) (sym same.1)
         (subst (λ (c : Crew T W L). Further words start (within later then c first phase)) (sym same.0) after_rounds)) (left_or_not met)

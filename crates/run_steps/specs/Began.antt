@@ -1,6 +1,6 @@
 -- How a run began (this project's profile): its settings, the rows of its registry, what its one scan listed and at which moment, what folder and clock told
 -- by then, how many outcomes each worker's wire had, and its areas before they were opened.
-use Rattle.std.specs.Prelude.{ℕ, List, Option}
+use Rattle.std.specs.Prelude.{ℕ, Bool, List, Option}
 use Rattle.event_tree.specs.declared.settings.Settings.{Settings}
 use Rattle.outside.specs.Folders.{FolderHistory}
 use Rattle.prospect.specs.declared.listed.Listed.{Listed}
@@ -8,6 +8,8 @@ use Rattle.wire_base.specs.declared.row.Row.{Row}
 
 pub record Began (D : Type 0) : Type 0 where
   pub settings : Settings
+  -- whether files are read once: each turn may find the end of its file
+  pub once : Bool
   -- as it was opened
   pub opening : List Row
   -- the first file of each key; its slot is its place in this list

@@ -38,7 +38,7 @@ module _ {T W L D : Type 0} (words : Words T W L D) (context : Context) where
   -- some of them in a row, which met this if it ended them
   pub record HandsOn (met : Option Met) (before after : Crewing T W L D) : Type 0 where
     pub onward : (shown : Option FolderHistory) (moments : Option (List ℕ)) (phase : Phase) →
-        Onward words (state_in shown moments phase before) (state_in shown moments phase after)
+        Onward words context.once (state_in shown moments phase before) (state_in shown moments phase after)
     pub at_rest : GoesOn met → RestsIn words before → RestsIn words after
     pub ready : GoesOn met → IsReadyIn words.tails context after
     pub able : IsAbleIn words.tails context after

@@ -22,6 +22,7 @@ abbrev pub outset_of : {F T W D K B : Type 0} → FolderGhosts F T → ClockGhos
     Outset W D
 outset_of folder clock context scanned storing around = record {
   settings = context.settings.now;
+  once = context.once;
   listed = scanned.listed.items;
   doubled = scanned.doubled.items;
   moment = scanned.now.0;

@@ -38,16 +38,17 @@ pub record WasSending {T W L : Type 0} (attempts : ℕ) (crew : Crew T W L) (rou
   pub reading : WasReading round
   pub none_failed : NoneFailed attempts crew.carriers.items
 
-abbrev pub IsMetIn : {T W L : Type 0} → ℕ → Crew T W L → Keeping → Round → Option Met → Type 0
-IsMetIn attempts crew keeper round (Some NoMemory) = round.memory ≡ true
-IsMetIn attempts crew keeper round (Some DiskFault) = (round.memory ≡ false) × (round.disk ≡ true)
-IsMetIn attempts crew keeper round (Some FolderFault) = ⊥
-IsMetIn attempts crew keeper round (Some (Epochs slot)) = WasStoring round × (round.epochs ≡ Some slot)
-IsMetIn attempts crew keeper round (Some (Unreachable worker)) = WasReading round × HasFailed attempts crew.carriers.items worker
-IsMetIn attempts crew keeper round (Some Done) = WasSending attempts crew round × (round.moved ≡ false) × IsDoneIn crew keeper
-IsMetIn attempts crew keeper round (Some Stopped) = ⊥
-IsMetIn attempts crew keeper round (Some (NoNative slot)) = ⊥
-IsMetIn attempts crew keeper round None = WasSending attempts crew round × (round.moved ≡ false → ¬ (IsDoneIn crew keeper))
+-- a run that does not read its files once is never done
+abbrev pub IsMetIn : {T W L : Type 0} → Bool → ℕ → Crew T W L → Keeping → Round → Option Met → Type 0
+IsMetIn once attempts crew keeper round (Some NoMemory) = round.memory ≡ true
+IsMetIn once attempts crew keeper round (Some DiskFault) = (round.memory ≡ false) × (round.disk ≡ true)
+IsMetIn once attempts crew keeper round (Some FolderFault) = ⊥
+IsMetIn once attempts crew keeper round (Some (Epochs slot)) = WasStoring round × (round.epochs ≡ Some slot)
+IsMetIn once attempts crew keeper round (Some (Unreachable worker)) = WasReading round × HasFailed attempts crew.carriers.items worker
+IsMetIn once attempts crew keeper round (Some Done) = WasSending attempts crew round × (once ≡ true) × (round.moved ≡ false) × IsDoneIn crew keeper
+IsMetIn once attempts crew keeper round (Some Stopped) = ⊥
+IsMetIn once attempts crew keeper round (Some (NoNative slot)) = ⊥
+IsMetIn once attempts crew keeper round None = WasSending attempts crew round × (once ≡ true → round.moved ≡ false → ¬ (IsDoneIn crew keeper))
 
 -- a run in which some file met a fault has met that, unless it has no memory or a disk failed
 abbrev pub met_behind : Bool → Met → Met

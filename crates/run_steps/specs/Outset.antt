@@ -1,6 +1,6 @@
 -- How a run sets out (this project's profile): its settings, what its one scan listed and at which moment, what its objects told by
 -- then, and a keeper to which nothing was told over the opened store.
-use Rattle.std.specs.Prelude.{◌≡◌, ℕ, List, [], Option, false, map, take}
+use Rattle.std.specs.Prelude.{◌≡◌, ℕ, Bool, List, [], Option, false, map, take}
 use Rattle.std.specs.List.{AllByRecursion}
 use Rattle.atomic_table.specs.Seated.{TableId}
 use Rattle.batch_worker.specs.Standing.{length_of}
@@ -19,6 +19,7 @@ use Rattle.run_steps.specs.BeginsAll.{IsOfRuledInput}
 
 pub record Outset (W D : Type 0) : Type 0 where
   pub settings : Settings
+  pub once : Bool
   pub listed : List Listed
   pub doubled : List Listed
   pub moment : ℕ
@@ -39,6 +40,7 @@ pub record Earlier (D : Type 0) : Type 0 where
 abbrev pub began_with : {W D : Type 0} → WireWords W → Outset W D → Earlier D → Began D
 began_with {W} wires outset earlier = record {
   settings = outset.settings;
+  once = outset.once;
   opening = outset.keeper.store.rows;
   listed = outset.listed;
   doubled = outset.doubled;

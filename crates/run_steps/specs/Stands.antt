@@ -7,7 +7,7 @@ use Rattle.accounts.specs.ToldFile.{IsReadThrough, IsToldFile}
 use Rattle.accounts.specs.ToldNotes.{AreMixed}
 use Rattle.accounts.specs.Turned.{Turned, notes_told, parcels_told, spans_in}
 use Rattle.accounts.specs.Turning.{IsTurnedSo, Pairs}
-use Rattle.event_tree.specs.declared.processor_rule.ProcessorRule.{ProcessorRule}
+use Rattle.accounts.specs.Watch.{Name, Watch}
 use Rattle.harvester.specs.declared.stage.Stage.TheVariants.{Over}
 use Rattle.keeper.specs.Collecting.{is_dropped, is_shipped}
 use Rattle.keeper.specs.Keeping.{Keeping, held_in}
@@ -34,20 +34,24 @@ use Rattle.run_steps.specs.SoFar.{BooksSoFar, FilesSoFar, Left, NotesSoFar, SoFa
 
 -- ---- the files
 
+-- how the run watches them: of none of them is told that it was removed or renamed
+abbrev pub watch_of : {D : Type 0} → Began D → Watch
+watch_of start = record { processors = start.settings.processors; once = start.once; removed = λ (opened : Opened). ⊥; renamed = λ (opened : Opened) (name : Name). ⊥ }
+
 -- a lane's harvesters stand for these files, one by one
-abbrev pub AreTurnedIn : {T : Type 0} → TailWords T → List ProcessorRule → List Opened → List ℕ → List Turned → Laning T → Type 0
-AreTurnedIn tails processors opened moments turned lane =
-    Pairs (IsTurnedSo tails.numbers tails.told processors opened moments) turned lane.harvesters
+abbrev pub AreTurnedIn : {T : Type 0} → TailWords T → Watch → List Opened → List ℕ → List Turned → Laning T → Type 0
+AreTurnedIn tails watch opened moments turned lane =
+    Pairs (IsTurnedSo tails.numbers tails.told watch opened moments) turned lane.harvesters
 
 -- its tail tells
 abbrev pub TellIn : {T : Type 0} → TailWords T → Laning T → Type 0
 TellIn tails lane = AllByRecursion (λ harvester. IsSome (tails.told harvester.tail)) lane.harvesters
 
 -- of a file whose tail was closed: one of these was told so
-pub record IsLeftSo (processors : List ProcessorRule) (opened : List Opened) (moments : List ℕ) (one : Left) : Type 0 where
+pub record IsLeftSo (watch : Watch) (opened : List Opened) (moments : List ℕ) (one : Left) : Type 0 where
   pub file : Opened
   pub among : Contains opened file
-  pub is_told : IsToldFile processors file moments one.turned one.told
+  pub is_told : IsToldFile watch file moments one.turned one.told
 
 -- each file was begun once, and is turned or left
 pub record AreEachOnce (opened : List Opened) (files : List Turned) : Type 0 where
@@ -91,8 +95,8 @@ pub record Files {T D : Type 0} (tails : TailWords T) (start : Began D) (now : F
   pub opened : AllByRecursion (IsOpenedAsListed start.settings start.opening start.listed) so_far.opened
   pub keyed : IsSome start.shown → AllByRecursion IsKeyed so_far.opened
   pub each_once : AreEachOnce so_far.opened (files_within so_far)
-  pub turned : Pairs (AreTurnedIn tails start.settings.processors so_far.opened so_far.moments) so_far.lanes now.lanes
-  pub left : AllByRecursion (IsLeftSo start.settings.processors so_far.opened so_far.moments) so_far.left
+  pub turned : Pairs (AreTurnedIn tails (watch_of start) so_far.opened so_far.moments) so_far.lanes now.lanes
+  pub left : AllByRecursion (IsLeftSo (watch_of start) so_far.opened so_far.moments) so_far.left
   pub reading : now.phase ≡ Reading → IsReading now.lanes so_far
   pub finished : now.phase ≡ Finished → IsSome start.shown → AllByRecursion (λ turned. IsReadThrough turned.history) (files_within so_far)
   pub over : HaveOneOver now.phase (files_within so_far)

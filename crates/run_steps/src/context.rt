@@ -2,12 +2,15 @@ use event_tree::Settings;
 use lanes::Outlets;
 use std::alloc::Global;
 
-/// What each step of a run reads: where memory is taken, the settings, and where events and notes are handed on.
+/// What each step of a run reads: where memory is taken, the settings, where events and notes are handed on, and whether files are
+/// read once.
 #[derive(Clone, Copy)]
 pub struct Context<'a, 'b> {
     pub alloc: Global,
     pub settings: &'a Settings,
     pub outlets: Outlets<'b>,
+    /// Whether files are read once: each turn may find the end of its file.
+    pub once: bool,
 }
 
 /// What a run reads, sends by and asks, beside its areas. It is written out where the references are, for of a call that made it no

@@ -46,6 +46,7 @@ pub fn crew_of<T: Tail, L: Link, W: Wire<Link = L>>(
         alloc,
         settings,
         outlets,
+        once: _,
     } = context;
     let Passes {
         put,

@@ -21,15 +21,17 @@ pub fn pause_where_still<K: Clock>(met: Option<Met>, round: Round, clock: &mut K
 }
 
 /// What ends the run in this round. Where the round met several causes it is the first in this order: no memory, a disk's fault,
-/// a last epoch, a worker that failed `attempts` times in a row, and that all is done. A file's read fault ends no run by itself.
+/// a last epoch, a worker that failed `attempts` times in a row, and that all is done, if files are read `once`. A file's read fault
+/// ends no run by itself.
 pub fn met_in<T: Tail, L: Link, W: Wire<Link = L>>(
+    once: bool,
     attempts: u32,
     crew: &Crew<T, W, L>,
     keeper: &Keeper,
     round: Round,
 ) -> Option<Met>
     requires few { length crew.now.carriers.items ≤ 2 ^ 32 - 1 }
-    ensures { IsMetIn attempts crew.now keeper.now round result }
+    ensures { IsMetIn once attempts crew.now keeper.now round result }
 {
     if round.memory {
         return Some(Met::NoMemory);
@@ -42,6 +44,9 @@ pub fn met_in<T: Tail, L: Link, W: Wire<Link = L>>(
     }
     if let Some(worker) = unreachable_in(crew.carriers.as_slice(), attempts) {
         return Some(Met::Unreachable(worker));
+    }
+    if !once {
+        return None;
     }
     if !round.moved && crew.is_done(keeper) {
         return Some(Met::Done);

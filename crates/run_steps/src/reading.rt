@@ -24,7 +24,8 @@ use rounds::{Crew, Storing};
 use std::sync::Wait;
 use std::thread::Threads;
 
-/// One round, at the moment that the clock gives, in which the end of a file may be found. What ends the run, if something does.
+/// One round, at the moment that the clock gives. The end of a file may be found if files are read once, or if it is to end. What ends
+/// the run, if something does.
 /// The clock pauses where the round ended nothing and moved nothing, and no read failed.
 pub fn make_round<
     F: Folder,
@@ -66,10 +67,10 @@ where
 {
     disk_images_are_counted::<D>();
     let now = system.clock.now();
-    let when = When { now, last: true };
+    let when = When { now, last: context.once };
     let round = crew.round(rt, context.alloc, context.outlets, when, storing);
     let attempts = context.settings.output.attempts;
-    let met = met_in(attempts, crew, storing.keeper, round);
+    let met = met_in(context.once, attempts, crew, storing.keeper, round);
     pause_where_still(met, round, system.clock);
     met
 }

@@ -76,6 +76,7 @@ where
         let all = words_of F.Tail.Tail L.Link W.Wire D.Disk in
         let shown = F.told around.old.folder.now in
         let moments = K.moments around.old.clock.now in
+        start.once ≡ context.entry.once →
         Stands all start (within shown moments crew storing.old (phase_begun begun)) so_far →
         (BeganAtRest all.disks start →
         IsAtRest all.disks storing.old.keeper.now storing.old.a.now storing.old.b.now) →

@@ -1,4 +1,4 @@
-use Rattle.std.proofs.Common.{ℕ, true, List, Option, refl, sym, subst, ◌∙◌, arith}
+use Rattle.std.proofs.Common.{ℕ, List, Option, refl, sym, subst, ◌∙◌, arith}
 use Rattle.lanes.specs.declared.run.When.{When}
 use Rattle.outside.specs.Times.{GivesMoment}
 use Rattle.rounds.specs.Crewed.{lanings}
@@ -21,29 +21,30 @@ met_in-met-requires g c = record { few = let many = c.round-round.ensures.keeps.
 
 pub returns-clause-met : goal.returns-clause-met
 returns-clause-met g c =
-    each_met (words_of g.F.Tail.Tail g.L.Link g.W.Wire g.D.Disk) c.args.context.outlets.queue.now c.args.context.outlets.desk.now (record { now = c.now-now.result; last = true })
+    each_met (words_of g.F.Tail.Tail g.L.Link g.W.Wire g.D.Disk) c.args.context.outlets.queue.now c.args.context.outlets.desk.now (record { now = c.now-now.result; last = c.args.context.once })
     (crewing c.args.crew.now c.args.storing.now) (crewing c.round-round.new.self c.round-round.new.storing) c.round-round.result c.requires.ready c.round-round.ensures.keeps
-    c.args.context.settings.now.output.attempts (g.F.Folder.faults c.args.system.now.folder.now) (g.F.Folder.faults c.args.system.now.folder.now) c.met_in-met.result c.met_in-met.ensures
+    c.args.context.once c.args.context.settings.now.output.attempts (g.F.Folder.faults c.args.system.now.folder.now) (g.F.Folder.faults c.args.system.now.folder.now) c.met_in-met.result c.met_in-met.ensures
 
 pub returns-clause-no_fault : goal.returns-clause-no_fault
 returns-clause-no_fault g c =
-    never_fault (words_of g.F.Tail.Tail g.L.Link g.W.Wire g.D.Disk) c.args.context.outlets.queue.now c.args.context.outlets.desk.now (record { now = c.now-now.result; last = true })
+    never_fault (words_of g.F.Tail.Tail g.L.Link g.W.Wire g.D.Disk) c.args.context.outlets.queue.now c.args.context.outlets.desk.now (record { now = c.now-now.result; last = c.args.context.once })
     (crewing c.args.crew.now c.args.storing.now) (crewing c.round-round.new.self c.round-round.new.storing) c.round-round.result c.requires.ready c.round-round.ensures.keeps
-    c.args.context.settings.now.output.attempts c.met_in-met.result c.met_in-met.ensures
+    c.args.context.once c.args.context.settings.now.output.attempts c.met_in-met.result c.met_in-met.ensures
 
 pub returns-clause-failed : goal.returns-clause-failed
 returns-clause-failed g c =
-    round_failed (words_of g.F.Tail.Tail g.L.Link g.W.Wire g.D.Disk) c.args.context.outlets.queue.now c.args.context.outlets.desk.now (record { now = c.now-now.result; last = true })
+    round_failed (words_of g.F.Tail.Tail g.L.Link g.W.Wire g.D.Disk) c.args.context.outlets.queue.now c.args.context.outlets.desk.now (record { now = c.now-now.result; last = c.args.context.once })
     (crewing c.args.crew.now c.args.storing.now) (crewing c.round-round.new.self c.round-round.new.storing) c.round-round.result c.requires.ready c.round-round.ensures.keeps
-    c.args.context.settings.now.output.attempts
+    c.args.context.once c.args.context.settings.now.output.attempts
 
 pub returns-clause-goes : goal.returns-clause-goes
 returns-clause-goes g c faulty =
     let all = words_of g.F.Tail.Tail g.L.Link g.W.Wire g.D.Disk in
     let queue = c.args.context.outlets.queue.now in
     let desk = c.args.context.outlets.desk.now in
+    let once = c.args.context.once in
     let attempts = c.args.context.settings.now.output.attempts in
-    let when : When = record { now = c.now-now.result; last = true } in
+    let when : When = record { now = c.now-now.result; last = c.args.context.once } in
     let old = crewing c.args.crew.now c.args.storing.now in
     let new = crewing c.round-round.new.self c.round-round.new.storing in
     let round = c.round-round.result in
@@ -53,7 +54,7 @@ returns-clause-goes g c faulty =
     let keeps = c.round-round.ensures.keeps in
     let given : GivesMoment before c.now-now.result.0 after =
     subst (λ (o : Option (List ℕ)). GivesMoment before c.now-now.result.0 o) (sym c.pause_where_still.ensures.moments_kept) c.now-now.ensures.told in
-    let well = stored_well all queue desk when old new round c.requires.ready keeps attempts met c.met_in-met.ensures in
+    let well = stored_well all queue desk when old new round c.requires.ready keeps once attempts met c.met_in-met.ensures in
     record {
       keeps = record {
         at_rest = λ goes rest. let is = well goes in
@@ -63,7 +64,7 @@ returns-clause-goes g c faulty =
         able = keeps.able;
         failing = fail_by_round all queue desk when old new round c.round-round.ensures.rounds attempts before after given;
         none_failed = none_failed_on attempts c.args.crew.now.carriers.items c.round-round.new.self.carriers.items met
-            (none_failed_in attempts c.round-round.new.self c.round-round.new.storing.keeper.now round met c.met_in-met.ensures);
+            (none_failed_in once attempts c.round-round.new.self c.round-round.new.storing.keeper.now round met c.met_in-met.ensures);
         carriers_go_on = carriers_by_round all queue desk when old new round c.round-round.ensures.rounds;
         as_many = keeps.as_many;
         a_faults_never_fall = keeps.causes.a_faults;
@@ -75,22 +76,22 @@ returns-clause-goes g c faulty =
         same_objects = keeps.same_objects;
         still_tell = keeps.still_tell;
         readers = readers_stay all.tails (seen_in g.F.Folder c.args.system.now.folder.now) (lanings c.args.crew.now.lanes.items) (lanings c.round-round.new.self.lanes.items) keeps.slots
-            (faults_stay all queue desk when old new round c.requires.ready keeps attempts);
+            (faults_stay all queue desk when old new round c.requires.ready keeps once attempts);
         same_folder = refl;
         same_clock = refl;
         same_bell = refl;
       };
       onward = round_onward all c.disk_images_are_counted.ensures.reads c.disk_images_are_counted.ensures.counts queue desk c.args.crew.now c.round-round.new.self
-          c.args.storing.now c.round-round.new.storing round (g.F.Folder.told c.args.system.now.folder.now) when refl before after (phase_reading faulty) (phase_after faulty met) given c.round-round.ensures.rounds keeps
-          (reads_before all queue desk when old new round c.requires.ready keeps attempts faulty met)
-          (none_out_after all queue desk when old new round c.requires.ready keeps attempts faulty met c.met_in-met.ensures)
-          (all_done_after all queue desk when old new round c.requires.ready keeps attempts faulty met c.met_in-met.ensures)
-          (some_out_after all queue desk when old new round c.requires.ready keeps attempts faulty met c.met_in-met.ensures);
+          c.args.storing.now c.round-round.new.storing round (g.F.Folder.told c.args.system.now.folder.now) when before after (phase_reading faulty) (phase_after faulty met) given c.round-round.ensures.rounds keeps
+          (reads_before all queue desk when old new round c.requires.ready keeps once attempts faulty met)
+          (none_out_after all queue desk when old new round c.requires.ready keeps once attempts faulty met c.met_in-met.ensures)
+          (all_done_after all queue desk when old new round c.requires.ready keeps once attempts faulty met c.met_in-met.ensures)
+          (some_out_after all queue desk when old new round c.requires.ready keeps once attempts faulty met c.met_in-met.ensures);
     }
 
 pub returns-clause-none_failed : goal.returns-clause-none_failed
 returns-clause-none_failed g c =
-    none_failed_in c.args.context.settings.now.output.attempts c.round-round.new.self c.round-round.new.storing.keeper.now c.round-round.result c.met_in-met.result c.met_in-met.ensures
+    none_failed_in c.args.context.once c.args.context.settings.now.output.attempts c.round-round.new.self c.round-round.new.storing.keeper.now c.round-round.result c.met_in-met.result c.met_in-met.ensures
 
 pub returns-clause-asks_the_clock : goal.returns-clause-asks_the_clock
 returns-clause-asks_the_clock g c = c.pause_where_still.ensures.not_asked ∙ c.now-now.ensures.asked

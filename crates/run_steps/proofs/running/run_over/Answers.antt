@@ -61,17 +61,18 @@ returns-clause-ends g c earlier sets =
     let all = words_of g.F.Tail.Tail g.L.Link g.W.Wire g.D.Disk in
     let old = beginning g.F.Folder c.args.around.now.folder.now c.in_ok-crew.crew c.args.storing.now.keeper.now in
     let new = beginning g.F.Folder c.begin_all-begun.new.folder c.begin_all-begun.new.crew c.begin_all-begun.new.keeper in
-    let stood = further all c.disk_images_are_counted.ensures.reads c.disk_images_are_counted.ensures.counts queue desk c.args.context.settings.now c.args.scanned.now.listed.items c.args.scanned.now.doubled.items c.args.scanned.now.now
+    let stood = further all c.disk_images_are_counted.ensures.reads c.disk_images_are_counted.ensures.counts queue desk c.args.context.settings.now c.args.context.once c.args.scanned.now.listed.items c.args.scanned.now.doubled.items c.args.scanned.now.now
     (g.K.Clock.moments c.args.around.now.clock.now) c.args.around.now.wires.now.items c.crew_of.new.wires.items c.args.storing.now.a.now c.args.storing.now.b.now old earlier
     c.in_ok-crew.ensures.begun c.requires.keeper sets c.begin_all-begun.result new c.begin_all-begun.ensures.begun c.begin_all-begun.ensures.ended
     (ap (λ (k : Keeping). k.store.rows) c.begin_all-begun.ensures.kept.keeper) c.hide_begun-begun.result c.hide_begun-begun.new.keeper c.hide_begun-begun.ensures in
-    let at_rest = rests all c.disk_images_are_counted.ensures.reads c.disk_images_are_counted.ensures.counts queue desk c.args.context.settings.now c.args.scanned.now.listed.items c.args.scanned.now.doubled.items c.args.scanned.now.now
+    let at_rest = rests all c.disk_images_are_counted.ensures.reads c.disk_images_are_counted.ensures.counts queue desk c.args.context.settings.now c.args.context.once c.args.scanned.now.listed.items c.args.scanned.now.doubled.items c.args.scanned.now.now
     (g.K.Clock.moments c.args.around.now.clock.now) c.args.around.now.wires.now.items c.crew_of.new.wires.items c.args.storing.now.a.now c.args.storing.now.b.now old earlier
     c.in_ok-crew.ensures.begun c.requires.keeper sets c.begin_all-begun.result new c.begin_all-begun.ensures.begun c.begin_all-begun.ensures.ended
     (ap (λ (k : Keeping). k.store.rows) c.begin_all-begun.ensures.kept.keeper) c.hide_begun-begun.result c.hide_begun-begun.new.keeper c.hide_begun-begun.ensures in
     let left = wires_left g.L.Link.told queue desk c.args.context.settings.now c.args.around.now.wires.now.items c.crew_of.new.wires.items c.in_ok-crew.crew c.in_ok-crew.ensures.begun in
     let start = began_with all.wires (record {
       settings = c.args.context.settings.now;
+      once = c.args.context.once;
       listed = c.args.scanned.now.listed.items;
       doubled = c.args.scanned.now.doubled.items;
       moment = c.args.scanned.now.now.0;
@@ -93,7 +94,7 @@ returns-clause-ends g c earlier sets =
       phase = phase;
     })
     c.work.result.met unused c.work.new.around.wires.now.items)
-    (sym left) (c.work.ensures.ends start stood.so_far stood.stands at_rest)
+    (sym left) (c.work.ensures.ends start stood.so_far refl stood.stands at_rest)
 
 pub returns-clause-accounted : goal.returns-clause-accounted
 returns-clause-accounted g c earlier folder sets has clock_tells wires_tell =
@@ -102,16 +103,17 @@ returns-clause-accounted g c earlier folder sets has clock_tells wires_tell =
     let all = words_of g.F.Tail.Tail g.L.Link g.W.Wire g.D.Disk in
     let old = beginning g.F.Folder c.args.around.now.folder.now c.in_ok-crew.crew c.args.storing.now.keeper.now in
     let new = beginning g.F.Folder c.begin_all-begun.new.folder c.begin_all-begun.new.crew c.begin_all-begun.new.keeper in
-    let stood = further all c.disk_images_are_counted.ensures.reads c.disk_images_are_counted.ensures.counts queue desk c.args.context.settings.now c.args.scanned.now.listed.items c.args.scanned.now.doubled.items c.args.scanned.now.now
+    let stood = further all c.disk_images_are_counted.ensures.reads c.disk_images_are_counted.ensures.counts queue desk c.args.context.settings.now c.args.context.once c.args.scanned.now.listed.items c.args.scanned.now.doubled.items c.args.scanned.now.now
     (g.K.Clock.moments c.args.around.now.clock.now) c.args.around.now.wires.now.items c.crew_of.new.wires.items c.args.storing.now.a.now c.args.storing.now.b.now old earlier
     c.in_ok-crew.ensures.begun c.requires.keeper sets c.begin_all-begun.result new c.begin_all-begun.ensures.begun c.begin_all-begun.ensures.ended
     (ap (λ (k : Keeping). k.store.rows) c.begin_all-begun.ensures.kept.keeper) c.hide_begun-begun.result c.hide_begun-begun.new.keeper c.hide_begun-begun.ensures in
-    let at_rest = rests all c.disk_images_are_counted.ensures.reads c.disk_images_are_counted.ensures.counts queue desk c.args.context.settings.now c.args.scanned.now.listed.items c.args.scanned.now.doubled.items c.args.scanned.now.now
+    let at_rest = rests all c.disk_images_are_counted.ensures.reads c.disk_images_are_counted.ensures.counts queue desk c.args.context.settings.now c.args.context.once c.args.scanned.now.listed.items c.args.scanned.now.doubled.items c.args.scanned.now.now
     (g.K.Clock.moments c.args.around.now.clock.now) c.args.around.now.wires.now.items c.crew_of.new.wires.items c.args.storing.now.a.now c.args.storing.now.b.now old earlier
     c.in_ok-crew.ensures.begun c.requires.keeper sets c.begin_all-begun.result new c.begin_all-begun.ensures.begun c.begin_all-begun.ensures.ended
     (ap (λ (k : Keeping). k.store.rows) c.begin_all-begun.ensures.kept.keeper) c.hide_begun-begun.result c.hide_begun-begun.new.keeper c.hide_begun-begun.ensures in
     let start = began_with all.wires (record {
       settings = c.args.context.settings.now;
+      once = c.args.context.once;
       listed = c.args.scanned.now.listed.items;
       doubled = c.args.scanned.now.doubled.items;
       moment = c.args.scanned.now.now.0;
@@ -122,8 +124,8 @@ returns-clause-accounted g c earlier folder sets has clock_tells wires_tell =
       a = c.args.storing.now.a.now;
       b = c.args.storing.now.b.now;
     }) earlier in
-    let is = c.work.ensures.ends start stood.so_far stood.stands at_rest in
-    accounted all c.disk_images_are_counted.ensures.reads c.disk_images_are_counted.ensures.counts queue desk c.args.context.settings.now c.args.scanned.now.listed.items c.args.scanned.now.doubled.items c.args.scanned.now.now
+    let is = c.work.ensures.ends start stood.so_far refl stood.stands at_rest in
+    accounted all c.disk_images_are_counted.ensures.reads c.disk_images_are_counted.ensures.counts queue desk c.args.context.settings.now c.args.context.once c.args.scanned.now.listed.items c.args.scanned.now.doubled.items c.args.scanned.now.now
     (g.K.Clock.moments c.args.around.now.clock.now) c.args.around.now.wires.now.items c.crew_of.new.wires.items c.args.storing.now.a.now c.args.storing.now.b.now old earlier
     c.in_ok-crew.ensures.begun c.requires.keeper sets c.begin_all-begun.result new c.begin_all-begun.ensures.begun c.begin_all-begun.ensures.ended
     (ap (λ (k : Keeping). k.store.rows) c.begin_all-begun.ensures.kept.keeper) c.hide_begun-begun.result c.hide_begun-begun.new.keeper c.hide_begun-begun.ensures

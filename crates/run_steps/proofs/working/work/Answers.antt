@@ -62,7 +62,7 @@ end_crew-requires-clause-carriers g c =
     (crewing c.settle_after-worked.new.crew c.settle_after-worked.new.storing) c.settle_after-worked.ensures.last.hands_on.able
 
 pub returns-clause-ends : goal.returns-clause-ends
-returns-clause-ends g c start so_far stands began =
+returns-clause-ends g c start so_far same stands began =
     let all = words_of g.F.Tail.Tail g.L.Link g.W.Wire g.D.Disk in
     let first = c.follow_begun-worked.new.storing in
     let met = c.follow_begun-worked.result.met in
@@ -84,7 +84,7 @@ returns-clause-ends g c start so_far stands began =
     let is_done = λ (is : now ≡ Done). done_before all.disks (record { a = first.a.now; b = first.b.now; new_a = c.settle_after-worked.new.storing.a.now; new_b = c.settle_after-worked.new.storing.b.now }) met now
     c.settle_after-worked.ensures.last.by is in (
       phase_left (phase_worked c.args.begun met),
-      has_ended all start c.args.begun (g.F.Folder.told c.args.around.now.folder.now) (g.F.Folder.told c.close_all.new.folder) (g.K.Clock.moments c.args.around.now.clock.now)
+      has_ended all start c.args.begun c.args.context.once (g.F.Folder.told c.args.around.now.folder.now) (g.F.Folder.told c.close_all.new.folder) (g.K.Clock.moments c.args.around.now.clock.now)
           (g.K.Clock.moments c.follow_begun-worked.new.system.clock.now) c.args.crew one (record one { lanes = with_items one.lanes c.close_all.new.lanes }) c.settle_after-worked.new.crew
           c.args.storing.now first c.settle_after-worked.new.storing met now c.args.around.now.wires.now.items c.end_crew.new.wires.items
           (record {
@@ -108,7 +108,7 @@ returns-clause-ends g c start so_far stands began =
             out_of_epochs = λ slot is. out_by c.args.begun met slot (first_met all c.args.context.settings.now.output.attempts since c.args.begun met c.follow_begun-worked.ensures.met)
                 (epochs_before all.disks (record { a = first.a.now; b = first.b.now; new_a = c.settle_after-worked.new.storing.a.now; new_b = c.settle_after-worked.new.storing.b.now }) met now slot c.settle_after-worked.ensures.last.by is);
           })
-          so_far stands began,
+          so_far same stands began,
     )
 
 pub returns-clause-told_only_where_begun : goal.returns-clause-told_only_where_begun
