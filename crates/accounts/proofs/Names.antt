@@ -5,7 +5,7 @@ use Rattle.std.specs.List.{AllByRecursion, flat_map}
 use Rattle.harvester.specs.History.{History, Telling, beginning, with_epoch}
 use Rattle.harvester.specs.Turns.{Did, did_with}
 use Rattle.slot_parts.specs.Tellings.{tellings_in}
-use Rattle.told_events.proofs.Going.{all_behind}
+use Rattle.told_events.proofs.Going.{all_behind, all_front, all_others}
 use Rattle.told_events.specs.Told.{ToldEvent}
 use Rattle.accounts.specs.ToldFile.{AreToldInTurn, IsToldBy, events_in}
 use Rattle.accounts.specs.Watch.{AreNamesFrom, Name, last_path}
@@ -37,20 +37,12 @@ events_more now events did h =
     ∙ sym (append_assoc (flat_map told_in h.past) h.present.told events)
     ∙ ap (λ (l : List ToldEvent). l ++ events) (sym (flat_map_last told_in h.past h.present))
 
-front_of : {A : Type 0} (P : A → Type 0) (xs ys : List A) → AllByRecursion P (xs ++ ys) → AllByRecursion P xs
-front_of P [] ys all = tt
-front_of P (x ∷ xs) ys all = (all.0, front_of P xs ys all.1)
-
-rest_of : {A : Type 0} (P : A → Type 0) (xs ys : List A) → AllByRecursion P (xs ++ ys) → AllByRecursion P ys
-rest_of P [] ys all = all
-rest_of P (x ∷ xs) ys all = rest_of P xs ys all.1
-
 -- what holds of all of them, epoch by epoch
 pub each_telling : (P : ToldEvent → Type 0) (tellings : List Telling) → AllByRecursion P (flat_map told_in tellings) →
     AllByRecursion (λ (telling : Telling). AllByRecursion P telling.told) tellings
 each_telling P [] all = tt
 each_telling P (telling ∷ tellings) all =
-    (front_of P telling.told (flat_map told_in tellings) all, each_telling P tellings (rest_of P telling.told (flat_map told_in tellings) all))
+    (all_front P telling.told (flat_map told_in tellings) all, each_telling P tellings (all_others P telling.told (flat_map told_in tellings) all))
 
 -- ---- in turn
 

@@ -1,5 +1,5 @@
 -- A harvester that was opened stands for its file, and stands for it still as further moments come and further files are opened.
-use Rattle.std.proofs.Common.{◌≡◌, ℕ, false, true, List, [], ◌∷◌, ◌++◌, Contains, Option, IfSome, refl, sym, ◌∙◌}
+use Rattle.std.proofs.Common.{◌≡◌, inl, inr, ℕ, Bool, false, true, List, [], ◌∷◌, ◌++◌, Contains, Option, IfSome, refl, sym, subst, ◌∙◌}
 use Rattle.std.proofs.lemmas.List.Elements.{Contains-append_left}
 use Rattle.file_looks.specs.Looks.{TellsLooks}
 use Rattle.harvester.specs.HasTold.{HasTold}
@@ -11,7 +11,7 @@ use Rattle.outside.specs.Tails.{TailHistory}
 use Rattle.accounts.specs.Opened.{IsTailOf, Opened}
 use Rattle.accounts.specs.ToldFile.{IsHistoryOf, IsToldFile, events_in}
 use Rattle.accounts.specs.Turned.{Turned}
-use Rattle.accounts.specs.Turning.{IsTurnedSo, Pairs}
+use Rattle.accounts.specs.Turning.{IsAtItsEnd, IsTurnedSo, Pairs}
 use Rattle.accounts.specs.Watch.{MayFindEnd, Name, Watch}
 use Rattle.accounts.proofs.Lists.{each_then, in_order_on, in_order_then}
 use Rattle.accounts.proofs.Names.{in_turn_later}
@@ -114,6 +114,23 @@ module _ {T : Type 0} (numbers : T → Option (ℕ × ℕ)) (told : T → Option
   each_stands_later others more (turned ∷ ts) [] all = absurd all
   each_stands_later others more (turned ∷ ts) (harvester ∷ harvesters) all =
       (stands_later others more turned harvester all.0, each_stands_later others more ts harvesters all.1)
+
+  -- as scans tell more of the files
+  pub stands_with_more : (other : Watch) (turned : Turned) (harvester : Harvester T) → watch.processors ≡ other.processors → watch.once ≡ other.once →
+      ((opened : Opened) (name : Name) → watch.renamed opened name → other.renamed opened name) → ((opened : Opened) → watch.removed opened → other.removed opened) →
+      IsTurnedSo numbers told watch files moments turned harvester → IsTurnedSo numbers told other files moments turned harvester
+  stands_with_more other turned harvester same once renamed removed stands = record {
+    has_told = stands.has_told;
+    opened = stands.opened;
+    of_files = stands.of_files;
+    is_told = told_by_other watch other stands.opened moments turned (told harvester.tail) same (renamed stands.opened) may stands.is_told;
+    numbers_are = stands.numbers_are;
+    rests = λ rests. subst (λ (b : Bool). IsAtItsEnd b turned.history) once (stands.rests rests);
+  }
+    where
+      may : MayFindEnd watch stands.opened → MayFindEnd other stands.opened
+      may (inl read_once) = inl (sym once ∙ read_once)
+      may (inr was) = inr (removed stands.opened was)
 
   -- one that was opened at the last of the moments, by a tail that told what it was asked for its key
   pub stands_opened : (opened : Opened) (now : ℕ) (harvester : Harvester T) → Contains files opened → EndsAt moments now →

@@ -97,13 +97,13 @@ module _ (watch : Watch) (moments : List ℕ) where
       abbrev Stands : Turned → Harvester T → Type 0
       Stands = IsTurnedSo numbers told watch files moments
 
-      record TurnsOn (before : Turned) (new : Harvester T) (what : Given) : Type 0 where
-        after : Turned
-        stands : Stands after new
-        slot : after.slot ≡ before.slot
-        parcels : parcels_told after ≡ parcels_told before ++ lane.parcels_in what
-        notes : notes_told after ≡ notes_told before ++ lane.notes_in what
-        spans : spans_told after ≡ spans_told before + spans_of what
+      pub record TurnsOn (before : Turned) (new : Harvester T) (what : Given) : Type 0 where
+        pub after : Turned
+        pub stands : Stands after new
+        pub slot : after.slot ≡ before.slot
+        pub parcels : parcels_told after ≡ parcels_told before ++ lane.parcels_in what
+        pub notes : notes_told after ≡ notes_told before ++ lane.notes_in what
+        pub spans : spans_told after ≡ spans_told before + spans_of what
 
       turns_on : (faults : T → ℕ) (now : Moment) (last : Bool) (before : Turned) (old : Harvester T) (answer : Turn) (new : Harvester T) (what : Given) →
           last ≡ watch.once → EndsAt moments now.0 → HasTurned numbers told faults now last old answer new → Gives numbers told new answer what →
@@ -157,7 +157,7 @@ module _ (watch : Watch) (moments : List ℕ) where
         };
       }
 
-      one_turns : (before : List Turned) (olds : List (Harvester T)) (index : ℕ) (old new : Harvester T) (what : Given) → Pairs Stands before olds →
+      pub one_turns : (before : List Turned) (olds : List (Harvester T)) (index : ℕ) (old new : Harvester T) (what : Given) → Pairs Stands before olds →
           slice_get olds index ≡ Some old → ((turned : Turned) → Stands turned old → TurnsOn turned new what) →
           TellOn numbers told watch files moments before (slice_set olds index new) (lane.parcels_in what) (lane.notes_in what) (spans_of what)
       one_turns [] [] index old new what all at turns = absurd cc

@@ -7,6 +7,8 @@
 //! so do turns of several, one behind the other. Nothing is given twice, and what is given has its ground in some event or
 //! epoch. What was told of a file outlives its harvester, and from it and from the looks of its tail its account is made:
 //! those by which it was asked for its key stand first, and where it lost its key the account keeps the looks before that.
+//! While its tail is open, scans may tell that it was removed, or by which path it is known since (`Watch`): its end may be found
+//! only there or where files are read once, and each event has the path that the file had as it was told.
 //!
 //! A row of the registry that a whole scan hides, of an input that cleans the rows of removed files, has a slot of its own
 //! without a tail (`Hidden`): it begins where the row is, and the scan is why it goes.
