@@ -259,13 +259,8 @@ where
 {
     one_choice();
     disk_images_are_counted::<D>();
-    let scanned = scan(
-        alloc,
-        settings.inputs.as_slice(),
-        store.rows(),
-        outside.folder,
-        outside.clock,
-    )?;
+    let inputs = settings.inputs.as_slice();
+    let scanned = scan(alloc, inputs, store.rows(), outside.folder, outside.clock)?;
     let parts = parts_of(alloc, settings.events, store)?;
     let Parts {
         queue,

@@ -67,7 +67,10 @@ where
 {
     disk_images_are_counted::<D>();
     let now = system.clock.now();
-    let when = When { now, last: context.once };
+    let when = When {
+        now,
+        last: context.once,
+    };
     let round = crew.round(rt, context.alloc, context.outlets, when, storing);
     let attempts = context.settings.output.attempts;
     let met = met_in(context.once, attempts, crew, storing.keeper, round);

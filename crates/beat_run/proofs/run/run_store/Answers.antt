@@ -30,20 +30,20 @@ use Rattle.beat_run.proofs.run.run_store.Goals as goal
 
 pub scan-requires-clause-askable : goal.scan-requires-clause-askable
 scan-requires-clause-askable g c =
-    let inputs : c.as_slice.result.now ≡ c.args.settings.now.inputs = c.as_slice.ensures in
+    let inputs : c.as_slice-inputs.result.now ≡ c.args.settings.now.inputs = c.as_slice-inputs.ensures in
     rw inputs (inputs_are_askable c.args.settings.now c.requires.in_range)
 
 -- ---- the scan told no files
 
 pub returns-in_err-scanned-clause-cause : goal.returns-in_err-scanned-clause-cause
 returns-in_err-scanned-clause-cause g c = λ from opened.
-    let inputs : c.as_slice.result.now ≡ c.args.settings.now.inputs = c.as_slice.ensures in
+    let inputs : c.as_slice-inputs.result.now ≡ c.args.settings.now.inputs = c.as_slice-inputs.ensures in
     let p = err_from_is_err_and c.from_residual.result c.from_residual.ensures.1 in
     rw (p.1, p.2) (scan_caused c.args.settings.now _ _ _ _ c.in_err-scanned.ensures.ends (rw inputs at c.in_err-scanned.ensures.shows_end))
 
 pub returns-in_err-scanned-clause-accounted : goal.returns-in_err-scanned-clause-accounted
 returns-in_err-scanned-clause-accounted g c = λ from opened tells.
-    let inputs : c.as_slice.result.now ≡ c.args.settings.now.inputs = c.as_slice.ensures in
+    let inputs : c.as_slice-inputs.result.now ≡ c.args.settings.now.inputs = c.as_slice-inputs.ensures in
     let rows : c.rows.result.now ≡ c.args.store.rows = c.rows.ensures.rows in
     let p = err_from_is_err_and c.from_residual.result c.from_residual.ensures.1 in
     let disks = disks_of g.D.Disk in
@@ -59,7 +59,7 @@ returns-in_err-scanned-clause-accounted g c = λ from opened tells.
 
 pub returns-in_err-parts-clause-accounted : goal.returns-in_err-parts-clause-accounted
 returns-in_err-parts-clause-accounted g c = λ from opened tells.
-    let inputs : c.as_slice.result.now ≡ c.args.settings.now.inputs = c.as_slice.ensures in
+    let inputs : c.as_slice-inputs.result.now ≡ c.args.settings.now.inputs = c.as_slice-inputs.ensures in
     let p = err_from_is_err_and c.from_residual-in_err-parts.result c.from_residual-in_err-parts.ensures.1 in
     let disks = disks_of g.D.Disk in
     rw (p.1, p.2)
@@ -72,7 +72,7 @@ returns-in_err-parts-clause-accounted g c = λ from opened tells.
 
 pub returns-in_err-worked-clause-accounted : goal.returns-in_err-worked-clause-accounted
 returns-in_err-worked-clause-accounted g c = λ from opened tells.
-    let inputs : c.as_slice.result.now ≡ c.args.settings.now.inputs = c.as_slice.ensures in
+    let inputs : c.as_slice-inputs.result.now ≡ c.args.settings.now.inputs = c.as_slice-inputs.ensures in
     let p = err_from_is_err_and c.from_residual-in_err-worked.result c.from_residual-in_err-worked.ensures.1 in
     let disks = disks_of g.D.Disk in
     let wires = wires_of g.W.Wire in
@@ -89,7 +89,7 @@ returns-in_err-worked-clause-accounted g c = λ from opened tells.
 
 pub returns-clause-cause : goal.returns-clause-cause
 returns-clause-cause g c = λ from opened.
-    let inputs : c.as_slice.result.now ≡ c.args.settings.now.inputs = c.as_slice.ensures in
+    let inputs : c.as_slice-inputs.result.now ≡ c.args.settings.now.inputs = c.as_slice-inputs.ensures in
     let disks = disks_of g.D.Disk in
     let wires = wires_of g.W.Wire in
     let before : Signs = record {
@@ -125,7 +125,7 @@ returns-clause-cause g c = λ from opened.
 
 pub returns-clause-accounted : goal.returns-clause-accounted
 returns-clause-accounted g c = λ from opened tells.
-    let inputs : c.as_slice.result.now ≡ c.args.settings.now.inputs = c.as_slice.ensures in
+    let inputs : c.as_slice-inputs.result.now ≡ c.args.settings.now.inputs = c.as_slice-inputs.ensures in
     let disks = disks_of g.D.Disk in
     let wires = wires_of g.W.Wire in
     let of = is_met_of c.args.settings.now.output.workers _ _ _ c.in_ok-worked.worked.met c.in_ok-worked.ensures.cause in
@@ -166,7 +166,7 @@ returns-clause-accounted g c = λ from opened tells.
 
 pub returns-clause-at_rest : goal.returns-clause-at_rest
 returns-clause-at_rest g c = λ from opened some rest followed.
-    let inputs : c.as_slice.result.now ≡ c.args.settings.now.inputs = c.as_slice.ensures in
+    let inputs : c.as_slice-inputs.result.now ≡ c.args.settings.now.inputs = c.as_slice-inputs.ensures in
     let disks = disks_of g.D.Disk in
     let wires = wires_of g.W.Wire in
     let ends = c.in_ok-worked.ensures.ends
@@ -184,7 +184,7 @@ returns-clause-at_rest g c = λ from opened some rest followed.
 
 pub returns-clause-reported : goal.returns-clause-reported
 returns-clause-reported g c = λ from opened some rest.
-    let inputs : c.as_slice.result.now ≡ c.args.settings.now.inputs = c.as_slice.ensures in
+    let inputs : c.as_slice-inputs.result.now ≡ c.args.settings.now.inputs = c.as_slice-inputs.ensures in
     let disks = disks_of g.D.Disk in
     let wires = wires_of g.W.Wire in
     let ends = c.in_ok-worked.ensures.ends
